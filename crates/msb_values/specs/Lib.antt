@@ -1,0 +1,4 @@
+pub mod Names
+pub mod ReadsNames
+pub mod Causes
+pub mod Kinds

@@ -1,0 +1,25 @@
+//! Texts, names and lists, as every other crate holds them, and the plain data that is made of them.
+//!
+//! A contract sees each of these as a list: a [`Text`] and a [`Text8`] as their bytes, a [`List`] as its entries,
+//! a [`Name`] as the bytes of its key, and [`Pairs`] as its names with their texts.
+#![tactic(auto)]
+
+mod cause;
+mod errors;
+mod list;
+mod mode;
+mod name;
+mod note;
+mod put;
+mod text;
+mod text8;
+
+pub use cause::Cause;
+pub use errors::{NameFault, NoMemory};
+pub use list::{Copied, List};
+pub use mode::Mode;
+pub use name::Name;
+pub use note::Note;
+pub use put::Put;
+pub use text::Text;
+pub use text8::Text8;

@@ -1,0 +1,89 @@
+ghost use Rattle.std.specs.Prelude.{◌≡◌, ◌==◌, [], ◌∷◌, ◌++◌, length, IfOk, OnOk, OnErr, slice_get, option_copied};
+
+use crate::NoMemory;
+use std::alloc::Global;
+use std::marker::Model;
+
+/// A value that can be copied where memory is found.
+pub trait Copied: Sized {
+    /// An equal value.
+    fn copy(&self) -> Result<Self, NoMemory>
+        ensures { IfOk result (λ c. c ≡ self.now) };
+}
+
+/// A list, which contracts see as its entries.
+#[derive(Drop)]
+pub struct List<T> {
+    entries: Vec<T>,
+}
+
+impl<T> Model for List<T> {
+    ghost use Rattle.std.specs.Prelude.{List};
+
+    ghost Value = { List T };
+
+    ghost view = { λ l. l.entries.items };
+}
+
+impl<T> List<T> {
+    pub fn new(alloc: Global) -> List<T>
+        ensures { result ≡ [] }
+    {
+        List {
+            entries: Vec::new(alloc),
+        }
+    }
+
+    pub fn as_slice(&self) -> &[T]
+        ensures { result.now ≡ self.now }
+    {
+        &self.entries
+    }
+
+    pub fn len(&self) -> usize
+        ensures { result ≡ length self.now }
+    {
+        self.entries.len()
+    }
+
+    pub fn is_empty(&self) -> bool
+        ensures { result ≡ (length self.now == 0) }
+    {
+        self.entries.is_empty()
+    }
+
+    pub fn get(&self, at: usize) -> Option<&T>
+        ensures { option_copied result ≡ slice_get self.now at }
+    {
+        self.entries.get(at)
+    }
+}
+
+impl<T> From<Vec<T>> for List<T> {
+    ghost from_gives = { λ v l. l ≡ v.items };
+
+    fn from(entries: Vec<T>) -> List<T> {
+        List { entries }
+    }
+}
+
+impl<T: Drop> List<T> {
+    /// Adds an entry at the end; where there is no memory, the list stays as it was, and the entry is dropped.
+    pub fn push(&mut self, entry: T) -> Result<(), NoMemory>
+        ensures ok { OnOk result (self.new ≡ self.old ++ entry ∷ []) }
+        ensures err { OnErr result (self.new ≡ self.old) }
+    {
+        self.entries.push(entry)?;
+        Ok(())
+    }
+}
+
+impl<T: Copied + Drop> Copied for List<T> {
+    fn copy(&self) -> Result<List<T>, NoMemory> {
+        let mut entries = Vec::with_capacity(*self.entries.allocator(), self.entries.len())?;
+        for entry in &self.entries {
+            entries.push(entry.copy()?)?;
+        }
+        Ok(List { entries })
+    }
+}
