@@ -2,3 +2,4 @@ pub mod Names
 pub mod ReadsNames
 pub mod Causes
 pub mod Kinds
+pub mod Pairs

@@ -5,7 +5,7 @@ ghost use Rattle.msb_values.specs.Names.{is_letter, is_name_byte, is_target_byte
 ghost use Rattle.msb_values.specs.Kinds.{may_follow};
 
 use crate::{Copied, NameFault, NoMemory, Text};
-use std::alloc::Global;
+use std::alloc::{AllocError, Global};
 use std::cmp::Ordering;
 use std::hash::{Hash, Hasher};
 use std::marker::Model;
@@ -112,8 +112,18 @@ fn first_other(bytes: &[u8], kind: Kind) -> Option<usize>
 
 impl Copied for Name {
     fn copy(&self) -> Result<Name, NoMemory> {
+        Ok(self.clone()?)
+    }
+}
+
+impl Clone for Name {
+    ghost use Rattle.std.specs.Prelude.{◌≡◌};
+
+    ghost is_clone = { λ a b. b ≡ a };
+
+    fn clone(&self) -> Result<Name, AllocError> {
         Ok(Name {
-            key: self.key.copy()?,
+            key: self.key.clone()?,
         })
     }
 }
