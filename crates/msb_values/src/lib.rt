@@ -6,6 +6,7 @@
 
 mod cause;
 mod errors;
+mod item;
 mod list;
 mod mode;
 mod name;
@@ -17,6 +18,7 @@ mod text8;
 
 pub use cause::Cause;
 pub use errors::{NameFault, NoMemory};
+pub use item::Item;
 pub use list::{Copied, List};
 pub use mode::Mode;
 pub use name::Name;
