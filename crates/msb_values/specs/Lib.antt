@@ -3,3 +3,4 @@ pub mod ReadsNames
 pub mod Causes
 pub mod Kinds
 pub mod Pairs
+pub mod Same

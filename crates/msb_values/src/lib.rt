@@ -13,6 +13,7 @@ mod name;
 mod note;
 mod pairs;
 mod put;
+mod same;
 mod text;
 mod text8;
 
@@ -25,5 +26,6 @@ pub use name::Name;
 pub use note::Note;
 pub use pairs::Pairs;
 pub use put::Put;
+pub use same::same_text;
 pub use text::Text;
 pub use text8::Text8;
