@@ -1,6 +1,6 @@
 -- Files in byte order of their paths.
 use Rattle.std.proofs.Common.{◌≡◌, ℕ, zero, suc, ◌+◌, ◌<◌, ◌≤◌, List, [], ◌∷◌, ◌++◌, length, get_or, take, Bool, true, false, ◌&&◌, refl, sym, ap, ◌∙◌, arith, add-one}
-use Rattle.std.specs.List.{list_all}
+use Rattle.std.specs.List.{list_all, IsAllAdjacentAnswer}
 use Rattle.std.specs.declared.cmp.Ordering.{Ordering}
 use Rattle.std.specs.declared.cmp.Ordering.TheVariants.{Less, Equal, Greater}
 use Rattle.std.specs.Ordering.{is_lt, is_eq, ordering_reverse, ordering_index, nat_cmp}
@@ -66,10 +66,10 @@ ordered_front : (f g : File) (gs : List File) → is_before f.path g.path ≡ tr
 ordered_front f g gs b h = both_true _ _ (both_true _ _ b (all_further f.path g.path gs b (and_true _ _ h).0)) h
 
 -- where each file stands before the next, they are in order
-pub ordered_by_next : (fs : List File) → ((k : ℕ) (d : File) → k + 1 < length fs → is_before (get_or fs k d).path (get_or fs (k + 1) d).path ≡ true) → are_in_order fs ≡ true
+pub ordered_by_next : (fs : List File) → ((k : ℕ) (d : File) → suc k < length fs → is_before (get_or fs k d).path (get_or fs (suc k) d).path ≡ true) → are_in_order fs ≡ true
 ordered_by_next [] h = refl
 ordered_by_next (f ∷ []) h = refl
-ordered_by_next (f ∷ (g ∷ gs)) h = ordered_front f g gs (h zero f (omega arith)) (ordered_by_next (g ∷ gs) (λ k d w. rw (← add-one k) at (h (suc k) d (omega arith))))
+ordered_by_next (f ∷ (g ∷ gs)) h = ordered_front f g gs (h zero f (omega arith)) (ordered_by_next (g ∷ gs) (λ k d w. h (suc k) d (omega arith)))
 
 not_true : (b : Bool) → (b ≡ true → ⊥) → b ≡ false
 not_true true h = absurd (h refl)
@@ -78,3 +78,9 @@ not_true false h = refl
 -- where one doesn't, they are not
 pub unordered : (fs : List File) (k : ℕ) (d : File) → k + 1 < length fs → is_before (get_or fs k d).path (get_or fs (k + 1) d).path ≡ false → are_in_order fs ≡ false
 unordered fs k d w h = not_true (are_in_order fs) (λ t. let b = before_later fs k (k + 1) d t (omega arith) w in cc)
+
+-- a test of neighbours answers whether they are
+pub order_answer : (fs : List File) (r : Bool) → IsAllAdjacentAnswer (λ f g b. b ≡ is_before f.path g.path) fs r → r ≡ are_in_order fs
+order_answer fs true h = sym (ordered_by_next fs (λ k d w. rw add-one at (sym (h k d (omega arith)))))
+order_answer [] false h = absurd (omega (arith, h.1))
+order_answer (f ∷ fs) false h = sym (unordered (f ∷ fs) h.0 f h.1 (sym (h.2 f)))

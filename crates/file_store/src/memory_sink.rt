@@ -1,4 +1,4 @@
-ghost use Rattle.std.specs.Prelude.{◌≡◌, ◌≤◌, ◌↔◌, [], Some, Err, IfOk, IsErr, OnOk, OnErr, vec_capacity, length, is_err, if◌then◌else◌};
+ghost use Rattle.std.specs.Prelude.{◌≡◌, ◌≤◌, ◌↔◌, [], Some, Err, IfOk, IsErr, OnOk, OnErr, vec_capacity, vec_len, length, is_err, if◌then◌else◌};
 ghost use Rattle.msb_laws.specs.Faults.{HasCause};
 ghost use Rattle.msb_laws.specs.Gains.{Appends, AppendsFront};
 ghost use Rattle.file_store.specs.declared.memory_sink.TheConstants.{ROOM};
@@ -19,6 +19,7 @@ pub struct MemSink {
     calls: u64,
     faults: u64,
     ghost room: { ROOM ≤ vec_capacity bytes },
+    ghost fits: { vec_len bytes ≤ ROOM },
 }
 
 impl MemSink {
