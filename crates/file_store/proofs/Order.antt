@@ -1,5 +1,5 @@
 -- Files in byte order of their paths.
-use Rattle.std.proofs.Common.{◌≡◌, ℕ, zero, suc, ◌+◌, ◌<◌, ◌≤◌, List, [], ◌∷◌, ◌++◌, length, get_or, take, Bool, true, false, ◌&&◌, refl, sym, ap, ◌∙◌, arith, add-one}
+use Rattle.std.proofs.Common.{◌≡◌, ℕ, zero, suc, ◌+◌, ◌<◌, ◌≤◌, List, [], ◌∷◌, ◌++◌, length, get_or, take, map, Bool, true, false, ◌&&◌, refl, sym, ap, ◌∙◌, arith, add-one}
 use Rattle.std.specs.List.{list_all, IsAllAdjacentAnswer}
 use Rattle.std.specs.declared.cmp.Ordering.{Ordering}
 use Rattle.std.specs.declared.cmp.Ordering.TheVariants.{Less, Equal, Greater}
@@ -11,7 +11,9 @@ use Rattle.std.proofs.lemmas.Map.Text.{is_eq-slice_cmp}
 use Rattle.std.proofs.lemmas.Slice.Eq.{bytes_eq-Decides}
 use Rattle.file_store.specs.Paths.{is_before, are_rising}
 use Rattle.file_store.specs.Files.{paths_of, are_in_order, file_at}
+use Rattle.file_store.specs.Entries.{entries_of, are_listed_in_order}
 use Rattle.file_store.specs.declared.tree.File.{File}
+use Rattle.file_store.specs.declared.store.Entry.{Entry}
 
 pub and_true : (a b : Bool) → (a && b) ≡ true → (a ≡ true) × (b ≡ true)
 and_true true b e = (refl, e)
@@ -56,7 +58,7 @@ before_later (f ∷ fs) i zero d h lt w = absurd (omega arith)
 before_later (f ∷ fs) zero (suc j) d h lt w = before_each f.path fs j d (and_true _ _ h).0 (omega arith)
 before_later (f ∷ fs) (suc i) (suc j) d h lt w = before_later fs i j d (and_true _ _ h).1 (omega arith) (omega arith)
 
-all_further : (p q : List ℕ) (fs : List File) → is_before p q ≡ true → list_all (is_before q) (paths_of fs) ≡ true → list_all (is_before p) (paths_of fs) ≡ true
+pub all_further : (p q : List ℕ) (fs : List File) → is_before p q ≡ true → list_all (is_before q) (paths_of fs) ≡ true → list_all (is_before p) (paths_of fs) ≡ true
 all_further p q [] b h = refl
 all_further p q (f ∷ fs) b h =
     let both = and_true _ _ h in
@@ -71,7 +73,7 @@ ordered_by_next [] h = refl
 ordered_by_next (f ∷ []) h = refl
 ordered_by_next (f ∷ (g ∷ gs)) h = ordered_front f g gs (h zero f (omega arith)) (ordered_by_next (g ∷ gs) (λ k d w. h (suc k) d (omega arith)))
 
-not_true : (b : Bool) → (b ≡ true → ⊥) → b ≡ false
+pub not_true : (b : Bool) → (b ≡ true → ⊥) → b ≡ false
 not_true true h = absurd (h refl)
 not_true false h = refl
 
@@ -84,3 +86,11 @@ pub order_answer : (fs : List File) (r : Bool) → IsAllAdjacentAnswer (λ f g b
 order_answer fs true h = sym (ordered_by_next fs (λ k d w. rw add-one at (sym (h k d (omega arith)))))
 order_answer [] false h = absurd (omega (arith, h.1))
 order_answer (f ∷ fs) false h = sym (unordered (f ∷ fs) h.0 f h.1 (sym (h.2 f)))
+
+paths_of-entries_of : (fs : List File) → map (λ e. e.path) (entries_of fs) ≡ paths_of fs
+paths_of-entries_of [] = refl
+paths_of-entries_of (f ∷ fs) = ap (λ ps. f.path ∷ ps) (paths_of-entries_of fs)
+
+-- what a listing says of files in order is in order
+pub entries_of-ordered : (fs : List File) (entries : List Entry) → are_in_order fs ≡ true → entries ≡ entries_of fs → are_listed_in_order entries ≡ true
+entries_of-ordered fs entries h is = ap are_listed_in_order is ∙ ap are_rising (paths_of-entries_of fs) ∙ h

@@ -1,4 +1,4 @@
-ghost use Rattle.std.specs.Prelude.{◌≡◌, ◌↔◌, Some, Ok, Err, IfOk, OnOk, OnErr, take, ◌++◌, ◌<◌, ◌-◌, ◌^◌, true, IsTrue, IfSome};
+ghost use Rattle.std.specs.Prelude.{◌≡◌, ◌↔◌, Some, Ok, Err, IfOk, OnOk, OnErr, take, ◌++◌, ◌<◌, ◌≤◌, ◌-◌, ◌^◌, true, IsTrue, IfSome};
 ghost use Rattle.std.specs.List.{filter, All, Any};
 ghost use Rattle.std.specs.Option.{IfNone};
 ghost use Rattle.msb_laws.specs.Faults.{HasCause};
@@ -44,6 +44,7 @@ impl MemStore {
         ensures exact { IsTrue result ↔ IsToFail self.old }
         ensures tree { files_in self.new ≡ files_in self.old }
         ensures counts { Counts result self.old self.new }
+        ensures later { self.old.faults ≤ self.new.faults }
     {
         let call = self.calls;
         self.calls = self.calls.saturating_add(1);
@@ -111,9 +112,11 @@ impl Store for MemStore {
         if self.is_failing() {
             return Err(StoreError::Failed);
         }
-        match next_stamp(self.tree.files.as_slice()) {
+        let files = self.tree.files.as_slice();
+        match next_stamp(files) {
             Some(stamp) => {
-                self.tree = put(alloc, &self.tree, path, bytes, stamp)?;
+                let files = with_file(alloc, files, path, bytes, stamp)?;
+                self.tree = Tree { files };
                 Ok(())
             }
             None => {
@@ -169,19 +172,25 @@ fn next_stamp(files: &[File]) -> Option<u64>
     Some(next)
 }
 
-// The tree with these bytes at a path.
-fn put(alloc: Global, tree: &Tree, path: &str, bytes: &[u8], stamp: u64) -> Result<Tree, NoMemory>
-    ensures { IfOk result (λ t. t.files ≡ put_in path.now bytes.now stamp tree.now.files) }
+// The files with these bytes at a path.
+fn with_file(
+    alloc: Global,
+    files: &[File],
+    path: &str,
+    bytes: &[u8],
+    stamp: u64,
+) -> Result<List<File>, NoMemory>
+    ensures { IfOk result (λ l. l ≡ put_in path.now bytes.now stamp files.now) }
 {
-    let mut files = List::new(alloc);
-    add_copies(&mut files, tree.files.as_slice(), path, Ordering::Less)?;
-    files.push(File {
+    let mut all = List::new(alloc);
+    add_copies(&mut all, files, path, Ordering::Less)?;
+    all.push(File {
         path: Text::of(alloc, path)?,
         bytes: Text8::of(alloc, bytes)?,
         stamp,
     })?;
-    add_copies(&mut files, tree.files.as_slice(), path, Ordering::Greater)?;
-    Ok(Tree { files })
+    add_copies(&mut all, files, path, Ordering::Greater)?;
+    Ok(all)
 }
 
 // Adds a copy of each file whose path stands before the given one, or after it.
