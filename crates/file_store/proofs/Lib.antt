@@ -1,4 +1,5 @@
 pub mod Order
+pub mod Listed
 pub mod Lookups
 pub mod Commits
 pub mod Loaded
