@@ -2,7 +2,6 @@
 use Rattle.std.proofs.Common.{◌≡◌, ℕ, ◌+◌, ◌<◌, ◌≤◌, List, [], ◌∷◌, ◌++◌, length, map, take, get_or, min, true, Option, Some, None, IfSome, IsSome, refl, sym, ap, ◌∙◌, subst, arith}
 use Rattle.std.proofs.lemmas.Grind.{common_steps}
 use Rattle.std.proofs.lemmas.List.{get_or-map, length-map, take_more}
-use Rattle.msb_laws.specs.Faults.{Rose}
 use Rattle.file_store.specs.Files.{paths_of, are_in_order, file_at, bytes_at, bytes_or_none}
 use Rattle.file_store.specs.Entries.{entry_of, entries_of}
 use Rattle.file_store.specs.Loads.{IsCaused, IsReadCaused}

@@ -1,5 +1,5 @@
 -- Files with a new one put in at its path.
-use Rattle.std.proofs.Common.{◌≡◌, ◌≢◌, ℕ, zero, suc, ◌<◌, List, [], ◌∷◌, ◌++◌, length, get_or, Bool, true, false, cond, ◌==◌, Option, Some, None, IfSome, refl, sym, ap, ◌∙◌, subst, arith}
+use Rattle.std.proofs.Common.{◌≡◌, ◌≢◌, ℕ, zero, suc, ◌<◌, List, [], ◌∷◌, ◌++◌, Bool, true, false, cond, ◌==◌, Option, Some, None, IfSome, refl, sym, ap, ◌∙◌, arith}
 use Rattle.std.specs.List.{list_all, filter, All}
 use Rattle.std.specs.declared.cmp.Ordering.{Ordering}
 use Rattle.std.specs.declared.cmp.Ordering.TheVariants.{Less, Equal, Greater}
@@ -12,7 +12,7 @@ use Rattle.std.proofs.lemmas.Map.Text.{is_eq-slice_cmp}
 use Rattle.std.proofs.lemmas.Slice.Eq.{bytes_eq-Decides}
 use Rattle.file_store.specs.Paths.{is_before}
 use Rattle.file_store.specs.Files.{paths_of, are_in_order, file_at}
-use Rattle.file_store.specs.Writes.{is_at_side, put_in, HasNew, IsWritten}
+use Rattle.file_store.specs.Writes.{is_at_side, put_in, IsWritten}
 use Rattle.file_store.specs.declared.tree.File.{File}
 use Rattle.file_store.proofs.Order.{and_true, both_true, all_further, bytes_eq-same, not_true}
 

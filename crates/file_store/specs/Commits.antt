@@ -1,5 +1,5 @@
 -- A list of files, written in order.
-use Rattle.std.specs.Prelude.{◌≡◌, ◌<◌, ℕ, List, [], ◌∷◌, take, slice_get, length, IsSomeAnd}
+use Rattle.std.specs.Prelude.{◌≡◌, ℕ, List, [], ◌∷◌, take, slice_get, IsSomeAnd}
 use Rattle.msb_laws.specs.Faults.{Rose}
 use Rattle.msb_values.specs.declared.put.Put.{Put}
 use Rattle.file_store.specs.Writes.{IsWritten, IsOldOrNew}

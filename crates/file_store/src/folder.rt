@@ -23,7 +23,10 @@ pub struct DirStore<'a, R: Files> {
 }
 
 impl<'a, R: Files> DirStore<'a, R> {
-    pub fn new(rt: &'a R, alloc: Global, folder: &str) -> Result<DirStore<'a, R>, NoMemory> {
+    /// The store of a folder, which is given by its path from the working folder.
+    pub fn new(rt: &'a R, alloc: Global, folder: &str) -> Result<DirStore<'a, R>, NoMemory>
+        ensures { IfOk result (λ s. (s.folder ≡ folder.now) × (s.faults ≡ 0)) }
+    {
         Ok(DirStore {
             rt,
             folder: Text::of(alloc, folder)?,
@@ -123,11 +126,11 @@ fn list_folder<R: Files>(rt: &(&R, Global), folder: &str) -> io::Result<Found> {
     left.push(String::new(rt.alloc()))?;
     for _ in 0..u64::MAX {
         let Some(below) = left.pop() else {
-            break;
+            return Ok(found);
         };
         list_one(rt, folder, below.as_str(), &mut left, &mut found)?;
     }
-    Ok(found)
+    Err(io::Error::from(ErrorKind::Other))
 }
 
 // The files of one folder, whose own folders are left to be listed.

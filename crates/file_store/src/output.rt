@@ -1,4 +1,4 @@
-ghost use Rattle.std.specs.Prelude.{None};
+ghost use Rattle.std.specs.Prelude.{◌≡◌, None};
 
 use crate::{Sink, SinkError};
 use std::io::{self, Write};
@@ -11,7 +11,9 @@ pub struct OutSink<'a, R: Print> {
 }
 
 impl<'a, R: Print> OutSink<'a, R> {
-    pub fn new(rt: &'a R) -> OutSink<'a, R> {
+    pub fn new(rt: &'a R) -> OutSink<'a, R>
+        ensures { result.faults ≡ 0 }
+    {
         OutSink { rt, faults: 0 }
     }
 }

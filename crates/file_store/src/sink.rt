@@ -3,19 +3,11 @@ ghost use Rattle.msb_laws.specs.Faults.{HasCause};
 ghost use Rattle.msb_laws.specs.Gains.{Appends, AppendsFront};
 ghost use Rattle.file_store.specs.declared.sink.SinkError.TheVariants.{Failed};
 
-use std::fmt;
-
 /// Why a sink has not taken a piece.
 #[derive(Clone, Copy, Debug, PartialEq, Eq)]
 pub enum SinkError {
     /// The sink failed, and has counted it.
     Failed,
-}
-
-impl fmt::Display for SinkError {
-    fn fmt<W: fmt::Write>(&self, f: &mut fmt::Formatter<W>) -> fmt::Result {
-        write!(f, "the sink failed")
-    }
 }
 
 /// What takes bytes. It may tell the bytes that it has taken.

@@ -7,8 +7,7 @@ ghost use Rattle.file_store.specs.declared.tree.File.{File};
 ghost use Rattle.file_store.specs.declared.store.StoreError.TheVariants.{Failed, Memory};
 
 use msb_values::{List, NoMemory, Text, Text8};
-use std::alloc::{AllocError, AllocFailed, Global};
-use std::fmt;
+use std::alloc::Global;
 
 /// Why a call of a store gave no answer.
 #[derive(Clone, Copy, Debug, PartialEq, Eq)]
@@ -23,15 +22,6 @@ impl From<NoMemory> for StoreError {
 
     fn from(_: NoMemory) -> Self {
         StoreError::Memory
-    }
-}
-
-impl fmt::Display for StoreError {
-    fn fmt<W: fmt::Write>(&self, f: &mut fmt::Formatter<W>) -> fmt::Result {
-        match self {
-            StoreError::Failed => write!(f, "the store failed"),
-            StoreError::Memory => write!(f, "no memory was found"),
-        }
     }
 }
 

@@ -52,6 +52,14 @@ impl Tree {
     }
 }
 
+impl Copied for Tree {
+    fn copy(&self) -> Result<Tree, NoMemory> {
+        Ok(Tree {
+            files: self.files.copy()?,
+        })
+    }
+}
+
 fn is_in_order(files: &[File]) -> bool
     ensures { result ≡ are_in_order files.now }
 {

@@ -1,4 +1,4 @@
-use Rattle.std.proofs.Common.{◌∙◌, arith, ap}
+use Rattle.std.proofs.Common.{◌∙◌, arith}
 use Rattle.std.proofs.lemmas.List.{length-map}
 use Rattle.std.proofs.lemmas.Result.{err_from_is_err_and}
 use Rattle.file_store.proofs.Loaded.{IsListed, IsRead, told, when_told, listed_file, files_more, paths_more, take_past, IsCaused-read}
@@ -9,11 +9,11 @@ returns-in_err-load_file-clause-cause g c =
     let l = c.loop-entry in
     let p = err_from_is_err_and c.from_residual.result c.from_residual.ensures.1 in
     let there = when_told (g.S.Store.tree c.args.store.now) (λ t is. listed_file t l.entry-index c.as_slice-entry-items.result.now c.entry-item.result (record {
-        in_order = told _ is (g.met.S.Store.told_in_order c.args.store.now);
-        listed = c.as_slice-entry-items.ensures ∙ told _ is c.in-Ok.ensures.all;
-        within = c.loop-entry-test.true;
-        entry = c.entry-item.is;
-      })) in
+      in_order = told _ is (g.met.S.Store.told_in_order c.args.store.now);
+      listed = c.as_slice-entry-items.ensures ∙ told _ is c.in-Ok.ensures.all;
+      within = c.loop-entry-test.true;
+      entry = c.entry-item.is;
+    })) in
     rw (p.1, p.2) (IsCaused-read _ _ _ _ c.entry-item.result.path _ l.invariant.later there c.in_err-load_file.ensures.cause)
 
 pub loop-entry-preserved : goal.loop-entry-preserved
