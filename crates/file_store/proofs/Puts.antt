@@ -5,6 +5,7 @@ use Rattle.std.specs.declared.cmp.Ordering.{Ordering}
 use Rattle.std.specs.declared.cmp.Ordering.TheVariants.{Less, Equal, Greater}
 use Rattle.std.specs.Ordering.{is_lt, is_gt, is_eq, ordering_index, ordering_reverse, nat_cmp}
 use Rattle.std.specs.Cmp.Lexicographic.{slice_cmp}
+use Rattle.std.specs.Option.{option_or}
 use Rattle.std.specs.Str.{bytes_eq}
 use Rattle.std.proofs.lemmas.Cmp.{nat_list_cmp_total, tied_itself, is_lt_index, is_gt_index}
 use Rattle.std.proofs.lemmas.List.Folds.{list_all-map}
@@ -74,19 +75,13 @@ put_in-ordered path bytes stamp fs h =
 
 -- ---- which file stands at a path
 
-first_of : Option File → Option File → Option File
-first_of None o = o
-first_of (Some f) o = Some f
+option_or-next : (b : Bool) (f : File) (o p : Option File) → cond b (Some f) (option_or o p) ≡ option_or (cond b (Some f) o) p
+option_or-next true f o p = refl
+option_or-next false f o p = refl
 
-first_of-next : (b : Bool) (f : File) (o p : Option File) → cond b (Some f) (first_of o p) ≡ first_of (cond b (Some f) o) p
-unfolding first_of
-first_of-next true f o p = refl
-first_of-next false f o p = refl
-
-file_at-joined : (q : List ℕ) (fs gs : List File) → file_at q (fs ++ gs) ≡ first_of (file_at q fs) (file_at q gs)
-unfolding first_of
+file_at-joined : (q : List ℕ) (fs gs : List File) → file_at q (fs ++ gs) ≡ option_or (file_at q fs) (file_at q gs)
 file_at-joined q [] gs = refl
-file_at-joined q (f ∷ fs) gs = ap (cond (bytes_eq f.path q) (Some f)) (file_at-joined q fs gs) ∙ first_of-next (bytes_eq f.path q) f (file_at q fs) (file_at q gs)
+file_at-joined q (f ∷ fs) gs = ap (cond (bytes_eq f.path q) (Some f)) (file_at-joined q fs gs) ∙ option_or-next (bytes_eq f.path q) f (file_at q fs) (file_at q gs)
 
 file_at-filter_next : (t : List ℕ → Bool) (q : List ℕ) (f : File) (rest : List File) (o : Option File) (b e : Bool) → t f.path ≡ b → bytes_eq f.path q ≡ e → file_at q rest ≡ cond (t q) o None → file_at q (cond b (f ∷ rest) rest) ≡ cond (t q) (cond e (Some f) o) None
 file_at-filter_next t q f rest o true true tested same is =
@@ -111,7 +106,7 @@ side : List ℕ → Ordering → List ℕ → Bool
 side path o q = ordering_index (slice_cmp nat_cmp q path) == ordering_index o
 
 file_at-put_in_self : (path bytes : List ℕ) (stamp : ℕ) (fs : List File) → file_at path (put_in path bytes stamp fs) ≡ Some (record { path = path; bytes = bytes; stamp = stamp })
-unfolding first_of side
+unfolding side
 file_at-put_in_self path bytes stamp fs =
     file_at-joined path (filter (is_at_side path Less) fs) _ ∙ rw (file_at-filter (side path Less) path fs, tied_itself nat_list_cmp_total path, bytes_eq-same path)
 
@@ -119,8 +114,7 @@ apart : (path q : List ℕ) → q ≢ path → bytes_eq path q ≡ false
 apart path q n = not_true (bytes_eq path q) (λ t. n (sym ((bytes_eq-Decides path q).0 t)))
 
 -- a path that is not Equal stands at one of the two sides
-of_sides : (o : Ordering) (f : Option File) → is_eq o ≡ false → first_of (cond (ordering_index o == 0) f None) (cond (ordering_index o == 2) f None) ≡ f
-unfolding first_of
+of_sides : (o : Ordering) (f : Option File) → is_eq o ≡ false → option_or (cond (ordering_index o == 0) f None) (cond (ordering_index o == 2) f None) ≡ f
 of_sides Less None n = refl
 of_sides Less (Some f) n = refl
 of_sides Equal f n = cc

@@ -1,5 +1,5 @@
 ghost use Rattle.std.specs.Prelude.{◌≤◌, ◌<◌, length, IfErr, OnOk, IfSome, IsSomeAnd};
-ghost use Rattle.file_store.specs.Commits.{AreWritten, AreWrittenTo, IsCommitCaused, place_of};
+ghost use Rattle.file_store.specs.Commits.{AreWritten, AreWrittenTo, HasContents, IsCommitCaused, place_of};
 
 use crate::{Store, StoreError};
 use msb_values::{List, Put};
@@ -17,6 +17,7 @@ pub enum CommitFault {
 /// Writes files in order, and stops at the first that the store doesn't write.
 pub fn commit<S: Store>(alloc: Global, store: &mut S, list: &List<Put>) -> Result<(), CommitFault>
     ensures whole { OnOk result (IfSome (S.tree store.old) (λ t. IsSomeAnd (S.tree store.new) (AreWritten list.now t))) }
+    ensures contents { OnOk result (IfSome (S.tree store.old) (λ t. IsSomeAnd (S.tree store.new) (HasContents list.now t))) }
     ensures part { IfErr result (λ e. IfSome (S.tree store.old) (λ t. IsSomeAnd (S.tree store.new) (AreWrittenTo (place_of e) list.now t))) }
     ensures place { IfErr result (λ e. place_of e < length list.now) }
     ensures later { S.fault_count store.old ≤ S.fault_count store.new }

@@ -23,3 +23,6 @@ pub use output::OutSink;
 pub use sink::{Sink, SinkError};
 pub use store::{Entry, Store, StoreError};
 pub use tree::{File, Tree};
+
+#[cfg(test)]
+mod tests;
