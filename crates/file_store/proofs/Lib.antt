@@ -1,0 +1,6 @@
+pub mod Order
+pub mod Listed
+pub mod Lookups
+pub mod Commits
+pub mod Loaded
+pub mod Puts

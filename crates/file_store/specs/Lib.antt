@@ -1,0 +1,9 @@
+pub mod Paths
+pub mod Files
+pub mod Entries
+pub mod Writes
+pub mod Loads
+pub mod Failed
+pub mod Memory
+pub mod MemorySink
+pub mod Commits

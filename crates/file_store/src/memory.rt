@@ -1,0 +1,211 @@
+ghost use Rattle.std.specs.Prelude.{◌≡◌, ◌↔◌, Some, Ok, Err, IfOk, OnOk, OnErr, take, ◌++◌, ◌<◌, ◌≤◌, ◌-◌, ◌^◌, true, IsTrue, IfSome};
+ghost use Rattle.std.specs.List.{filter, All, Any};
+ghost use Rattle.std.specs.Option.{IfNone};
+ghost use Rattle.msb_laws.specs.Faults.{HasCause};
+ghost use Rattle.file_store.specs.Files.{bytes_at};
+ghost use Rattle.file_store.specs.Entries.{entries_of, are_listed_in_order};
+ghost use Rattle.file_store.specs.Writes.{IsWritten, put_in, is_at_side};
+ghost use Rattle.file_store.specs.Failed.{has_failed};
+ghost use Rattle.file_store.specs.declared.store.StoreError.TheVariants.{Failed};
+
+use crate::{Entry, File, Store, StoreError, Tree};
+use msb_values::{Copied, List, NoMemory, Text, Text8};
+use std::alloc::Global;
+use std::cmp::Ordering;
+
+/// A store in memory, which tells its files.
+///
+/// Its calls of `list`, `read` and `write` are numbered from 0, and some numbers may be chosen to fail.
+#[derive(Drop)]
+pub struct MemStore {
+    tree: Tree,
+    fail: Vec<u64>,
+    calls: u64,
+    faults: u64,
+}
+
+impl MemStore {
+    ghost use Rattle.file_store.specs.Memory.{IsNewStore, IsToFail, Counts, files_in};
+
+    /// A store of these files, in which the calls of the numbers in `fail` are to fail.
+    pub fn new(_alloc: Global, tree: Tree, fail: Vec<u64>) -> Result<MemStore, NoMemory>
+        ensures { IfOk result (IsNewStore tree.files fail.items) }
+    {
+        Ok(MemStore {
+            tree,
+            fail,
+            calls: 0,
+            faults: 0,
+        })
+    }
+
+    // Counts a call, and says whether it is to fail.
+    fn is_failing(&mut self) -> bool
+        ensures exact { IsTrue result ↔ IsToFail self.old }
+        ensures tree { files_in self.new ≡ files_in self.old }
+        ensures counts { Counts result self.old self.new }
+        ensures later { self.old.faults ≤ self.new.faults }
+    {
+        let call = self.calls;
+        self.calls = self.calls.saturating_add(1);
+        if self.fail.contains(&call) {
+            self.faults = self.faults.saturating_add(1);
+            return true;
+        }
+        false
+    }
+
+    /// The files that it holds.
+    pub fn tree(&self) -> &Tree
+        ensures { result.now.files ≡ files_in self.now }
+    {
+        &self.tree
+    }
+}
+
+impl Store for MemStore {
+    ghost use Rattle.file_store.specs.Memory.{files_in, IsToFail, IsNoWrite, Counts};
+
+    ghost tree = { λ s. Some (files_in s) };
+
+    ghost fault_count = { λ s. s.faults };
+
+    ghost told_in_order = { λ s. s.tree.in_order };
+
+    /// It fails exactly at the chosen numbers.
+    fn list(&mut self, alloc: Global) -> Result<List<Entry>, StoreError>
+        ensures order { IfOk result (λ l. are_listed_in_order l ≡ true) }
+        ensures all { IfOk result (λ l. l ≡ entries_of (files_in self.old)) }
+        ensures kept { files_in self.new ≡ files_in self.old }
+        ensures cause { HasCause Failed self.old.faults self.new.faults result }
+        ensures failed { (result ≡ Err Failed) ↔ IsToFail self.old }
+        ensures counts { Counts (has_failed result) self.old self.new }
+    {
+        if self.is_failing() {
+            return Err(StoreError::Failed);
+        }
+        Ok(entries(alloc, self.tree.files.as_slice())?)
+    }
+
+    /// It fails exactly at the chosen numbers. A path without a file has no bytes.
+    fn read(&mut self, alloc: Global, path: &str, most: u64) -> Result<Text8, StoreError>
+        ensures front { IfOk result (λ b. b ≡ take most (bytes_at path.now (files_in self.old))) }
+        ensures kept { files_in self.new ≡ files_in self.old }
+        ensures cause { HasCause Failed self.old.faults self.new.faults result }
+        ensures failed { (result ≡ Err Failed) ↔ IsToFail self.old }
+        ensures counts { Counts (has_failed result) self.old self.new }
+    {
+        if self.is_failing() {
+            return Err(StoreError::Failed);
+        }
+        Ok(front(alloc, &self.tree, path, most)?)
+    }
+
+    /// It fails exactly at the chosen numbers, and where a file has the last stamp. The files then are as they were.
+    fn write(&mut self, alloc: Global, path: &str, bytes: &[u8]) -> Result<(), StoreError>
+        ensures written { OnOk result (IsWritten path.now bytes.now (files_in self.old) (files_in self.new)) }
+        ensures stopped { OnErr result (files_in self.new ≡ files_in self.old) }
+        ensures cause { HasCause Failed self.old.faults self.new.faults result }
+        ensures failed { (result ≡ Err Failed) ↔ IsNoWrite self.old }
+        ensures counts { Counts (has_failed result) self.old self.new }
+    {
+        if self.is_failing() {
+            return Err(StoreError::Failed);
+        }
+        let files = self.tree.files.as_slice();
+        match next_stamp(files) {
+            Some(stamp) => {
+                let files = with_file(alloc, files, path, bytes, stamp)?;
+                self.tree = Tree { files };
+                Ok(())
+            }
+            None => {
+                self.faults = self.faults.saturating_add(1);
+                Err(StoreError::Failed)
+            }
+        }
+    }
+
+    fn faults(&self) -> u64 {
+        self.faults
+    }
+}
+
+fn entries(alloc: Global, files: &[File]) -> Result<List<Entry>, NoMemory>
+    ensures { IfOk result (λ l. l ≡ entries_of files.now) }
+{
+    let mut all = List::new(alloc);
+    for file in files {
+        all.push(Entry {
+            path: file.path.copy()?,
+            size: file.bytes.len() as u64,
+            stamp: file.stamp,
+        })?;
+    }
+    Ok(all)
+}
+
+fn front(alloc: Global, tree: &Tree, path: &str, most: u64) -> Result<Text8, NoMemory>
+    ensures { IfOk result (λ b. b ≡ take most (bytes_at path.now tree.now.files)) }
+{
+    match tree.find(path) {
+        Some(file) => {
+            let bytes = file.bytes.as_bytes();
+            let end = bytes.len().min(most as usize);
+            Text8::of(alloc, &bytes[..end])
+        }
+        None => Ok(Text8::new(alloc)),
+    }
+}
+
+// A stamp that is greater than all others, if there is one.
+fn next_stamp(files: &[File]) -> Option<u64>
+    ensures none { IfNone result (Any (λ f. f.stamp ≡ 2 ^ 64 - 1) files.now) }
+    ensures newest { IfSome result (λ stamp. All (λ f. f.stamp < stamp) files.now) }
+{
+    let mut next = 0;
+    for file in files {
+        if next <= file.stamp {
+            next = file.stamp.checked_add(1)?;
+        }
+    }
+    Some(next)
+}
+
+// The files with these bytes at a path.
+fn with_file(
+    alloc: Global,
+    files: &[File],
+    path: &str,
+    bytes: &[u8],
+    stamp: u64,
+) -> Result<List<File>, NoMemory>
+    ensures { IfOk result (λ l. l ≡ put_in path.now bytes.now stamp files.now) }
+{
+    let mut all = List::new(alloc);
+    add_copies(&mut all, files, path, Ordering::Less)?;
+    all.push(File {
+        path: Text::of(alloc, path)?,
+        bytes: Text8::of(alloc, bytes)?,
+        stamp,
+    })?;
+    add_copies(&mut all, files, path, Ordering::Greater)?;
+    Ok(all)
+}
+
+// Adds a copy of each file whose path stands before the given one, or after it.
+fn add_copies(
+    all: &mut List<File>,
+    files: &[File],
+    path: &str,
+    side: Ordering,
+) -> Result<(), NoMemory>
+    ensures { OnOk result (all.new ≡ all.old ++ filter (is_at_side path.now side) files.now) }
+{
+    for file in files {
+        if file.path.as_str().cmp(path) == side {
+            all.push(file.copy()?)?;
+        }
+    }
+    Ok(())
+}
