@@ -12,7 +12,7 @@ use Rattle.serde_json.specs.Read.{read}
 use Rattle.msb_elements.specs.Nodes.{Node, node, Nodes, no_nodes, more}
 
 -- the JSON value that a file's bytes are, by `serde_json`, if they are one
-abbrev pub json_in : List ℕ → Option Data
+unfoldable pub json_in : List ℕ → Option Data
 json_in bytes = if is_utf8 bytes then read bytes else None
 
 abbrev pub is_element_key : List ℕ → Bool
@@ -75,7 +75,7 @@ abbrev mutual
   -- the value of the member `c`
   pub children_in_members : List ℕ → Members → Option Nodes
   children_in_members place no_members = Some no_nodes
-  children_in_members place (member key d ms) = if bytes_eq key (codes "c") then children_at place d else children_in_members place ms
+  children_in_members place (member key d ms) = if bytes_eq (codes "c") key then children_at place d else children_in_members place ms
 
   pub children_at : List ℕ → Data → Option Nodes
   children_at place (array ds) = elements_from place 0 ds
@@ -91,5 +91,5 @@ abbrev mutual
   elements_from place i (item d ds) = option_and_then (λ n. option_map (more n) (elements_from place (i + 1) ds)) (element_at (place ++ i ∷ []) d)
 
 -- the root element that a file's bytes are, if they are one
-abbrev pub element_in : List ℕ → Option Node
+unfoldable pub element_in : List ℕ → Option Node
 element_in bytes = option_and_then (element_at []) (json_in bytes)

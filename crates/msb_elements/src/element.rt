@@ -66,12 +66,7 @@ impl Element {
     pub fn attribute(&self, name: &str) -> Option<&str>
         ensures { option_copied result ≡ value_at name.now (attributes_of (view self.now)) }
     {
-        for (key, value) in &self.attributes {
-            if key.as_str() == name {
-                return Some(value.as_str());
-            }
-        }
-        None
+        value_of(&self.attributes, name)
     }
 
     /// The text, which is empty where the element has none.
@@ -91,13 +86,24 @@ impl Element {
     pub fn count(&self) -> usize
         ensures { result ≡ length (children_in (view self.now)) }
     {
-        self.children.len()
+        self.children().len()
     }
 
     /// The child with this number, counted from 0.
     pub fn child(&self, at: usize) -> Option<&Element>
         ensures { option_map (λ child. view child.now) result ≡ slice_get (children_in (view self.now)) at }
     {
-        self.children.get(at)
+        self.children().get(at)
     }
+}
+
+fn value_of<'a>(attributes: &'a [(Text, Text)], name: &str) -> Option<&'a str>
+    ensures { option_copied result ≡ value_at name.now attributes.now }
+{
+    for (key, value) in attributes {
+        if name == key.as_str() {
+            return Some(value.as_str());
+        }
+    }
+    None
 }

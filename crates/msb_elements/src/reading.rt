@@ -1,8 +1,7 @@
-ghost use Rattle.std.specs.Prelude.{◌≡◌, ◌==◌, ◌||◌, codes};
-ghost use Rattle.std.specs.Str.{bytes_eq};
+ghost use Rattle.std.specs.Prelude.{◌≡◌, [], codes};
 ghost use Rattle.serde_json.specs.Find.{get};
 ghost use Rattle.serde_json.specs.View.{view as value_of, items_view, members_view};
-ghost use Rattle.msb_elements.specs.Forms.{is_element_key, has_element_keys, has_element_members, name_in, attributes_in, texts_at, texts_of, text_in, element_at, elements_from};
+ghost use Rattle.msb_elements.specs.Forms.{is_element_key, has_element_keys, has_element_members, name_in, attributes_in, texts_of, text_in, element_at, elements_from};
 ghost use Rattle.msb_elements.specs.Reads.{ReadsFile, Gives, children_if};
 ghost use Rattle.msb_elements.specs.View.{view, views};
 
@@ -23,10 +22,7 @@ pub fn read_project(alloc: Global, bytes: &[u8]) -> Result<Project, ReadFault>
     ensures { ReadsFile bytes.now result }
 {
     match Value::from_slice(alloc, bytes) {
-        Ok(value) => {
-            let root = element(alloc, Place::root(alloc), &value)?;
-            Ok(Project { root })
-        }
+        Ok(value) => root_of(alloc, &value),
         Err(error) => {
             if error.is_memory() {
                 return Err(ReadFault::Memory);
@@ -34,6 +30,13 @@ pub fn read_project(alloc: Global, bytes: &[u8]) -> Result<Project, ReadFault>
             Err(ReadFault::NotJson)
         }
     }
+}
+
+fn root_of(alloc: Global, value: &Value) -> Result<Project, ReadFault>
+    ensures { Gives (λ project. view project.root) result (element_at [] (value_of value.now)) }
+{
+    let root = element(alloc, Place::root(alloc), value)?;
+    Ok(Project { root })
 }
 
 #[cycle(element)]
