@@ -1,12 +1,12 @@
 -- The element of a value, by the values of its members.
-use Rattle.std.proofs.Common.{◌≡◌, ℕ, List, [], ◌∷◌, ◌&&◌, Bool, true, false, Option, Some, None, Ordering, Less, Equal, Greater, if◌then◌else◌, codes, refl, sym, ◌∙◌}
+use Rattle.std.proofs.Common.{◌≡◌, ℕ, List, true, Option, Some, None, Ordering, Less, Equal, Greater, if◌then◌else◌, codes, refl}
 use Rattle.std.proofs.lemmas.Map.Text.{is_eq-slice_cmp}
 use Rattle.std.specs.Ordering.{nat_cmp, is_eq, match_ordering}
 use Rattle.std.specs.Cmp.Lexicographic.{slice_cmp}
 use Rattle.serde_json.specs.Data.{Data, null, boolean, number, string, array, object, Members, no_members, member}
 use Rattle.serde_json.specs.Find.{get, get_member}
 use Rattle.msb_elements.specs.Nodes.{Nodes}
-use Rattle.msb_elements.specs.Forms.{has_element_members, element_from, name_in, attributes_in, text_in, made_of, element_at, children_in_members, children_at}
+use Rattle.msb_elements.specs.Forms.{has_element_members, name_in, attributes_in, text_in, made_of, element_at, children_in_members, children_at}
 use Rattle.msb_elements.specs.Reads.{RefusesPart, children_if}
 use Rattle.msb_elements.specs.declared.errors.ReadFault.{ReadFault}
 use Rattle.msb_elements.specs.declared.errors.ReadFault.TheVariants.{NotJson, NotYet, Memory}

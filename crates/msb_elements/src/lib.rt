@@ -7,6 +7,8 @@ mod element;
 mod errors;
 mod place;
 mod reading;
+#[cfg(test)]
+mod tests;
 
 pub use element::{Element, Project};
 pub use errors::ReadFault;
