@@ -1,0 +1,5 @@
+pub mod Views
+pub mod Depths
+pub mod Fronts
+pub mod Forming
+pub mod Files

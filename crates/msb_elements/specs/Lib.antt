@@ -1,0 +1,5 @@
+pub mod Nodes
+pub mod Places
+pub mod View
+pub mod Forms
+pub mod Reads

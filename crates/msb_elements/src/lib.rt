@@ -1,0 +1,16 @@
+//! Project files as trees of elements.
+//!
+//! A contract sees an [`Element`] as plain data: its place, its name, its attributes, its text and its children.
+#![tactic(auto)]
+
+mod element;
+mod errors;
+mod place;
+mod reading;
+#[cfg(test)]
+mod tests;
+
+pub use element::{Element, Project};
+pub use errors::ReadFault;
+pub use place::Place;
+pub use reading::read_project;
