@@ -1,0 +1,78 @@
+-- What a status of the program says of its words, of the files that the store tells, and of what was printed.
+use Rattle.std.specs.Prelude.{◌≡◌, ◌⊎◌, ◌++◌, ℕ, List, Option, Some, None, IfSome, IsSome, codes}
+use Rattle.msb_laws.specs.Faults.{Rose}
+use Rattle.msb_laws.specs.Gains.{Appends, AppendsFront, Prints}
+use Rattle.file_store.specs.Files.{file_at}
+use Rattle.file_store.specs.declared.tree.File.{File}
+use Rattle.msb_program.specs.Command.{Command, command_in}
+use Rattle.msb_program.specs.Report.{line}
+use Rattle.msb_program.specs.Outcomes.{Outcome, outcome_of}
+
+-- a sink's count of faults and the bytes that it tells, before and after the call
+pub record Printing : Type 0 where
+  pub faults_before : ℕ
+  pub faults_after : ℕ
+  pub before : Option (List ℕ)
+  pub after : Option (List ℕ)
+
+abbrev pub printing : ℕ → ℕ → Option (List ℕ) → Option (List ℕ) → Printing
+printing faults_before faults_after before after = record { faults_before = faults_before; faults_after = faults_after; before = before; after = after }
+
+-- the whole text was printed
+abbrev pub PrintedAll : Printing → List ℕ → Type 0
+PrintedAll p text = Appends p.before p.after text
+
+-- a front of the text was printed
+abbrev pub PrintedFront : Printing → List ℕ → Type 0
+PrintedFront p text = AppendsFront p.before p.after text
+
+-- the whole text was printed, or a front of it where the sink failed
+abbrev pub Printed : Printing → List ℕ → Type 0
+Printed p text = Prints p.faults_before p.faults_after p.before p.after text
+
+abbrev pub usage : List ℕ
+usage = line (codes "usage: msb ACTION PROJECT [--target LIST] [--property LIST] [--nodes N] [--clean] [--show low] [--size N]")
+
+-- the words are a command, and of its outcome over the told files P holds
+abbrev pub IfOutcome : List (List ℕ) → Option (List File) → (Outcome → Type 0) → Type 0
+IfOutcome words told P = (command : Command) × (command_in words ≡ Some command) × IfSome told (λ files. P (outcome_of command files))
+
+-- 0: the command was carried out, and its text was printed whole
+abbrev pub IsDone : List (List ℕ) → Option (List File) → Printing → Type 0
+IsDone words told p = IfOutcome words told (λ o. (o.status ≡ 0) × PrintedAll p o.text)
+
+-- 2: the words are outside the grammar
+abbrev pub IsUsage : List (List ℕ) → Printing → Type 0
+IsUsage words p = (command_in words ≡ None) × Printed p usage
+
+-- 3: the project is refused
+abbrev pub IsRefused : List (List ℕ) → Option (List File) → Printing → Type 0
+IsRefused words told p = IfOutcome words told (λ o. (o.status ≡ 3) × Printed p o.text)
+
+-- the store failed at its listing, or at the read of a file
+abbrev pub IsStoreFault : Option (List File) → List ℕ → Type 0
+IsStoreFault told text = (text ≡ line (codes "store fault")) ⊎ ((path : List ℕ) × IfSome told (λ files. IsSome (file_at path files)) × (text ≡ line (codes "store fault " ++ path)))
+
+-- 5: the store's count of faults rose
+abbrev pub IsStoreFailure : ℕ → ℕ → List (List ℕ) → Option (List File) → Printing → Type 0
+IsStoreFailure before after words told p = Rose before after × IsSome (command_in words) × ((text : List ℕ) × IsStoreFault told text × Printed p text)
+
+-- 6: the sink's count of faults rose where all else was done
+abbrev pub IsSinkFailure : List (List ℕ) → Option (List File) → Printing → Type 0
+IsSinkFailure words told p = Rose p.faults_before p.faults_after × IfOutcome words told (λ o. (o.status ≡ 0) × PrintedFront p o.text)
+
+-- where neither failed, the status is that of the words and the files, or want of memory
+abbrev pub IsStatusOf : Option Command → Option (List File) → ℕ → Type 0
+IsStatusOf None told status = status ≡ 2
+IsStatusOf (Some command) told status = IfSome told (λ files. status ≡ (outcome_of command files).status)
+
+-- What each status says. 7 is want of memory, which may come at any place and prints nothing.
+pub record Answers (words : List (List ℕ)) (told : Option (List File)) (before after : ℕ) (p : Printing) (status : ℕ) : Type 0 where
+  pub known : (status ≡ 0) ⊎ (status ≡ 2) ⊎ (status ≡ 3) ⊎ (status ≡ 5) ⊎ (status ≡ 6) ⊎ (status ≡ 7)
+  pub done : status ≡ 0 → IsDone words told p
+  pub usage : status ≡ 2 → IsUsage words p
+  pub refused : status ≡ 3 → IsRefused words told p
+  pub store : status ≡ 5 → IsStoreFailure before after words told p
+  pub sink : status ≡ 6 → IsSinkFailure words told p
+  pub silent : status ≡ 7 → p.after ≡ p.before
+  pub unfailing : ¬ Rose before after → ¬ Rose p.faults_before p.faults_after → (status ≡ 7) ⊎ IsStatusOf (command_in words) told status
