@@ -20,6 +20,11 @@ abbrev pub answered_by : {Q A R S : Type 0} → (Q → S → Option (A × S)) �
 answered_by answer (gives r) s = Some (r, s)
 answered_by answer (asks q go) s = and_then (answer q s) (λ p. answered_by answer (go p.0) p.1)
 
+-- the end and the last state where every question has an answer
+abbrev pub played_by : {Q A R S : Type 0} → (Q → S → A × S) → Asking Q A R → S → R × S
+played_by answer (gives r) s = (r, s)
+played_by answer (asks q go) s = let p = answer q s in played_by answer (go p.0) p.1
+
 -- the questions along a list of answers
 abbrev pub asked_along : {Q A R : Type 0} → Asking Q A R → List A → List Q
 asked_along (gives r) answers = []
