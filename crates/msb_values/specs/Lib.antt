@@ -4,3 +4,4 @@ pub mod Causes
 pub mod Kinds
 pub mod Pairs
 pub mod Same
+pub mod Lists
