@@ -5,3 +5,4 @@ pub mod Kinds
 pub mod Pairs
 pub mod Same
 pub mod Lists
+pub mod Escapes

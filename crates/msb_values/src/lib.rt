@@ -6,6 +6,7 @@
 
 mod cause;
 mod errors;
+mod escapes;
 mod item;
 mod list;
 mod lists;
@@ -20,6 +21,7 @@ mod text8;
 
 pub use cause::Cause;
 pub use errors::{NameFault, NoMemory};
+pub use escapes::{escape, unescape};
 pub use item::Item;
 pub use list::{Copied, List};
 pub use lists::split_list;
