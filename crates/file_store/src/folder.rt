@@ -1,4 +1,4 @@
-ghost use Rattle.std.specs.Prelude.{◌≡◌, ◌≤◌, None, IfOk, true};
+ghost use Rattle.std.specs.Prelude.{◌≡◌, ◌<ℤ◌, ◌+◌, ◌-◌, ◌*◌, ◌^◌, ◌≤◌, ℕ, pos, min, None, IfOk, true};
 ghost use Rattle.msb_laws.specs.Faults.{Rose};
 ghost use Rattle.file_store.specs.Entries.{are_listed_in_order};
 
@@ -7,8 +7,8 @@ use msb_values::{Copied, List, NoMemory, Text, Text8};
 use std::alloc::Global;
 use std::collections::BTreeMap;
 use std::io::{ErrorKind, Read};
+use std::os::unix::fs::MetadataExt;
 use std::rt::Files;
-use std::time::UNIX_EPOCH;
 use std::{fs, io};
 
 /// A real folder. It tells nothing.
@@ -149,17 +149,24 @@ fn list_one<R: Files>(
         if data.is_dir() {
             left.push(path)?;
         } else if data.is_file() {
-            found.insert(Text::from(path), (data.len(), stamp_of(&data)?))?;
+            let nanoseconds = u64::try_from(data.mtime_nsec()).unwrap_or(0);
+            let stamp = stamp_of(data.mtime(), nanoseconds);
+            found.insert(Text::from(path), (data.len(), stamp))?;
         }
     }
     Ok(())
 }
 
-// The time of the last change.
-fn stamp_of(data: &fs::Metadata) -> io::Result<u64> {
-    match data.modified()?.duration_since(UNIX_EPOCH) {
-        Ok(since) => Ok(u64::try_from(since.as_nanos()).unwrap_or(u64::MAX)),
-        Err(_) => Ok(0),
+// A time since 1970 in nanoseconds, as far as they can be counted, and 0 for an earlier time.
+fn stamp_of(seconds: i64, nanoseconds: u64) -> u64
+    ensures early { seconds <ℤ pos 0 → result ≡ 0 }
+    ensures since { (n : ℕ) → seconds ≡ pos n → result ≡ min (n * 1000000000 + nanoseconds) (2 ^ 64 - 1) }
+{
+    match u64::try_from(seconds) {
+        Ok(seconds) => seconds
+            .saturating_mul(1_000_000_000)
+            .saturating_add(nanoseconds),
+        Err(_) => 0,
     }
 }
 
