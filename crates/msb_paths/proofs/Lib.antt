@@ -1,0 +1,3 @@
+pub mod NormalLaws
+pub mod PartLaws
+pub mod Walks

@@ -1,0 +1,10 @@
+-- A folder and a file as one path.
+use Rattle.std.specs.Prelude.{ℕ, ◌-◌, Bool, ◌||◌, ◌==◌, List, ◌∷◌, ◌++◌, length, slice_index, if◌then◌else◌}
+use Rattle.msb_paths.specs.Segments.{is_slash}
+
+-- a folder that the file's name may follow at once: the empty one, or one that ends with `/`
+abbrev pub is_open : List ℕ → Bool
+is_open folder = length folder == 0 || is_slash (slice_index folder (length folder - 1))
+
+abbrev pub joined : List ℕ → List ℕ → List ℕ
+joined folder file = if is_open folder then folder ++ file else folder ++ 47 ∷ file

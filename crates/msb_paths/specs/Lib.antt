@@ -1,0 +1,6 @@
+pub mod Answer
+pub mod Join
+pub mod Normal
+pub mod Parts
+pub mod Presence
+pub mod Segments
