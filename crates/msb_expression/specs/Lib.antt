@@ -1,0 +1,5 @@
+pub mod Grammar
+pub mod Refusals
+pub mod Machine
+pub mod Answers
+pub mod Written

@@ -1,0 +1,384 @@
+-- The grammar as steps from byte to byte: how far a text is read, and what the next byte does.
+use Rattle.std.specs.Prelude.{ℕ, Bool, true, false, ◌&&◌, ◌==◌, List, [], ◌∷◌, ◌++◌, Option, Some, None, if◌then◌else◌}
+use Rattle.msb_expression.specs.declared.starts.Inside.{Inside}
+use Rattle.msb_expression.specs.declared.starts.Inside.TheVariants.{Whole, Transform, Quoted}
+use Rattle.msb_expression.specs.declared.starts.Start.{Start}
+use Rattle.msb_expression.specs.declared.starts.Start.TheVariants as start
+use Rattle.msb_expression.specs.declared.sorts.Sort.{Sort}
+use Rattle.msb_expression.specs.declared.sorts.Sort.TheVariants.{End, Letter, Digit, Dash, Space, Quote, Open, Close, Comma, Dot, Greater, Dollar, Percent, At, Other}
+use Rattle.msb_expression.specs.declared.sorts.Kind.{Kind}
+use Rattle.msb_expression.specs.declared.sorts.Kind.TheVariants.{Name, Transform as BadStep, Nested}
+use Rattle.msb_expression.specs.declared.expression.Part.{Part}
+use Rattle.msb_expression.specs.declared.expression.Part.TheVariants.{Plain, Prop, Meta, Items}
+use Rattle.msb_expression.specs.declared.expression.Step.{Step}
+use Rattle.msb_expression.specs.declared.expression.Step.TheVariants.{Transform as Transforms, Call}
+use Rattle.msb_expression.specs.declared.expression.Piece.{Piece}
+use Rattle.msb_expression.specs.declared.expression.Piece.TheVariants.{Plain as PlainPiece, Prop as PropPiece, Meta as MetaPiece}
+use Rattle.msb_expression.specs.Grammar.{is_letter, is_digit}
+
+abbrev pub sort_of : ℕ → Sort
+sort_of b =
+    if is_letter b then Letter else
+    if is_digit b then Digit else
+    if b == 45 then Dash else
+    if b == 32 then Space else
+    if b == 39 then Quote else
+    if b == 40 then Open else
+    if b == 41 then Close else
+    if b == 44 then Comma else
+    if b == 46 then Dot else
+    if b == 62 then Greater else
+    if b == 36 then Dollar else
+    if b == 37 then Percent else
+    if b == 64 then At else Other
+
+-- a byte of a name
+abbrev pub is_name_sort : Sort → Bool
+is_name_sort Letter = true
+is_name_sort Digit = true
+is_name_sort Dash = true
+is_name_sort _ = false
+
+-- the sort of the first byte
+abbrev pub first_sort : List ℕ → Sort
+first_sort [] = End
+first_sort (b ∷ bs) = sort_of b
+
+-- the bytes begin with `->`
+abbrev pub is_arrow : List ℕ → Bool
+is_arrow [] = false
+is_arrow (b ∷ []) = false
+is_arrow (b ∷ c ∷ bs) = (b == 45) && (c == 62)
+
+-- an item reference as far as it is read
+pub record Heads : Type 0 where
+  pub parts : List Part
+  pub kind : List ℕ
+  pub steps : List Step
+
+-- which text between quotes
+pub data Place : Type 0 where
+  in_transform : Heads → Place
+  in_separator : Heads → Place
+  in_argument : Heads → (function : List ℕ) → (args : List (List Piece)) → Place
+
+-- which text, with what is read of it
+pub data Host : Type 0 where
+  whole : List Part → Host
+  inner : Place → List Piece → Host
+
+-- the last byte of plain text, where it may begin a reference
+pub data Mark : Type 0 where
+  unmarked : Mark
+  dollar : Mark
+  percent : Mark
+  at_sign : Mark
+
+-- which name
+pub data Named : Type 0 where
+  property : Named
+  metadata : Named
+  qualified : (kind : List ℕ) → Named
+
+abbrev pub is_metadata : Named → Bool
+is_metadata property = false
+is_metadata metadata = true
+is_metadata (qualified kind) = false
+
+pub data Mode : Type 0 where
+  in_text : Host → (plain : List ℕ) → Mark → Mode
+  name_opened : Host → Named → Mode
+  in_name : Host → Named → (name : List ℕ) → Mode
+  name_ended : Host → Named → (name : List ℕ) → Mode
+  type_opened : List Part → Mode
+  in_type : List Part → (kind : List ℕ) → Mode
+  type_dashed : List Part → (kind : List ℕ) → Mode
+  stepping : Heads → Mode
+  dashed : Heads → Mode
+  arrow : Heads → Mode
+  function_named : Heads → (function : List ℕ) → Mode
+  function_ended : Heads → (function : List ℕ) → Mode
+  args_opened : Heads → (function : List ℕ) → Mode
+  arg_ended : Heads → (function : List ℕ) → (args : List (List Piece)) → Mode
+  arg_wanted : Heads → (function : List ℕ) → (args : List (List Piece)) → Mode
+  separator_wanted : Heads → Mode
+  separator_ended : Heads → List Piece → Mode
+
+abbrev pub place_inside : Place → Inside
+place_inside (in_transform heads) = Transform
+place_inside (in_separator heads) = Quoted
+place_inside (in_argument heads function args) = Quoted
+
+abbrev pub host_inside : Host → Inside
+host_inside (whole parts) = Whole
+host_inside (inner place pieces) = place_inside place
+
+abbrev pub spelled : Mark → List ℕ
+spelled unmarked = []
+spelled dollar = 36 ∷ []
+spelled percent = 37 ∷ []
+spelled at_sign = 64 ∷ []
+
+-- plain text with its last mark
+abbrev pub settled : List ℕ → Mark → List ℕ
+settled plain mark = plain ++ spelled mark
+
+-- with a plain part, where that isn't empty
+abbrev pub flushed_parts : List Part → List ℕ → List Part
+flushed_parts parts [] = parts
+flushed_parts parts (b ∷ bs) = parts ++ Plain (b ∷ bs) ∷ []
+
+abbrev pub flushed_pieces : List Piece → List ℕ → List Piece
+flushed_pieces pieces [] = pieces
+flushed_pieces pieces (b ∷ bs) = pieces ++ PlainPiece (b ∷ bs) ∷ []
+
+abbrev pub flushed : Host → List ℕ → Host
+flushed (whole parts) plain = whole (flushed_parts parts plain)
+flushed (inner place pieces) plain = inner place (flushed_pieces pieces plain)
+
+-- with a reference of this name
+abbrev pub referred : Host → Named → List ℕ → Host
+referred (whole parts) property name = whole (parts ++ Prop name ∷ [])
+referred (whole parts) metadata name = whole (parts ++ Meta None name ∷ [])
+referred (whole parts) (qualified kind) name = whole (parts ++ Meta (Some kind) name ∷ [])
+referred (inner place pieces) property name = inner place (pieces ++ PropPiece name ∷ [])
+referred (inner place pieces) metadata name = inner place (pieces ++ MetaPiece name ∷ [])
+referred (inner place pieces) (qualified kind) name = inner place (pieces ++ MetaPiece name ∷ [])
+
+abbrev pub heads_of : List Part → List ℕ → Heads
+heads_of parts kind = record { parts = parts; kind = kind; steps = [] }
+
+abbrev pub with_step : Heads → Step → Heads
+with_step heads step = record { parts = heads.parts; kind = heads.kind; steps = heads.steps ++ step ∷ [] }
+
+abbrev pub with_steps : Heads → List Step → Heads
+with_steps heads steps = record { parts = heads.parts; kind = heads.kind; steps = heads.steps ++ steps }
+
+-- behind the closing quote of a text
+abbrev pub left : Place → List Piece → Mode
+left (in_transform heads) pieces = stepping (with_step heads (Transforms pieces))
+left (in_separator heads) pieces = separator_ended heads pieces
+left (in_argument heads function args) pieces = arg_ended heads function (args ++ pieces ∷ [])
+
+-- behind the `)` of an item reference
+abbrev pub closed : Heads → Option (List Piece) → Mode
+closed heads separator = in_text (whole (heads.parts ++ Items heads.kind heads.steps separator ∷ [])) [] unmarked
+
+-- What the next byte does: the text is read that far, or the byte is bad.
+pub data Next : Type 0 where
+  go : Mode → Next
+  stop : Kind → Next
+
+-- `%(`
+abbrev pub percent_step : Host → Inside → List ℕ → Next
+percent_step host Whole plain = go (name_opened (flushed host plain) metadata)
+percent_step host Transform plain = go (name_opened (flushed host plain) metadata)
+percent_step host Quoted plain = go (in_text host (plain ++ 37 ∷ 40 ∷ []) unmarked)
+
+-- `@(` between quotes
+abbrev pub nested_step : Host → Inside → List ℕ → Next
+nested_step host Whole plain = stop Nested
+nested_step host Transform plain = stop Nested
+nested_step host Quoted plain = go (in_text host (plain ++ 64 ∷ 40 ∷ []) unmarked)
+
+-- `@(`
+abbrev pub items_step : Host → List ℕ → Next
+items_step (whole parts) plain = go (type_opened (flushed_parts parts plain))
+items_step (inner place pieces) plain = nested_step (inner place pieces) (place_inside place) plain
+
+-- `(` in text
+abbrev pub open_step : Host → List ℕ → Mark → Next
+open_step host plain unmarked = go (in_text host (plain ++ 40 ∷ []) unmarked)
+open_step host plain dollar = go (name_opened (flushed host plain) property)
+open_step host plain percent = percent_step host (host_inside host) plain
+open_step host plain at_sign = items_step host plain
+
+-- `'` in text
+abbrev pub quote_step : Host → List ℕ → Next
+quote_step (whole parts) plain = go (in_text (whole parts) (plain ++ 39 ∷ []) unmarked)
+quote_step (inner place pieces) plain = go (left place (flushed_pieces pieces plain))
+
+abbrev pub text_step : Host → List ℕ → Mark → Sort → ℕ → Next
+text_step host plain mark Dollar b = go (in_text host (settled plain mark) dollar)
+text_step host plain mark Percent b = go (in_text host (settled plain mark) percent)
+text_step host plain mark At b = go (in_text host (settled plain mark) at_sign)
+text_step host plain mark Open b = open_step host plain mark
+text_step host plain mark Quote b = quote_step host (settled plain mark)
+text_step host plain mark _ b = go (in_text host (settled plain mark ++ b ∷ []) unmarked)
+
+-- `.` behind a name
+abbrev pub dot_step : Host → Named → List ℕ → Next
+dot_step host property name = stop Name
+dot_step (whole parts) metadata name = go (name_opened (whole parts) (qualified name))
+dot_step (inner place pieces) metadata name = stop BadStep
+dot_step host (qualified kind) name = stop Name
+
+abbrev pub name_opened_step : Host → Named → Sort → ℕ → Next
+name_opened_step host which Space b = go (name_opened host which)
+name_opened_step host which Letter b = go (in_name host which (b ∷ []))
+name_opened_step host which _ b = stop Name
+
+abbrev pub name_ended_step : Host → Named → List ℕ → Sort → Next
+name_ended_step host which name Space = go (name_ended host which name)
+name_ended_step host which name Close = go (in_text (referred host which name) [] unmarked)
+name_ended_step host which name Dot = dot_step host which name
+name_ended_step host which name _ = stop Name
+
+abbrev pub in_name_step : Host → Named → List ℕ → Sort → ℕ → Next
+in_name_step host which name Letter b = go (in_name host which (name ++ b ∷ []))
+in_name_step host which name Digit b = go (in_name host which (name ++ b ∷ []))
+in_name_step host which name Dash b = go (in_name host which (name ++ b ∷ []))
+in_name_step host which name sort b = name_ended_step host which name sort
+
+-- the kind of a bad byte where a step may follow
+abbrev pub stepping_kind : List Step → Kind
+stepping_kind [] = Name
+stepping_kind (step ∷ steps) = BadStep
+
+abbrev pub stepping_step : Heads → Sort → Next
+stepping_step heads Space = go (stepping heads)
+stepping_step heads Dash = go (dashed heads)
+stepping_step heads Comma = go (separator_wanted heads)
+stepping_step heads Close = go (closed heads None)
+stepping_step heads _ = stop (stepping_kind heads.steps)
+
+abbrev pub type_opened_step : List Part → Sort → ℕ → Next
+type_opened_step parts Space b = go (type_opened parts)
+type_opened_step parts Letter b = go (in_type parts (b ∷ []))
+type_opened_step parts _ b = stop Name
+
+abbrev pub in_type_step : List Part → List ℕ → Sort → ℕ → Next
+in_type_step parts kind Letter b = go (in_type parts (kind ++ b ∷ []))
+in_type_step parts kind Digit b = go (in_type parts (kind ++ b ∷ []))
+in_type_step parts kind Dash b = go (type_dashed parts kind)
+in_type_step parts kind sort b = stepping_step (heads_of parts kind) sort
+
+abbrev pub type_dashed_step : List Part → List ℕ → Sort → ℕ → Next
+type_dashed_step parts kind Greater b = go (arrow (heads_of parts kind))
+type_dashed_step parts kind sort b = in_type_step parts (kind ++ 45 ∷ []) sort b
+
+abbrev pub dashed_step : Heads → Sort → Next
+dashed_step heads Greater = go (arrow heads)
+dashed_step heads _ = stop BadStep
+
+abbrev pub arrow_step : Heads → Sort → ℕ → Next
+arrow_step heads Space b = go (arrow heads)
+arrow_step heads Quote b = go (in_text (inner (in_transform heads) []) [] unmarked)
+arrow_step heads Letter b = go (function_named heads (b ∷ []))
+arrow_step heads _ b = stop BadStep
+
+abbrev pub function_ended_step : Heads → List ℕ → Sort → Next
+function_ended_step heads function Space = go (function_ended heads function)
+function_ended_step heads function Open = go (args_opened heads function)
+function_ended_step heads function _ = stop BadStep
+
+abbrev pub function_named_step : Heads → List ℕ → Sort → ℕ → Next
+function_named_step heads function Letter b = go (function_named heads (function ++ b ∷ []))
+function_named_step heads function Digit b = go (function_named heads (function ++ b ∷ []))
+function_named_step heads function Dash b = go (function_named heads (function ++ b ∷ []))
+function_named_step heads function sort b = function_ended_step heads function sort
+
+abbrev pub args_opened_step : Heads → List ℕ → Sort → Next
+args_opened_step heads function Space = go (args_opened heads function)
+args_opened_step heads function Quote = go (in_text (inner (in_argument heads function []) []) [] unmarked)
+args_opened_step heads function Close = go (stepping (with_step heads (Call function [])))
+args_opened_step heads function _ = stop BadStep
+
+abbrev pub arg_ended_step : Heads → List ℕ → List (List Piece) → Sort → Next
+arg_ended_step heads function args Space = go (arg_ended heads function args)
+arg_ended_step heads function args Comma = go (arg_wanted heads function args)
+arg_ended_step heads function args Close = go (stepping (with_step heads (Call function args)))
+arg_ended_step heads function args _ = stop BadStep
+
+abbrev pub arg_wanted_step : Heads → List ℕ → List (List Piece) → Sort → Next
+arg_wanted_step heads function args Space = go (arg_wanted heads function args)
+arg_wanted_step heads function args Quote = go (in_text (inner (in_argument heads function args) []) [] unmarked)
+arg_wanted_step heads function args _ = stop BadStep
+
+abbrev pub separator_wanted_step : Heads → Sort → Next
+separator_wanted_step heads Space = go (separator_wanted heads)
+separator_wanted_step heads Quote = go (in_text (inner (in_separator heads) []) [] unmarked)
+separator_wanted_step heads _ = stop BadStep
+
+abbrev pub separator_ended_step : Heads → List Piece → Sort → Next
+separator_ended_step heads pieces Space = go (separator_ended heads pieces)
+separator_ended_step heads pieces Close = go (closed heads (Some pieces))
+separator_ended_step heads pieces _ = stop BadStep
+
+abbrev pub step_of : Mode → Sort → ℕ → Next
+step_of (in_text host plain mark) sort b = text_step host plain mark sort b
+step_of (name_opened host which) sort b = name_opened_step host which sort b
+step_of (in_name host which name) sort b = in_name_step host which name sort b
+step_of (name_ended host which name) sort b = name_ended_step host which name sort
+step_of (type_opened parts) sort b = type_opened_step parts sort b
+step_of (in_type parts kind) sort b = in_type_step parts kind sort b
+step_of (type_dashed parts kind) sort b = type_dashed_step parts kind sort b
+step_of (stepping heads) sort b = stepping_step heads sort
+step_of (dashed heads) sort b = dashed_step heads sort
+step_of (arrow heads) sort b = arrow_step heads sort b
+step_of (function_named heads function) sort b = function_named_step heads function sort b
+step_of (function_ended heads function) sort b = function_ended_step heads function sort
+step_of (args_opened heads function) sort b = args_opened_step heads function sort
+step_of (arg_ended heads function args) sort b = arg_ended_step heads function args sort
+step_of (arg_wanted heads function args) sort b = arg_wanted_step heads function args sort
+step_of (separator_wanted heads) sort b = separator_wanted_step heads sort
+step_of (separator_ended heads pieces) sort b = separator_ended_step heads pieces sort
+
+-- What a text comes to: its parts, the bytes from the bad one on, or too early an end.
+pub data Outcome : Type 0 where
+  done : List Part → Outcome
+  bad : Kind → List ℕ → Outcome
+  early : Outcome
+
+abbrev pub finish : Mode → Outcome
+finish (in_text (whole parts) plain mark) = done (flushed_parts parts (settled plain mark))
+finish _ = early
+
+abbrev pub followed : (Mode → Outcome) → Next → List ℕ → Outcome
+followed go_on (go mode) bytes = go_on mode
+followed go_on (stop kind) bytes = bad kind bytes
+
+unfoldable pub run : List ℕ → Mode → Outcome
+run [] mode = finish mode
+run (b ∷ bs) mode = followed (run bs) (step_of mode (sort_of b) b) (b ∷ bs)
+
+-- the start of a text
+abbrev pub begin : Mode
+begin = in_text (whole []) [] unmarked
+
+-- a byte of this kind is bad, or there is none
+abbrev pub refused : List ℕ → Kind → Outcome
+refused [] kind = early
+refused (b ∷ bs) kind = bad kind (b ∷ bs)
+
+-- what starts where bytes of these sorts stand
+abbrev pub opened_start : Sort → Start → Start
+opened_start Open here = here
+opened_start _ here = start.Plain
+
+abbrev pub quote_start : Inside → Start
+quote_start Whole = start.Plain
+quote_start Transform = start.Quote
+quote_start Quoted = start.Quote
+
+abbrev pub metadata_start : Inside → Start
+metadata_start Whole = start.Metadata
+metadata_start Transform = start.Metadata
+metadata_start Quoted = start.Plain
+
+abbrev pub items_start : Inside → Start
+items_start Whole = start.Items
+items_start Transform = start.Items
+items_start Quoted = start.Plain
+
+abbrev pub start_by : Inside → Sort → Sort → Start
+start_by inside End next = start.End
+start_by inside Quote next = quote_start inside
+start_by inside Dollar next = opened_start next start.Property
+start_by inside Percent next = opened_start next (metadata_start inside)
+start_by inside At next = opened_start next (items_start inside)
+start_by inside _ next = start.Plain
+
+abbrev pub start_of : Inside → List ℕ → Start
+start_of inside [] = start.End
+start_of inside (b ∷ bs) = start_by inside (sort_of b) (first_sort bs)

@@ -1,0 +1,48 @@
+use crate::{List, Word};
+
+/// A text as its parts, in order.
+#[derive(Drop)]
+pub struct Expr {
+    pub parts: Parts,
+}
+
+/// A part of a text. Names keep their case; two plain parts never stand side by side.
+#[derive(Drop)]
+pub enum Part {
+    /// Text without a reference, never empty.
+    Plain(Word),
+    /// `$(Name)`
+    Prop(Word),
+    /// `%(Name)` or `%(Type.Name)`
+    Meta(Option<Word>, Word),
+    /// `@(Type steps, 'separator')`
+    Items(Word, Steps, Option<Pieces>),
+}
+
+/// What is done to the items of a reference, one step after another.
+#[derive(Drop)]
+pub enum Step {
+    /// `->'transform'`
+    Transform(Pieces),
+    /// `->Function('argument', 'argument')`
+    Call(Word, Args),
+}
+
+/// A part of a text between quotes, where no `@(..)` is a reference, and `%(Name)` is one in a transform alone.
+#[derive(Drop)]
+pub enum Piece {
+    /// Text without a reference, never empty.
+    Plain(Word),
+    /// `$(Name)`
+    Prop(Word),
+    /// `%(Name)`
+    Meta(Word),
+}
+
+pub type Parts = List<Part>;
+
+pub type Steps = List<Step>;
+
+pub type Pieces = List<Piece>;
+
+pub type Args = List<Pieces>;

@@ -1,0 +1,160 @@
+ghost use Rattle.std.specs.Prelude.{◌≡◌, ℕ, List, ◌++◌, IfOk, OnOk, codes};
+ghost use Rattle.std.specs.List.{flat_map};
+ghost use Rattle.msb_expression.specs.Grammar.{IsReading};
+ghost use Rattle.msb_expression.specs.Written.{piece_text, quoted_text, listed_text, args_text, step_text, separator_text, part_text, text_of};
+
+use crate::{Expr, NoRoom, Part, Piece, Pieces, Step, Word};
+use std::alloc::Global;
+
+impl Expr {
+    /// The text without the spaces that the grammar allows.
+    pub fn text(&self, alloc: Global) -> Result<Word, NoRoom>
+        ensures text { IfOk result (λ word. word ≡ text_of self.now.parts) }
+
+        // What was read from a text is read again from this one.
+        ensures again { IfOk result (λ word. (text : List ℕ) → IsReading text self.now.parts → IsReading word self.now.parts) }
+    {
+        let mut word = Word::of(alloc, "")?;
+        push_parts(&mut word, self.parts.as_slice())?;
+        Ok(word)
+    }
+}
+
+impl Part {
+    /// The part's text without the spaces that the grammar allows.
+    pub fn text(&self, alloc: Global) -> Result<Word, NoRoom>
+        ensures { IfOk result (λ word. word ≡ part_text self.now) }
+    {
+        let mut word = Word::of(alloc, "")?;
+        push_part(&mut word, self)?;
+        Ok(word)
+    }
+}
+
+fn push_parts(word: &mut Word, parts: &[Part]) -> Result<(), NoRoom>
+    ensures { OnOk result (word.new ≡ word.old ++ flat_map part_text parts.now) }
+{
+    for part in parts {
+        push_part(word, part)?;
+    }
+    Ok(())
+}
+
+fn push_part(word: &mut Word, part: &Part) -> Result<(), NoRoom>
+    ensures { OnOk result (word.new ≡ word.old ++ part_text part.now) }
+{
+    match part {
+        Part::Plain(plain) => word.push_str(plain.as_str()),
+        Part::Prop(name) => push_reference(word, "$(", name),
+        Part::Meta(None, name) => push_reference(word, "%(", name),
+        Part::Meta(Some(kind), name) => {
+            word.push_str("%(")?;
+            word.push_str(kind.as_str())?;
+            push_reference(word, ".", name)
+        }
+        Part::Items(kind, steps, separator) => {
+            word.push_str("@(")?;
+            word.push_str(kind.as_str())?;
+            push_steps(word, steps.as_slice())?;
+            push_separator(word, separator)?;
+            word.push_str(")")
+        }
+    }
+}
+
+/// The name behind what opens it, with a `)`.
+fn push_reference(word: &mut Word, open: &str, name: &Word) -> Result<(), NoRoom>
+    ensures { OnOk result (word.new ≡ word.old ++ (open.now ++ name.now ++ codes ")")) }
+{
+    word.push_str(open)?;
+    word.push_str(name.as_str())?;
+    word.push_str(")")
+}
+
+fn push_steps(word: &mut Word, steps: &[Step]) -> Result<(), NoRoom>
+    ensures { OnOk result (word.new ≡ word.old ++ flat_map step_text steps.now) }
+{
+    for step in steps {
+        push_step(word, step)?;
+    }
+    Ok(())
+}
+
+fn push_step(word: &mut Word, step: &Step) -> Result<(), NoRoom>
+    ensures { OnOk result (word.new ≡ word.old ++ step_text step.now) }
+{
+    word.push_str("->")?;
+    match step {
+        Step::Transform(pieces) => push_quoted(word, pieces),
+        Step::Call(function, args) => {
+            word.push_str(function.as_str())?;
+            word.push_str("(")?;
+            push_args(word, args.as_slice())?;
+            word.push_str(")")
+        }
+    }
+}
+
+fn push_separator(word: &mut Word, separator: &Option<Pieces>) -> Result<(), NoRoom>
+    ensures { OnOk result (word.new ≡ word.old ++ separator_text separator.now) }
+{
+    match separator {
+        None => Ok(()),
+        Some(pieces) => push_listed(word, pieces),
+    }
+}
+
+fn push_args(word: &mut Word, args: &[Pieces]) -> Result<(), NoRoom>
+    ensures { OnOk result (word.new ≡ word.old ++ args_text args.now) }
+{
+    match args {
+        [] => Ok(()),
+        [first, others @ ..] => {
+            push_quoted(word, first)?;
+            push_others(word, others)
+        }
+    }
+}
+
+fn push_others(word: &mut Word, args: &[Pieces]) -> Result<(), NoRoom>
+    ensures { OnOk result (word.new ≡ word.old ++ flat_map listed_text args.now) }
+{
+    for arg in args {
+        push_listed(word, arg)?;
+    }
+    Ok(())
+}
+
+fn push_listed(word: &mut Word, pieces: &Pieces) -> Result<(), NoRoom>
+    ensures { OnOk result (word.new ≡ word.old ++ listed_text pieces.now) }
+{
+    word.push_str(",")?;
+    push_quoted(word, pieces)
+}
+
+fn push_quoted(word: &mut Word, pieces: &Pieces) -> Result<(), NoRoom>
+    ensures { OnOk result (word.new ≡ word.old ++ quoted_text pieces.now) }
+{
+    word.push_str("'")?;
+    push_pieces(word, pieces.as_slice())?;
+    word.push_str("'")
+}
+
+fn push_pieces(word: &mut Word, pieces: &[Piece]) -> Result<(), NoRoom>
+    ensures { OnOk result (word.new ≡ word.old ++ flat_map piece_text pieces.now) }
+{
+    for piece in pieces {
+        push_piece(word, piece)?;
+    }
+    Ok(())
+}
+
+fn push_piece(word: &mut Word, piece: &Piece) -> Result<(), NoRoom>
+    ensures { OnOk result (word.new ≡ word.old ++ piece_text piece.now) }
+{
+    match piece {
+        Piece::Plain(plain) => word.push_str(plain.as_str()),
+        Piece::Prop(name) => push_reference(word, "$(", name),
+        Piece::Meta(name) => push_reference(word, "%(", name),
+    }
+}

@@ -1,0 +1,6 @@
+pub mod Answer
+pub mod Expanded
+pub mod Match
+pub mod Parsed
+pub mod Search
+pub mod Tokens

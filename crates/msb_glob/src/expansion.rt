@@ -1,0 +1,136 @@
+ghost use Rattle.std.specs.Prelude.{◌≡◌, ◌++◌, map, filter, IfOk, option_copied, IsPermutation, IsSorted};
+ghost use Rattle.std.specs.List.{flat_map};
+ghost use Rattle.std.specs.Ordering.{nat_cmp};
+ghost use Rattle.std.specs.Cmp.Lexicographic.{slice_cmp};
+ghost use Rattle.msb_glob.specs.Expanded.{Expands, is_match, behind, ident_of, folder_text, recursive_dir, match_of};
+ghost use Rattle.msb_glob.specs.Match.{segment_token, segments_left};
+ghost use Rattle.msb_glob.specs.Tokens.{ahead_of, fits};
+
+use crate::Pattern;
+use crate::errors::OutOfMemory;
+use crate::parts::{Part, first_segment, fits_left};
+use msb_paths::{NoRoom, Word};
+use msb_values::{List, Text, escape};
+use std::alloc::Global;
+
+/// A path that a pattern stands for.
+#[derive(Drop)]
+pub struct Match {
+    /// The pattern's fixed part as written, with `/`, and then the rest of the path, escaped.
+    pub ident: Word,
+    /// The folders that the first `**` stands for, as few as it can, each with `/`, escaped.
+    pub recursive: Word,
+}
+
+/// The paths that a pattern stands for, in byte order.
+pub fn expand(alloc: Global, paths: &List<Text>, pattern: &Pattern) -> Result<List<Match>, NoRoom>
+    ensures { IfOk result (Expands pattern.now paths.now) }
+{
+    let found = found_in(alloc, paths.as_slice(), pattern)?;
+    Ok(matches_of(alloc, &found, pattern)?)
+}
+
+fn found_in<'a>(
+    alloc: Global,
+    paths: &'a [Text],
+    pattern: &Pattern,
+) -> Result<Vec<&'a str>, OutOfMemory>
+    ensures matching { IfOk result (λ found. IsPermutation (filter (is_match pattern.now) paths.now) (map (λ path. path.now) found.items)) }
+    ensures in_order { IfOk result (λ found. IsSorted (slice_cmp nat_cmp) (map (λ path. path.now) found.items)) }
+{
+    let mut found = Vec::new(alloc);
+    for path in paths {
+        if pattern.matches(path.as_str()) {
+            found.push(path.as_str())?;
+        }
+    }
+    found.sort()?;
+    Ok(found)
+}
+
+fn matches_of(alloc: Global, found: &[&str], pattern: &Pattern) -> Result<List<Match>, OutOfMemory>
+    ensures { IfOk result (λ matches. matches ≡ map (match_of pattern.now) (map (λ path. path.now) found.now)) }
+{
+    let mut matches = List::new(alloc);
+    for path in found {
+        matches.push(match_of(alloc, pattern, path)?)?;
+    }
+    Ok(matches)
+}
+
+fn match_of(alloc: Global, pattern: &Pattern, path: &str) -> Result<Match, OutOfMemory>
+    ensures { IfOk result (λ matching. matching ≡ match_of pattern.now path.now) }
+{
+    Ok(Match {
+        ident: ident_of(alloc, pattern.fixed.as_str(), pattern.taken, path)?,
+        recursive: recursive_dir(alloc, pattern.parts.as_slice(), path)?,
+    })
+}
+
+fn ident_of(alloc: Global, fixed: &str, taken: usize, path: &str) -> Result<Word, OutOfMemory>
+    ensures { IfOk result (λ ident. ident ≡ ident_of fixed.now taken path.now) }
+{
+    let mut ident = Word::of(alloc, fixed)?;
+    let rest = escape(alloc, behind(path, taken))?;
+    ident.push_str(rest.as_str())?;
+    Ok(ident)
+}
+
+/// What a path has behind its first segments.
+fn behind(path: &str, taken: usize) -> &str
+    ensures { result.now ≡ behind taken path.now }
+{
+    let mut left = Some(path);
+    for _at in 0..taken {
+        match first_segment(left) {
+            Some((_, behind)) => left = behind,
+            None => return "",
+        }
+    }
+    match left {
+        Some(rest) => rest,
+        None => "",
+    }
+}
+
+/// The folders that the first `**` stands for.
+fn recursive_dir(alloc: Global, parts: &[Part], path: &str) -> Result<Word, OutOfMemory>
+    ensures { IfOk result (λ folders. folders ≡ recursive_dir parts.now path.now) }
+{
+    let mut left = Some(path);
+    for (at, part) in parts.iter().enumerate() {
+        if part.is_gap() {
+            return folders_ahead(alloc, &parts[at + 1..], left);
+        }
+        match first_segment(left) {
+            Some((_, behind)) => left = behind,
+            None => return Ok(Word::of(alloc, "")?),
+        }
+    }
+    Ok(Word::of(alloc, "")?)
+}
+
+/// The folders ahead of the first place from which on the parts fit.
+fn folders_ahead(alloc: Global, parts: &[Part], place: Option<&str>) -> Result<Word, OutOfMemory>
+    ensures { IfOk result (λ folders. folders ≡ flat_map folder_text (ahead_of (fits (map segment_token parts.now)) (segments_left (option_copied place.entry)))) }
+{
+    let mut folders = Word::of(alloc, "")?;
+    let mut left = place;
+    while let Some((folder, behind)) = first_segment(left) {
+        if fits_left(parts, left) {
+            return Ok(folders);
+        }
+        push_folder(alloc, &mut folders, folder)?;
+        left = behind;
+    }
+    Ok(folders)
+}
+
+fn push_folder(alloc: Global, folders: &mut Word, folder: &str) -> Result<(), OutOfMemory>
+    ensures { IfOk result (λ _. folders.new ≡ folders.old ++ folder_text folder.now) }
+{
+    let name = escape(alloc, folder)?;
+    folders.push_str(name.as_str())?;
+    folders.push_str("/")?;
+    Ok(())
+}

@@ -1,0 +1,21 @@
+//! Patterns with wildcards, and the paths that they stand for, as MSBuild's items have them.
+//!
+//! `?` is one character, `*` any characters of one segment, and a segment `**` any number of whole
+//! folders. Characters match exactly.
+#![tactic(auto)]
+
+mod errors;
+mod expansion;
+mod fixed;
+mod parts;
+mod patterns;
+mod pieces;
+mod reading;
+mod splits;
+
+pub use errors::GlobFault;
+pub use expansion::{Match, expand};
+pub use patterns::Pattern;
+
+#[cfg(test)]
+mod tests;
