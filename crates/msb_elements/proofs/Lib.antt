@@ -3,3 +3,5 @@ pub mod Depths
 pub mod Fronts
 pub mod Forming
 pub mod Files
+pub mod Twos
+pub mod Checking

@@ -3,3 +3,7 @@ pub mod Places
 pub mod View
 pub mod Forms
 pub mod Reads
+pub mod Rows
+pub mod Stands
+pub mod Checks
+pub mod Checked

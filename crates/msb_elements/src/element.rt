@@ -19,7 +19,7 @@ pub struct Element {
     name: Text,
     attributes: Vec<(Text, Text)>,
     text: Text,
-    children: Vec<Element>,
+    pub(crate) children: Vec<Element>,
 }
 
 impl Element {
@@ -97,7 +97,7 @@ impl Element {
     }
 }
 
-fn value_of<'a>(attributes: &'a [(Text, Text)], name: &str) -> Option<&'a str>
+pub(crate) fn value_of<'a>(attributes: &'a [(Text, Text)], name: &str) -> Option<&'a str>
     ensures { option_copied result ≡ value_at name.now attributes.now }
 {
     for (key, value) in attributes {

@@ -1,7 +1,9 @@
 ghost use Rattle.std.specs.Prelude.{◌≡◌};
 ghost use Rattle.msb_elements.specs.declared.errors.ReadFault.TheVariants.{Memory};
+ghost use Rattle.msb_elements.specs.declared.errors.FormFault.TheVariants as form;
 
-use msb_values::NoMemory;
+use crate::Place;
+use msb_values::{NoMemory, Text};
 use std::alloc::{AllocError, AllocFailed};
 
 /// Why a project file is refused.
@@ -35,5 +37,29 @@ impl<T: Drop> From<AllocFailed<T>> for ReadFault {
 
     fn from(_: AllocFailed<T>) -> Self {
         ReadFault::Memory
+    }
+}
+
+/// Why a tree of elements is no project file, with the place of the element. (MSBuild project file schema reference.)
+#[derive(Drop)]
+pub enum FormFault {
+    /// A name that no element has, or an attribute or a text that the element may not have.
+    UnknownElement(Place),
+    /// An element that may not stand there.
+    Misplaced(Place),
+    /// The attribute of this name is missing; or, on a Choose, its When.
+    MissingAttribute(Place, Text),
+    /// These two attributes may not stand together.
+    BothAttributes(Place, Text, Text),
+    /// A text that has to be a name and is none, with the place of its first bad byte.
+    BadName(Place, u64),
+    Memory,
+}
+
+impl From<NoMemory> for FormFault {
+    ghost from_gives = { λ _ e. e ≡ form.Memory };
+
+    fn from(_: NoMemory) -> Self {
+        FormFault::Memory
     }
 }

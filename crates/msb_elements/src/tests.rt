@@ -1,4 +1,5 @@
 use crate::{ReadFault, read_project};
+use std::alloc::{AllocError, Global};
 use std::test::Fail;
 
 const TARGET: &str =
@@ -50,4 +51,29 @@ fn other_texts_are_refused(rt: HostRuntime) {
             "{text}"
         );
     }
+}
+
+fn nested(alloc: Global, inner: &str) -> Result<String, AllocError> {
+    let mut text = String::new(alloc);
+    for _ in 0..63 {
+        text.push_str(r#"{"e":"A","c":["#)?;
+    }
+    text.push_str(inner)?;
+    for _ in 0..63 {
+        text.push_str("]}")?;
+    }
+    Ok(text)
+}
+
+/// 63 arrays in as many objects, and one or two objects more.
+#[test]
+fn no_more_than_127_levels_are_read(rt: HostRuntime) -> Result<(), Fail> {
+    let text = nested(rt.alloc(), r#"{"e":"A"}"#)?;
+    assert!(rt; read_project(rt.alloc(), text.as_bytes()).is_ok());
+    let text = nested(rt.alloc(), r#"{"e":"A","a":{}}"#)?;
+    assert_eq!(rt;
+        read_project(rt.alloc(), text.as_bytes()).err(),
+        Some(ReadFault::NotJson)
+    );
+    Ok(())
 }

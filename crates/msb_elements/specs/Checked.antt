@@ -1,0 +1,18 @@
+-- What the checks of a tree of elements answer.
+use Rattle.std.specs.Prelude.{◌≡◌, Option, Some, None, Result, Ok, Err}
+use Rattle.msb_elements.specs.declared.errors.FormFault.{FormFault}
+use Rattle.msb_elements.specs.declared.errors.FormFault.TheVariants.{UnknownElement, Misplaced, MissingAttribute, BothAttributes, BadName, Memory}
+
+-- the fault that is found, or want of memory
+abbrev pub IsFault : FormFault → Option FormFault → Type 0
+IsFault Memory found = Unit {0}
+IsFault (UnknownElement place) found = found ≡ Some (UnknownElement place)
+IsFault (Misplaced place) found = found ≡ Some (Misplaced place)
+IsFault (MissingAttribute place name) found = found ≡ Some (MissingAttribute place name)
+IsFault (BothAttributes place one other) found = found ≡ Some (BothAttributes place one other)
+IsFault (BadName place at) found = found ≡ Some (BadName place at)
+
+-- no fault is found, or just this
+abbrev pub Checks : {X : Type 0} → Result X FormFault → Option FormFault → Type 0
+Checks (Ok x) found = found ≡ None
+Checks (Err fault) found = IsFault fault found

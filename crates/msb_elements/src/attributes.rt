@@ -1,0 +1,156 @@
+//! What is wrong with the attributes of an element.
+ghost use Rattle.std.specs.Prelude.{◌≡◌, None, IfOk};
+ghost use Rattle.std.specs.List.{list_any};
+ghost use Rattle.std.specs.Option.{option_copied};
+ghost use Rattle.msb_values.specs.Names.{is_name_byte, is_target_byte, bad_place};
+ghost use Rattle.msb_elements.specs.Rows.{names_items};
+ghost use Rattle.msb_elements.specs.Stands.{role_of};
+ghost use Rattle.msb_elements.specs.Checks.{is_strange, has, missing_in, bad_attribute, first_bad};
+ghost use Rattle.msb_elements.specs.declared.kind.Kind.TheVariants.{Output};
+
+use crate::element::value_of;
+use crate::kind::{Kind, Role};
+use msb_values::{Name, NameFault, NoMemory, Text};
+use std::alloc::Global;
+
+/// Whether there is an attribute that the element may not have.
+pub fn has_strange(kind: Kind, attributes: &[(Text, Text)]) -> bool
+    ensures { result ≡ list_any (λ pair. is_strange (role_of kind pair.0)) attributes.now }
+{
+    for (name, _) in attributes {
+        if matches!(kind.role(name.as_str()), Role::Strange) {
+            return true;
+        }
+    }
+    false
+}
+
+pub fn has(attributes: &[(Text, Text)], name: &str) -> bool
+    ensures { result ≡ has name.now attributes.now }
+{
+    value_of(attributes, name).is_some()
+}
+
+fn names_items(attributes: &[(Text, Text)]) -> bool
+    ensures { result ≡ list_any (λ name. has name attributes.now) names_items }
+{
+    has(attributes, "Include") || has(attributes, "Remove") || has(attributes, "Update")
+}
+
+/// The attribute that the element needs and does not have; and a Choose without children lacks its `When`.
+pub fn missing(
+    kind: Kind,
+    attributes: &[(Text, Text)],
+    first_child: Option<&str>,
+) -> Option<&'static str>
+    ensures { option_copied result ≡ missing_in kind attributes.now (option_copied first_child.entry) }
+{
+    match kind {
+        Kind::Choose => if first_child.is_none() {
+            Some("When")
+        } else {
+            None
+        },
+        Kind::Import => if has(attributes, "Project") {
+            None
+        } else {
+            Some("Project")
+        },
+        Kind::When => if has(attributes, "Condition") {
+            None
+        } else {
+            Some("Condition")
+        },
+        Kind::Target => if has(attributes, "Name") {
+            None
+        } else {
+            Some("Name")
+        },
+        Kind::OnError => if has(attributes, "ExecuteTargets") {
+            None
+        } else {
+            Some("ExecuteTargets")
+        },
+        Kind::Output => missing_of_output(attributes),
+        Kind::Item => if names_items(attributes) {
+            None
+        } else {
+            Some("Include")
+        },
+        Kind::TargetItem => if has(attributes, "Exclude") && !names_items(attributes) {
+            Some("Include")
+        } else {
+            None
+        },
+        _ => None,
+    }
+}
+
+fn missing_of_output(attributes: &[(Text, Text)]) -> Option<&'static str>
+    ensures { option_copied result ≡ missing_in Output attributes.now None }
+{
+    if !has(attributes, "TaskParameter") {
+        return Some("TaskParameter");
+    }
+    if has(attributes, "ItemName") || has(attributes, "PropertyName") {
+        None
+    } else {
+        Some("ItemName")
+    }
+}
+
+/// The place of the first byte that no plain name has there, if the text is none.
+pub fn bad_name(alloc: Global, text: &str) -> Result<Option<u64>, NoMemory>
+    ensures { IfOk result (λ bad. bad ≡ bad_place is_name_byte text.now) }
+{
+    match Name::read(alloc, text) {
+        Ok(_) => Ok(None),
+        Err(NameFault::BadName(at)) => Ok(Some(at)),
+        Err(NameFault::Memory) => Err(NoMemory),
+    }
+}
+
+fn bad_target_name(alloc: Global, text: &str) -> Result<Option<u64>, NoMemory>
+    ensures { IfOk result (λ bad. bad ≡ bad_place is_target_byte text.now) }
+{
+    match Name::read_target(alloc, text) {
+        Ok(_) => Ok(None),
+        Err(NameFault::BadName(at)) => Ok(Some(at)),
+        Err(NameFault::Memory) => Err(NoMemory),
+    }
+}
+
+fn bad_attribute(
+    alloc: Global,
+    kind: Kind,
+    name: &str,
+    value: &str,
+) -> Result<Option<u64>, NoMemory>
+    ensures { IfOk result (λ bad. bad ≡ bad_attribute kind (name.now, value.now)) }
+{
+    if matches!(kind.role(name), Role::Named) {
+        return bad_name(alloc, name);
+    }
+    match (kind, name) {
+        (Kind::Target, "Name") => bad_target_name(alloc, value),
+        (Kind::Output, "ItemName" | "PropertyName" | "TaskParameter") => bad_name(alloc, value),
+        _ => Ok(None),
+    }
+}
+
+/// The first bad byte of the first attribute that is no name where one is needed.
+pub fn first_bad(
+    alloc: Global,
+    kind: Kind,
+    attributes: &[(Text, Text)],
+) -> Result<Option<u64>, NoMemory>
+    ensures { IfOk result (λ bad. bad ≡ first_bad kind attributes.now) }
+{
+    for (name, value) in attributes {
+        let bad = bad_attribute(alloc, kind, name.as_str(), value.as_str())?;
+        if bad.is_some() {
+            return Ok(bad);
+        }
+    }
+    Ok(None)
+}
