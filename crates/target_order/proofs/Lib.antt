@@ -1,0 +1,10 @@
+pub mod Names
+pub mod Stack
+pub mod Standing
+pub mod Rest
+pub mod Marks
+pub mod Sound
+pub mod Going
+pub mod Taking
+pub mod Hooking
+pub mod Starting

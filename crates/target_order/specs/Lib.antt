@@ -1,0 +1,10 @@
+pub mod Visit
+pub mod Progress
+pub mod Numbered
+pub mod Table
+pub mod Left
+pub mod AsksLeft
+pub mod Answers
+pub mod Search
+pub mod Steps
+pub mod Held
