@@ -1,3 +1,5 @@
 pub mod Each
+pub mod Questions
 pub mod Readings
+pub mod Walking
 pub mod Telling

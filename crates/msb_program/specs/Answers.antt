@@ -41,6 +41,10 @@ IfOutcome words told P = (command : Command) × (command_in words ≡ Some comma
 abbrev pub IsDone : List (List ℕ) → Option (List File) → Printing → Type 0
 IsDone words told p = IfOutcome words told (λ o. (o.status ≡ 0) × PrintedAll p o.text)
 
+-- 1: the request failed, and its text was printed whole
+abbrev pub IsFailed : List (List ℕ) → Option (List File) → Printing → Type 0
+IsFailed words told p = IfOutcome words told (λ o. (o.status ≡ 1) × PrintedAll p o.text)
+
 -- 2: the words are outside the grammar
 abbrev pub IsUsage : List (List ℕ) → Printing → Type 0
 IsUsage words p = (command_in words ≡ None) × Printed p usage
@@ -59,7 +63,7 @@ IsStoreFailure before after words told p = Rose before after × IsSome (command_
 
 -- 6: the sink's count of faults rose where all else was done
 abbrev pub IsSinkFailure : List (List ℕ) → Option (List File) → Printing → Type 0
-IsSinkFailure words told p = Rose p.faults_before p.faults_after × IfOutcome words told (λ o. (o.status ≡ 0) × PrintedFront p o.text)
+IsSinkFailure words told p = Rose p.faults_before p.faults_after × IfOutcome words told (λ o. ((o.status ≡ 0) ⊎ (o.status ≡ 1)) × PrintedFront p o.text)
 
 -- where neither failed, the status is that of the words and the files, or want of memory
 abbrev pub IsStatusOf : Option Command → Option (List File) → ℕ → Type 0
@@ -68,8 +72,9 @@ IsStatusOf (Some command) told status = IfSome told (λ files. status ≡ (outco
 
 -- What each status says. 7 is want of memory, which may come at any place and prints nothing.
 pub record Answers (words : List (List ℕ)) (told : Option (List File)) (before after : ℕ) (p : Printing) (status : ℕ) : Type 0 where
-  pub known : (status ≡ 0) ⊎ (status ≡ 2) ⊎ (status ≡ 3) ⊎ (status ≡ 5) ⊎ (status ≡ 6) ⊎ (status ≡ 7)
+  pub known : (status ≡ 0) ⊎ (status ≡ 1) ⊎ (status ≡ 2) ⊎ (status ≡ 3) ⊎ (status ≡ 5) ⊎ (status ≡ 6) ⊎ (status ≡ 7)
   pub done : status ≡ 0 → IsDone words told p
+  pub failed : status ≡ 1 → IsFailed words told p
   pub usage : status ≡ 2 → IsUsage words p
   pub refused : status ≡ 3 → IsRefused words told p
   pub store : status ≡ 5 → IsStoreFailure before after words told p

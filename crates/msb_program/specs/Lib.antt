@@ -1,6 +1,8 @@
 pub mod Command
 pub mod Forms
 pub mod Projects
+pub mod Requests
+pub mod Asked
 pub mod Report
 pub mod Outcomes
 pub mod Seen

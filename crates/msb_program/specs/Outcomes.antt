@@ -1,5 +1,5 @@
 -- What the program does: from the words and the files to a status, a text and the files that are written.
-use Rattle.std.specs.Prelude.{ℕ, List, [], ◌++◌, Option, Some, None, take, codes}
+use Rattle.std.specs.Prelude.{ℕ, List, [], ◌++◌, Option, Some, None, codes}
 use Rattle.msb_values.specs.Causes.{shown_of}
 use Rattle.msb_values.specs.declared.cause.Cause.{Cause}
 use Rattle.msb_values.specs.declared.cause.Cause.TheVariants.{NotYet, NotJson}
@@ -10,10 +10,11 @@ use Rattle.serde_json.specs.Data.{Data}
 use Rattle.msb_elements.specs.Forms.{json_in, element_in}
 use Rattle.msb_elements.specs.Nodes.{Node}
 use Rattle.msb_elements.specs.Places.{shown_place}
-use Rattle.msb_program.specs.declared.project.Target.{Target}
+use Rattle.msb_program.specs.declared.project.Project.{Project}
 use Rattle.msb_program.specs.Command.{Command}
 use Rattle.msb_program.specs.Projects.{project_of}
 use Rattle.msb_program.specs.Report.{line, report_of}
+use Rattle.msb_program.specs.Requests.{Request, request_of}
 
 -- the status, the text that is printed, and the files that are written, in order
 pub record Outcome : Type 0 where
@@ -29,13 +30,21 @@ refused reason = record { status = 3; text = line (codes "project refused") ++ l
 abbrev pub fault_text : List ℕ → List ℕ → Cause → List ℕ
 fault_text file place cause = file ++ codes " " ++ shown_place place ++ codes ": " ++ shown_of cause
 
--- the first target is built
-abbrev pub outcome_of_targets : List ℕ → Option (List Target) → Outcome
-outcome_of_targets path None = refused (fault_text path [] NotYet)
-outcome_of_targets path (Some targets) = record { status = 0; text = report_of path (take 1 targets); commit = [] }
+-- a request succeeds or fails
+abbrev pub status_of : Option (List ℕ) → ℕ
+status_of None = 0
+status_of (Some error) = 1
+
+abbrev pub outcome_of_request : List ℕ → Request → Outcome
+outcome_of_request path request = record { status = status_of request.error; text = report_of path request.ran request.error; commit = [] }
+
+-- the default targets are built
+abbrev pub outcome_of_project : List ℕ → Option Project → Outcome
+outcome_of_project path None = refused (fault_text path [] NotYet)
+outcome_of_project path (Some project) = outcome_of_request path (request_of project)
 
 abbrev pub outcome_of_root : List ℕ → Node → Outcome
-outcome_of_root path root = outcome_of_targets path (project_of root)
+outcome_of_root path root = outcome_of_project path (project_of root)
 
 abbrev pub outcome_of_element : List ℕ → Option Node → Outcome
 outcome_of_element path None = refused (fault_text path [] NotYet)

@@ -1,8 +1,8 @@
 -- The report of a build, line by line. (MSBuild command-line reference; Message task.)
-use Rattle.std.specs.Prelude.{ℕ, List, [], ◌∷◌, ◌++◌, codes}
+use Rattle.std.specs.Prelude.{ℕ, List, [], ◌∷◌, ◌++◌, Option, Some, None, codes}
 use Rattle.std.specs.List.{flat_map}
 use Rattle.std.specs.Fmt.{decimal}
-use Rattle.msb_program.specs.declared.project.Target.{Target}
+use Rattle.msb_program.specs.declared.target.Target.{Target}
 
 -- a line, ended by LF
 abbrev pub line : List ℕ → List ℕ
@@ -23,13 +23,23 @@ notes_of = flat_map note_line
 abbrev pub returned_line : ℕ → List ℕ
 returned_line n = line (codes "returned " ++ decimal n)
 
-abbrev pub succeeded_line : List ℕ
-succeeded_line = line (codes "build succeeded")
+-- an error text of the request
+abbrev pub error_lines : Option (List ℕ) → List ℕ
+error_lines None = []
+error_lines (Some error) = line (codes "error: " ++ error)
+
+abbrev pub last_line : Option (List ℕ) → List ℕ
+last_line None = line (codes "build succeeded")
+last_line (Some error) = line (codes "build failed")
 
 -- a target that ran, and its messages
 abbrev pub ran_lines : List ℕ → Target → List ℕ
-ran_lines key target = run_line key target.name (codes "ran") ++ notes_of target.messages
+ran_lines key target = run_line key target.row.name (codes "ran") ++ notes_of target.messages
 
--- a build that ran these targets and succeeded
-abbrev pub report_of : List ℕ → List Target → List ℕ
-report_of key ran = flat_map (ran_lines key) ran ++ returned_line 0 ++ succeeded_line
+-- the error, how many items are returned, and how the build ended
+abbrev pub end_lines : Option (List ℕ) → List ℕ
+end_lines error = error_lines error ++ returned_line 0 ++ last_line error
+
+-- a build that ran these targets, and failed where there is an error
+abbrev pub report_of : List ℕ → List Target → Option (List ℕ) → List ℕ
+report_of key ran error = flat_map (ran_lines key) ran ++ end_lines error

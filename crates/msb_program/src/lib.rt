@@ -6,9 +6,12 @@
 #![tactic(auto)]
 
 mod command;
+mod forms;
 mod outcome;
 mod project;
 mod report;
+mod request;
+mod target;
 mod tools;
 mod top;
 

@@ -1,10 +1,12 @@
-ghost use Rattle.std.specs.Prelude.{◌≡◌, ◌++◌, [], take, IfOk};
+ghost use Rattle.std.specs.Prelude.{◌≡◌, ◌++◌, [], IfOk};
 ghost use Rattle.msb_elements.specs.View.{view};
-ghost use Rattle.msb_program.specs.Outcomes.{outcome_of, outcome_of_bytes, outcome_of_root, refused, fault_text};
+ghost use Rattle.msb_program.specs.Requests.{request_of};
+ghost use Rattle.msb_program.specs.Outcomes.{outcome_of, outcome_of_bytes, outcome_of_root, outcome_of_request, refused, fault_text};
 
 use crate::command::Command;
-use crate::project::Target;
+use crate::project::Project as Targets;
 use crate::report::report;
+use crate::request::Request;
 use file_store::Tree;
 use msb_elements::{Project, ReadFault, read_project};
 use msb_values::{Cause, NoMemory};
@@ -45,13 +47,20 @@ impl Outcome {
     fn of_project(alloc: Global, path: &str, project: &Project) -> Result<Outcome, NoMemory>
         ensures { IfOk result (λ o. seen o ≡ outcome_of_root path.now (view project.now.root)) }
     {
-        match Target::read_all(alloc, &project.root)? {
-            Some(targets) => Ok(Outcome {
-                status: 0,
-                text: report(alloc, path, first(targets.as_slice()))?,
-            }),
+        match Targets::read(alloc, &project.root)? {
+            Some(targets) => Outcome::of_request(alloc, path, &targets),
             None => Outcome::fault(alloc, path, Cause::NotYet),
         }
+    }
+
+    fn of_request(alloc: Global, path: &str, project: &Targets) -> Result<Outcome, NoMemory>
+        ensures { IfOk result (λ o. seen o ≡ outcome_of_request path.now (request_of project.now)) }
+    {
+        let request = Request::of(alloc, project)?;
+        Ok(Outcome {
+            status: if request.error.is_none() { 0 } else { 1 },
+            text: report(alloc, path, &request.ran, &request.error)?,
+        })
     }
 
     // A fault at the root of a file.
@@ -70,10 +79,4 @@ impl Outcome {
             text: format!(in alloc; "project refused\n  {reason}\n")?,
         })
     }
-}
-
-fn first(targets: &[Target]) -> &[Target]
-    ensures { result.now ≡ take 1 targets.now }
-{
-    &targets[..targets.len().min(1)]
 }

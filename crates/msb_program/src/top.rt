@@ -19,7 +19,7 @@ const USAGE: &str =
 /// Carries out a command: reads the words, loads the store's files, builds, and prints to the sink.
 ///
 /// `words` are those after the program's name. The answer is the program's status: 0 where the command was carried
-/// out, 2 where the words are outside the grammar, 3 where the project is refused, 5 where the store failed, 6 where
+/// out, 1 where the build failed, 2 where the words are outside the grammar, 3 where the project is refused, 5 where the store failed, 6 where
 /// the sink failed and nothing else did, and 7 for want of memory. Nothing is written to the store yet.
 pub fn run<R: Threads + Wait + Sync, S: Store, K: Sink, T: Tools + Sync>(
     _rt: &R,
@@ -78,15 +78,16 @@ fn print<K: Sink>(sink: &mut K, text: &[u8])
     let _ = sink.write(text);
 }
 
-// Prints an outcome's text; a failed sink changes the status 0 alone.
+// Prints an outcome's text; a failed sink changes the statuses 0 and 1.
 fn tell<K: Sink>(sink: &mut K, status: u8, text: &[u8]) -> u8
-    requires { (status ≡ 0) ⊎ (status ≡ 3) }
+    requires { (status ≡ 0) ⊎ (status ≡ 1) ⊎ (status ≡ 3) }
     ensures whole { (result ≡ status) ⊎ ((result ≡ 6) × Rose (K.fault_count sink.old) (K.fault_count sink.new)) }
     ensures done { result ≡ 0 → (status ≡ 0) × Appends (K.told sink.old) (K.told sink.new) text.now }
+    ensures unsuccessful { result ≡ 1 → (status ≡ 1) × Appends (K.told sink.old) (K.told sink.new) text.now }
     ensures refused { result ≡ 3 → (status ≡ 3) × Prints (K.fault_count sink.old) (K.fault_count sink.new) (K.told sink.old) (K.told sink.new) text.now }
-    ensures failed { result ≡ 6 → (status ≡ 0) × Rose (K.fault_count sink.old) (K.fault_count sink.new) × AppendsFront (K.told sink.old) (K.told sink.new) text.now }
+    ensures failed { result ≡ 6 → ((status ≡ 0) ⊎ (status ≡ 1)) × Rose (K.fault_count sink.old) (K.fault_count sink.new) × AppendsFront (K.told sink.old) (K.told sink.new) text.now }
 {
-    if sink.write(text).is_err() && status == 0 {
+    if sink.write(text).is_err() && status != 3 {
         return 6;
     }
     status

@@ -1,7 +1,7 @@
 use Rattle.std.proofs.Common.{sym, ◌∙◌}
 use Rattle.msb_program.specs.Projects.{target_of}
 use Rattle.msb_program.proofs.Each.{each_stop, each_step}
-use Rattle.msb_program.proofs.project.Target.read_each.Goals as goal
+use Rattle.msb_program.proofs.target.Target.read_each.Goals as goal
 
 pub returns-in-None : goal.returns-in-None
 returns-in-None c = sym (each_stop target_of c.args.elements.now c.loop-element.element-index c.element-item.result _ _ c.loop-element.invariant c.loop-element-test.true c.element-item.is (sym c.in_ok-target.ensures ∙ c.in-None.is))

@@ -1,0 +1,121 @@
+use file_store::{File, MemSink, MemStore, Tree};
+use msb_program::{Counted, NoTools, run, run_alone};
+use msb_values::{List, Text, Text8};
+use std::alloc::Global;
+use std::test::Fail;
+
+// A store with this text as its only file.
+fn store(alloc: Global, text: &str, fail: u64) -> Result<MemStore, Fail> {
+    let mut files = List::new(alloc);
+    files.push(File {
+        path: Text::of(alloc, "a.proj")?,
+        bytes: Text8::of(alloc, text.as_bytes())?,
+        stamp: 1,
+    })?;
+    let tree = Tree::of(files).ok_or("one path is in order")?;
+    let mut failing = Vec::new(alloc);
+    failing.push(fail)?;
+    Ok(MemStore::new(alloc, tree, failing)?)
+}
+
+// The words `build` and this one.
+fn words(alloc: Global, project: &str) -> Result<Vec<String>, Fail> {
+    let mut words = Vec::new(alloc);
+    words.push(String::from_str(alloc, "build")?)?;
+    words.push(String::from_str(alloc, project)?)?;
+    Ok(words)
+}
+
+// A target with these attributes and one message.
+fn target(alloc: Global, attributes: &str, message: &str) -> Result<String, Fail> {
+    let text = format!(in alloc;
+        "{{\"e\":\"Target\",\"a\":{{{attributes}}},\"c\":[{{\"e\":\"Message\",\"a\":{{\"Text\":\"{message}\"}}}}]}}"
+    )?;
+    Ok(text)
+}
+
+fn project(alloc: Global, targets: &str) -> Result<String, Fail> {
+    let text = format!(in alloc; "{{\"e\":\"Project\",\"c\":[{targets}]}}")?;
+    Ok(text)
+}
+
+// The smallest project, with each call of the store and of the sink failing in turn.
+#[test]
+fn the_smallest_project_is_built(rt: HostRuntime) -> Result<(), Fail> {
+    let alloc = rt.alloc();
+    let target = target(alloc, "\"Name\":\"Build\"", "hi")?;
+    let text = project(alloc, target.as_str())?;
+    let words = words(alloc, "a.proj")?;
+    for (fail, fail_at, status) in [
+        (9u64, None, 0u8),
+        (0, None, 5),
+        (1, None, 5),
+        (9, Some(0u64), 6),
+    ] {
+        let mut store = store(alloc, text.as_str(), fail)?;
+        let mut sink = MemSink::new(alloc, fail_at)?;
+        let mut tools = Counted::new(alloc, &NoTools);
+        assert_eq!(rt;
+            run_alone(alloc, &words, &mut store, &mut sink, &mut tools),
+            status
+        );
+        let printed = match (fail, status) {
+            (0, _) => "store fault\n",
+            (1, _) => "store fault a.proj\n",
+            (_, 6) => "",
+            _ => "a.proj : build ran\n  hi\nreturned 0\nbuild succeeded\n",
+        };
+        assert_eq!(rt; sink.bytes(), printed.as_bytes());
+        assert_eq!(rt; tools.calls().len(), 0);
+    }
+    Ok(())
+}
+
+// Main is skipped by its Condition, and the targets that hook on it run all the same.
+#[test]
+fn hooks_of_a_skipped_target_run(rt: HostRuntime) -> Result<(), Fail> {
+    let alloc = rt.alloc();
+    let main = target(alloc, "\"Name\":\"Main\",\"Condition\":\"No\"", "m")?;
+    let after = target(alloc, "\"Name\":\"A\",\"AfterTargets\":\"main\"", "a")?;
+    let before = target(alloc, "\"Name\":\"B\",\"BeforeTargets\":\"main\"", "b")?;
+    let targets = format!(in alloc; "{main},{after},{before}")?;
+    let text = project(alloc, targets.as_str())?;
+    let mut store = store(alloc, text.as_str(), 9)?;
+    let mut sink = MemSink::new(alloc, None)?;
+    let words = words(alloc, "a.proj")?;
+    assert_eq!(rt; run(&rt, alloc, &words, &mut store, &mut sink, &NoTools), 0);
+    let printed = "a.proj : b ran\n  b\na.proj : a ran\n  a\nreturned 0\nbuild succeeded\n";
+    assert_eq!(rt; sink.bytes(), printed.as_bytes());
+    Ok(())
+}
+
+// A file that is not there, no JSON, no element, no target, and words outside the grammar.
+#[test]
+fn refusals_are_told(rt: HostRuntime) -> Result<(), Fail> {
+    let alloc = rt.alloc();
+    for (text, path, status, printed) in [
+        ("[]", "no", 3u8, "project refused\n  no: not found\n"),
+        ("[", "a.proj", 3, "project refused\n  a.proj /: 1 NotJson\n"),
+        ("[]", "a.proj", 3, "project refused\n  a.proj /: 0 NotYet\n"),
+        (
+            "{\"e\":\"Project\"}",
+            "a.proj",
+            1,
+            "error: no targets\nreturned 0\nbuild failed\n",
+        ),
+    ] {
+        let mut store = store(alloc, text, 9)?;
+        let mut sink = MemSink::new(alloc, None)?;
+        let words = words(alloc, path)?;
+        assert_eq!(rt;
+            run(&rt, alloc, &words, &mut store, &mut sink, &NoTools),
+            status
+        );
+        assert_eq!(rt; sink.bytes(), printed.as_bytes());
+    }
+    let mut store = store(alloc, "[]", 9)?;
+    let mut sink = MemSink::new(alloc, None)?;
+    let words = words(alloc, "-x")?;
+    assert_eq!(rt; run(&rt, alloc, &words, &mut store, &mut sink, &NoTools), 2);
+    Ok(())
+}
