@@ -1,5 +1,5 @@
-use crate::parse;
-use std::alloc::Global;
+use crate::{ExprFault, parse};
+use std::alloc::{AllocError, Global};
 use std::test::Fail;
 
 /// The texts of a text's parts, each with a `|` behind it, or its refusal.
@@ -93,6 +93,73 @@ fn texts_are_read_or_refused(rt: HostRuntime) -> Result<(), Fail> {
     for (text, wanted) in rows {
         let found = shown(rt.alloc(), text)?;
         assert_eq!(rt; found.as_str(), wanted);
+    }
+    Ok(())
+}
+
+/// Ends that a text may want, wherever in a reference it stops.
+const ENDS: [&str; 14] = [
+    "", ")", "A)", "')", "'))", ")')", "A)')", ")'))", "A)'))", "'')", "''))", ">'')", "())", "))",
+];
+
+/// Pieces by which references begin, go on and end.
+const PIECES: [&str; 24] = [
+    "$(", "%(", "@(X", "@(", "@", "$", "%", "(", ")", "'", ",", ".", "-", ">", "->", " ", "A",
+    "b1", "X-", "7", "->'", "F(", "')", "','",
+];
+
+fn random_text(alloc: Global, seed: &mut u64) -> Result<String, AllocError> {
+    let mut text = String::new(alloc);
+    for _ in 0..8 {
+        *seed = seed
+            .wrapping_mul(6_364_136_223_846_793_005)
+            .wrapping_add(1_442_695_040_888_963_407);
+        text.push_str(PIECES[(*seed >> 40) as usize % 24])?;
+    }
+    Ok(text)
+}
+
+/// Whether a text that begins so is read, by trying each end.
+fn goes_on(alloc: Global, front: &str) -> Result<bool, AllocError> {
+    for end in ENDS {
+        let text = format!(in alloc; "{front}{end}")?;
+        if parse(alloc, text.as_str()).is_ok() {
+            return Ok(true);
+        }
+    }
+    Ok(false)
+}
+
+/// Whether a text that begins with all bytes before the place is read, and none through that byte.
+fn is_bad_at(alloc: Global, text: &str, place: u64) -> Result<bool, AllocError> {
+    let place = place as usize;
+    let Some(front) = text.get(..place) else {
+        return Ok(false);
+    };
+    let Some(through) = text.get(..place.saturating_add(1)) else {
+        return Ok(false);
+    };
+    Ok(goes_on(alloc, front)? && !goes_on(alloc, through)?)
+}
+
+/// Whether the answer is the one that the grammar gives, as far as readings tell.
+fn is_as_defined(alloc: Global, text: &str) -> Result<bool, AllocError> {
+    match parse(alloc, text) {
+        Ok(_) => Ok(true),
+        Err(ExprFault::Unclosed(place)) => Ok(place == text.len() as u64 && goes_on(alloc, text)?),
+        Err(ExprFault::BadName(place)) => is_bad_at(alloc, text, place),
+        Err(ExprFault::BadTransform(place)) => is_bad_at(alloc, text, place),
+        Err(ExprFault::NestedTransform(place)) => is_bad_at(alloc, text, place),
+        Err(ExprFault::Memory) => Ok(false),
+    }
+}
+
+#[test]
+fn random_texts_are_refused_at_their_bad_byte(rt: HostRuntime) -> Result<(), Fail> {
+    let mut seed = 1;
+    for _ in 0..20_000 {
+        let text = random_text(rt.alloc(), &mut seed)?;
+        assert!(rt; is_as_defined(rt.alloc(), text.as_str())?);
     }
     Ok(())
 }

@@ -62,11 +62,11 @@ fn push_part(word: &mut Word, part: &Part) -> Result<(), NoRoom>
     }
 }
 
-/// The name behind what opens it, with a `)`.
-fn push_reference(word: &mut Word, open: &str, name: &Word) -> Result<(), NoRoom>
-    ensures { OnOk result (word.new ≡ word.old ++ (open.now ++ name.now ++ codes ")")) }
+/// The name behind what begins its reference, with a `)`.
+fn push_reference(word: &mut Word, head: &str, name: &Word) -> Result<(), NoRoom>
+    ensures { OnOk result (word.new ≡ word.old ++ (head.now ++ name.now ++ codes ")")) }
 {
-    word.push_str(open)?;
+    word.push_str(head)?;
     word.push_str(name.as_str())?;
     word.push_str(")")
 }
