@@ -6,57 +6,122 @@ use msb_values::{List, Name};
 use std::alloc::Global;
 use std::test::Fail;
 
-/// A target of a story; its OnError targets make its body fail.
-#[derive(Clone, Copy)]
-struct Target {
-    name: &'static str,
-    holds: bool,
-    depends: &'static str,
-    before: &'static str,
-    after: &'static str,
-    errors: Option<&'static str>,
-}
+/// Each story has a project, the wanted targets, and the trace that the rules of the target build order give.
+///
+/// A project has its targets between `;`: a name, then `~` where its Condition is false, and names behind the marks
+/// `:` DependsOnTargets, `<` BeforeTargets, `>` AfterTargets and `!` OnError targets; a `!` makes the body fail.
+const STORIES: [(&str, &str, &str); 18] = [
+    // one after another, each once, and names in other case
+    ("a;b", "B A b", "b? b: b! a? a: a! done"),
+    // DependsOnTargets, BeforeTargets, the body, AfterTargets
+    (
+        "h <B;b :d;k >b;d",
+        "b",
+        "b? b: d? d: d! h? h: h! b! k? k: k! done",
+    ),
+    // hooks on hooks
+    (
+        "b;h <b;i <h;k >b;l >h >k",
+        "b",
+        "b? b: h? h: i? i: i! h! l? l: l! b! k? k: k! done",
+    ),
+    // hooks on a skipped target, which is past its body then and is tried again later
+    (
+        "b ~ :d;h <b;k >b :b;d",
+        "b b",
+        "b? h? h: h! k? k: k! b? done",
+    ),
+    // a target that its own BeforeTargets depends on
+    ("b;h <b :b", "b", "b? b: h? h: (b(h(b failed"),
+    // and one that its own AfterTargets depends on
+    ("b;k >b :b", "b", "b? b: b! k? k: k! done"),
+    // a diamond
+    (
+        "a :b :c;b :d;c :D;d",
+        "a",
+        "a? a: b? b: d? d: d! b! c? c: c! a! done",
+    ),
+    // OnError targets and then the end, without AfterTargets
+    (
+        "a :b;b !e !f;e;f;k >b",
+        "a f",
+        "a? a: b? b: b! e? e: e! f? f: f! done failed",
+    ),
+    // OnError targets that fail in turn
+    (
+        "a !e !f;e !a !g;f;g",
+        "a",
+        "a? a: a! e? e: e! g? g: g! done failed",
+    ),
+    // a failed body without OnError targets
+    ("a !;b", "a b", "a? a: a! done failed"),
+    // an OnError target whose open visit is ahead of its body
+    ("a :b;b !a", "a", "a? a: b? b: b! (a(b(a failed"),
+    // a circle that begins further in
+    ("a :b;b :c;c :b", "a", "a? a: b? b: c? c: (b(c(b failed"),
+    // a target that depends on itself
+    ("a :A", "a", "a? a: (a(a failed"),
+    // unknown names, each when it is visited
+    ("a", "a x", "a? a: a! no x failed"),
+    ("a :b :x;b", "a", "a? a: b? b: b! no x failed"),
+    ("a !x", "a", "a? a: a! no x failed"),
+    // an unknown name to hook on is nobody's, and a name twice makes one hook
+    ("a;h ~ <x <a <a >y", "a", "a? a: h? a! done"),
+    // of two rows with one name the first counts
+    ("a;h;h <a", "a h", "a? a: a! h? h: h! done"),
+];
 
-const PLAIN: Target = Target {
-    name: "",
-    holds: true,
-    depends: "",
-    before: "",
-    after: "",
-    errors: None,
-};
-
-fn names(alloc: Global, text: &str) -> Result<List<Name>, Fail> {
+/// The names behind this mark.
+fn listed(alloc: Global, line: &str, mark: char) -> Result<List<Name>, Fail> {
     let mut list = List::new(alloc);
-    for piece in text.split(' ') {
-        if !piece.is_empty() {
-            list.push(Name::read_target(alloc, piece)?)?;
+    for piece in line.split(' ') {
+        if let Some(name) = piece.strip_prefix(mark) {
+            if !name.is_empty() {
+                list.push(Name::read_target(alloc, name)?)?;
+            }
         }
     }
     Ok(list)
 }
 
-fn rows(alloc: Global, targets: &[Target]) -> Result<List<TargetRow>, Fail> {
+fn name_of(line: &str) -> &str {
+    line.split(' ').next().unwrap_or("")
+}
+
+fn rows(alloc: Global, project: &str) -> Result<List<TargetRow>, Fail> {
     let mut list = List::new(alloc);
-    for target in targets {
+    for line in project.split(';') {
         list.push(TargetRow {
-            name: Name::read_target(alloc, target.name)?,
-            before: names(alloc, target.before)?,
-            after: names(alloc, target.after)?,
+            name: Name::read_target(alloc, name_of(line))?,
+            before: listed(alloc, line, '<')?,
+            after: listed(alloc, line, '>')?,
         })?;
     }
     Ok(list)
 }
 
-fn of_name<'a>(targets: &'a [Target], name: &Name) -> Option<&'a Target> {
-    targets.iter().find(|target| target.name == name.key())
+fn wanted(alloc: Global, text: &str) -> Result<List<Name>, Fail> {
+    let mut list = List::new(alloc);
+    for name in text.split(' ') {
+        list.push(Name::read_target(alloc, name)?)?;
+    }
+    Ok(list)
+}
+
+fn line_of<'a>(project: &'a str, name: &Name) -> &'a str {
+    for line in project.split(';') {
+        if name_of(line) == name.key() {
+            return line;
+        }
+    }
+    ""
 }
 
 /// What a story answers to an ask, if it goes on, and what its trace says of the ask: `a?` its Condition, `a:` its
 /// DependsOnTargets, `a!` its body, then `done`, a circle or `no a`.
 fn told(
     alloc: Global,
-    targets: &[Target],
+    project: &str,
     ask: &OrderAsk,
     trace: &mut String,
 ) -> Result<Option<OrderAnswer>, Fail>
@@ -65,20 +130,21 @@ fn told(
     match ask {
         OrderAsk::Condition(name) => {
             write!(trace, "{}? ", name.key())?;
-            let holds = of_name(targets, name).map_or(true, |target| target.holds);
+            let holds = !line_of(project, name).contains('~');
             Ok(Some(OrderAnswer::Truth(holds)))
         }
         OrderAsk::Depends(name) => {
             write!(trace, "{}: ", name.key())?;
-            let depends = of_name(targets, name).map_or("", |target| target.depends);
-            Ok(Some(OrderAnswer::Names(names(alloc, depends)?)))
+            let names = listed(alloc, line_of(project, name), ':')?;
+            Ok(Some(OrderAnswer::Names(names)))
         }
         OrderAsk::Body(name) => {
             write!(trace, "{}! ", name.key())?;
-            match of_name(targets, name).and_then(|target| target.errors) {
-                None => Ok(Some(OrderAnswer::Ok)),
-                Some(errors) => Ok(Some(OrderAnswer::Failed(names(alloc, errors)?))),
+            let line = line_of(project, name);
+            if !line.contains('!') {
+                return Ok(Some(OrderAnswer::Ok));
             }
+            Ok(Some(OrderAnswer::Failed(listed(alloc, line, '!')?)))
         }
         OrderAsk::Done => {
             write!(trace, "done")?;
@@ -97,13 +163,13 @@ fn told(
     }
 }
 
-fn trace(alloc: Global, targets: &[Target], wanted: &str) -> Result<String, Fail> {
-    let mut walk = OrderWalk::start(alloc, &rows(alloc, targets)?, &names(alloc, wanted)?)?;
+fn trace(alloc: Global, project: &str, targets: &str) -> Result<String, Fail> {
+    let mut walk = OrderWalk::start(alloc, &rows(alloc, project)?, &wanted(alloc, targets)?)?;
     let mut trace = String::new(alloc);
     let mut answer = OrderAnswer::First;
     for _ in 0..100 {
         let ask = walk.advance(alloc, &answer)?;
-        match told(alloc, targets, &ask, &mut trace)? {
+        match told(alloc, project, &ask, &mut trace)? {
             Some(next) => answer = next,
             None => break,
         }
@@ -116,297 +182,9 @@ fn trace(alloc: Global, targets: &[Target], wanted: &str) -> Result<String, Fail
 
 #[test]
 fn stories(rt: HostRuntime) -> Result<(), Fail> {
-    let alloc = rt.alloc();
-    let stories: [(&[Target], &str, &str); 17] = [
-        // one after another, and names in other case
-        (
-            &[Target { name: "a", ..PLAIN }, Target { name: "b", ..PLAIN }],
-            "B A b",
-            "b? b: b! a? a: a! done",
-        ),
-        // DependsOnTargets ahead of BeforeTargets, the body, AfterTargets
-        (
-            &[
-                Target {
-                    name: "h",
-                    before: "B",
-                    ..PLAIN
-                },
-                Target {
-                    name: "b",
-                    depends: "d",
-                    ..PLAIN
-                },
-                Target {
-                    name: "k",
-                    after: "b",
-                    ..PLAIN
-                },
-                Target { name: "d", ..PLAIN },
-            ],
-            "b",
-            "b? b: d? d: d! h? h: h! b! k? k: k! done",
-        ),
-        // hooks on hooks
-        (
-            &[
-                Target { name: "b", ..PLAIN },
-                Target {
-                    name: "h",
-                    before: "b",
-                    ..PLAIN
-                },
-                Target {
-                    name: "i",
-                    before: "h",
-                    ..PLAIN
-                },
-                Target {
-                    name: "k",
-                    after: "b",
-                    ..PLAIN
-                },
-                Target {
-                    name: "l",
-                    after: "h k",
-                    ..PLAIN
-                },
-            ],
-            "b",
-            "b? b: h? h: i? i: i! h! l? l: l! b! k? k: k! done",
-        ),
-        // hooks on a skipped target, which is tried again
-        (
-            &[
-                Target {
-                    name: "b",
-                    holds: false,
-                    depends: "d",
-                    ..PLAIN
-                },
-                Target {
-                    name: "h",
-                    before: "b",
-                    ..PLAIN
-                },
-                Target {
-                    name: "k",
-                    after: "b",
-                    depends: "b",
-                    ..PLAIN
-                },
-                Target { name: "d", ..PLAIN },
-            ],
-            "b b",
-            "b? h? h: h! k? k: k! b? done",
-        ),
-        // a target that its own BeforeTargets depends on
-        (
-            &[
-                Target { name: "b", ..PLAIN },
-                Target {
-                    name: "h",
-                    before: "b",
-                    depends: "b",
-                    ..PLAIN
-                },
-            ],
-            "b",
-            "b? b: h? h: (b(h(b failed",
-        ),
-        // a target that its own AfterTargets depends on
-        (
-            &[
-                Target { name: "b", ..PLAIN },
-                Target {
-                    name: "k",
-                    after: "b",
-                    depends: "b",
-                    ..PLAIN
-                },
-            ],
-            "b",
-            "b? b: b! k? k: k! done",
-        ),
-        // a diamond
-        (
-            &[
-                Target {
-                    name: "a",
-                    depends: "b c",
-                    ..PLAIN
-                },
-                Target {
-                    name: "b",
-                    depends: "d",
-                    ..PLAIN
-                },
-                Target {
-                    name: "c",
-                    depends: "D",
-                    ..PLAIN
-                },
-                Target { name: "d", ..PLAIN },
-            ],
-            "a",
-            "a? a: b? b: d? d: d! b! c? c: c! a! done",
-        ),
-        // OnError targets, and then the end
-        (
-            &[
-                Target {
-                    name: "a",
-                    depends: "b",
-                    ..PLAIN
-                },
-                Target {
-                    name: "b",
-                    errors: Some("e f"),
-                    ..PLAIN
-                },
-                Target { name: "e", ..PLAIN },
-                Target { name: "f", ..PLAIN },
-                Target {
-                    name: "k",
-                    after: "b",
-                    ..PLAIN
-                },
-            ],
-            "a f",
-            "a? a: b? b: b! e? e: e! f? f: f! done failed",
-        ),
-        // an OnError target that fails in turn
-        (
-            &[
-                Target {
-                    name: "a",
-                    errors: Some("e f"),
-                    ..PLAIN
-                },
-                Target {
-                    name: "e",
-                    errors: Some("a g"),
-                    ..PLAIN
-                },
-                Target { name: "f", ..PLAIN },
-                Target { name: "g", ..PLAIN },
-            ],
-            "a",
-            "a? a: a! e? e: e! g? g: g! done failed",
-        ),
-        // a failed body without OnError targets
-        (
-            &[
-                Target {
-                    name: "a",
-                    errors: Some(""),
-                    ..PLAIN
-                },
-                Target { name: "b", ..PLAIN },
-            ],
-            "a b",
-            "a? a: a! done failed",
-        ),
-        // an OnError target whose open visit is not past its body
-        (
-            &[
-                Target {
-                    name: "a",
-                    depends: "b",
-                    ..PLAIN
-                },
-                Target {
-                    name: "b",
-                    errors: Some("a"),
-                    ..PLAIN
-                },
-            ],
-            "a",
-            "a? a: b? b: b! (a(b(a failed",
-        ),
-        // a circle of DependsOnTargets that begins inside
-        (
-            &[
-                Target {
-                    name: "a",
-                    depends: "b",
-                    ..PLAIN
-                },
-                Target {
-                    name: "b",
-                    depends: "c",
-                    ..PLAIN
-                },
-                Target {
-                    name: "c",
-                    depends: "b",
-                    ..PLAIN
-                },
-            ],
-            "a",
-            "a? a: b? b: c? c: (b(c(b failed",
-        ),
-        // a target that depends on itself
-        (
-            &[Target {
-                name: "a",
-                depends: "A",
-                ..PLAIN
-            }],
-            "a",
-            "a? a: (a(a failed",
-        ),
-        // unknown names, each when it is visited
-        (
-            &[Target { name: "a", ..PLAIN }],
-            "a x",
-            "a? a: a! no x failed",
-        ),
-        (
-            &[
-                Target {
-                    name: "a",
-                    depends: "b x",
-                    ..PLAIN
-                },
-                Target { name: "b", ..PLAIN },
-            ],
-            "a",
-            "a? a: b? b: b! no x failed",
-        ),
-        // an unknown name to hook on is nobody's, and a name twice is one hook
-        (
-            &[
-                Target { name: "a", ..PLAIN },
-                Target {
-                    name: "h",
-                    before: "x a a",
-                    after: "y",
-                    holds: false,
-                    ..PLAIN
-                },
-            ],
-            "a",
-            "a? a: h? a! done",
-        ),
-        // the first of two rows with one name counts
-        (
-            &[
-                Target { name: "a", ..PLAIN },
-                Target { name: "h", ..PLAIN },
-                Target {
-                    name: "h",
-                    before: "a",
-                    ..PLAIN
-                },
-            ],
-            "a h",
-            "a? a: a! h? h: h! done",
-        ),
-    ];
-    for (targets, wanted, expected) in &stories {
-        let traced = trace(alloc, targets, wanted)?;
-        assert_eq!(rt; traced.as_str(), *expected);
+    for (project, targets, expected) in &STORIES {
+        let traced = trace(rt.alloc(), project, targets)?;
+        assert_eq!(rt; traced.as_str(), *expected, "in {project}");
     }
     Ok(())
 }
