@@ -1,5 +1,5 @@
 -- The answers are the text's.
-use Rattle.std.proofs.Common.{◌≡◌, ℕ, ◌+◌, ◌<◌, suc, List, ◌∷◌, Result, Err, length, drop, refl, sym, ap, ◌∙◌, subst, arith, length-drop, length-append, ◌⊎◌, inl, inr}
+use Rattle.std.proofs.Common.{◌≡◌, ℕ, ◌+◌, ◌<◌, ◌-◌, suc, List, ◌∷◌, Result, Err, length, drop, refl, sym, ap, ◌∙◌, subst, arith, length-drop, length-append, ◌⊎◌, inl, inr}
 use Rattle.std.specs.Prelude.{MatchResult, IfErr}
 use Rattle.msb_expression.specs.declared.expression.Part.{Part}
 use Rattle.msb_expression.specs.declared.expression.Expr.{Expr}
@@ -11,6 +11,7 @@ use Rattle.msb_expression.specs.Grammar.{IsReading}
 use Rattle.msb_expression.specs.Refusals.{IsRefusal, IsBadAt}
 use Rattle.msb_expression.specs.Machine.{Outcome, done, bad, run, begin}
 use Rattle.msb_expression.specs.Answers.{Refuses}
+use Rattle.msb_expression.specs.Reading.{IsRead, read_as, reading}
 use Rattle.msb_expression.proofs.Complete.{run_complete}
 use Rattle.msb_expression.proofs.Refusing.{run_bad, run_early, unclosed_is_early, bad_is_stop}
 
@@ -69,6 +70,17 @@ not_read text parts (BadTransform n) m h e = let k = sym (refuses_is text (BadTr
 not_read text parts (NestedTransform n) m h e = let k = sym (refuses_is text (NestedTransform n) m h).0 ∙ e in cc
 not_read text parts Memory m h e = m refl
 
+at_place : (text : List ℕ) (n : ℕ) → n < length text → length text - length (drop n text) ≡ n
+at_place text n h = omega (arith, h, length-drop n text)
+
+-- what the machine refuses is the text's reading
+pub refused_reading : (text : List ℕ) (fault : ExprFault) → Refuses text fault (run text begin) → IsRead (Err fault) (reading text)
+refused_reading text (Unclosed n) h = ap (read_as (length text)) h.0 ∙ ap (λ at. Err (Unclosed at)) (sym h.1)
+refused_reading text (BadName n) h = ap (read_as (length text)) h.0 ∙ ap (λ at. Err (BadName at)) (at_place text n h.1)
+refused_reading text (BadTransform n) h = ap (read_as (length text)) h.0 ∙ ap (λ at. Err (BadTransform at)) (at_place text n h.1)
+refused_reading text (NestedTransform n) h = ap (read_as (length text)) h.0 ∙ ap (λ at. Err (NestedTransform at)) (at_place text n h.1)
+refused_reading text Memory h = tt
+
 -- the clauses on what a `?` hands on
 module _ (text : List ℕ) (result : Result Expr ExprFault) (given fault : ExprFault) (e : result ≡ Err given) (f : given ≡ fault) (h : Refuses text fault (run text begin)) where
   handed : result ≡ Err fault
@@ -82,3 +94,6 @@ module _ (text : List ℕ) (result : Result Expr ExprFault) (given fault : ExprF
 
   pub handed_only_refusal : (other : ExprFault) → (other ≡ Memory → ⊥) → IsRefusal text other → MatchResult result (λ expr. ⊥) (λ x. (x ≡ other) ⊎ (x ≡ Memory))
   handed_only_refusal other m r = subst (λ t. MatchResult t (λ expr. ⊥) (λ x. (x ≡ other) ⊎ (x ≡ Memory))) (sym handed) (refuses_same text other fault (run text begin) m (refuses_is text other m r) h)
+
+  pub handed_reading : IsRead result (reading text)
+  handed_reading = subst (λ t. IsRead t (reading text)) (sym handed) (refused_reading text fault h)

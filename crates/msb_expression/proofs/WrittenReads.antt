@@ -10,7 +10,7 @@ use Rattle.msb_expression.specs.declared.expression.Step.{Step}
 use Rattle.msb_expression.specs.declared.expression.Step.TheVariants.{Transform as Transforms, Call}
 use Rattle.msb_expression.specs.declared.expression.Piece.{Piece}
 use Rattle.msb_expression.specs.declared.expression.Piece.TheVariants.{Plain as PlainPiece, Prop as PropPiece, Meta as MetaPiece}
-use Rattle.msb_expression.specs.Grammar.{IsName, IsNamed, Joins, IsPiece, IsQuoted, IsListed, IsArgs, IsStep, IsSeparator, IsPart, IsReading}
+use Rattle.msb_expression.specs.Grammar.{IsNamed, Joins, IsPiece, IsQuoted, IsListed, IsArgs, IsStep, IsSeparator, IsPart, IsReading}
 use Rattle.msb_expression.specs.Written.{piece_text, quoted_text, listed_text, args_text, step_text, separator_text, part_text, text_of}
 
 Joins-again : {A : Type 0} (Is : List ℕ → A → Type 0) (write : A → List ℕ) → ((text : List ℕ) (x : A) → Is text x → Is (write x) x) → (text : List ℕ) (xs : List A) → Joins Is text xs → Joins Is (flat_map write xs) xs

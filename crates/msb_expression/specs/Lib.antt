@@ -3,3 +3,4 @@ pub mod Refusals
 pub mod Machine
 pub mod Answers
 pub mod Written
+pub mod Reading

@@ -7,6 +7,7 @@ ghost use Rattle.msb_expression.specs.declared.faults.ExprFault.TheVariants.{Mem
 ghost use Rattle.msb_expression.specs.Grammar.{IsReading};
 ghost use Rattle.msb_expression.specs.Refusals.{IsRefusal};
 ghost use Rattle.msb_expression.specs.Answers.{Leads, Reads};
+ghost use Rattle.msb_expression.specs.Reading.{IsRead, reading};
 
 use crate::names::piece_of;
 use crate::references::{any_metadata, closed_name};
@@ -23,6 +24,9 @@ pub fn parse(alloc: Global, text: &str) -> Result<Expr, ExprFault>
     ensures found { IfOk result (λ expr. IsReading text.now expr.parts) }
     ensures only { (parts : List Part) → IsReading text.now parts
         → MatchResult result (λ expr. expr.parts ≡ parts) (λ fault. fault ≡ Memory) }
+
+    // The answer is a function of the text.
+    ensures read { IsRead result (reading text.now) }
 
     // A refusal is the one that the text has, with its place.
     ensures refused { IfErr result (λ fault. IsRefusal text.now fault) }
