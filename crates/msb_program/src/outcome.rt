@@ -67,7 +67,8 @@ impl Outcome {
     fn fault(alloc: Global, file: &str, cause: Cause) -> Result<Outcome, NoMemory>
         ensures { IfOk result (λ o. seen o ≡ refused (fault_text file.now [] cause)) }
     {
-        let cause = cause.shown();
+        let shown = cause.shown(alloc)?;
+        let cause = shown.as_str();
         Outcome::refusal(alloc, format!(in alloc; "{file} /: {cause}")?.as_str())
     }
 

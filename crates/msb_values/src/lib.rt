@@ -1,7 +1,7 @@
 //! Texts, names and lists, as every other crate holds them, and the plain data that is made of them.
 //!
 //! A contract sees each of these as a list: a [`Text`] and a [`Text8`] as their bytes, a [`List`] as its entries,
-//! a [`Name`] as the bytes of its key, and [`Pairs`] as its names with their texts.
+//! a [`Name`] as the bytes of its key, and a [`Named`] as its names with what they have.
 #![tactic(auto)]
 
 mod cause;
@@ -12,10 +12,11 @@ mod list;
 mod lists;
 mod mode;
 mod name;
+mod named;
 mod note;
-mod pairs;
 mod put;
 mod same;
+mod scope;
 mod text;
 mod text8;
 
@@ -27,9 +28,10 @@ pub use list::{Copied, List};
 pub use lists::split_list;
 pub use mode::Mode;
 pub use name::Name;
+pub use named::{Defaults, Lists, Named, Pairs};
 pub use note::Note;
-pub use pairs::Pairs;
 pub use put::Put;
 pub use same::same_text;
+pub use scope::Scope;
 pub use text::Text;
 pub use text8::Text8;

@@ -1,0 +1,88 @@
+ghost use Rattle.std.specs.Prelude.{◌≡◌, ◌==◌, [], length, OnOk, OnErr, option_copied};
+ghost use Rattle.std.specs.Ordering.{nat_cmp};
+ghost use Rattle.std.specs.BTreeMap.{insert_entry};
+ghost use Rattle.std.specs.Cmp.Lexicographic.{slice_cmp};
+ghost use Rattle.msb_values.specs.Pairs.{value_at};
+
+use crate::{Copied, Item, List, Name, NoMemory, Text};
+use std::alloc::Global;
+use std::collections::{BTreeMap, btree_map};
+use std::marker::Model;
+
+/// What each of some names has: each name once, in byte order of the names.
+#[derive(Drop)]
+pub struct Named<T> {
+    map: BTreeMap<Name, T>,
+}
+
+/// Names with texts, as properties or metadata are.
+pub type Pairs = Named<Text>;
+
+/// Item types with their items.
+pub type Lists = Named<List<Item>>;
+
+/// Item types with the metadata that their items have by default.
+pub type Defaults = Named<Pairs>;
+
+impl<T> Model for Named<T> {
+    ghost use Rattle.std.specs.Prelude.{ℕ, List};
+
+    ghost Value = { List (List ℕ × T) };
+
+    ghost view = { λ p. p.map.entries };
+}
+
+impl<T> Named<T> {
+    pub fn new(alloc: Global) -> Named<T>
+        ensures { result ≡ [] }
+    {
+        Named {
+            map: BTreeMap::new(alloc),
+        }
+    }
+
+    pub fn len(&self) -> usize
+        ensures { result ≡ length self.now }
+    {
+        self.map.len()
+    }
+
+    pub fn is_empty(&self) -> bool
+        ensures { result ≡ (length self.now == 0) }
+    {
+        self.map.len() == 0
+    }
+
+    /// What a name has, if it is there.
+    pub fn get(&self, name: &Name) -> Option<&T>
+        ensures { option_copied result ≡ value_at name.now self.now }
+    {
+        self.map.get(name)
+    }
+
+    /// The names with what they have, in byte order of the names.
+    pub fn iter(&self) -> btree_map::Iter<'_, Name, T>
+        ensures { result ≡ self.now }
+    {
+        self.map.iter()
+    }
+}
+
+impl<T: Drop> Named<T> {
+    /// Gives the name this, in place of what it has; where there is no memory, nothing changes.
+    pub fn insert(&mut self, name: Name, value: T) -> Result<(), NoMemory>
+        ensures ok { OnOk result (self.new ≡ insert_entry (slice_cmp nat_cmp) self.old name value) }
+        ensures err { OnErr result (self.new ≡ self.old) }
+    {
+        self.map.insert(name, value)?;
+        Ok(())
+    }
+}
+
+impl Copied for Named<Text> {
+    fn copy(&self) -> Result<Named<Text>, NoMemory> {
+        Ok(Named {
+            map: self.map.clone()?,
+        })
+    }
+}
