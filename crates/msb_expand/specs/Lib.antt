@@ -1,0 +1,13 @@
+pub mod Results
+pub mod Keys
+pub mod Limits
+pub mod Scenes
+pub mod Reserved
+pub mod Metadata
+pub mod Functions
+pub mod Tokens
+pub mod Values
+pub mod Answers
+pub mod Causes
+pub mod Held
+pub mod Seen

@@ -1,0 +1,65 @@
+-- The metadata of an item. (MSBuild well-known item metadata; MSBuild item metadata)
+use Rattle.std.specs.Prelude.{ℕ, List, [], ◌∷◌, Option, Some, None, Result, Ok, Err, codes, if◌then◌else◌}
+use Rattle.msb_paths.specs.Normal.{normalized, is_normal}
+use Rattle.msb_paths.specs.Parts.{relative_dir, filename, extension}
+use Rattle.msb_paths.specs.declared.errors.PathFault.{PathFault}
+use Rattle.msb_values.specs.Escapes.{escaped, unescaped}
+use Rattle.msb_values.specs.Pairs.{value_at}
+use Rattle.msb_values.specs.declared.item.Item.{Item}
+use Rattle.msb_expand.specs.declared.faults.ExpandFault.{ExpandFault}
+use Rattle.msb_expand.specs.declared.faults.ExpandFault.TheVariants.{BadPath}
+use Rattle.msb_expand.specs.declared.well_known.WellKnown.{WellKnown}
+use Rattle.msb_expand.specs.declared.well_known.WellKnown.TheVariants.{Identity, FullPath, RootDir, Directory, RelativeDir, Filename, Extension, RecursiveDir}
+use Rattle.msb_expand.specs.Keys.{key_of}
+use Rattle.msb_expand.specs.Results.{map_ok}
+use Rattle.msb_expand.specs.Reserved.{folder_of, from_root}
+
+-- the names
+abbrev pub well_known : List (List ℕ × WellKnown)
+well_known =
+    (codes "identity", Identity) ∷
+    (codes "fullpath", FullPath) ∷
+    (codes "rootdir", RootDir) ∷
+    (codes "directory", Directory) ∷
+    (codes "relativedir", RelativeDir) ∷
+    (codes "filename", Filename) ∷
+    (codes "extension", Extension) ∷
+    (codes "recursivedir", RecursiveDir) ∷ []
+
+-- an identity as a path of the store, on the project's folder
+abbrev pub if_normal : List ℕ → Result (List ℕ) PathFault → Result (List ℕ) ExpandFault
+if_normal ident (Ok path) = if is_normal path then Ok path else Err (BadPath ident)
+if_normal ident (Err fault) = Err (BadPath ident)
+
+abbrev pub path_of : List ℕ → List ℕ → Result (List ℕ) ExpandFault
+path_of project ident = if_normal ident (normalized (folder_of project) ident)
+
+-- by the project's file and an item, whose identity is unescaped
+abbrev pub well_known_value : List ℕ → Item → WellKnown → Result (List ℕ) ExpandFault
+well_known_value project item Identity = Ok (escaped (unescaped item.ident))
+well_known_value project item FullPath = map_ok (λ path. escaped (from_root path)) (path_of project (unescaped item.ident))
+well_known_value project item RootDir = Ok (codes "/")
+well_known_value project item Directory = map_ok (λ path. escaped (relative_dir path)) (path_of project (unescaped item.ident))
+well_known_value project item RelativeDir = Ok (escaped (relative_dir (unescaped item.ident)))
+well_known_value project item Filename = Ok (escaped (filename (unescaped item.ident)))
+well_known_value project item Extension = Ok (escaped (extension (unescaped item.ident)))
+well_known_value project item RecursiveDir = Ok item.recursive
+
+abbrev pub text_or_none : Option (List ℕ) → List ℕ
+text_or_none (Some text) = text
+text_or_none None = []
+
+abbrev pub value_if : List ℕ → Item → List ℕ → Option WellKnown → Result (List ℕ) ExpandFault
+value_if project item key (Some known) = well_known_value project item known
+value_if project item key None = Ok (text_or_none (value_at key item.meta))
+
+-- the metadata of a key, of an item that has the defaults of its type: well-known, or its own, or empty
+abbrev pub metadata_at : List ℕ → Item → List ℕ → Result (List ℕ) ExpandFault
+metadata_at project item key = value_if project item key (value_at key well_known)
+
+abbrev pub metadata_if : List ℕ → Item → Option (List ℕ) → Result (List ℕ) ExpandFault
+metadata_if project item (Some key) = metadata_at project item key
+metadata_if project item None = Ok []
+
+abbrev pub metadata_of : List ℕ → Item → List ℕ → Result (List ℕ) ExpandFault
+metadata_of project item name = metadata_if project item (key_of name)

@@ -1,0 +1,54 @@
+-- What an expression sees, and where it stands.
+use Rattle.std.specs.Prelude.{ℕ, List, [], ◌∷◌, Option, Some, None, option_map, option_copied}
+use Rattle.std.specs.Prelude.{map}
+use Rattle.std.specs.BTreeMap.{insert_entry}
+use Rattle.std.specs.Ordering.{nat_cmp}
+use Rattle.std.specs.Cmp.Lexicographic.{slice_cmp}
+use Rattle.msb_values.specs.Pairs.{value_at}
+use Rattle.msb_values.specs.declared.item.Item.{Item}
+use Rattle.msb_values.specs.declared.scope.Scope.{Scope}
+use Rattle.msb_expand.specs.declared.lens.Use.{Use}
+use Rattle.msb_expand.specs.declared.lens.Bucket.{Bucket}
+use Rattle.msb_expand.specs.declared.lens.Lens.{Lens}
+
+-- the scope, the files of the project and of the element, what may stand there, and the item and bucket that `%` speaks of
+pub record Scene : Type 0 where
+  pub scope : Scope
+  pub project : List ℕ
+  pub file : List ℕ
+  pub usage : Use
+  pub own : Option (List ℕ × Item)
+  pub bucket : Option Bucket
+
+abbrev pub scene_of : Lens → Scene
+scene_of lens = record { scope = lens.scope.now; project = lens.project.now; file = lens.file.now; usage = lens.usage; own = option_map (λ p. (p.0.now, p.1.now)) lens.own; bucket = option_copied lens.bucket }
+
+-- the metadata that a type's items have by default
+abbrev pub pairs_or_none : Option (List (List ℕ × List ℕ)) → List (List ℕ × List ℕ)
+pairs_or_none (Some pairs) = pairs
+pairs_or_none None = []
+
+abbrev pub defaults_at : Scene → List ℕ → List (List ℕ × List ℕ)
+defaults_at scene kind = pairs_or_none (value_at kind scene.scope.defaults)
+
+-- the defaults, but for those that the item has itself (MSBuild item definitions)
+abbrev pub overlaid : List (List ℕ × List ℕ) → List (List ℕ × List ℕ) → List (List ℕ × List ℕ)
+overlaid defaults [] = defaults
+overlaid defaults (pair ∷ own) = overlaid (insert_entry (slice_cmp nat_cmp) defaults pair.0 pair.1) own
+
+-- an item with the defaults of its type
+abbrev pub with_defaults : List (List ℕ × List ℕ) → Item → Item
+with_defaults defaults item = record { ident = item.ident; recursive = item.recursive; meta = overlaid defaults item.meta }
+
+-- a bucket sees of the lists that it holds only what it holds of them, and all of the others (MSBuild batching)
+abbrev pub list_or : Option (List Item) → List Item → List Item
+list_or (Some list) other = list
+list_or None other = other
+
+abbrev pub list_in : Option Bucket → List (List ℕ × List Item) → List ℕ → List Item
+list_in None items kind = list_or (value_at kind items) []
+list_in (Some bucket) items kind = list_or (value_at kind bucket.lists) (list_or (value_at kind items) [])
+
+-- the items of a type, each with the defaults
+abbrev pub items_at : Scene → List ℕ → List Item
+items_at scene kind = map (with_defaults (defaults_at scene kind)) (list_in scene.bucket scene.scope.items kind)

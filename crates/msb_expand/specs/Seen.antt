@@ -1,0 +1,9 @@
+-- An item of a reference, as the steps hand it on.
+use Rattle.std.specs.Prelude.{option_copied}
+use Rattle.msb_values.specs.declared.item.Item.{Item}
+use Rattle.msb_expand.specs.declared.seen.Seen.{Seen}
+use Rattle.msb_expand.specs.Scenes.{overlaid, pairs_or_none}
+use Rattle.msb_expand.specs.Held.{held_text}
+
+abbrev pub seen_item : Seen → Item
+seen_item seen = record { ident = held_text seen.ident; recursive = seen.recursive.now; meta = overlaid (pairs_or_none (option_copied seen.defaults)) (pairs_or_none (option_copied seen.meta)) }

@@ -1,0 +1,133 @@
+-- The text and the list that an expression denotes in a scene, or the first fault from the left.
+-- (MSBuild properties; MSBuild items)
+use Rattle.std.specs.Prelude.{ℕ, ◌+◌, nat_lt, ◌==◌, not, Bool, true, false, List, [], ◌∷◌, ◌++◌, length, map, filter, Option, Some, None, Result, Ok, Err, codes, if◌then◌else◌}
+use Rattle.std.specs.List.{list_all, slice_split, join_by, flat_map, sum}
+use Rattle.msb_values.specs.Lists.{is_list_space, trimmed}
+use Rattle.msb_values.specs.declared.item.Item.{Item}
+use Rattle.msb_expression.specs.declared.expression.Piece.{Piece}
+use Rattle.msb_expression.specs.declared.expression.Step.{Step}
+use Rattle.msb_expression.specs.declared.expression.Part.{Part}
+use Rattle.msb_expand.specs.declared.faults.ExpandFault.{ExpandFault}
+use Rattle.msb_expand.specs.declared.faults.ExpandFault.TheVariants.{TooLong, MixedList}
+use Rattle.msb_expand.specs.Keys.{key_of}
+use Rattle.msb_expand.specs.Results.{and_then, map_ok}
+use Rattle.msb_expand.specs.Limits.{limit, grown_by}
+use Rattle.msb_expand.specs.Scenes.{Scene, items_at}
+use Rattle.msb_expand.specs.Functions.{after_steps, quoted_value, plain_item}
+use Rattle.msb_expand.specs.Tokens.{Token, written, referred, faulty, tokens}
+
+abbrev pub named_items : Scene → Option (List ℕ) → List Item
+named_items scene (Some kind) = items_at scene kind
+named_items scene None = []
+
+-- the items of a reference, after its steps
+abbrev pub referred_items : Scene → List ℕ → List Step → Result (List Item) ExpandFault
+referred_items scene kind steps = after_steps scene steps (named_items scene (key_of kind))
+
+-- the separator, or `;`
+abbrev pub separator_of : Scene → Option (List Piece) → List ℕ
+separator_of scene None = codes ";"
+separator_of scene (Some pieces) = quoted_value scene pieces
+
+-- identities joined, the empty ones too
+abbrev pub joined : List ℕ → List Item → List ℕ
+joined separator items = join_by (λ item. item.ident) separator items
+
+abbrev pub token_text : Scene → Token → Result (List ℕ) ExpandFault
+token_text scene (written text) = Ok text
+token_text scene (referred kind steps separator) = map_ok (joined (separator_of scene separator)) (referred_items scene kind steps)
+token_text scene (faulty fault) = Err fault
+
+-- the text of an expression
+abbrev pub text_value : Scene → List Part → Result (List ℕ) ExpandFault
+text_value scene parts = grown_by (token_text scene) [] (tokens scene parts)
+
+-- An entry of a list, as far as it is read: text, or the items of a reference that nothing but spaces may stand beside.
+pub data Entry : Type 0 where
+  begun : List ℕ → Entry
+  given : List Item → Entry
+
+-- what was read of a list: whole items, and the entry that is open
+pub record Reading : Type 0 where
+  pub whole : List Item
+  pub entry : Entry
+
+abbrev pub reading : List Item → Entry → Reading
+reading whole entry = record { whole = whole; entry = entry }
+
+abbrev pub is_blank : List ℕ → Bool
+is_blank text = list_all is_list_space text
+
+abbrev pub items_if : List ℕ → List Item
+items_if [] = []
+items_if (b ∷ bs) = plain_item (b ∷ bs) ∷ []
+
+-- an empty entry is dropped, and so is an item of empty identity
+abbrev pub entry_items : Entry → List Item
+entry_items (begun piece) = items_if (trimmed piece)
+entry_items (given list) = filter (λ item. not (length item.ident == 0)) list
+
+-- the bytes of the identities, with one more for each
+abbrev pub size_of : List Item → ℕ
+size_of list = sum (map (λ item. length item.ident + 1) list)
+
+abbrev pub if_small : List Item → Result (List Item) ExpandFault
+if_small list = if nat_lt limit (size_of list) then Err TooLong else Ok list
+
+-- the open entry is whole
+abbrev pub closed : Reading → Result (List Item) ExpandFault
+closed r = if_small (r.whole ++ entry_items r.entry)
+
+-- text without `;` behind an entry
+abbrev pub entry_with : Entry → List ℕ → Result Entry ExpandFault
+entry_with (begun piece) more = Ok (begun (piece ++ more))
+entry_with (given list) more = if is_blank more then Ok (given list) else Err MixedList
+
+abbrev pub with_text : Reading → List ℕ → Result Reading ExpandFault
+with_text r more = map_ok (reading r.whole) (entry_with r.entry more)
+
+-- text behind a `;`, which closes the entry before it
+abbrev pub next_text : Reading → List ℕ → Result Reading ExpandFault
+next_text r piece = map_ok (λ whole. reading whole (begun piece)) (closed r)
+
+abbrev pub with_next : Reading → List (List ℕ) → Result Reading ExpandFault
+with_next r [] = Ok r
+with_next r (piece ∷ pieces) = and_then (next_text r piece) (λ s. with_next s pieces)
+
+-- text that is cut at each `;`
+abbrev pub with_pieces : Reading → List (List ℕ) → Result Reading ExpandFault
+with_pieces r [] = Ok r
+with_pieces r (piece ∷ pieces) = and_then (with_text r piece) (λ s. with_next s pieces)
+
+-- the joined text of a reference with a separator is one item, in which `;` cuts nothing
+abbrev pub uncut_byte : ℕ → List ℕ
+uncut_byte b = if b == 59 then codes "%3B" else b ∷ []
+
+abbrev pub one_item : List ℕ → List Item
+one_item joined_text = plain_item (flat_map uncut_byte joined_text) ∷ []
+
+abbrev pub entry_list : Scene → List ℕ → List Step → Option (List Piece) → Result (List Item) ExpandFault
+entry_list scene kind steps None = referred_items scene kind steps
+entry_list scene kind steps (Some separator) = map_ok (λ list. one_item (joined (quoted_value scene separator) list)) (referred_items scene kind steps)
+
+-- whether a reference may stand behind an entry
+abbrev pub is_open : Entry → Bool
+is_open (begun piece) = is_blank piece
+is_open (given list) = false
+
+abbrev pub with_reference : Bool → Scene → Reading → List ℕ → List Step → Option (List Piece) → Result Reading ExpandFault
+with_reference true scene r kind steps separator = map_ok (λ list. reading r.whole (given list)) (entry_list scene kind steps separator)
+with_reference false scene r kind steps separator = Err MixedList
+
+abbrev pub with_token : Scene → Reading → Token → Result Reading ExpandFault
+with_token scene r (written text) = with_pieces r (slice_split (λ b. b == 59) text)
+with_token scene r (referred kind steps separator) = with_reference (is_open r.entry) scene r kind steps separator
+with_token scene r (faulty fault) = Err fault
+
+abbrev pub read_on : Scene → Reading → List Token → Result (List Item) ExpandFault
+read_on scene r [] = closed r
+read_on scene r (token ∷ tokens) = and_then (with_token scene r token) (λ s. read_on scene s tokens)
+
+-- the list of an expression
+abbrev pub list_value : Scene → List Part → Result (List Item) ExpandFault
+list_value scene parts = read_on scene (reading [] (begun [])) (tokens scene parts)

@@ -1,0 +1,21 @@
+//! Expressions as texts and lists of items, in a scope of properties, items and metadata.
+//!
+//! What an expression denotes stands in `specs/Values.antt`: what stands in place of each part, and the text or the
+//! list that comes of it from the left.
+#![tactic(auto)]
+
+mod expansion;
+mod faults;
+mod functions;
+mod lens;
+mod properties;
+mod references;
+mod reserved;
+mod seen;
+mod well_known;
+
+pub use expansion::{list, metadata, text};
+pub use faults::{ExpandFault, expression_cause};
+pub use lens::{Bucket, Lens, Use};
+pub use reserved::is_reserved;
+pub use well_known::{WellKnown, is_well_known};

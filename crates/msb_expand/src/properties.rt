@@ -1,0 +1,33 @@
+ghost use Rattle.std.specs.Prelude.{◌≡◌, IfOk};
+ghost use Rattle.msb_expand.specs.Scenes.{scene_of};
+ghost use Rattle.msb_expand.specs.Reserved.{property_of};
+ghost use Rattle.msb_expand.specs.Held.{held_text};
+
+use crate::Lens;
+use msb_values::{NoMemory, Text};
+use std::alloc::Global;
+
+/// A text that the scope holds, or one that was made.
+#[derive(Drop)]
+pub(crate) enum Held<'a> {
+    Scope(&'a str),
+    Made(Text),
+}
+
+impl<'a> Held<'a> {
+    pub(crate) fn as_str(&self) -> &str
+        ensures { result.now ≡ held_text self.now }
+    {
+        match self {
+            Held::Scope(text) => text,
+            Held::Made(text) => text.as_str(),
+        }
+    }
+}
+
+/// The value of a property: the engine's, else the project's, else empty. (MSBuild properties.)
+pub(crate) fn property<'a>(alloc: Global, lens: &Lens<'a>, name: &str) -> Result<Held<'a>, NoMemory>
+    ensures { IfOk result (λ held. held_text held ≡ property_of (scene_of lens.now) name.now) }
+{
+    Err(NoMemory)
+}
