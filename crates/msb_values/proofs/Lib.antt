@@ -1,3 +1,4 @@
 pub mod Lookups
 pub mod Spaces
 pub mod Escaping
+pub mod Folding

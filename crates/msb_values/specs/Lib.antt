@@ -6,3 +6,4 @@ pub mod Pairs
 pub mod Same
 pub mod Lists
 pub mod Escapes
+pub mod Folded

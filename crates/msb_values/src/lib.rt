@@ -7,6 +7,7 @@
 mod cause;
 mod errors;
 mod escapes;
+mod folded;
 mod item;
 mod list;
 mod lists;
@@ -23,6 +24,7 @@ mod text8;
 pub use cause::Cause;
 pub use errors::{NameFault, NoMemory};
 pub use escapes::{escape, unescape};
+pub use folded::Folded;
 pub use item::Item;
 pub use list::{Copied, List};
 pub use lists::split_list;
