@@ -7,7 +7,9 @@
 mod expansion;
 mod faults;
 mod functions;
+mod keys;
 mod lens;
+mod parts;
 mod properties;
 mod references;
 mod reserved;

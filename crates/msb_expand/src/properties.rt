@@ -1,9 +1,12 @@
-ghost use Rattle.std.specs.Prelude.{◌≡◌, IfOk};
+ghost use Rattle.std.specs.Prelude.{◌≡◌, IfOk, option_copied};
 ghost use Rattle.msb_expand.specs.Scenes.{scene_of};
 ghost use Rattle.msb_expand.specs.Reserved.{property_of};
+ghost use Rattle.msb_expand.specs.Metadata.{text_or_none};
 ghost use Rattle.msb_expand.specs.Held.{held_text};
 
 use crate::Lens;
+use crate::keys::key_of;
+use crate::reserved::Reserved;
 use msb_values::{NoMemory, Text};
 use std::alloc::Global;
 
@@ -29,5 +32,20 @@ impl<'a> Held<'a> {
 pub(crate) fn property<'a>(alloc: Global, lens: &Lens<'a>, name: &str) -> Result<Held<'a>, NoMemory>
     ensures { IfOk result (λ held. held_text held ≡ property_of (scene_of lens.now) name.now) }
 {
-    Err(NoMemory)
+    let Some(key) = key_of(alloc, name)? else {
+        return Ok(Held::Scope(""));
+    };
+    match Reserved::named(key.key()) {
+        Some(reserved) => Ok(Held::Made(reserved.value(alloc, lens.project, lens.file)?)),
+        None => Ok(Held::Scope(text_or_empty(lens.scope.props.get(&key)))),
+    }
+}
+
+pub(crate) fn text_or_empty<'a>(text: Option<&'a Text>) -> &'a str
+    ensures { result.now ≡ text_or_none (option_copied text.entry) }
+{
+    match text {
+        Some(text) => text.as_str(),
+        None => "",
+    }
 }
