@@ -31,10 +31,15 @@ pairs_or_none None = []
 abbrev pub defaults_at : Scene → List ℕ → List (List ℕ × List ℕ)
 defaults_at scene kind = pairs_or_none (value_at kind scene.scope.defaults)
 
--- the defaults, but for those that the item has itself (MSBuild item definitions)
+-- a metadata, where the item does not have it itself
+abbrev pub put_missing : Option (List ℕ) → List (List ℕ × List ℕ) → List ℕ → List ℕ → List (List ℕ × List ℕ)
+put_missing (Some text) own name default = own
+put_missing None own name default = insert_entry (slice_cmp nat_cmp) own name default
+
+-- the item's own, and the defaults that it does not have itself (MSBuild item definitions)
 abbrev pub overlaid : List (List ℕ × List ℕ) → List (List ℕ × List ℕ) → List (List ℕ × List ℕ)
-overlaid defaults [] = defaults
-overlaid defaults (pair ∷ own) = overlaid (insert_entry (slice_cmp nat_cmp) defaults pair.0 pair.1) own
+overlaid [] own = own
+overlaid (pair ∷ defaults) own = overlaid defaults (put_missing (value_at pair.0 own) own pair.0 pair.1)
 
 -- an item with the defaults of its type
 abbrev pub with_defaults : List (List ℕ × List ℕ) → Item → Item

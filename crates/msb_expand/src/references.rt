@@ -1,13 +1,14 @@
 ghost use Rattle.msb_expand.specs.Answers.{GivesAs};
 ghost use Rattle.msb_expand.specs.Scenes.{scene_of};
-ghost use Rattle.msb_expand.specs.Functions.{quoted_value};
+ghost use Rattle.msb_expand.specs.Functions.{quoted_piece, quoted_value};
 ghost use Rattle.msb_expand.specs.Values.{referred_items};
 ghost use Rattle.msb_expand.specs.Seen.{seen_item};
-ghost use Rattle.std.specs.Prelude.{◌≡◌, IfOk, map};
+ghost use Rattle.std.specs.Prelude.{◌≡◌, ◌++◌, IfOk, OnOk, map};
 
+use crate::properties::property;
 use crate::seen::Seen;
 use crate::{ExpandFault, Lens};
-use msb_expression::{Pieces, Steps};
+use msb_expression::{Piece, Pieces, Steps};
 use msb_values::{NoMemory, Text};
 use std::alloc::Global;
 
@@ -31,5 +32,43 @@ pub(crate) fn quoted_value(
 ) -> Result<Text, NoMemory>
     ensures { IfOk result (λ text. text ≡ quoted_value (scene_of lens.now) pieces.now) }
 {
-    Err(NoMemory)
+    let mut text = Text::of(alloc, "")?;
+    push_quoted(alloc, lens, &mut text, pieces.as_slice())?;
+    Ok(text)
+}
+
+fn push_quoted(
+    alloc: Global,
+    lens: &Lens<'_>,
+    text: &mut Text,
+    pieces: &[Piece],
+) -> Result<(), NoMemory>
+    ensures { OnOk result (text.new ≡ text.old ++ quoted_value (scene_of lens.now) pieces.now) }
+{
+    for piece in pieces {
+        push_piece(alloc, lens, text, piece)?;
+    }
+    Ok(())
+}
+
+fn push_piece(
+    alloc: Global,
+    lens: &Lens<'_>,
+    text: &mut Text,
+    piece: &Piece,
+) -> Result<(), NoMemory>
+    ensures { OnOk result (text.new ≡ text.old ++ quoted_piece (scene_of lens.now) piece.now) }
+{
+    match piece {
+        Piece::Plain(plain) => text.push_str(plain.as_str()),
+        Piece::Prop(name) => {
+            let value = property(alloc, lens, name.as_str())?;
+            text.push_str(value.as_str())
+        }
+        Piece::Meta(name) => {
+            text.push_str("%(")?;
+            text.push_str(name.as_str())?;
+            text.push_str(")")
+        }
+    }
 }
