@@ -34,12 +34,19 @@ if_normal ident (Err fault) = Err (BadPath ident)
 abbrev pub path_of : List ℕ → List ℕ → Result (List ℕ) ExpandFault
 path_of project ident = if_normal ident (normalized (folder_of project) ident)
 
+-- of an identity as it is held
+abbrev pub full_path : List ℕ → List ℕ → Result (List ℕ) ExpandFault
+full_path project ident = map_ok (λ path. escaped (from_root path)) (path_of project (unescaped ident))
+
+abbrev pub directory : List ℕ → List ℕ → Result (List ℕ) ExpandFault
+directory project ident = map_ok (λ path. escaped (relative_dir path)) (path_of project (unescaped ident))
+
 -- by the project's file and an item, whose identity is unescaped
 abbrev pub well_known_value : List ℕ → Item → WellKnown → Result (List ℕ) ExpandFault
 well_known_value project item Identity = Ok (escaped (unescaped item.ident))
-well_known_value project item FullPath = map_ok (λ path. escaped (from_root path)) (path_of project (unescaped item.ident))
+well_known_value project item FullPath = full_path project item.ident
 well_known_value project item RootDir = Ok (codes "/")
-well_known_value project item Directory = map_ok (λ path. escaped (relative_dir path)) (path_of project (unescaped item.ident))
+well_known_value project item Directory = directory project item.ident
 well_known_value project item RelativeDir = Ok (escaped (relative_dir (unescaped item.ident)))
 well_known_value project item Filename = Ok (escaped (filename (unescaped item.ident)))
 well_known_value project item Extension = Ok (escaped (extension (unescaped item.ident)))

@@ -7,6 +7,7 @@
 mod expansion;
 mod faults;
 mod functions;
+mod identities;
 mod keys;
 mod lens;
 mod parts;

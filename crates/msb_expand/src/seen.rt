@@ -1,9 +1,13 @@
 ghost use Rattle.std.specs.Prelude.{◌≡◌, IfOk, OnOk, option_copied};
 ghost use Rattle.msb_values.specs.Pairs.{value_at};
 ghost use Rattle.msb_expand.specs.Scenes.{pairs_or_none, put_missing, overlaid, with_defaults};
+ghost use Rattle.msb_expand.specs.Answers.{GivesAs};
+ghost use Rattle.msb_expand.specs.Held.{held_text};
+ghost use Rattle.msb_expand.specs.Metadata.{metadata_at, text_or_none};
 ghost use Rattle.msb_expand.specs.Seen.{seen_item};
 
-use crate::properties::Held;
+use crate::properties::{Held, text_or_empty};
+use crate::{ExpandFault, WellKnown};
 use msb_values::{Copied, Item, Name, NoMemory, Pairs, Text};
 use std::alloc::Global;
 
@@ -40,6 +44,40 @@ impl<'a> Seen<'a> {
             recursive: Text::of(alloc, self.recursive)?,
             meta: overlaid(alloc, self.defaults, self.meta)?,
         })
+    }
+
+    /// A metadata of the item: well-known, or its own, or its type's default, or empty.
+    /// (MSBuild well-known item metadata; MSBuild item definitions.)
+    pub(crate) fn metadata(
+        &self,
+        alloc: Global,
+        project: &str,
+        name: &Name,
+    ) -> Result<Held<'a>, ExpandFault>
+        ensures { GivesAs held_text result (metadata_at project.now (seen_item self.now) name.now) }
+    {
+        match WellKnown::named(name.key()) {
+            Some(known) => known.value(alloc, project, self),
+            None => Ok(Held::Scope(self.own_or_default(name))),
+        }
+    }
+
+    fn own_or_default(&self, name: &Name) -> &'a str
+        ensures { result.now ≡ text_or_none (value_at name.now (seen_item self.now).meta) }
+    {
+        match text_in(self.meta, name) {
+            Some(text) => text.as_str(),
+            None => text_or_empty(text_in(self.defaults, name)),
+        }
+    }
+}
+
+fn text_in<'a>(pairs: Option<&'a Pairs>, name: &Name) -> Option<&'a Text>
+    ensures { option_copied result ≡ value_at name.now (pairs_or_none (option_copied pairs.entry)) }
+{
+    match pairs {
+        Some(pairs) => pairs.get(name),
+        None => None,
     }
 }
 
