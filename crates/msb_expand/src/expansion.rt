@@ -1,11 +1,10 @@
 ghost use Rattle.msb_expand.specs.Answers.{Gives};
-ghost use Rattle.msb_expand.specs.Scenes.{scene_of, defaults_at, with_defaults};
-ghost use Rattle.msb_expand.specs.Metadata.{metadata_at};
+ghost use Rattle.msb_expand.specs.Scenes.{scene_of};
 ghost use Rattle.msb_expand.specs.Values.{text_value, list_value};
 
 use crate::{ExpandFault, Lens};
 use msb_expression::Expr;
-use msb_values::{Item, List, Name, Text};
+use msb_values::{Item, List, Text};
 use std::alloc::Global;
 
 /// The text that an expression denotes, with its escapes as they are written, or the first fault from the left.
@@ -19,20 +18,6 @@ pub fn text(alloc: Global, lens: &Lens<'_>, expr: &Expr) -> Result<Text, ExpandF
 /// The items that an expression denotes as a list, or the first fault from the left. (MSBuild items.)
 pub fn list(alloc: Global, lens: &Lens<'_>, expr: &Expr) -> Result<List<Item>, ExpandFault>
     ensures { Gives result (list_value (scene_of lens.now) expr.now.parts) }
-{
-    Err(ExpandFault::Memory)
-}
-
-/// A metadata of an item of this type: well-known, or its own, or the type's default, or empty.
-/// (MSBuild well-known item metadata; MSBuild item definitions.)
-pub fn metadata(
-    alloc: Global,
-    lens: &Lens<'_>,
-    of: &Name,
-    item: &Item,
-    name: &Name,
-) -> Result<Text, ExpandFault>
-    ensures { Gives result (metadata_at lens.now.project.now (with_defaults (defaults_at (scene_of lens.now) of.now) item.now) name.now) }
 {
     Err(ExpandFault::Memory)
 }

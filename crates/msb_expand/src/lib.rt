@@ -8,6 +8,7 @@ mod expansion;
 mod faults;
 mod functions;
 mod identities;
+mod item_metadata;
 mod keys;
 mod lens;
 mod parts;
@@ -17,8 +18,9 @@ mod reserved;
 mod seen;
 mod well_known;
 
-pub use expansion::{list, metadata, text};
+pub use expansion::{list, text};
 pub use faults::{ExpandFault, expression_cause};
+pub use item_metadata::metadata;
 pub use lens::{Bucket, Lens, Use};
 pub use reserved::is_reserved;
 pub use well_known::{WellKnown, is_well_known};

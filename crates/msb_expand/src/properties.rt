@@ -26,6 +26,16 @@ impl<'a> Held<'a> {
             Held::Made(text) => text.as_str(),
         }
     }
+
+    /// The text by itself.
+    pub(crate) fn into_text(self, alloc: Global) -> Result<Text, NoMemory>
+        ensures { IfOk result (λ text. text ≡ held_text self.entry) }
+    {
+        match self {
+            Held::Scope(text) => Text::of(alloc, text),
+            Held::Made(text) => Ok(text),
+        }
+    }
 }
 
 /// The value of a property: the engine's, else the project's, else empty. (MSBuild properties.)
