@@ -1,2 +1,6 @@
 pub mod Folders
 pub mod Overlays
+pub mod Distinct
+pub mod Giving
+pub mod Filtering
+pub mod Reversing

@@ -11,3 +11,4 @@ pub mod Answers
 pub mod Causes
 pub mod Held
 pub mod Seen
+pub mod Wanted

@@ -1,3 +1,20 @@
+ghost use Rattle.std.specs.Prelude.{◌≡◌, [], ◌∷◌, IfOk, map, option_and_then};
+ghost use Rattle.std.specs.Fmt.{decimal};
+ghost use Rattle.msb_values.specs.Pairs.{value_at};
+ghost use Rattle.msb_expand.specs.declared.faults.ExpandFault.TheVariants.{UnknownFunction};
+ghost use Rattle.msb_expand.specs.Answers.{GivesAs};
+ghost use Rattle.msb_expand.specs.Keys.{key_of};
+ghost use Rattle.msb_expand.specs.Functions.{functions, called, plain_item, truth_text};
+ghost use Rattle.msb_expand.specs.Seen.{seen_item};
+
+use crate::ExpandFault;
+use crate::filters::{Wanted, any_passes, filtered};
+use crate::kept::{distinct, reversed, without_metadata};
+use crate::keys::key_of;
+use crate::seen::Seen;
+use msb_values::{NoMemory, Text};
+use std::alloc::Global;
+
 /// What is done to the items of a reference. (MSBuild item functions.)
 #[derive(Clone, Copy, Debug, PartialEq, Eq)]
 pub enum Function {
@@ -8,4 +25,144 @@ pub enum Function {
     WithMetadataValue,
     AnyHaveMetadataValue,
     ClearMetadata,
+}
+
+impl Function {
+    /// The function of this name, in whatever case.
+    fn named(alloc: Global, name: &str) -> Result<Option<Function>, NoMemory>
+        ensures { IfOk result (λ function. function ≡ option_and_then (λ key. value_at key functions) (key_of name.now)) }
+    {
+        match key_of(alloc, name)? {
+            Some(key) => Ok(Function::of_key(key.key())),
+            None => Ok(None),
+        }
+    }
+
+    fn of_key(key: &str) -> Option<Function>
+        ensures { result ≡ value_at key.now functions }
+    {
+        match key {
+            "count" => Some(Function::Count),
+            "distinct" => Some(Function::Distinct),
+            "reverse" => Some(Function::Reverse),
+            "hasmetadata" => Some(Function::HasMetadata),
+            "withmetadatavalue" => Some(Function::WithMetadataValue),
+            "anyhavemetadatavalue" => Some(Function::AnyHaveMetadataValue),
+            "clearmetadata" => Some(Function::ClearMetadata),
+            _ => None,
+        }
+    }
+}
+
+/// The result of an item function; another name, or another number of arguments, is refused.
+pub(crate) fn call<'a>(
+    alloc: Global,
+    project: &str,
+    name: &str,
+    args: &[Text],
+    items: Vec<Seen<'a>>,
+) -> Result<Vec<Seen<'a>>, ExpandFault>
+    ensures { GivesAs (λ seen. map seen_item seen.items) result (called project.now name.now (option_and_then (λ key. value_at key functions) (key_of name.now)) args.now (map seen_item items.entry.items)) }
+{
+    let function = Function::named(alloc, name)?;
+    match args {
+        [] => call_plain(alloc, project, name, function, items),
+        [of] => call_of(alloc, project, name, function, of, items),
+        [of, value] => call_with(alloc, project, name, function, of, value, items),
+        _ => Err(unknown(alloc, name)?),
+    }
+}
+
+fn call_plain<'a>(
+    alloc: Global,
+    project: &str,
+    name: &str,
+    function: Option<Function>,
+    items: Vec<Seen<'a>>,
+) -> Result<Vec<Seen<'a>>, ExpandFault>
+    ensures { GivesAs (λ seen. map seen_item seen.items) result (called project.now name.now function [] (map seen_item items.entry.items)) }
+{
+    match function {
+        Some(Function::Count) => Ok(count(alloc, items.len())?),
+        Some(Function::Distinct) => Ok(distinct(alloc, items)?),
+        Some(Function::Reverse) => Ok(reversed(items)),
+        Some(Function::ClearMetadata) => Ok(without_metadata(alloc, items)?),
+        _ => Err(unknown(alloc, name)?),
+    }
+}
+
+fn call_of<'a>(
+    alloc: Global,
+    project: &str,
+    name: &str,
+    function: Option<Function>,
+    of: &Text,
+    items: Vec<Seen<'a>>,
+) -> Result<Vec<Seen<'a>>, ExpandFault>
+    ensures { GivesAs (λ seen. map seen_item seen.items) result (called project.now name.now function (of.now ∷ []) (map seen_item items.entry.items)) }
+{
+    match function {
+        Some(Function::HasMetadata) => filtered(alloc, project, of.as_str(), &Wanted::Some, items),
+        _ => Err(unknown(alloc, name)?),
+    }
+}
+
+fn call_with<'a>(
+    alloc: Global,
+    project: &str,
+    name: &str,
+    function: Option<Function>,
+    of: &Text,
+    value: &Text,
+    items: Vec<Seen<'a>>,
+) -> Result<Vec<Seen<'a>>, ExpandFault>
+    ensures { GivesAs (λ seen. map seen_item seen.items) result (called project.now name.now function (of.now ∷ value.now ∷ []) (map seen_item items.entry.items)) }
+{
+    match function {
+        Some(Function::WithMetadataValue) => {
+            let wanted = Wanted::value(alloc, value.as_str())?;
+            filtered(alloc, project, of.as_str(), &wanted, items)
+        }
+        Some(Function::AnyHaveMetadataValue) => {
+            let wanted = Wanted::value(alloc, value.as_str())?;
+            let any = any_passes(alloc, project, of.as_str(), &wanted, &items)?;
+            Ok(truth(alloc, any)?)
+        }
+        _ => Err(unknown(alloc, name)?),
+    }
+}
+
+fn unknown(alloc: Global, name: &str) -> Result<ExpandFault, NoMemory>
+    ensures { IfOk result (λ fault. fault ≡ UnknownFunction name.now) }
+{
+    Ok(ExpandFault::UnknownFunction(Text::of(alloc, name)?))
+}
+
+/// One item, the number in decimal.
+fn count<'a>(alloc: Global, number: usize) -> Result<Vec<Seen<'a>>, NoMemory>
+    ensures { IfOk result (λ seen. map seen_item seen.items ≡ plain_item (decimal number) ∷ []) }
+{
+    let text = format!(in alloc; "{number}")?;
+    one_item(alloc, Text::from(text))
+}
+
+/// One item, the truth value.
+fn truth<'a>(alloc: Global, is: bool) -> Result<Vec<Seen<'a>>, NoMemory>
+    ensures { IfOk result (λ seen. map seen_item seen.items ≡ plain_item (truth_text is) ∷ []) }
+{
+    one_item(alloc, Text::of(alloc, truth_text(is))?)
+}
+
+fn truth_text(is: bool) -> &'static str
+    ensures { result.now ≡ truth_text is }
+{
+    if is { "true" } else { "false" }
+}
+
+fn one_item<'a>(alloc: Global, text: Text) -> Result<Vec<Seen<'a>>, NoMemory>
+    ensures { IfOk result (λ seen. map seen_item seen.items ≡ plain_item text ∷ []) }
+{
+    let mut items = Vec::new(alloc);
+    items.push(Seen::plain(text))?;
+    Ok(items)
 }

@@ -6,16 +6,20 @@
 
 mod expansion;
 mod faults;
+mod filters;
 mod functions;
 mod identities;
 mod item_metadata;
+mod kept;
 mod keys;
 mod lens;
+mod limits;
 mod parts;
 mod properties;
 mod references;
 mod reserved;
 mod seen;
+mod steps;
 mod well_known;
 
 pub use expansion::{list, text};

@@ -1,15 +1,18 @@
 ghost use Rattle.msb_expand.specs.Answers.{GivesAs};
-ghost use Rattle.msb_expand.specs.Scenes.{scene_of};
+ghost use Rattle.msb_expand.specs.Keys.{key_of};
+ghost use Rattle.msb_expand.specs.Scenes.{scene_of, pairs_or_none, with_defaults};
 ghost use Rattle.msb_expand.specs.Functions.{quoted_piece, quoted_value};
-ghost use Rattle.msb_expand.specs.Values.{referred_items};
+ghost use Rattle.msb_expand.specs.Values.{named_items, referred_items};
 ghost use Rattle.msb_expand.specs.Seen.{seen_item};
-ghost use Rattle.std.specs.Prelude.{◌≡◌, ◌++◌, IfOk, OnOk, map};
+ghost use Rattle.std.specs.Prelude.{◌≡◌, ◌++◌, IfOk, OnOk, map, option_copied};
 
+use crate::keys::key_of;
 use crate::properties::property;
 use crate::seen::Seen;
+use crate::steps::after_steps;
 use crate::{ExpandFault, Lens};
 use msb_expression::{Piece, Pieces, Steps};
-use msb_values::{NoMemory, Text};
+use msb_values::{Item, NoMemory, Pairs, Text};
 use std::alloc::Global;
 
 /// The items of a reference, after its steps. (MSBuild transforms; Item functions.)
@@ -21,7 +24,32 @@ pub(crate) fn referred_items<'a>(
 ) -> Result<Vec<Seen<'a>>, ExpandFault>
     ensures { GivesAs (λ seen. map seen_item seen.items) result (referred_items (scene_of lens.now) kind.now steps.now) }
 {
-    Err(ExpandFault::Memory)
+    let items = named_items(alloc, lens, kind)?;
+    after_steps(alloc, lens, steps.as_slice(), items)
+}
+
+/// The items of a type, each with the defaults; a text that is no name names none.
+fn named_items<'a>(alloc: Global, lens: &Lens<'a>, kind: &str) -> Result<Vec<Seen<'a>>, NoMemory>
+    ensures { IfOk result (λ seen. map seen_item seen.items ≡ named_items (scene_of lens.now) (key_of kind.now)) }
+{
+    match key_of(alloc, kind)? {
+        Some(kind) => all_seen(alloc, lens.items(&kind), lens.scope.defaults.get(&kind)),
+        None => Ok(Vec::new(alloc)),
+    }
+}
+
+fn all_seen<'a>(
+    alloc: Global,
+    items: &'a [Item],
+    defaults: Option<&'a Pairs>,
+) -> Result<Vec<Seen<'a>>, NoMemory>
+    ensures { IfOk result (λ seen. map seen_item seen.items ≡ map (with_defaults (pairs_or_none (option_copied defaults.entry))) items.now) }
+{
+    let mut seen = Vec::new(alloc);
+    for item in items {
+        seen.push(Seen::of(item, defaults))?;
+    }
+    Ok(seen)
 }
 
 /// The text of an argument or a separator, where properties alone have values.

@@ -2,10 +2,12 @@ ghost use Rattle.std.specs.Prelude.{◌≡◌, IfOk, OnOk, option_copied};
 ghost use Rattle.msb_values.specs.Pairs.{value_at};
 ghost use Rattle.msb_expand.specs.Scenes.{pairs_or_none, put_missing, overlaid, with_defaults};
 ghost use Rattle.msb_expand.specs.Answers.{GivesAs};
+ghost use Rattle.msb_expand.specs.Functions.{plain_item, without_metadata};
 ghost use Rattle.msb_expand.specs.Held.{held_text};
-ghost use Rattle.msb_expand.specs.Metadata.{metadata_at, text_or_none};
+ghost use Rattle.msb_expand.specs.Metadata.{metadata_at, metadata_if, metadata_of, text_or_none};
 ghost use Rattle.msb_expand.specs.Seen.{seen_item};
 
+use crate::keys::key_of;
 use crate::properties::{Held, text_or_empty};
 use crate::{ExpandFault, WellKnown};
 use msb_values::{Copied, Item, Name, NoMemory, Pairs, Text};
@@ -35,6 +37,30 @@ impl<'a> Seen<'a> {
         }
     }
 
+    /// An item that is a text and nothing else.
+    pub(crate) fn plain(text: Text) -> Seen<'a>
+        ensures { seen_item result ≡ plain_item text }
+    {
+        Seen {
+            ident: Held::Made(text),
+            recursive: "",
+            meta: None,
+            defaults: None,
+        }
+    }
+
+    /// The item without its own metadata and without the defaults of its type.
+    pub(crate) fn without_metadata(self) -> Seen<'a>
+        ensures { seen_item result ≡ without_metadata (seen_item self.entry) }
+    {
+        Seen {
+            ident: self.ident,
+            recursive: self.recursive,
+            meta: None,
+            defaults: None,
+        }
+    }
+
     /// The item by itself, with the defaults of its type.
     pub(crate) fn item(&self, alloc: Global) -> Result<Item, NoMemory>
         ensures { IfOk result (λ item. item ≡ seen_item self.now) }
@@ -59,6 +85,34 @@ impl<'a> Seen<'a> {
         match WellKnown::named(name.key()) {
             Some(known) => known.value(alloc, project, self),
             None => Ok(Held::Scope(self.own_or_default(name))),
+        }
+    }
+
+    /// The same by the name as it is written.
+    pub(crate) fn metadata_named(
+        &self,
+        alloc: Global,
+        project: &str,
+        name: &str,
+    ) -> Result<Held<'a>, ExpandFault>
+        ensures { GivesAs held_text result (metadata_of project.now (seen_item self.now) name.now) }
+    {
+        let key = key_of(alloc, name)?;
+        self.metadata_if(alloc, project, &key)
+    }
+
+    /// The same, where there is a name.
+    pub(crate) fn metadata_if(
+        &self,
+        alloc: Global,
+        project: &str,
+        key: &Option<Name>,
+    ) -> Result<Held<'a>, ExpandFault>
+        ensures { GivesAs held_text result (metadata_if project.now (seen_item self.now) key.now) }
+    {
+        match key {
+            Some(key) => self.metadata(alloc, project, key),
+            None => Ok(Held::Scope("")),
         }
     }
 

@@ -1,0 +1,11 @@
+-- A map over a list in reverse.
+use Rattle.std.proofs.Common.{◌≡◌, List, [], ◌∷◌, ◌++◌, map, reverse, refl, sym, ap, ◌∙◌}
+use Rattle.std.proofs.lemmas.List.{map-append, reverse-append}
+
+pub map-reverse : {X Y : Type 0} (f : X → Y) (xs : List X) → map f (reverse xs) ≡ reverse (map f xs)
+map-reverse f [] = refl
+map-reverse f (x ∷ xs) =
+    ap (map f) (reverse-append (x ∷ []) xs)
+    ∙ map-append f (reverse xs) (x ∷ [])
+    ∙ ap (λ front. front ++ f x ∷ []) (map-reverse f xs)
+    ∙ sym (reverse-append (f x ∷ []) (map f xs))

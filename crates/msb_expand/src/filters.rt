@@ -1,0 +1,94 @@
+ghost use Rattle.std.specs.Prelude.{◌≡◌, ℕ, List, IfOk, map};
+ghost use Rattle.msb_values.specs.Same.{is_same_text};
+ghost use Rattle.msb_expand.specs.Answers.{Gives, GivesAs};
+ghost use Rattle.msb_expand.specs.Keys.{key_of};
+ghost use Rattle.msb_expand.specs.Metadata.{metadata_if};
+ghost use Rattle.msb_expand.specs.Results.{map_ok};
+ghost use Rattle.msb_expand.specs.Functions.{filtered, any_passes};
+ghost use Rattle.msb_expand.specs.Seen.{seen_item};
+ghost use Rattle.msb_expand.specs.Wanted.{passes};
+
+use crate::ExpandFault;
+use crate::kept::keep_if;
+use crate::keys::key_of;
+use crate::seen::Seen;
+use msb_values::{Folded, Name, NoMemory};
+use std::alloc::Global;
+
+/// What an item function wants of a metadata's text.
+#[derive(Drop)]
+pub(crate) enum Wanted {
+    /// That there is some.
+    Some,
+    /// That it equals this value without case.
+    Value(Folded),
+}
+
+impl Wanted {
+    /// That it equals a value without case.
+    pub(crate) fn value(alloc: Global, value: &str) -> Result<Wanted, NoMemory>
+        ensures { IfOk result (λ wanted. (text : List ℕ) → passes wanted text ≡ is_same_text value.now text) }
+    {
+        Ok(Wanted::Value(Folded::of(alloc, value)?))
+    }
+
+    fn passes(&self, alloc: Global, text: &str) -> Result<bool, NoMemory>
+        ensures { IfOk result (λ is. is ≡ passes self.now text.now) }
+    {
+        match self {
+            Wanted::Some => Ok(!text.is_empty()),
+            Wanted::Value(value) => Ok(*value == Folded::of(alloc, text)?),
+        }
+    }
+}
+
+/// The items whose metadata of this name passes.
+pub(crate) fn filtered<'a>(
+    alloc: Global,
+    project: &str,
+    of: &str,
+    wanted: &Wanted,
+    items: Vec<Seen<'a>>,
+) -> Result<Vec<Seen<'a>>, ExpandFault>
+    ensures { GivesAs (λ seen. map seen_item seen.items) result (filtered project.now of.now (passes wanted.now) (map seen_item items.entry.items)) }
+{
+    let key = key_of(alloc, of)?;
+    let mut kept = Vec::new(alloc);
+    for item in items {
+        let is = item_passes(alloc, project, &key, wanted, &item)?;
+        keep_if(&mut kept, is, item)?;
+    }
+    Ok(kept)
+}
+
+/// Whether the metadata of this name passes of any item; those behind it are not asked.
+pub(crate) fn any_passes(
+    alloc: Global,
+    project: &str,
+    of: &str,
+    wanted: &Wanted,
+    items: &[Seen<'_>],
+) -> Result<bool, ExpandFault>
+    ensures { Gives result (any_passes project.now of.now (passes wanted.now) (map seen_item items.now)) }
+{
+    let key = key_of(alloc, of)?;
+    for item in items {
+        if item_passes(alloc, project, &key, wanted, item)? {
+            return Ok(true);
+        }
+    }
+    Ok(false)
+}
+
+fn item_passes(
+    alloc: Global,
+    project: &str,
+    key: &Option<Name>,
+    wanted: &Wanted,
+    item: &Seen<'_>,
+) -> Result<bool, ExpandFault>
+    ensures { Gives result (map_ok (passes wanted.now) (metadata_if project.now (seen_item item.now) key.now)) }
+{
+    let value = item.metadata_if(alloc, project, key)?;
+    Ok(wanted.passes(alloc, value.as_str())?)
+}
