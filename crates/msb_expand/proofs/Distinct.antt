@@ -62,15 +62,19 @@ distinct_turn set new seen item ident is kept more rest all compared holds folds
   where
     turn : (b : Bool) → list_any (is_same_text item.ident) seen ≡ not b → OnFalse b (IsUnchanged set new) → more ≡ kept ++ kept_if b item []
         → (x : List (List ℕ)) × HoldsFolded new x × (more ++ distinct_from x rest ≡ all)
-    turn true asked same put =
-        (item.ident ∷ seen, holds_more set new seen item.ident ident compared folds updates holds,
-        ap (λ front. front ++ distinct_from (item.ident ∷ seen) rest) put
-        ∙ append_assoc kept (item ∷ []) (distinct_from (item.ident ∷ seen) rest)
-        ∙ ap (λ b. kept ++ elim b [ true ↦ distinct_from seen rest | false ↦ item ∷ distinct_from (item.ident ∷ seen) rest ]) (sym asked)
-        ∙ so_far)
-    turn false asked same put =
-        (seen, (λ text. ap (λ keys. list_any (is_at (slice_cmp nat_cmp (folded_bytes text))) keys) same ∙ holds text),
-        ap (λ front. front ++ distinct_from seen rest) put
-        ∙ append_assoc kept [] (distinct_from seen rest)
-        ∙ ap (λ b. kept ++ elim b [ true ↦ distinct_from seen rest | false ↦ item ∷ distinct_from (item.ident ∷ seen) rest ]) (sym asked)
-        ∙ so_far)
+    turn true asked same put = (
+      item.ident ∷ seen,
+      holds_more set new seen item.ident ident compared folds updates holds,
+      ap (λ front. front ++ distinct_from (item.ident ∷ seen) rest) put
+          ∙ append_assoc kept (item ∷ []) (distinct_from (item.ident ∷ seen) rest)
+          ∙ ap (λ b. kept ++ elim b [ true ↦ distinct_from seen rest | false ↦ item ∷ distinct_from (item.ident ∷ seen) rest ]) (sym asked)
+          ∙ so_far,
+    )
+    turn false asked same put = (
+      seen,
+      (λ text. ap (λ keys. list_any (is_at (slice_cmp nat_cmp (folded_bytes text))) keys) same ∙ holds text),
+      ap (λ front. front ++ distinct_from seen rest) put
+          ∙ append_assoc kept [] (distinct_from seen rest)
+          ∙ ap (λ b. kept ++ elim b [ true ↦ distinct_from seen rest | false ↦ item ∷ distinct_from (item.ident ∷ seen) rest ]) (sym asked)
+          ∙ so_far,
+    )

@@ -4,7 +4,7 @@ ghost use Rattle.msb_expand.specs.Answers.{Gives, GivesAs};
 ghost use Rattle.msb_expand.specs.Keys.{key_of};
 ghost use Rattle.msb_expand.specs.Metadata.{metadata_if};
 ghost use Rattle.msb_expand.specs.Results.{map_ok};
-ghost use Rattle.msb_expand.specs.Functions.{filtered, any_passes};
+ghost use Rattle.msb_expand.specs.Functions.{filtered, any_passes, is_some_text};
 ghost use Rattle.msb_expand.specs.Seen.{seen_item};
 ghost use Rattle.msb_expand.specs.Wanted.{passes};
 
@@ -26,7 +26,7 @@ pub(crate) enum Wanted {
 
 impl Wanted {
     /// That it equals a value without case.
-    pub(crate) fn value(alloc: Global, value: &str) -> Result<Wanted, NoMemory>
+    fn value(alloc: Global, value: &str) -> Result<Wanted, NoMemory>
         ensures { IfOk result (λ wanted. (text : List ℕ) → passes wanted text ≡ is_same_text value.now text) }
     {
         Ok(Wanted::Value(Folded::of(alloc, value)?))
@@ -42,8 +42,48 @@ impl Wanted {
     }
 }
 
+/// The items whose metadata of this name is not empty.
+pub(crate) fn with_some<'a>(
+    alloc: Global,
+    project: &str,
+    of: &str,
+    items: Vec<Seen<'a>>,
+) -> Result<Vec<Seen<'a>>, ExpandFault>
+    ensures { GivesAs (λ seen. map seen_item seen.items) result (filtered project.now of.now is_some_text (map seen_item items.entry.items)) }
+{
+    filtered(alloc, project, of, &Wanted::Some, items)
+}
+
+/// The items whose metadata of this name equals a value without case.
+pub(crate) fn with_value<'a>(
+    alloc: Global,
+    project: &str,
+    of: &str,
+    value: &str,
+    items: Vec<Seen<'a>>,
+) -> Result<Vec<Seen<'a>>, ExpandFault>
+    ensures { GivesAs (λ seen. map seen_item seen.items) result (filtered project.now of.now (is_same_text value.now) (map seen_item items.entry.items)) }
+{
+    let wanted = Wanted::value(alloc, value)?;
+    filtered(alloc, project, of, &wanted, items)
+}
+
+/// Whether the metadata of this name equals a value, without case, of any item.
+pub(crate) fn any_with_value(
+    alloc: Global,
+    project: &str,
+    of: &str,
+    value: &str,
+    items: &[Seen<'_>],
+) -> Result<bool, ExpandFault>
+    ensures { Gives result (any_passes project.now of.now (is_same_text value.now) (map seen_item items.now)) }
+{
+    let wanted = Wanted::value(alloc, value)?;
+    any_passes(alloc, project, of, &wanted, items)
+}
+
 /// The items whose metadata of this name passes.
-pub(crate) fn filtered<'a>(
+fn filtered<'a>(
     alloc: Global,
     project: &str,
     of: &str,
@@ -62,7 +102,7 @@ pub(crate) fn filtered<'a>(
 }
 
 /// Whether the metadata of this name passes of any item; those behind it are not asked.
-pub(crate) fn any_passes(
+fn any_passes(
     alloc: Global,
     project: &str,
     of: &str,

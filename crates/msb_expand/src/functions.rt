@@ -1,14 +1,16 @@
 ghost use Rattle.std.specs.Prelude.{◌≡◌, [], ◌∷◌, IfOk, map, option_and_then};
 ghost use Rattle.std.specs.Fmt.{decimal};
 ghost use Rattle.msb_values.specs.Pairs.{value_at};
+ghost use Rattle.msb_values.specs.Same.{is_same_text};
 ghost use Rattle.msb_expand.specs.declared.faults.ExpandFault.TheVariants.{UnknownFunction};
 ghost use Rattle.msb_expand.specs.Answers.{GivesAs};
 ghost use Rattle.msb_expand.specs.Keys.{key_of};
-ghost use Rattle.msb_expand.specs.Functions.{functions, called, plain_item, truth_text};
+ghost use Rattle.msb_expand.specs.Results.{map_ok};
+ghost use Rattle.msb_expand.specs.Functions.{functions, called, any_passes, plain_item, truth_text};
 ghost use Rattle.msb_expand.specs.Seen.{seen_item};
 
 use crate::ExpandFault;
-use crate::filters::{Wanted, any_passes, filtered};
+use crate::filters::{any_with_value, with_some, with_value};
 use crate::kept::{distinct, reversed, without_metadata};
 use crate::keys::key_of;
 use crate::seen::Seen;
@@ -102,7 +104,7 @@ fn call_of<'a>(
     ensures { GivesAs (λ seen. map seen_item seen.items) result (called project.now name.now function (of.now ∷ []) (map seen_item items.entry.items)) }
 {
     match function {
-        Some(Function::HasMetadata) => filtered(alloc, project, of.as_str(), &Wanted::Some, items),
+        Some(Function::HasMetadata) => with_some(alloc, project, of.as_str(), items),
         _ => Err(unknown(alloc, name)?),
     }
 }
@@ -119,15 +121,20 @@ fn call_with<'a>(
     ensures { GivesAs (λ seen. map seen_item seen.items) result (called project.now name.now function (of.now ∷ value.now ∷ []) (map seen_item items.entry.items)) }
 {
     match function {
-        Some(Function::WithMetadataValue) => {
-            let wanted = Wanted::value(alloc, value.as_str())?;
-            filtered(alloc, project, of.as_str(), &wanted, items)
-        }
-        Some(Function::AnyHaveMetadataValue) => {
-            let wanted = Wanted::value(alloc, value.as_str())?;
-            let any = any_passes(alloc, project, of.as_str(), &wanted, &items)?;
-            Ok(truth(alloc, any)?)
-        }
+        Some(Function::WithMetadataValue) => with_value(
+            alloc,
+            project,
+            of.as_str(),
+            value.as_str(),
+            items,
+        ),
+        Some(Function::AnyHaveMetadataValue) => any_truth(
+            alloc,
+            project,
+            of.as_str(),
+            value.as_str(),
+            &items,
+        ),
         _ => Err(unknown(alloc, name)?),
     }
 }
@@ -136,6 +143,20 @@ fn unknown(alloc: Global, name: &str) -> Result<ExpandFault, NoMemory>
     ensures { IfOk result (λ fault. fault ≡ UnknownFunction name.now) }
 {
     Ok(ExpandFault::UnknownFunction(Text::of(alloc, name)?))
+}
+
+/// One item, whether the metadata equals this value of any item.
+fn any_truth<'a>(
+    alloc: Global,
+    project: &str,
+    of: &str,
+    value: &str,
+    items: &[Seen<'_>],
+) -> Result<Vec<Seen<'a>>, ExpandFault>
+    ensures { GivesAs (λ seen. map seen_item seen.items) result (map_ok (λ any. plain_item (truth_text any) ∷ []) (any_passes project.now of.now (is_same_text value.now) (map seen_item items.now))) }
+{
+    let any = any_with_value(alloc, project, of, value, items)?;
+    Ok(truth(alloc, any)?)
 }
 
 /// One item, the number in decimal.

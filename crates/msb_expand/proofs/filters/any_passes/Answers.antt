@@ -42,6 +42,7 @@ loop-item-preserved c =
     let wanted = passes c.args.wanted.now in
     let asked : List Seen → Result Bool ExpandFault = λ items. any_passes project of wanted (map seen_item items) in
     let rest = drop (c.loop-item.item-index + 1) c.args.items.now in
-    let turn = at_drop_more asked c.args.items.now c.loop-item.item-index c.item-item.result c.loop-item-test.true ∙ ap (λ item. asked (item ∷ rest)) (sym c.item-item.is) in
-    (c.loop-item.invariant.0,
-    sym (turn ∙ seeks_on wanted _ (asked rest) (rw c.loop-item.invariant.0 at c.in_ok-item_passes.ensures ∙ ap (λ b. Ok b) c.if-branch.false)) ∙ c.loop-item.invariant.1)
+    let turn = at_drop_more asked c.args.items.now c.loop-item.item-index c.item-item.result c.loop-item-test.true ∙ ap (λ item. asked (item ∷ rest)) (sym c.item-item.is) in (
+      c.loop-item.invariant.0,
+      sym (turn ∙ seeks_on wanted _ (asked rest) (rw c.loop-item.invariant.0 at c.in_ok-item_passes.ensures ∙ ap (λ b. Ok b) c.if-branch.false)) ∙ c.loop-item.invariant.1,
+    )

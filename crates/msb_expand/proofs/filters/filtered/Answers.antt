@@ -33,8 +33,9 @@ loop-item-preserved c =
     let item = seen_item c.in-Some.item in
     let rest = filtered project of wanted (map seen_item (into_iter_items c.next.new.self)) in
     let kept = map seen_item c.loop-item.kept.items in
-    let asked = rw c.loop-item.invariant.0 at c.in_ok-is.ensures in
-    (c.loop-item.invariant.0,
-    keeps_on wanted _ c.in_ok-is.is' item kept (map seen_item c.keep_if.new.kept.items) rest asked c.in_ok-keep_if.ensures
-    ∙ ap (λ items. map_ok (λ rest. kept ++ rest) (filtered project of wanted (map seen_item items))) (sym c.in-Some.ensures.steps.0)
-    ∙ c.loop-item.invariant.1)
+    let asked = rw c.loop-item.invariant.0 at c.in_ok-is.ensures in (
+      c.loop-item.invariant.0,
+      keeps_on wanted _ c.in_ok-is.is' item kept (map seen_item c.keep_if.new.kept.items) rest asked c.in_ok-keep_if.ensures
+          ∙ ap (λ items. map_ok (λ rest. kept ++ rest) (filtered project of wanted (map seen_item items))) (sym c.in-Some.ensures.steps.0)
+          ∙ c.loop-item.invariant.1,
+    )
