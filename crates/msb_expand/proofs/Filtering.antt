@@ -1,6 +1,5 @@
 -- A turn of the item functions that ask each item's metadata.
-use Rattle.std.proofs.Common.{◌≡◌, Bool, true, false, List, [], ◌∷◌, ◌++◌, Result, Ok, Err, refl, sym, ap, ◌∙◌, append_assoc}
-use Rattle.std.proofs.lemmas.List.{append-nil}
+use Rattle.std.proofs.Common.{◌≡◌, Bool, true, false, List, [], ◌++◌, Result, Ok, Err, refl, sym, ap, ◌∙◌, append_assoc}
 use Rattle.msb_values.specs.declared.item.Item.{Item}
 use Rattle.msb_expand.specs.Answers.{Gives}
 use Rattle.msb_expand.specs.Results.{and_then, map_ok}

@@ -1,5 +1,5 @@
 -- What a fault of a part, or a value of it, makes of the whole.
-use Rattle.std.proofs.Common.{◌≡◌, Result, Ok, Err, refl, ap, subst}
+use Rattle.std.proofs.Common.{◌≡◌, Result, Ok, Err, ap, subst}
 use Rattle.msb_expand.specs.Answers.{Gives}
 use Rattle.msb_expand.specs.Results.{and_then, map_ok}
 use Rattle.msb_expand.specs.declared.faults.ExpandFault.{ExpandFault}

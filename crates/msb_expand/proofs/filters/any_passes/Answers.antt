@@ -1,4 +1,4 @@
-use Rattle.std.proofs.Common.{◌≡◌, sym, ap, ◌∙◌, List, map, ◌+◌, ◌∷◌, drop, Result, Err, Ok, Bool, true, false}
+use Rattle.std.proofs.Common.{sym, ap, ◌∙◌, List, map, ◌+◌, ◌∷◌, drop, Result, Err, Ok, Bool, true, false}
 use Rattle.std.proofs.lemmas.List.{at_drop_more}
 use Rattle.std.proofs.lemmas.Result.{err_from_is_err_and}
 use Rattle.msb_expand.specs.Functions.{any_passes}

@@ -1,4 +1,4 @@
-use Rattle.std.proofs.Common.{◌≡◌, ℕ, Bool, List, ap, map}
+use Rattle.std.proofs.Common.{◌≡◌, ap, map}
 use Rattle.msb_values.specs.Same.{is_same_text}
 use Rattle.msb_expand.specs.Functions.{any_passes}
 use Rattle.msb_expand.specs.Seen.{seen_item}
