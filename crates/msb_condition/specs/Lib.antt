@@ -1,0 +1,11 @@
+pub mod Trees
+pub mod View
+pub mod Extents
+pub mod Tokens
+pub mod Grammar
+pub mod Machine
+pub mod Reading
+pub mod Numbers
+pub mod Truth
+pub mod Answers
+pub mod Causes

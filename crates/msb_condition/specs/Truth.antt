@@ -1,0 +1,132 @@
+-- Whether a condition is true, from the left, or its first fault. (MSBuild conditions.)
+use Rattle.std.specs.Prelude.{ℕ, Bool, true, false, not, ◌&&◌, ◌==◌, List, [], ◌∷◌, length, codes, slice_index, Option, Some, None, Result, Ok, Err, if◌then◌else◌}
+use Rattle.std.specs.List.{list_any}
+use Rattle.msb_paths.specs.Normal.{normalized, is_normal}
+use Rattle.msb_paths.specs.Presence.{is_there}
+use Rattle.msb_paths.specs.Segments.{is_separator}
+use Rattle.msb_paths.specs.declared.errors.PathFault.{PathFault}
+use Rattle.msb_values.specs.Escapes.{unescaped}
+use Rattle.msb_values.specs.Same.{is_same_text}
+use Rattle.msb_expand.specs.declared.faults.ExpandFault.{ExpandFault}
+use Rattle.msb_expand.specs.Scenes.{Scene}
+use Rattle.msb_expand.specs.Values.{text_value}
+use Rattle.msb_expand.specs.Results.{and_then, map_ok}
+use Rattle.msb_condition.specs.declared.condition.Comparison.{Comparison}
+use Rattle.msb_condition.specs.declared.condition.Comparison.TheVariants.{Equal, NotEqual, Less, Greater, LessOrEqual, GreaterOrEqual}
+use Rattle.msb_condition.specs.declared.condition.Function.{Function}
+use Rattle.msb_condition.specs.declared.condition.Function.TheVariants.{Exists, HasTrailingSlash}
+use Rattle.msb_condition.specs.declared.faults.CondFault.{CondFault}
+use Rattle.msb_condition.specs.declared.faults.CondFault.TheVariants.{NotBoolean, NotNumbers, Expand}
+use Rattle.msb_condition.specs.declared.numbers.Number.{Number}
+use Rattle.msb_condition.specs.Numbers.{number_of, is_less, is_equal}
+use Rattle.msb_condition.specs.Trees.{Operand, text, call, Tree, empty, either, both, negated, compared, truth}
+
+-- what a condition sees: the scope, the folder that Exists starts from, and the paths of the files
+pub record View : Type 0 where
+  pub scene : Scene
+  pub folder : List ℕ
+  pub files : List (List ℕ)
+
+-- a path of a file, or of a folder that a file lies below
+abbrev pub is_found : List (List ℕ) → Result (List ℕ) PathFault → Bool
+is_found files (Ok path) = is_normal path && is_there files path
+is_found files (Err fault) = false
+
+abbrev pub exists : View → List ℕ → Bool
+exists view path = not (length path == 0) && is_found view.files (normalized view.folder path)
+
+-- `/` or `\`
+abbrev pub has_trailing_slash : List ℕ → Bool
+has_trailing_slash [] = false
+has_trailing_slash (b ∷ bs) = is_separator (slice_index (b ∷ bs) (length bs))
+
+abbrev pub called : View → Function → List ℕ → Bool
+called view Exists path = exists view path
+called view HasTrailingSlash path = has_trailing_slash path
+
+abbrev pub shown : Bool → List ℕ
+shown true = codes "true"
+shown false = codes "false"
+
+abbrev pub expanded : Result (List ℕ) ExpandFault → Result (List ℕ) CondFault
+expanded (Ok value) = Ok (unescaped value)
+expanded (Err fault) = Err (Expand fault)
+
+-- an operand as a text, without its escapes
+abbrev pub operand_text : View → Operand → Result (List ℕ) CondFault
+operand_text view (text expr) = expanded (text_value view.scene expr.parts)
+operand_text view (call function inner) = map_ok (λ value. shown (called view function value)) (operand_text view inner)
+
+abbrev pub is_one_of : List (List ℕ) → List ℕ → Bool
+is_one_of words value = list_any (λ word. is_same_text value word) words
+
+-- the truth value that a text is, without case
+abbrev pub boolean_of : List ℕ → Option Bool
+boolean_of value =
+    if is_one_of (codes "true" ∷ codes "on" ∷ codes "yes" ∷ codes "!false" ∷ codes "!off" ∷ codes "!no" ∷ []) value then Some true else
+    if is_one_of (codes "false" ∷ codes "off" ∷ codes "no" ∷ codes "!true" ∷ codes "!on" ∷ codes "!yes" ∷ []) value then Some false else None
+
+abbrev pub boolean_or_fault : List ℕ → Option Bool → Result Bool CondFault
+boolean_or_fault value (Some b) = Ok b
+boolean_or_fault value None = Err (NotBoolean value)
+
+abbrev pub is_true : List ℕ → Result Bool CondFault
+is_true value = boolean_or_fault value (boolean_of value)
+
+abbrev pub same_bool : Bool → Bool → Bool
+same_bool true b = b
+same_bool false b = not b
+
+-- equal as truth values, or else as texts without case
+abbrev pub same_values : List ℕ → List ℕ → Option Bool → Option Bool → Bool
+same_values left right (Some a) (Some b) = same_bool a b
+same_values left right (Some a) None = is_same_text left right
+same_values left right None b = is_same_text left right
+
+-- equal as numbers, or else so
+abbrev pub same_or_equal : List ℕ → List ℕ → Option Number → Option Number → Bool
+same_or_equal left right (Some a) (Some b) = is_equal a b
+same_or_equal left right (Some a) None = same_values left right (boolean_of left) (boolean_of right)
+same_or_equal left right None b = same_values left right (boolean_of left) (boolean_of right)
+
+abbrev pub equal : List ℕ → List ℕ → Bool
+equal left right = same_or_equal left right (number_of left) (number_of right)
+
+abbrev pub in_order : Comparison → Number → Number → Bool
+in_order Less a b = is_less a b
+in_order Greater a b = is_less b a
+in_order LessOrEqual a b = not (is_less b a)
+in_order GreaterOrEqual a b = not (is_less a b)
+in_order Equal a b = is_equal a b
+in_order NotEqual a b = not (is_equal a b)
+
+-- the order comparisons need two numbers
+abbrev pub ordered : Comparison → List ℕ → List ℕ → Option Number → Option Number → Result Bool CondFault
+ordered comparison left right (Some a) (Some b) = Ok (in_order comparison a b)
+ordered comparison left right (Some a) None = Err (NotNumbers left right)
+ordered comparison left right None b = Err (NotNumbers left right)
+
+abbrev pub compare : Comparison → List ℕ → List ℕ → Result Bool CondFault
+compare Equal left right = Ok (equal left right)
+compare NotEqual left right = Ok (not (equal left right))
+compare comparison left right = ordered comparison left right (number_of left) (number_of right)
+
+-- the right side counts only where the left one doesn't settle it
+abbrev pub or_else : Result Bool CondFault → Result Bool CondFault → Result Bool CondFault
+or_else (Ok true) right = Ok true
+or_else (Ok false) right = right
+or_else (Err fault) right = Err fault
+
+abbrev pub and_also : Result Bool CondFault → Result Bool CondFault → Result Bool CondFault
+and_also (Ok true) right = right
+and_also (Ok false) right = Ok false
+and_also (Err fault) right = Err fault
+
+abbrev pub truth_of : View → Tree → Result Bool CondFault
+truth_of view empty = Ok true
+truth_of view (either left right) = or_else (truth_of view left) (truth_of view right)
+truth_of view (both left right) = and_also (truth_of view left) (truth_of view right)
+truth_of view (negated tree) = map_ok not (truth_of view tree)
+truth_of view (compared comparison left right) =
+    and_then (operand_text view left) (λ a. and_then (operand_text view right) (λ b. compare comparison a b))
+truth_of view (truth operand) = and_then (operand_text view operand) is_true

@@ -1,0 +1,40 @@
+use msb_expression::Expr;
+
+/// A condition, as its grammar reads it. (MSBuild conditions.)
+#[derive(Drop)]
+pub enum Cond {
+    /// The condition of a text without tokens, which is true.
+    Empty,
+    Or(Box<Cond>, Box<Cond>),
+    And(Box<Cond>, Box<Cond>),
+    Not(Box<Cond>),
+    Compare(Comparison, Operand, Operand),
+    /// An operand that is a truth value.
+    Truth(Operand),
+}
+
+/// A side of a comparison, or a truth value.
+#[derive(Drop)]
+pub enum Operand {
+    /// A text between quotes, a reference or a word.
+    Text(Expr),
+    Call(Function, Box<Operand>),
+}
+
+#[derive(Clone, Copy, Debug, PartialEq, Eq)]
+pub enum Comparison {
+    Equal,
+    NotEqual,
+    Less,
+    Greater,
+    LessOrEqual,
+    GreaterOrEqual,
+}
+
+#[derive(Clone, Copy, Debug, PartialEq, Eq)]
+pub enum Function {
+    /// Whether a file stands at a path or below it.
+    Exists,
+    /// Whether a text ends with `/` or `\`.
+    HasTrailingSlash,
+}

@@ -1,0 +1,17 @@
+//! Conditions: whether an element of a project file counts. (MSBuild conditions.)
+//!
+//! `parse` reads a condition, and `holds` says whether it is true in a scope and a view of files.
+#![tactic(auto)]
+
+mod condition;
+mod extents;
+mod faults;
+mod numbers;
+mod parsing;
+mod tokens;
+mod truth;
+
+pub use condition::{Comparison, Cond, Function, Operand};
+pub use faults::CondFault;
+pub use parsing::parse;
+pub use truth::holds;
