@@ -29,6 +29,7 @@ pub struct Bucket {
 }
 
 /// What an expression sees, and where it stands.
+#[derive(Clone, Copy)]
 pub struct Lens<'a> {
     pub scope: &'a Scope,
     /// The folder from which the function Exists of a condition starts.
