@@ -26,5 +26,6 @@ pub use expansion::{list, text};
 pub use faults::{ExpandFault, expression_cause};
 pub use item_metadata::metadata;
 pub use lens::{Bucket, Lens, Use};
+pub use parts::folder_of;
 pub use reserved::is_reserved;
 pub use well_known::{WellKnown, is_well_known};

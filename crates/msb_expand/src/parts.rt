@@ -7,7 +7,7 @@ use msb_values::{NoMemory, Text};
 use std::alloc::Global;
 
 /// The folder of a file, which is empty at the root of the store.
-pub(crate) fn folder_of(path: &str) -> &str
+pub fn folder_of(path: &str) -> &str
     ensures { result.now ≡ folder_of path.now }
 {
     match path.rfind('/') {
