@@ -95,8 +95,8 @@ fn filtered<'a>(
     let key = key_of(alloc, of)?;
     let mut kept = Vec::new(alloc);
     for item in items {
-        let is = item_passes(alloc, project, &key, wanted, &item)?;
-        keep_if(&mut kept, is, item)?;
+        let passes = item_passes(alloc, project, &key, wanted, &item)?;
+        keep_if(&mut kept, passes, item)?;
     }
     Ok(kept)
 }
