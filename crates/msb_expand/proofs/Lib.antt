@@ -4,3 +4,5 @@ pub mod Distinct
 pub mod Giving
 pub mod Filtering
 pub mod Reversing
+pub mod Turns
+pub mod Growing

@@ -12,3 +12,6 @@ pub mod Causes
 pub mod Held
 pub mod Seen
 pub mod Wanted
+pub mod Joins
+pub mod Taken
+pub mod Again

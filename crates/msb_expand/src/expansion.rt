@@ -2,6 +2,7 @@ ghost use Rattle.msb_expand.specs.Answers.{Gives};
 ghost use Rattle.msb_expand.specs.Scenes.{scene_of};
 ghost use Rattle.msb_expand.specs.Values.{text_value, list_value};
 
+use crate::texts::push_parts;
 use crate::{ExpandFault, Lens};
 use msb_expression::Expr;
 use msb_values::{Item, List, Text};
@@ -12,7 +13,9 @@ use std::alloc::Global;
 pub fn text(alloc: Global, lens: &Lens<'_>, expr: &Expr) -> Result<Text, ExpandFault>
     ensures { Gives result (text_value (scene_of lens.now) expr.now.parts) }
 {
-    Err(ExpandFault::Memory)
+    let mut text = Text::of(alloc, "")?;
+    push_parts(alloc, &mut text, lens, expr.parts.as_slice())?;
+    Ok(text)
 }
 
 /// The items that an expression denotes as a list, or the first fault from the left. (MSBuild items.)

@@ -4,22 +4,28 @@
 //! list that comes of it from the left.
 #![tactic(auto)]
 
+mod batched;
 mod expansion;
 mod faults;
+mod filled;
 mod filters;
 mod functions;
 mod identities;
 mod item_metadata;
+mod joins;
 mod kept;
 mod keys;
 mod lens;
 mod limits;
+mod own;
 mod parts;
 mod properties;
 mod references;
 mod reserved;
 mod seen;
 mod steps;
+mod texts;
+mod tokens;
 mod well_known;
 
 pub use expansion::{list, text};
