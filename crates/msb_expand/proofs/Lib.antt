@@ -6,3 +6,6 @@ pub mod Filtering
 pub mod Reversing
 pub mod Turns
 pub mod Growing
+pub mod Uncut
+pub mod Cuts
+pub mod Listing

@@ -2,6 +2,8 @@ ghost use Rattle.msb_expand.specs.Answers.{Gives};
 ghost use Rattle.msb_expand.specs.Scenes.{scene_of};
 ghost use Rattle.msb_expand.specs.Values.{text_value, list_value};
 
+use crate::lists::read_parts;
+use crate::reading::Reading;
 use crate::texts::push_parts;
 use crate::{ExpandFault, Lens};
 use msb_expression::Expr;
@@ -22,5 +24,7 @@ pub fn text(alloc: Global, lens: &Lens<'_>, expr: &Expr) -> Result<Text, ExpandF
 pub fn list(alloc: Global, lens: &Lens<'_>, expr: &Expr) -> Result<List<Item>, ExpandFault>
     ensures { Gives result (list_value (scene_of lens.now) expr.now.parts) }
 {
-    Err(ExpandFault::Memory)
+    let mut reading = Reading::new(alloc);
+    read_parts(alloc, &mut reading, lens, expr.parts.as_slice())?;
+    reading.into_list(alloc)
 }

@@ -5,6 +5,7 @@
 #![tactic(auto)]
 
 mod batched;
+mod entry;
 mod expansion;
 mod faults;
 mod filled;
@@ -17,16 +18,20 @@ mod kept;
 mod keys;
 mod lens;
 mod limits;
+mod lists;
 mod own;
 mod parts;
 mod properties;
+mod reading;
 mod references;
 mod reserved;
 mod seen;
+mod spaces;
 mod steps;
 mod texts;
 mod tokens;
 mod well_known;
+mod whole;
 
 pub use expansion::{list, text};
 pub use faults::{ExpandFault, expression_cause};

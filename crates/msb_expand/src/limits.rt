@@ -6,7 +6,7 @@ use crate::ExpandFault;
 use msb_values::Text;
 
 /// How many bytes an expansion may have: 4 MiB.
-const LIMIT: usize = 4_194_304;
+pub(crate) const LIMIT: usize = 4_194_304;
 
 /// Puts more behind a text, where what comes of it is not too long.
 pub(crate) fn grow(text: &mut Text, more: &str) -> Result<(), ExpandFault>
