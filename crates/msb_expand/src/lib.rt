@@ -40,3 +40,6 @@ pub use lens::{Bucket, Lens, Use};
 pub use parts::folder_of;
 pub use reserved::is_reserved;
 pub use well_known::{WellKnown, is_well_known};
+
+#[cfg(test)]
+mod tests;
