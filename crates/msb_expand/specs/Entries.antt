@@ -1,8 +1,8 @@
 -- A list as far as it is read, as the code holds it.
 use Rattle.std.specs.Prelude.{ℕ, ◌+◌, nat_lt, List, [], ◌∷◌, length, map, Result, Ok, Err, if◌then◌else◌}
-use Rattle.msb_expand.specs.declared.entry.Entry.{Entry as Held}
+use Rattle.msb_expand.specs.declared.entry.Entry.{Entry as Open}
 use Rattle.msb_expand.specs.declared.entry.Entry.TheVariants.{Begun, Given, Joined}
-use Rattle.msb_expand.specs.declared.reading.Reading.{Reading as Read}
+use Rattle.msb_expand.specs.declared.reading.Reading.{Reading as Held}
 use Rattle.msb_expand.specs.declared.faults.ExpandFault.{ExpandFault}
 use Rattle.msb_expand.specs.declared.faults.ExpandFault.TheVariants.{TooLong}
 use Rattle.msb_expand.specs.Results.{and_then}
@@ -12,12 +12,12 @@ use Rattle.msb_expand.specs.Seen.{seen_item}
 use Rattle.msb_expand.specs.Tokens.{Token}
 use Rattle.msb_expand.specs.Values.{Entry, begun, given, Reading, reading, one_item, joined, with_token}
 
-abbrev pub entry_of : Held → Entry
+abbrev pub entry_of : Open → Entry
 entry_of (Begun text) = begun text
 entry_of (Given items) = given (map seen_item items.items)
 entry_of (Joined items separator) = given (one_item (joined separator (map seen_item items.items)))
 
-abbrev pub reading_of : Read → Reading
+abbrev pub reading_of : Held → Reading
 reading_of r = reading r.whole (entry_of r.entry)
 
 -- what is read behind what was read

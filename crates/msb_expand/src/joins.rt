@@ -19,6 +19,7 @@ pub(crate) fn push_joined(
     ensures { GivesAs (λ _. text.new) result (if_short (text.old ++ joined separator.now (map seen_item items.now))) }
 {
     match items {
+        // Nothing comes of no items, but the text alone may be too long.
         [] => grow(text, ""),
         [first, others @ ..] => {
             grow(text, first.ident.as_str())?;

@@ -86,6 +86,7 @@ impl Whole {
         for item in items {
             self.push_item(alloc, item)?;
         }
+        // Nothing more: all that is whole is within the limit.
         self.push_text(alloc, "")
     }
 
