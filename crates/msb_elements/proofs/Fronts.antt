@@ -35,7 +35,7 @@ abbrev pub onto : List Node → Nodes → Nodes
 onto [] ns = ns
 onto (x ∷ xs) ns = more x (onto xs ns)
 
-onto-last : (front : List Node) (x : Node) (ns : Nodes) → onto front (more x ns) ≡ onto (front ++ x ∷ []) ns
+pub onto-last : (front : List Node) (x : Node) (ns : Nodes) → onto front (more x ns) ≡ onto (front ++ x ∷ []) ns
 onto-last [] x ns = refl
 onto-last (y ∷ ys) x ns = ap (more y) (onto-last ys x ns)
 
@@ -56,7 +56,7 @@ pub front_step : (place : List ℕ) (vs : List Value) (i : ℕ) (v : Value) (fro
 front_step place vs i v front e all within so_far is some =
     record { is = so_far.is ∙ rw (drop-cons vs i v, ← is, some, map-append, add-one) (longer_nodes (map view front) (view e) _) }
 
-onto-none : (xs : List Node) → onto xs no_nodes ≡ nodes_from xs
+pub onto-none : (xs : List Node) → onto xs no_nodes ≡ nodes_from xs
 onto-none [] = refl
 onto-none (x ∷ xs) = ap (more x) (onto-none xs)
 

@@ -2,6 +2,9 @@ pub mod Views
 pub mod Depths
 pub mod Fronts
 pub mod Forming
+pub mod Growing
+pub mod Taking
+pub mod Heights
+pub mod Formed
 pub mod Files
 pub mod Twos
-pub mod Checking

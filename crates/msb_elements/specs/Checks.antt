@@ -1,15 +1,15 @@
--- The first fault of a project file in document order, parents first, and of an element's faults the least.
+-- The faults of an element where it stands, and of these the least. (MSBuild project file schema reference.)
 use Rattle.std.specs.Prelude.{ℕ, List, [], ◌∷◌, ◌&&◌, ◌||◌, ◌==◌, Bool, true, false, not, length, is_some, Option, Some, None, option_map, codes, if◌then◌else◌}
 use Rattle.std.specs.Str.{bytes_eq, str_to_ascii_lowercase}
 use Rattle.std.specs.Borrow.{Bor}
 use Rattle.std.specs.List.{list_any}
 use Rattle.msb_values.specs.Names.{is_name_byte, bad_place}
 use Rattle.msb_values.specs.Pairs.{value_at}
-use Rattle.msb_elements.specs.Nodes.{Node, node, Nodes, no_nodes, more, name_of, list_of}
+use Rattle.msb_elements.specs.Trees.{Tree, no_element, element, Trees, no_trees, further}
 use Rattle.msb_elements.specs.Rows.{Need, Clash, NameValue, row_of}
-use Rattle.msb_elements.specs.Stands.{role_of, or_else, child_kind, standing_of}
+use Rattle.msb_elements.specs.Stands.{role_of, or_else}
 use Rattle.msb_elements.specs.declared.kind.Kind.{Kind}
-use Rattle.msb_elements.specs.declared.kind.Kind.TheVariants.{ProjectExtensions, Choose, Otherwise, OnError}
+use Rattle.msb_elements.specs.declared.kind.Kind.TheVariants.{Choose, Otherwise, OnError}
 use Rattle.msb_elements.specs.declared.kind.Role.{Role}
 use Rattle.msb_elements.specs.declared.kind.Role.TheVariants.{Named, Strange}
 use Rattle.msb_elements.specs.declared.kind.Standing.{Standing}
@@ -36,18 +36,23 @@ abbrev pub is_on_error : Option Kind → Bool
 is_on_error (Some OnError) = true
 is_on_error _ = false
 
--- the first child has another name than When
-abbrev pub begins_otherwise : Option (List ℕ) → Bool
-begins_otherwise None = false
-begins_otherwise (Some name) = not (bytes_eq name (codes "When"))
+-- an entry that is no element is no When
+abbrev pub is_when : Tree → Bool
+is_when no_element = false
+is_when (element name attributes text entries) = bytes_eq name (codes "When")
+
+-- the first child is another than a When
+abbrev pub begins_otherwise : Trees → Bool
+begins_otherwise no_trees = false
+begins_otherwise (further t ts) = not (is_when t)
 
 -- Misplaced: an Otherwise that is not last, a Choose that begins with another child than When, or a child other than
 -- OnError after an OnError
-abbrev pub is_out_of_order : Kind → Bool → Bool → Option (List ℕ) → Bool
-is_out_of_order Otherwise after last first_child = not last || after
-is_out_of_order Choose after last first_child = begins_otherwise first_child || after
-is_out_of_order OnError after last first_child = false
-is_out_of_order _ after last first_child = after
+abbrev pub is_out_of_order : Kind → Bool → Bool → Trees → Bool
+is_out_of_order Otherwise after last entries = not last || after
+is_out_of_order Choose after last entries = begins_otherwise entries || after
+is_out_of_order OnError after last entries = false
+is_out_of_order _ after last entries = after
 
 abbrev pub has : List ℕ → List Pair → Bool
 has name attributes = is_some (value_at name attributes)
@@ -66,10 +71,10 @@ first_unmet (need ∷ needs) attributes =
     if has_or_no need.beside attributes && not (list_any (λ name. has name attributes) need.one_of) then first_name need.one_of else first_unmet needs attributes
 
 -- MissingAttribute: an attribute that the row needs, or the When of a Choose without children
-abbrev pub missing_in : Kind → List Pair → Option (List ℕ) → Option (List ℕ)
-missing_in Choose attributes None = Some (codes "When")
-missing_in Choose attributes (Some child) = None
-missing_in kind attributes first_child = first_unmet (row_of kind).needs attributes
+abbrev pub missing_in : Kind → List Pair → Trees → Option (List ℕ)
+missing_in Choose attributes no_trees = Some (codes "When")
+missing_in Choose attributes (further t ts) = None
+missing_in kind attributes entries = first_unmet (row_of kind).needs attributes
 
 abbrev pub is_clash : List Pair → List ℕ → List ℕ → Clash → Bool
 is_clash attributes one other clash = bytes_eq one clash.first && bytes_eq other clash.second && not (is_some clash.unless && has_or_no clash.unless attributes)
@@ -124,58 +129,23 @@ bad_own_name kind name = if is_some (row_of kind).tag then None else bad_place i
 abbrev pub bad_name_in : Kind → List ℕ → List Pair → Option ℕ
 bad_name_in kind name attributes = or_else (bad_own_name kind name) (first_bad kind attributes)
 
-abbrev pub fault_of_attributes : Kind → List ℕ → List ℕ → List Pair → Option (List ℕ) → Option FormFault
-fault_of_attributes kind place name attributes first_child =
-    or_else (option_map (λ missed. fault.MissingAttribute place missed) (missing_in kind attributes first_child))
+abbrev pub fault_of_attributes : Kind → List ℕ → List ℕ → List Pair → Trees → Option FormFault
+fault_of_attributes kind place name attributes entries =
+    or_else (option_map (λ missed. fault.MissingAttribute place missed) (missing_in kind attributes entries))
     (or_else (option_map (λ two. fault.BothAttributes place two.0 two.1) (both_in kind attributes))
     (option_map (λ at. fault.BadName place at) (bad_name_in kind name attributes)))
 
 -- of the faults of an element that may stand there the least
-abbrev pub fault_of_kind : Kind → Bool → Bool → List ℕ → List ℕ → List Pair → List ℕ → Option (List ℕ) → Option FormFault
-fault_of_kind kind after last place name attributes text first_child =
+abbrev pub fault_of_kind : Kind → Bool → Bool → List ℕ → List ℕ → List Pair → List ℕ → Trees → Option FormFault
+fault_of_kind kind after last place name attributes text entries =
     if has_strange kind attributes text then Some (fault.UnknownElement place) else
-    if is_out_of_order kind after last first_child then Some (fault.Misplaced place) else
-    fault_of_attributes kind place name attributes first_child
+    if is_out_of_order kind after last entries then Some (fault.Misplaced place) else
+    fault_of_attributes kind place name attributes entries
 
-abbrev pub own_fault : Standing → Bool → Bool → List ℕ → List ℕ → List Pair → List ℕ → Option (List ℕ) → Option FormFault
-own_fault (Stands kind) after last place name attributes text first_child = fault_of_kind kind after last place name attributes text first_child
-own_fault (Misplaced (Some kind)) after last place name attributes text first_child =
+-- the least fault of an element with these entries below it, after an OnError or not, and as the last child or not
+abbrev pub own_fault : Standing → Bool → Bool → List ℕ → List ℕ → List Pair → List ℕ → Trees → Option FormFault
+own_fault (Stands kind) after last place name attributes text entries = fault_of_kind kind after last place name attributes text entries
+own_fault (Misplaced (Some kind)) after last place name attributes text entries =
     if has_strange kind attributes text then Some (fault.UnknownElement place) else Some (fault.Misplaced place)
-own_fault (Misplaced None) after last place name attributes text first_child = Some (fault.Misplaced place)
-own_fault Unknown after last place name attributes text first_child = Some (fault.UnknownElement place)
-
-abbrev pub is_no_nodes : Nodes → Bool
-is_no_nodes no_nodes = true
-is_no_nodes (more n ns) = false
-
-abbrev pub first_child_name : List Node → Option (List ℕ)
-first_child_name [] = None
-first_child_name (n ∷ ns) = Some (name_of n)
-
-abbrev pub is_looked_into : Kind → Bool
-is_looked_into ProjectExtensions = false
-is_looked_into _ = true
-
--- below an element that may not stand there, and below ProjectExtensions, nothing is looked at
-abbrev pub looks_into : Standing → Bool
-looks_into (Stands kind) = is_looked_into kind
-looks_into _ = false
-
-abbrev pub kind_standing : Standing → Option Kind
-kind_standing (Stands kind) = Some kind
-kind_standing _ = None
-
--- an element below such a parent, after an OnError or not, and as the last child or not
-unfoldable mutual
-  pub first_fault : Option Kind → Bool → Bool → Node → Option FormFault
-  first_fault parent after last (node place name attributes text children) =
-      or_else (own_fault (standing_of parent name) after last place name attributes text (first_child_name (list_of children)))
-      (if looks_into (standing_of parent name) then faults_below (kind_standing (standing_of parent name)) false children else None)
-
-  pub faults_below : Option Kind → Bool → Nodes → Option FormFault
-  faults_below parent after no_nodes = None
-  faults_below parent after (more n ns) = or_else (first_fault parent after (is_no_nodes ns) n) (faults_below parent (after || is_on_error (child_kind parent (name_of n))) ns)
-
--- the first fault of the tree
-abbrev pub form_fault : Node → Option FormFault
-form_fault root = first_fault None false true root
+own_fault (Misplaced None) after last place name attributes text entries = Some (fault.Misplaced place)
+own_fault Unknown after last place name attributes text entries = Some (fault.UnknownElement place)

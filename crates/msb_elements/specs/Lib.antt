@@ -2,8 +2,10 @@ pub mod Nodes
 pub mod Places
 pub mod View
 pub mod Forms
+pub mod Trees
 pub mod Reads
 pub mod Rows
 pub mod Stands
 pub mod Checks
 pub mod Checked
+pub mod Projects

@@ -3,7 +3,9 @@ ghost use Rattle.std.specs.Prelude.{◌≡◌, None, IfOk};
 ghost use Rattle.std.specs.List.{list_any};
 ghost use Rattle.std.specs.Option.{option_copied};
 ghost use Rattle.msb_values.specs.Names.{is_name_byte, is_target_byte, bad_place};
+ghost use Rattle.serde_json.specs.View.{items_view};
 ghost use Rattle.msb_elements.specs.Rows.{names_items};
+ghost use Rattle.msb_elements.specs.Trees.{no_trees, trees_of};
 ghost use Rattle.msb_elements.specs.Stands.{role_of};
 ghost use Rattle.msb_elements.specs.Checks.{is_strange, has, missing_in, bad_attribute, first_bad};
 ghost use Rattle.msb_elements.specs.declared.kind.Kind.TheVariants.{Output};
@@ -11,6 +13,7 @@ ghost use Rattle.msb_elements.specs.declared.kind.Kind.TheVariants.{Output};
 use crate::element::value_of;
 use crate::kind::{Kind, Role};
 use msb_values::{Name, NameFault, NoMemory, Text};
+use serde_json::Value;
 use std::alloc::Global;
 
 /// Whether there is an attribute that the element may not have.
@@ -37,16 +40,12 @@ fn names_items(attributes: &[(Text, Text)]) -> bool
     has(attributes, "Include") || has(attributes, "Remove") || has(attributes, "Update")
 }
 
-/// The attribute that the element needs and does not have; and a Choose without children lacks its `When`.
-pub fn missing(
-    kind: Kind,
-    attributes: &[(Text, Text)],
-    first_child: Option<&str>,
-) -> Option<&'static str>
-    ensures { option_copied result ≡ missing_in kind attributes.now (option_copied first_child.entry) }
+/// The attribute that the element needs and does not have; and a Choose with nothing below it lacks its `When`.
+pub fn missing(kind: Kind, attributes: &[(Text, Text)], entries: &[Value]) -> Option<&'static str>
+    ensures { option_copied result ≡ missing_in kind attributes.now (trees_of (items_view entries.now)) }
 {
     match kind {
-        Kind::Choose => if first_child.is_none() {
+        Kind::Choose => if entries.is_empty() {
             Some("When")
         } else {
             None
@@ -87,7 +86,7 @@ pub fn missing(
 }
 
 fn missing_of_output(attributes: &[(Text, Text)]) -> Option<&'static str>
-    ensures { option_copied result ≡ missing_in Output attributes.now None }
+    ensures { option_copied result ≡ missing_in Output attributes.now no_trees }
 {
     if !has(attributes, "TaskParameter") {
         return Some("TaskParameter");

@@ -40,9 +40,14 @@ impl<T: Drop> From<AllocFailed<T>> for ReadFault {
     }
 }
 
-/// Why a tree of elements is no project file, with the place of the element. (MSBuild project file schema reference.)
+/// Why a file is no project file, with the place of the element. (MSBuild project file schema reference.)
 #[derive(Drop)]
 pub enum FormFault {
+    /// The bytes are no JSON text.
+    NotJson,
+    /// An entry that is no element: no object, one without a name, one with a member that no element has or whose value
+    /// is of another type, or one with both a text and children.
+    NotElement(Place),
     /// A name that no element has, or an attribute or a text that the element may not have.
     UnknownElement(Place),
     /// An element that may not stand there.
@@ -60,6 +65,22 @@ impl From<NoMemory> for FormFault {
     ghost from_gives = { λ _ e. e ≡ form.Memory };
 
     fn from(_: NoMemory) -> Self {
+        FormFault::Memory
+    }
+}
+
+impl From<AllocError> for FormFault {
+    ghost from_gives = { λ _ e. e ≡ form.Memory };
+
+    fn from(_: AllocError) -> Self {
+        FormFault::Memory
+    }
+}
+
+impl<T: Drop> From<AllocFailed<T>> for FormFault {
+    ghost from_gives = { λ _ e. e ≡ form.Memory };
+
+    fn from(_: AllocFailed<T>) -> Self {
         FormFault::Memory
     }
 }

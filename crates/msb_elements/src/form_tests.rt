@@ -1,10 +1,12 @@
-use crate::{FormFault, check_form, read_project};
+use crate::{FormFault, read_form};
 use std::alloc::{AllocError, Global};
 use std::test::Fail;
 
-/// The fault's number in the order of [`FormFault`], from 3 on, with its place and its details.
+/// The fault's number in the order of [`FormFault`], with its place and its details.
 fn shown(alloc: Global, fault: &FormFault) -> Result<String, AllocError> {
     match fault {
+        FormFault::NotJson => format!(in alloc; "1"),
+        FormFault::NotElement(place) => format!(in alloc; "2 {place}"),
         FormFault::UnknownElement(place) => format!(in alloc; "3 {place}"),
         FormFault::Misplaced(place) => format!(in alloc; "4 {place}"),
         FormFault::MissingAttribute(place, name) => format!(in alloc;
@@ -20,15 +22,20 @@ fn shown(alloc: Global, fault: &FormFault) -> Result<String, AllocError> {
 }
 
 fn answer(alloc: Global, text: &str) -> Result<String, Fail> {
-    let project = read_project(alloc, text.as_bytes())?;
-    match check_form(alloc, &project.root) {
-        Ok(()) => Ok(String::from_str(alloc, "no fault")?),
+    match read_form(alloc, text.as_bytes()) {
+        Ok(_) => Ok(String::from_str(alloc, "no fault")?),
         Err(fault) => Ok(shown(alloc, &fault)?),
     }
 }
 
 /// Whole files.
-const FILES: [(&str, &str); 5] = [
+const FILES: [(&str, &str); 11] = [
+    (r#"{"e":"Project"} {}"#, "1"),
+    (r#"[{"e":"Project"}]"#, "2 /"),
+    (r#"{"e":"Thing","t":"","c":[]}"#, "2 /"),
+    (r#"{"e":"Project","c":{}}"#, "2 /"),
+    (r#"{"e":"Project","a":{"B":1}}"#, "2 /"),
+    (r#"{"e":"Project","t":"text","c":1}"#, "2 /"),
     (
         r#"{"e":"Project","a":{"DefaultTargets":"A","xmlns":"x","Label":"y"}}"#,
         "no fault",
@@ -40,7 +47,36 @@ const FILES: [(&str, &str); 5] = [
 ];
 
 /// The only child of a Project.
-const CHILDREN: [(&str, &str); 36] = [
+const CHILDREN: [(&str, &str); 47] = [
+    (
+        r#"{"e":"ProjectExtensions","c":[1,{"x":2},{"e":"A","c":0}]}"#,
+        "no fault",
+    ),
+    (r#"{"e":"ProjectExtensions","c":0}"#, "2 /0"),
+    (r#"{"a":{"Condition":""}}"#, "2 /0"),
+    (r#"{"e":"Group","x":null}"#, "2 /0"),
+    (
+        r#"{"e":"PropertyGroup","c":[{"e":"A","t":1},{"e":"1"}]}"#,
+        "2 /0/0",
+    ),
+    (
+        r#"{"e":"PropertyGroup","c":[{"e":"1"},{"e":"A","t":1}]}"#,
+        "7 /0/0 0",
+    ),
+    (r#"{"e":"PropertyGroup","a":{"B":""},"c":[""]}"#, "3 /0"),
+    (r#"{"e":"Choose","c":[{"e":"When","a":null}]}"#, "4 /0"),
+    (
+        r#"{"e":"Choose","c":[{"e":"When","a":{"Condition":""}},null]}"#,
+        "2 /0/1",
+    ),
+    (
+        r#"{"e":"Choose","c":[{"e":"When","a":{"Condition":""}},{"e":"Otherwise"},null]}"#,
+        "4 /0/1",
+    ),
+    (
+        r#"{"e":"Target","a":{"Name":"A"},"c":[{"e":"Csc","c":[{"e":"Output","t":"","c":[]}]}]}"#,
+        "2 /0/0/0",
+    ),
     (
         r#"{"e":"ProjectExtensions","a":{"B":""},"c":[{"e":"When","a":{"C":""},"t":"text"}]}"#,
         "no fault",
@@ -152,6 +188,21 @@ const CHILDREN: [(&str, &str); 36] = [
 ];
 
 #[test]
+fn nothing_below_project_extensions_is_kept(rt: HostRuntime) -> Result<(), Fail> {
+    let text =
+        r#"{"e":"Project","c":[{"e":"ProjectExtensions","t":"kept"},{"e":"ProjectExtensions","c":[{"e":"A"},1]},{"e":"Choose","c":[{"e":"When","a":{"Condition":""}}]}]}"#;
+    let Ok(project) = read_form(rt.alloc(), text.as_bytes()) else {
+        return Err(Fail::from("a project"));
+    };
+    let mut counts = Vec::new(rt.alloc());
+    for child in project.root.children() {
+        counts.push(child.count())?;
+    }
+    assert_eq!(rt; counts.as_slice(), [0usize, 0, 1].as_slice());
+    Ok(())
+}
+
+#[test]
 fn files_are_refused_by_the_table(rt: HostRuntime) -> Result<(), Fail> {
     for (text, fault) in FILES.iter() {
         assert_eq!(rt; answer(rt.alloc(), text)?.as_str(), *fault, "{text}");
@@ -176,7 +227,14 @@ const GROUPS: [&str; 5] = [
 ];
 
 /// Groups with a fault, its number, where it is below the group, and its details.
-const FAULTS: [(&str, &str, &str, &str); 8] = [
+const FAULTS: [(&str, &str, &str, &str); 10] = [
+    ("true", "2", "", ""),
+    (
+        r#"{"e":"PropertyGroup","c":[{"e":"A"},{"e":"B","a":[]}]}"#,
+        "2",
+        "/1",
+        "",
+    ),
     (r#"{"e":"Group"}"#, "3", "", ""),
     (r#"{"e":"PropertyGroup","a":{"B":""}}"#, "3", "", ""),
     (r#"{"e":"OnError","a":{"ExecuteTargets":"A"}}"#, "4", "", ""),
@@ -259,7 +317,7 @@ fn the_fault_that_was_put_in_is_found(rt: HostRuntime) -> Result<(), Fail> {
             open(&mut draws, &mut head, &mut tail, &mut place)?;
         }
         let (group, number, below, details) = FAULTS
-            .get(draws.below(8) as usize)
+            .get(draws.below(10) as usize)
             .copied()
             .ok_or("a fault")?;
         let text = format!(in rt.alloc(); "{head}{group}{tail}")?;

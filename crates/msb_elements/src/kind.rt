@@ -2,7 +2,7 @@
 ghost use Rattle.std.specs.Prelude.{◌≡◌, Some, is_some};
 ghost use Rattle.msb_elements.specs.Rows.{row_of, table, has_clashes};
 ghost use Rattle.msb_elements.specs.Stands.{is_listed, kind_named, child_kind};
-ghost use Rattle.msb_elements.specs.Checks.{is_looked_into};
+ghost use Rattle.msb_elements.specs.Projects.{is_looked_into};
 ghost use Rattle.msb_elements.specs.declared.kind.Kind.TheVariants.{Project, Item, Target, When};
 
 /// What an element is.
@@ -277,7 +277,8 @@ fn child_of_target(name: &str) -> Option<Kind>
 }
 
 impl Standing {
-    ghost use Rattle.msb_elements.specs.Stands.{standing_of};
+    ghost use Rattle.msb_elements.specs.Rows.{table};
+    ghost use Rattle.msb_elements.specs.Stands.{standing_of, elsewhere, kind_named};
 
     /// What an element of this name is below such a parent; the root has none.
     pub fn of(parent: Option<Kind>, name: &str) -> Standing
@@ -291,10 +292,19 @@ impl Standing {
             },
             Some(kind) => kind.child(name),
         };
-        match (child, Kind::of_table(name), parent) {
-            (Some(kind), _, _) => Standing::Stands(kind),
-            (None, None, Some(_)) => Standing::Unknown,
-            (None, other, _) => Standing::Misplaced(other),
+        match child {
+            Some(kind) => Standing::Stands(kind),
+            None => Standing::elsewhere(parent, name),
+        }
+    }
+
+    /// What an element is that may not stand there.
+    fn elsewhere(parent: Option<Kind>, name: &str) -> Standing
+        ensures { result ≡ elsewhere parent (kind_named name.now table) }
+    {
+        match (Kind::of_table(name), parent) {
+            (None, Some(_)) => Standing::Unknown,
+            (other, _) => Standing::Misplaced(other),
         }
     }
 }

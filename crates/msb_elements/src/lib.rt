@@ -11,6 +11,8 @@ mod form;
 #[cfg(test)]
 mod form_tests;
 mod kind;
+mod own;
+mod parts;
 mod place;
 mod reading;
 #[cfg(test)]
@@ -18,6 +20,6 @@ mod tests;
 
 pub use element::{Element, Project};
 pub use errors::{FormFault, ReadFault};
-pub use form::check_form;
+pub use form::read_form;
 pub use place::Place;
 pub use reading::read_project;

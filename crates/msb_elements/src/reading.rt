@@ -77,7 +77,7 @@ fn elements(alloc: Global, place: &Place, items: &Vec<Value>) -> Result<Vec<Elem
 }
 
 /// Whether the value is an object that has only members of an element, and not both a text and children.
-fn is_element_object(value: &Value) -> bool
+pub fn is_element_object(value: &Value) -> bool
     ensures { result ≡ has_element_members (value_of value.now) }
 {
     match value {
@@ -106,7 +106,7 @@ fn is_key_of_element(key: &str) -> bool
     matches!(key, "e" | "a" | "t" | "c")
 }
 
-fn name(alloc: Global, value: &Value) -> Result<Text, ReadFault>
+pub fn name(alloc: Global, value: &Value) -> Result<Text, ReadFault>
     ensures { Gives (λ t. t) result (name_in (value_of value.now)) }
 {
     match value.get("e") {
@@ -115,7 +115,7 @@ fn name(alloc: Global, value: &Value) -> Result<Text, ReadFault>
     }
 }
 
-fn text(alloc: Global, value: &Value) -> Result<Text, ReadFault>
+pub fn text(alloc: Global, value: &Value) -> Result<Text, ReadFault>
     ensures { Gives (λ t. t) result (text_in (value_of value.now)) }
 {
     match value.get("t") {
@@ -125,7 +125,7 @@ fn text(alloc: Global, value: &Value) -> Result<Text, ReadFault>
     }
 }
 
-fn attributes(alloc: Global, value: &Value) -> Result<Vec<(Text, Text)>, ReadFault>
+pub fn attributes(alloc: Global, value: &Value) -> Result<Vec<(Text, Text)>, ReadFault>
     ensures { Gives (λ v. v.items) result (attributes_in (value_of value.now)) }
 {
     match value.get("a") {

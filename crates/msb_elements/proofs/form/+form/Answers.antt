@@ -1,52 +1,73 @@
-use Rattle.std.proofs.Common.{◌+◌, ◌==◌, ◌||◌, Some, false, sym, ap, ◌∙◌}
+use Rattle.std.proofs.Common.{◌≡◌, ◌+◌, ◌==◌, ◌||◌, Ok, Some, length, arith, sym, ap, ◌∙◌}
 use Rattle.std.proofs.lemmas.Result.{err_from_is_err_and}
-use Rattle.msb_elements.specs.Checks.{faults_below, is_on_error}
+use Rattle.std.specs.Result.{result_err}
+use Rattle.serde_json.specs.View.{view as value_of, items_view}
+use Rattle.msb_elements.specs.Checks.{is_on_error}
 use Rattle.msb_elements.specs.Stands.{standing_of, child_kind}
-use Rattle.msb_elements.specs.View.{view, views, nodes_from}
-use Rattle.msb_elements.proofs.Checking.{checks_err, checks_rest, none_rest, below_unlooked, below_looked, below_misplaced, first_fault_out, passed_end, passed_here, passed_step, checks_same}
-use Rattle.msb_elements.proofs.Views.{children_out}
+use Rattle.msb_elements.specs.Trees.{tree_of, trees_of}
+use Rattle.msb_elements.proofs.Formed.{no_tree_fault, element_out, own_refuses, below_refuses, so_far_start, so_far_step, so_far_stop, so_far_end, last_is}
+use Rattle.msb_elements.proofs.Heights.{heights}
 use Rattle.msb_elements.proofs.form.+form.Goals as goal
 
-pub check-returns-in_err-check_own : goal.check-returns-in_err-check_own
-check-returns-in_err-check_own t c =
+pub element-returns-in-Err-NotYet : goal.element-returns-in-Err-NotYet
+element-returns-in-Err-NotYet t c = ap result_err (no_tree_fault c.args.spot.parent c.args.spot.after_on_error c.args.spot.is_last c.args.place (tree_of (value_of c.args.value)) (rw c.in-Err-NotYet.field-0-is at c.in-Err-NotYet.ensures))
+
+pub element-returns-in_err-check_own : goal.element-returns-in_err-check_own
+element-returns-in_err-check_own t c =
     let p = err_from_is_err_and c.from_residual.result c.from_residual.ensures.1 in
-    let out = first_fault_out c.args.spot.parent c.args.spot.after_on_error c.args.spot.is_last (view c.args.element.now) c.of-standing.result (c.of-standing.ensures ∙ ap (standing_of c.args.spot.parent) c.name.ensures) in
-    rw (p.1, p.2) (checks_err c.in_err-check_own.field-0.0 _ _ _ out c.in_err-check_own.ensures)
+    let out = element_out c.args.spot.parent c.args.spot.after_on_error c.args.spot.is_last c.args.place (tree_of (value_of c.args.value)) _ _ _ _ c.of-standing.result c.in-Ok.ensures (c.of-standing.ensures ∙ ap (standing_of c.args.spot.parent) c.as_str.ensures) in
+    rw (p.1, p.2) (own_refuses c.in_err-check_own.field-0.0 _ _ _ _ _ _ _ out c.in_err-check_own.ensures)
 
-pub check-returns-then-not-is_looked_into : goal.check-returns-then-not-is_looked_into
-check-returns-then-not-is_looked_into t c =
-    let out = first_fault_out c.args.spot.parent c.args.spot.after_on_error c.args.spot.is_last (view c.args.element.now) c.of-standing.result (c.of-standing.ensures ∙ ap (standing_of c.args.spot.parent) c.name.ensures) in
-    none_rest _ _ _ out c.in_ok-check_own.ensures (below_unlooked c.of-standing.result c.in-Stands.kind _ c.in-Stands.is (sym c.if-not-is_looked_into.ensures))
+pub element-returns-in_err-children : goal.element-returns-in_err-children
+element-returns-in_err-children t c =
+    let p = err_from_is_err_and c.from_residual-in_err-children.result c.from_residual-in_err-children.ensures.1 in
+    let out = element_out c.args.spot.parent c.args.spot.after_on_error c.args.spot.is_last c.args.place (tree_of (value_of c.args.value)) _ _ _ _ c.of-standing.result c.in-Ok.ensures (c.of-standing.ensures ∙ ap (standing_of c.args.spot.parent) c.as_str.ensures) in
+    rw (p.1, p.2) (below_refuses c.in_err-children.field-0.0 _ _ _ _ _ _ _ out c.in_ok-check_own.ensures c.in_err-children.ensures)
 
-pub check-returns-else-not-is_looked_into : goal.check-returns-else-not-is_looked_into
-check-returns-else-not-is_looked_into t c =
-    let out = first_fault_out c.args.spot.parent c.args.spot.after_on_error c.args.spot.is_last (view c.args.element.now) c.of-standing.result (c.of-standing.ensures ∙ ap (standing_of c.args.spot.parent) c.name.ensures) in
-    let below = below_looked c.of-standing.result c.in-Stands.kind _ c.in-Stands.is (sym c.if-not-is_looked_into.ensures) in
-    let seen = ap (λ ns. faults_below (Some c.in-Stands.kind) false (nodes_from ns)) (children_out c.args.element.now) in
-    checks_rest c.check_children.result _ _ _ out c.in_ok-check_own.ensures (checks_same c.check_children.result _ _ (below ∙ seen) c.check_children.ensures)
+pub element-returns : goal.element-returns
+element-returns t c =
+    let out = element_out c.args.spot.parent c.args.spot.after_on_error c.args.spot.is_last c.args.place (tree_of (value_of c.args.value)) _ _ _ _ c.of-standing.result c.in-Ok.ensures (c.of-standing.ensures ∙ ap (standing_of c.args.spot.parent) c.as_str.ensures) in
+    out ∙ rw (c.in_ok-check_own.ensures, c.in_ok-children.ensures) (ap Ok (sym c.new.ensures))
 
-pub check-returns-in-Misplaced : goal.check-returns-in-Misplaced
-check-returns-in-Misplaced t c =
-    let out = first_fault_out c.args.spot.parent c.args.spot.after_on_error c.args.spot.is_last (view c.args.element.now) c.of-standing.result (c.of-standing.ensures ∙ ap (standing_of c.args.spot.parent) c.name.ensures) in
-    none_rest _ _ _ out c.in_ok-check_own.ensures (below_misplaced c.of-standing.result c.in-Misplaced.field-0 _ c.in-Misplaced.is)
+pub children-loop-number-init : goal.children-loop-number-init
+children-loop-number-init t c =
+    let same : c.into_iter-number-iterator.result.iter.rest.items ≡ c.args.entries.items = cc in
+    let zero : c.into_iter-number-iterator.result.count ≡ 0 = cc in
+    let left : c.into_iter-number-iterator.result.iter.rest.len ≡ c.args.entries.len = cc in
+    let long : length c.into_iter-number-iterator.result.iter.rest.items ≡ length c.args.entries.items = ap length same in
+    record {
+      so_far = so_far_start _ _ _ _ _ _ same zero c.in_ok-all.ensures.items;
+      counted = omega (arith, long, zero, c.len-count.ensures, c.args.entries.ok.0);
+      left = omega (arith, long, left, c.args.entries.ok.0);
+      less_deep = rw same (omega arith);
+    }
 
-pub check_children-returns-in_err-check : goal.check_children-returns-in_err-check
-check_children-returns-in_err-check t c =
-    let p = err_from_is_err_and c.from_residual.result c.from_residual.ensures.1 in
+pub children-element-requires : goal.children-element-requires
+children-element-requires t c =
+    let e = ap (λ vs. heights (trees_of (items_view vs))) c.in-Some.ensures.steps.0.0 in
+    (omega (arith, e, c.decreases, c.loop-number.invariant.less_deep), tt)
+
+pub children-returns-in_err-child : goal.children-returns-in_err-child
+children-returns-in_err-child t c =
+    let p = err_from_is_err_and c.from_residual-in_err-child.result c.from_residual-in_err-child.ensures.1 in
+    let steps = c.in-Some.ensures.steps in
+    let so_far = c.loop-number.invariant in
+    rw (p.1, p.2) (so_far_stop c.in_err-child.field-0.0 _ _ _ _ _ _ _ (c.in-Some.number + 1 == c.len-count.result) _ _ so_far.so_far steps.0.0 (last_is _ _ _ c.in-Some.number c.len-count.result steps.0.0 (rw steps.1 so_far.counted)) (rw (← steps.1, ← c.in_ok-own_place.ensures) c.in_err-child.ensures))
+
+pub children-returns : goal.children-returns
+children-returns t c = so_far_end _ _ _ _ _ _ _ (c.loop-number.invariant.left ∙ c.in-None.ensures.steps.0.0) c.loop-number.invariant.so_far
+
+pub children-loop-number-preserved : goal.children-loop-number-preserved
+children-loop-number-preserved t c =
+    let steps = c.in-Some.ensures.steps in
+    let before = c.loop-number.invariant in
     let kind = c.args.kind in
-    let at = c.loop-at.at in
-    let whole = ap (λ vs. faults_below (Some kind) false (views vs)) (sym c.deref-child-items.ensures.value) in
-    let last = ap (λ count. at + 1 == count) (c.len.ensures ∙ sym c.deref-child-items.ensures.len) in
-    rw (p.1, p.2) (checks_err c.in_err-check.field-0.0 _ _ _ (whole ∙ passed_here (Some kind) c.deref-child-items.result.now at c.child-item.result c.loop-at.after_on_error _ _ c.loop-at-test.true c.child-item.is last c.loop-at.invariant) c.in_err-check.ensures)
-
-pub check_children-loop-at-preserved : goal.check_children-loop-at-preserved
-check_children-loop-at-preserved t c =
-    let kind = c.args.kind in
-    let at = c.loop-at.at in
-    let last = ap (λ count. at + 1 == count) (c.len.ensures ∙ sym c.deref-child-items.ensures.len) in
-    let next = ap (λ name. c.loop-at.after_on_error || is_on_error (child_kind (Some kind) name)) c.name.ensures in
-    passed_step (Some kind) c.deref-child-items.result.now at c.child-item.result c.loop-at.after_on_error _ _ _ c.loop-at-test.true c.child-item.is last c.loop-at.invariant c.in_ok-check.ensures (c.is_after-after_on_error.ensures ∙ next)
-
-pub check_children-returns : goal.check_children-returns
-check_children-returns t c =
-    ap (λ vs. faults_below (Some c.args.kind) false (views vs)) (sym c.deref-child-items.ensures.value) ∙ passed_end (Some c.args.kind) _ c.loop-at.at c.loop-at.after_on_error _ c.loop-at-test.false c.loop-at.invariant
+    let next = c.is_after-after_on_error.ensures ∙ ap (λ name. c.loop-number.after_on_error || is_on_error (child_kind (Some kind) name)) c.name.ensures in
+    let shorter = ap length steps.0.0 in
+    let shallower = ap (λ vs. heights (trees_of (items_view vs))) steps.0.0 in
+    record {
+      so_far = rw (c.in_ok-push.ensures.items, steps.2) (so_far_step _ _ _ _ _ _ _ (c.in-Some.number + 1 == c.len-count.result) _ _ c.in_ok-child.child _ before.so_far steps.0.0 (last_is _ _ _ c.in-Some.number c.len-count.result steps.0.0 (rw steps.1 before.counted)) (rw (← steps.1, ← c.in_ok-own_place.ensures) c.in_ok-child.ensures) next);
+      counted = omega (arith, shorter, steps.2, before.counted);
+      left = omega (arith, shorter, steps.0.1, before.left);
+      less_deep = omega (arith, shallower, before.less_deep);
+    }

@@ -1,0 +1,77 @@
+-- The tree that a value says, by the values of its members.
+use Rattle.std.proofs.Common.{◌≡◌, ℕ, ◌==◌, List, [], ◌∷◌, length, true, false, true≢false, Option, Some, None, is_some, option_map, Ordering, Less, Equal, Greater, if◌then◌else◌, codes, refl, sym, ap}
+use Rattle.std.proofs.lemmas.Map.Text.{is_eq-slice_cmp}
+use Rattle.std.specs.Option.{option_and_then}
+use Rattle.std.specs.Ordering.{nat_cmp, is_eq, match_ordering}
+use Rattle.std.specs.Str.{bytes_eq}
+use Rattle.std.specs.Cmp.Lexicographic.{slice_cmp}
+use Rattle.serde_json.specs.Data.{Data, null, boolean, number, string, array, object, Members, no_members, member}
+use Rattle.serde_json.specs.Find.{get, get_member, as_object}
+use Rattle.serde_json.specs.View.{items_view}
+use Rattle.serde_json.specs.declared.value.Value.{Value}
+use Rattle.msb_elements.specs.Forms.{has_element_members, name_in, attributes_in, text_in}
+use Rattle.msb_elements.specs.Trees.{Trees, grown_of, tree_of, trees_of, entries_in_members, entries_at, entries_if, as_element, of_members}
+use Rattle.msb_elements.specs.Checks.{Pair, is_when, missing_in}
+use Rattle.msb_elements.specs.declared.kind.Kind.TheVariants.{Choose}
+
+at_ordering : (o : Ordering) (d : Data) (entries : Option Trees) (rest : Option Data) → entries ≡ entries_if rest → (if is_eq o then entries_at d else entries) ≡ entries_if (match_ordering o rest (Some d) rest)
+at_ordering Less d entries rest later = later
+at_ordering Equal d entries rest later = refl
+at_ordering Greater d entries rest later = later
+
+entries_found : (ms : Members) → entries_in_members ms ≡ entries_if (get_member (codes "c") ms)
+entries_found no_members = refl
+entries_found (member key d ms) = rw (← is_eq-slice_cmp (codes "c") key) (at_ordering (slice_cmp nat_cmp (codes "c") key) d _ _ (entries_found ms))
+
+pub grown_by_members : (d : Data) → has_element_members d ≡ true → tree_of d ≡ grown_of (name_in d) (attributes_in d) (text_in d) (entries_if (get (codes "c") d))
+grown_by_members (object ms) has = rw (has, entries_found ms) refl
+grown_by_members null has = absurd (cc)
+grown_by_members (boolean b) has = absurd (cc)
+grown_by_members (number n) has = absurd (cc)
+grown_by_members (string s) has = absurd (cc)
+grown_by_members (array ds) has = absurd (cc)
+
+-- a value that is no object, or one with a member that no element has, is no element
+pub no_tree : (d : Data) → has_element_members d ≡ false → as_element (tree_of d) ≡ None
+no_tree (object ms) has = rw has refl
+no_tree null has = refl
+no_tree (boolean b) has = refl
+no_tree (number n) has = refl
+no_tree (string s) has = refl
+no_tree (array ds) has = refl
+
+pub tree_by_members : (d : Data) → has_element_members d ≡ true → as_element (tree_of d) ≡ option_and_then of_members (as_object d)
+tree_by_members (object ms) has = ap as_element (grown_by_members (object ms) has)
+tree_by_members null has = absurd (cc)
+tree_by_members (boolean b) has = absurd (cc)
+tree_by_members (number n) has = absurd (cc)
+tree_by_members (string s) has = absurd (cc)
+tree_by_members (array ds) has = absurd (cc)
+
+pub none_at : {X : Type 0} (found : Option X) → is_some found ≡ false → found ≡ None
+none_at None is = refl
+none_at (Some x) is = absurd (true≢false is)
+
+grown_none : (name : Option (List ℕ)) (attributes : Option (List Pair)) (text : Option (List ℕ)) → as_element (grown_of name attributes text None) ≡ None
+grown_none None attributes text = refl
+grown_none (Some name) None text = refl
+grown_none (Some name) (Some attributes) None = refl
+grown_none (Some name) (Some attributes) (Some text) = refl
+
+-- where the member `c` is no array there is no element
+pub when_none : (d : Data) → has_element_members d ≡ true → entries_if (get (codes "c") d) ≡ None → option_map is_when (as_element (tree_of d)) ≡ None
+when_none d has none = rw (grown_by_members d has, none) (ap (option_map is_when) (grown_none (name_in d) (attributes_in d) (text_in d)))
+
+named_when : (name : List ℕ) (attributes : List Pair) (text : List ℕ) (entries : Option Trees) → is_some entries ≡ true → option_map is_when (as_element (grown_of (Some name) (Some attributes) (Some text) entries)) ≡ Some (bytes_eq name (codes "When"))
+named_when name attributes text None is = absurd (true≢false (sym is))
+named_when name attributes text (Some entries) is = refl
+
+-- whether an element has the name When
+pub when_found : (d : Data) (name : List ℕ) (attributes : List Pair) (text : List ℕ) → has_element_members d ≡ true → name_in d ≡ Some name → attributes_in d ≡ Some attributes → text_in d ≡ Some text
+    → is_some (entries_if (get (codes "c") d)) ≡ true → option_map is_when (as_element (tree_of d)) ≡ Some (bytes_eq name (codes "When"))
+when_found d name attributes text has named with_attributes with_text is = rw (grown_by_members d has, named, with_attributes, with_text) (named_when name attributes text _ is)
+
+-- a Choose with something below it has no missing attribute
+pub not_missed : (attributes : List Pair) (vs : List Value) → (length vs == 0) ≡ false → None ≡ missing_in Choose attributes (trees_of (items_view vs))
+not_missed attributes [] is = absurd (true≢false is)
+not_missed attributes (v ∷ vs) is = refl
