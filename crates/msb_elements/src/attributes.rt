@@ -1,8 +1,7 @@
 //! What is wrong with the attributes of an element.
-ghost use Rattle.std.specs.Prelude.{◌≡◌, None, IfOk};
+ghost use Rattle.std.specs.Prelude.{◌≡◌, None};
 ghost use Rattle.std.specs.List.{list_any};
 ghost use Rattle.std.specs.Option.{option_copied};
-ghost use Rattle.msb_values.specs.Names.{is_name_byte, is_target_byte, bad_place};
 ghost use Rattle.serde_json.specs.View.{items_view};
 ghost use Rattle.msb_elements.specs.Rows.{names_items};
 ghost use Rattle.msb_elements.specs.Trees.{no_trees, trees_of};
@@ -12,9 +11,9 @@ ghost use Rattle.msb_elements.specs.declared.kind.Kind.TheVariants.{Output};
 
 use crate::element::value_of;
 use crate::kind::{Kind, Role};
-use msb_values::{Name, NameFault, NoMemory, Text};
+use crate::names::{bad_name, bad_target_name};
+use msb_values::Text;
 use serde_json::Value;
-use std::alloc::Global;
 
 /// Whether there is an attribute that the element may not have.
 pub fn has_strange(kind: Kind, attributes: &[(Text, Text)]) -> bool
@@ -98,58 +97,28 @@ fn missing_of_output(attributes: &[(Text, Text)]) -> Option<&'static str>
     }
 }
 
-/// The place of the first byte that no plain name has there, if the text is none.
-pub fn bad_name(alloc: Global, text: &str) -> Result<Option<u64>, NoMemory>
-    ensures { IfOk result (λ bad. bad ≡ bad_place is_name_byte text.now) }
-{
-    match Name::read(alloc, text) {
-        Ok(_) => Ok(None),
-        Err(NameFault::BadName(at)) => Ok(Some(at)),
-        Err(NameFault::Memory) => Err(NoMemory),
-    }
-}
-
-fn bad_target_name(alloc: Global, text: &str) -> Result<Option<u64>, NoMemory>
-    ensures { IfOk result (λ bad. bad ≡ bad_place is_target_byte text.now) }
-{
-    match Name::read_target(alloc, text) {
-        Ok(_) => Ok(None),
-        Err(NameFault::BadName(at)) => Ok(Some(at)),
-        Err(NameFault::Memory) => Err(NoMemory),
-    }
-}
-
-fn bad_attribute(
-    alloc: Global,
-    kind: Kind,
-    name: &str,
-    value: &str,
-) -> Result<Option<u64>, NoMemory>
-    ensures { IfOk result (λ bad. bad ≡ bad_attribute kind (name.now, value.now)) }
+fn bad_attribute(kind: Kind, name: &str, value: &str) -> Option<u64>
+    ensures { result ≡ bad_attribute kind (name.now, value.now) }
 {
     if matches!(kind.role(name), Role::Named) {
-        return bad_name(alloc, name);
+        return bad_name(name);
     }
     match (kind, name) {
-        (Kind::Target, "Name") => bad_target_name(alloc, value),
-        (Kind::Output, "ItemName" | "PropertyName" | "TaskParameter") => bad_name(alloc, value),
-        _ => Ok(None),
+        (Kind::Target, "Name") => bad_target_name(value),
+        (Kind::Output, "ItemName" | "PropertyName" | "TaskParameter") => bad_name(value),
+        _ => None,
     }
 }
 
 /// The first bad byte of the first attribute that is no name where one is needed.
-pub fn first_bad(
-    alloc: Global,
-    kind: Kind,
-    attributes: &[(Text, Text)],
-) -> Result<Option<u64>, NoMemory>
-    ensures { IfOk result (λ bad. bad ≡ first_bad kind attributes.now) }
+pub fn first_bad(kind: Kind, attributes: &[(Text, Text)]) -> Option<u64>
+    ensures { result ≡ first_bad kind attributes.now }
 {
     for (name, value) in attributes {
-        let bad = bad_attribute(alloc, kind, name.as_str(), value.as_str())?;
+        let bad = bad_attribute(kind, name.as_str(), value.as_str());
         if bad.is_some() {
-            return Ok(bad);
+            return bad;
         }
     }
-    Ok(None)
+    None
 }

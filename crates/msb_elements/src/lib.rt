@@ -11,6 +11,7 @@ mod form;
 #[cfg(test)]
 mod form_tests;
 mod kind;
+mod names;
 mod own;
 mod parts;
 mod place;

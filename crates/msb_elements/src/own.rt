@@ -7,10 +7,11 @@ ghost use Rattle.msb_elements.specs.Trees.{tree_of, trees_of, entries_if, as_ele
 ghost use Rattle.msb_elements.specs.Checks.{own_fault, fault_of_kind, fault_of_attributes, has_strange, is_out_of_order, begins_otherwise, is_when, bad_name_in};
 ghost use Rattle.msb_elements.specs.Checked.{Checks};
 
-use crate::attributes::{bad_name, first_bad, has_strange, missing};
+use crate::attributes::{first_bad, has_strange, missing};
 use crate::clashes::both;
 use crate::form::Spot;
 use crate::kind::{Kind, Standing};
+use crate::names::bad_name;
 use crate::parts::Own;
 use crate::reading::{attributes, is_element_object, name, text};
 use crate::{FormFault, Place, ReadFault};
@@ -141,20 +142,20 @@ fn check_attributes(alloc: Global, kind: Kind, place: &Place, own: &Own) -> Resu
         let other = Text::of(alloc, other)?;
         return Err(FormFault::BothAttributes(place.copy()?, one, other));
     }
-    match bad_name_of(alloc, kind, own)? {
+    match bad_name_of(kind, own) {
         Some(at) => Err(FormFault::BadName(place.copy()?, at)),
         None => Ok(()),
     }
 }
 
-fn bad_name_of(alloc: Global, kind: Kind, own: &Own) -> Result<Option<u64>, NoMemory>
-    ensures { IfOk result (λ bad. bad ≡ bad_name_in kind own.now.name own.now.attributes.items) }
+fn bad_name_of(kind: Kind, own: &Own) -> Option<u64>
+    ensures { result ≡ bad_name_in kind own.now.name own.now.attributes.items }
 {
     if !kind.has_tag() {
-        let bad = bad_name(alloc, own.name.as_str())?;
+        let bad = bad_name(own.name.as_str());
         if bad.is_some() {
-            return Ok(bad);
+            return bad;
         }
     }
-    first_bad(alloc, kind, &own.attributes)
+    first_bad(kind, &own.attributes)
 }

@@ -5,7 +5,7 @@ use Rattle.std.specs.Option.{option_copied}
 use Rattle.std.specs.Ordering.{nat_cmp}
 use Rattle.msb_elements.specs.Checks.{are_apart, first_two, names_of}
 use Rattle.msb_elements.proofs.Twos.{first_called}
-use Rattle.msb_elements.proofs.clashes.both.Given as goal
+use Rattle.msb_elements.proofs.clashes.both_of_many.Given as goal
 
 abbrev pub decreases-loop-at : goal.decreases-loop-at
 decreases-loop-at l = l.at

@@ -8,8 +8,8 @@ use Rattle.std.specs.Ordering.{nat_cmp}
 use Rattle.msb_elements.specs.Checks.{is_clash, are_apart, first_other}
 use Rattle.msb_elements.specs.Rows.{row_of}
 use Rattle.msb_elements.proofs.Twos.{drop_front, other_named, other_known, two_step, later_named, later_known}
-use Rattle.msb_elements.proofs.clashes.both.Goals as goal
-use Rattle.msb_elements.proofs.clashes.both.Goals.{in-Named+in_ok-lower-in-Named+in_ok-other-in-Named, in_default}
+use Rattle.msb_elements.proofs.clashes.both_of_many.Goals as goal
+use Rattle.msb_elements.proofs.clashes.both_of_many.Goals.{in-Named+in_ok-lower-in-Named+in_ok-other-in-Named, in_default}
 
 pub loop-at-preserved : goal.loop-at-preserved
 loop-at-preserved c =
