@@ -2,5 +2,6 @@ pub mod Order
 pub mod Listed
 pub mod Lookups
 pub mod Commits
+pub mod FirstFaults
 pub mod Loaded
 pub mod Puts

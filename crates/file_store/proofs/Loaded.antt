@@ -1,14 +1,19 @@
 -- Files that are read back from a store by its listing.
-use Rattle.std.proofs.Common.{◌≡◌, ℕ, ◌+◌, ◌<◌, ◌≤◌, List, [], ◌∷◌, ◌++◌, length, map, take, get_or, min, true, Option, Some, None, IfSome, IsSome, refl, sym, ap, ◌∙◌, subst, arith}
+use Rattle.std.proofs.Common.{◌≡◌, ℕ, zero, suc, ◌+◌, ◌<◌, ◌≤◌, List, [], ◌∷◌, ◌++◌, length, map, take, get_or, min, Bool, true, false, cond, Option, Some, None, IfSome, IsSome, Result, Ok, Err, IfErr, Contains, refl, sym, ap, ◌∙◌, subst, arith}
+use Rattle.std.specs.Str.{bytes_eq}
 use Rattle.std.proofs.lemmas.Grind.{common_steps}
 use Rattle.std.proofs.lemmas.List.{get_or-map, length-map, take_more}
+use Rattle.std.proofs.lemmas.Slice.Eq.{bytes_eq-Decides}
 use Rattle.file_store.specs.Files.{paths_of, are_in_order, file_at, bytes_at, bytes_or_none}
-use Rattle.file_store.specs.Entries.{entry_of, entries_of}
-use Rattle.file_store.specs.Loads.{IsCaused, IsReadCaused}
+use Rattle.file_store.specs.Entries.{entry_of, entries_of, paths_in, are_listed_in_order}
+use Rattle.file_store.specs.Limits.{limit_fault}
+use Rattle.file_store.specs.Loads.{OfListing, IsLoading, IsCaused, IsReadCaused}
 use Rattle.file_store.specs.declared.tree.File.{File}
+use Rattle.file_store.specs.declared.tree.Tree.{Tree}
 use Rattle.file_store.specs.declared.store.Entry.{Entry}
 use Rattle.file_store.specs.declared.loading.LoadFault.{LoadFault}
-use Rattle.file_store.specs.declared.loading.LoadFault.TheVariants.{Listing, Reading, Memory}
+use Rattle.file_store.specs.declared.loading.LoadFault.TheVariants.{Listing, Reading, Files, Bytes, Large, BadPath, Memory}
+use Rattle.file_store.proofs.Order.{paths_in-entries_of}
 use Rattle.file_store.proofs.Lookups.{found}
 
 -- ---- a store that tells its files
@@ -36,10 +41,6 @@ listed_entry files i entries e d l = l.entry ∙ ap (λ es. get_or es i e) l.lis
 listed_found : (files : List File) (i : ℕ) (entries : List Entry) (e : Entry) (d : File) → IsListed files i entries e → file_at e.path files ≡ Some (get_or files i d)
 listed_found files i entries e d l =
     ap (λ x. file_at x.path files) (listed_entry files i entries e d l) ∙ found files i d l.in_order (listed_within files i entries e l)
-
--- a listed path has a file
-pub listed_file : (files : List File) (i : ℕ) (entries : List Entry) (e : Entry) → IsListed files i entries e → IsSome (file_at e.path files)
-listed_file files i entries e l = rw (listed_found files i entries e (record { path = []; bytes = []; stamp = 0 }) l) refl
 
 -- a file that was read by its entry
 pub record IsRead (files : List File) (e : Entry) (f : File) : Type 0 where
@@ -79,15 +80,69 @@ map-push : {X Y : Type 0} (f : X → Y) (xs : List X) (x : X) → map f (xs ++ x
 map-push f [] x = refl
 map-push f (y ∷ xs) x = ap (λ ys. f y ∷ ys) (map-push f xs x)
 
-pub paths_more : (entries : List Entry) (i : ℕ) (e : Entry) (front : List File) (f : File) → i < length entries → e ≡ get_or entries i e → f.path ≡ e.path → paths_of front ≡ map (λ x. x.path) (take i entries) → paths_of (front ++ f ∷ []) ≡ map (λ x. x.path) (take (i + 1) entries)
+pub paths_more : (entries : List Entry) (i : ℕ) (e : Entry) (front : List File) (f : File) → i < length entries → e ≡ get_or entries i e → f.path ≡ e.path → paths_of front ≡ paths_in (take i entries) → paths_of (front ++ f ∷ []) ≡ paths_in (take (i + 1) entries)
 paths_more entries i e front f h is path so_far =
-    map-push (λ g. g.path) front f ∙ ap (λ ps. ps ++ f.path ∷ []) so_far ∙ ap (λ p. map (λ x. x.path) (take i entries) ++ p ∷ []) (path ∙ ap (λ x. x.path) is)
-    ∙ sym (map-push (λ x. x.path) (take i entries) (get_or entries i e)) ∙ ap (map (λ x. x.path)) (sym (take_more entries i e h))
+    map-push (λ g. g.path) front f ∙ ap (λ ps. ps ++ f.path ∷ []) so_far ∙ ap (λ p. paths_in (take i entries) ++ p ∷ []) (path ∙ ap (λ x. x.path) is)
+    ∙ sym (map-push (λ x. x.path) (take i entries) (get_or entries i e)) ∙ ap paths_in (sym (take_more entries i e h))
 
 rose_since : (before mid now most : ℕ) → before ≤ mid → min (mid + 1) most ≤ now → min (before + 1) most ≤ now
 rose_since before mid now most h r = omega arith
 
-pub IsCaused-read : (before mid now : ℕ) (tree : Option (List File)) (path : List ℕ) (fault : LoadFault) → before ≤ mid → IfSome tree (λ files. IsSome (file_at path files)) → IsReadCaused mid now path fault → IsCaused before now tree fault
-IsCaused-read before mid now tree path Listing h there c = absurd c
-IsCaused-read before mid now tree path (Reading p) h there c = (rose_since before mid now _ h c.0, subst (λ q. IfSome tree (λ files. IsSome (file_at q files))) (sym c.1) there)
-IsCaused-read before mid now tree path Memory h there c = tt
+-- the path of an entry is one of the listing's
+listed_path : (entries : List Entry) (i : ℕ) (e : Entry) (path : List ℕ) → i < length entries → e ≡ get_or entries i e → path ≡ e.path → Contains (paths_in entries) path
+listed_path entries i e path within is same =
+    (i, omega (arith, length-map entries (λ x. x.path)), get_or-map (λ x. x.path) entries i e path within ∙ ap (λ x. x.path) (sym is) ∙ sym same)
+
+-- a failed read of one entry is one of the listing's
+pub read_among : (before mid now : ℕ) (entries : List Entry) (i : ℕ) (e : Entry) (fault : LoadFault) → before ≤ mid → i < length entries → e ≡ get_or entries i e → IsReadCaused mid now (λ path. path ≡ e.path) fault → IsReadCaused before now (Contains (paths_in entries)) fault
+read_among before mid now entries i e Listing h within is c = absurd c
+read_among before mid now entries i e (Reading path) h within is c = (rose_since before mid now _ h c.0, listed_path entries i e path within is c.1)
+read_among before mid now entries i e (Files number) h within is c = absurd c
+read_among before mid now entries i e (Bytes total) h within is c = absurd c
+read_among before mid now entries i e (Large path) h within is c = absurd c
+read_among before mid now entries i e (BadPath path) h within is c = absurd c
+read_among before mid now entries i e Memory h within is c = tt
+
+-- ---- the listing that was got
+
+-- a listing in byte order, which is that of the files where they are told
+pub record IsListing (tree : Option (List File)) (listing : List Entry) : Type 0 where
+  pub in_order : are_listed_in_order listing ≡ true
+  pub told : IfSome tree (λ files. listing ≡ entries_of files)
+
+of_listing : (tree : Option (List File)) (listing : List Entry) (P : List Entry → Type 0) → IsListing tree listing → P listing → OfListing tree P
+of_listing None listing P l p = (listing, l.in_order, p)
+of_listing (Some files) listing P l p = subst P l.told p
+
+-- a listed path has a file
+file_of_next : (f : File) (o : Option File) (b : Bool) → IsSome o → IsSome (cond b (Some f) o)
+file_of_next f o true some = refl
+file_of_next f o false some = some
+
+file_of : (path : List ℕ) (files : List File) (i : ℕ) → i < length files → get_or (paths_of files) i path ≡ path → IsSome (file_at path files)
+file_of path [] i within is = absurd (omega arith)
+file_of path (f ∷ fs) zero within is = rw ((bytes_eq-Decides f.path path).1 is) refl
+file_of path (f ∷ fs) (suc i) within is = file_of_next f (file_at path fs) (bytes_eq f.path path) (file_of path fs i (omega arith) is)
+
+listed_file : (path : List ℕ) (files : List File) → Contains (paths_in (entries_of files)) path → IsSome (file_at path files)
+listed_file path files c =
+    let d : Contains (paths_of files) path = subst (λ ps. Contains ps path) (paths_in-entries_of files) c in
+    file_of path files d.0 (omega (arith, length-map files (λ f. f.path), d.1)) d.2
+
+told_file : (path : List ℕ) (tree : Option (List File)) (listing : List Entry) → IsListing tree listing → Contains (paths_in listing) path → IfSome tree (λ files. IsSome (file_at path files))
+told_file path None listing l c = tt
+told_file path (Some files) listing l c = listed_file path files (subst (λ es. Contains (paths_in es) path) l.told c)
+
+loading : (before mid now : ℕ) (tree : Option (List File)) (listing : List Entry) (fault : LoadFault) → before ≤ mid → IsListing tree listing → limit_fault listing ≡ None → IsReadCaused mid now (Contains (paths_in listing)) fault → IsCaused before now tree fault
+loading before mid now tree listing Listing h l none c = absurd c
+loading before mid now tree listing (Reading path) h l none c =
+    (rose_since before mid now _ h c.0, told_file path tree listing l c.1, of_listing tree listing (IsLoading path) l (record { within = none; listed = c.1 }))
+loading before mid now tree listing (Files number) h l none c = absurd c
+loading before mid now tree listing (Bytes total) h l none c = absurd c
+loading before mid now tree listing (Large path) h l none c = absurd c
+loading before mid now tree listing (BadPath path) h l none c = absurd c
+loading before mid now tree listing Memory h l none c = tt
+
+pub failed : (before mid now : ℕ) (tree : Option (List File)) (listing : List Entry) (result : Result Tree LoadFault) → before ≤ mid → IsListing tree listing → limit_fault listing ≡ None → IfErr result (IsReadCaused mid now (Contains (paths_in listing))) → IfErr result (IsCaused before now tree)
+failed before mid now tree listing (Ok t) h l none c = tt
+failed before mid now tree listing (Err fault) h l none c = loading before mid now tree listing fault h l none c

@@ -1,5 +1,5 @@
 -- Files in byte order of their paths.
-use Rattle.std.proofs.Common.{◌≡◌, ℕ, zero, suc, ◌+◌, ◌<◌, List, [], ◌∷◌, length, get_or, map, Bool, true, false, ◌&&◌, refl, sym, ap, ◌∙◌, arith, add-one}
+use Rattle.std.proofs.Common.{◌≡◌, ℕ, zero, suc, ◌+◌, ◌<◌, List, [], ◌∷◌, length, get_or, Bool, true, false, ◌&&◌, refl, sym, ap, ◌∙◌, arith, add-one}
 use Rattle.std.specs.List.{list_all, IsAllAdjacentAnswer}
 use Rattle.std.specs.declared.cmp.Ordering.{Ordering}
 use Rattle.std.specs.declared.cmp.Ordering.TheVariants.{Less, Equal, Greater}
@@ -11,7 +11,7 @@ use Rattle.std.proofs.lemmas.Map.Text.{is_eq-slice_cmp}
 use Rattle.std.proofs.lemmas.Slice.Eq.{bytes_eq-Decides}
 use Rattle.file_store.specs.Paths.{is_before, are_rising}
 use Rattle.file_store.specs.Files.{paths_of, are_in_order}
-use Rattle.file_store.specs.Entries.{entries_of, are_listed_in_order}
+use Rattle.file_store.specs.Entries.{entries_of, paths_in, are_listed_in_order}
 use Rattle.file_store.specs.declared.tree.File.{File}
 use Rattle.file_store.specs.declared.store.Entry.{Entry}
 
@@ -87,10 +87,10 @@ order_answer fs true h = sym (ordered_by_next fs (λ k d w. rw add-one at (sym (
 order_answer [] false h = absurd (omega (arith, h.1))
 order_answer (f ∷ fs) false h = sym (unordered (f ∷ fs) h.0 f h.1 (sym (h.2 f)))
 
-paths_of-entries_of : (fs : List File) → map (λ e. e.path) (entries_of fs) ≡ paths_of fs
-paths_of-entries_of [] = refl
-paths_of-entries_of (f ∷ fs) = ap (λ ps. f.path ∷ ps) (paths_of-entries_of fs)
+pub paths_in-entries_of : (fs : List File) → paths_in (entries_of fs) ≡ paths_of fs
+paths_in-entries_of [] = refl
+paths_in-entries_of (f ∷ fs) = ap (λ ps. f.path ∷ ps) (paths_in-entries_of fs)
 
 -- what a listing says of files in order is in order
 pub entries_of-ordered : (fs : List File) (entries : List Entry) → are_in_order fs ≡ true → entries ≡ entries_of fs → are_listed_in_order entries ≡ true
-entries_of-ordered fs entries h is = ap are_listed_in_order is ∙ ap are_rising (paths_of-entries_of fs) ∙ h
+entries_of-ordered fs entries h is = ap are_listed_in_order is ∙ ap are_rising (paths_in-entries_of fs) ∙ h

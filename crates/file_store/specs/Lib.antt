@@ -2,6 +2,7 @@ pub mod Paths
 pub mod Files
 pub mod Entries
 pub mod Writes
+pub mod Limits
 pub mod Loads
 pub mod Failed
 pub mod Memory

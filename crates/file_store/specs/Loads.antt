@@ -1,19 +1,50 @@
--- When a load fails.
-use Rattle.std.specs.Prelude.{◌≡◌, ℕ, List, Option, IfSome, IsSome}
+-- What a load answers.
+use Rattle.std.specs.Prelude.{◌≡◌, ℕ, true, List, Contains, Option, Some, None, IfSome, IsSome}
 use Rattle.msb_laws.specs.Faults.{Rose}
 use Rattle.file_store.specs.Files.{file_at}
+use Rattle.file_store.specs.Entries.{entries_of, paths_in, are_listed_in_order}
+use Rattle.file_store.specs.Limits.{limit_fault}
 use Rattle.file_store.specs.declared.tree.File.{File}
+use Rattle.file_store.specs.declared.store.Entry.{Entry}
 use Rattle.file_store.specs.declared.loading.LoadFault.{LoadFault}
-use Rattle.file_store.specs.declared.loading.LoadFault.TheVariants.{Listing, Reading, Memory}
+use Rattle.file_store.specs.declared.loading.LoadFault.TheVariants.{Listing, Reading, Files, Bytes, Large, BadPath, Memory}
 
--- the store's count has risen, in its listing or in the read of one of its files; want of memory has no cause
+-- P holds of the listing that was got: that of the told files, or where none are told some listing in byte order
+abbrev pub OfListing : Option (List File) → (List Entry → Type 0) → Type 0
+OfListing None P = (listing : List Entry) × (are_listed_in_order listing ≡ true) × P listing
+OfListing (Some files) P = P (entries_of files)
+
+-- the listing is within the limits, and these are the paths of its files
+pub record IsLoaded (paths : List (List ℕ)) (listing : List Entry) : Type 0 where
+  pub within : limit_fault listing ≡ None
+  pub paths_are : paths ≡ paths_in listing
+
+-- the listing is within the limits, and has a file at the path
+pub record IsLoading (path : List ℕ) (listing : List Entry) : Type 0 where
+  pub within : limit_fault listing ≡ None
+  pub listed : Contains (paths_in listing) path
+
+-- the listing passes a limit, and this is its fault
+abbrev pub IsPast : LoadFault → List Entry → Type 0
+IsPast fault listing = limit_fault listing ≡ Some fault
+
+-- Why a load failed: the store's count has risen, in its listing or in the read of a file of a listing within the
+-- limits; or the listing passes a limit. Want of memory has no cause.
 abbrev pub IsCaused : ℕ → ℕ → Option (List File) → LoadFault → Type 0
 IsCaused before now tree Listing = Rose before now
-IsCaused before now tree (Reading path) = Rose before now × IfSome tree (λ files. IsSome (file_at path files))
+IsCaused before now tree (Reading path) = Rose before now × IfSome tree (λ files. IsSome (file_at path files)) × OfListing tree (IsLoading path)
+IsCaused before now tree (Files number) = OfListing tree (IsPast (Files number))
+IsCaused before now tree (Bytes total) = OfListing tree (IsPast (Bytes total))
+IsCaused before now tree (Large path) = OfListing tree (IsPast (Large path))
+IsCaused before now tree (BadPath path) = OfListing tree (IsPast (BadPath path))
 IsCaused before now tree Memory = Unit {0}
 
--- the store's count has risen in the read of this path
-abbrev pub IsReadCaused : ℕ → ℕ → List ℕ → LoadFault → Type 0
-IsReadCaused before now path Listing = ⊥
-IsReadCaused before now path (Reading p) = Rose before now × (p ≡ path)
-IsReadCaused before now path Memory = Unit {0}
+-- the store's count has risen in the read of a path with P
+abbrev pub IsReadCaused : ℕ → ℕ → (List ℕ → Type 0) → LoadFault → Type 0
+IsReadCaused before now P Listing = ⊥
+IsReadCaused before now P (Reading path) = Rose before now × P path
+IsReadCaused before now P (Files number) = ⊥
+IsReadCaused before now P (Bytes total) = ⊥
+IsReadCaused before now P (Large path) = ⊥
+IsReadCaused before now P (BadPath path) = ⊥
+IsReadCaused before now P Memory = Unit {0}

@@ -82,7 +82,7 @@ impl<'a, R: Files> Store for DirStore<'a, R> {
 }
 
 /// The size and the stamp of each file, by its path.
-type Found = BTreeMap<Text, (u64, u64)>;
+pub(crate) type Found = BTreeMap<Text, (u64, u64)>;
 
 fn joined(alloc: Global, folder: &str, name: &str) -> io::Result<String> {
     let mut path = String::from_str(alloc, folder)?;
@@ -170,7 +170,7 @@ fn stamp_of(seconds: i64, nanoseconds: u64) -> u64
     }
 }
 
-fn entries_of(alloc: Global, found: &Found) -> Result<List<Entry>, NoMemory>
+pub(crate) fn entries_of(alloc: Global, found: &Found) -> Result<List<Entry>, NoMemory>
     ensures { IfOk result (λ l. are_listed_in_order l ≡ true) }
 {
     let mut entries = List::new(alloc);

@@ -6,6 +6,7 @@
 
 mod committing;
 mod folder;
+mod limits;
 mod loading;
 mod memory;
 mod memory_sink;

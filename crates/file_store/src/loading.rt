@@ -1,8 +1,10 @@
-ghost use Rattle.std.specs.Prelude.{◌≡◌, ◌≤◌, take, IfOk, IfErr, IfSome};
-ghost use Rattle.file_store.specs.Files.{bytes_at};
-ghost use Rattle.file_store.specs.Loads.{IsCaused, IsReadCaused};
+ghost use Rattle.std.specs.Prelude.{◌≡◌, ◌≤◌, true, take, Contains, IfOk, IfErr, IfSome};
+ghost use Rattle.file_store.specs.Files.{paths_of, bytes_at};
+ghost use Rattle.file_store.specs.Entries.{entries_of, paths_in, are_listed_in_order};
+ghost use Rattle.file_store.specs.Loads.{OfListing, IsLoaded, IsCaused, IsReadCaused};
 ghost use Rattle.file_store.specs.declared.loading.LoadFault.TheVariants.{Memory};
 
+use crate::limits::check_limits;
 use crate::{Entry, File, Store, StoreError, Tree};
 use msb_values::{Copied, List, NoMemory, Text};
 use std::alloc::Global;
@@ -14,6 +16,14 @@ pub enum LoadFault {
     Listing,
     /// The store failed to read the file at this path.
     Reading(Text),
+    /// The listing has this many files, which are over 20,000.
+    Files(u64),
+    /// The files have this many bytes together, which are over 256 MiB.
+    Bytes(u128),
+    /// The file at this path has over 16 MiB.
+    Large(Text),
+    /// This path is not normal.
+    BadPath(Text),
     Memory,
 }
 
@@ -26,8 +36,12 @@ impl From<NoMemory> for LoadFault {
 }
 
 /// Loads all files of a store: its listing, and then each listed file up to its listed size.
+///
+/// A listing that passes a limit is refused before any file is read: for its number of files, or else for their bytes
+/// in all, or else for the first file whose path is not normal, or which is too large.
 pub fn load<S: Store>(alloc: Global, store: &mut S) -> Result<Tree, LoadFault>
     ensures whole { IfOk result (λ t. IfSome (S.tree store.old) (λ files. t.files ≡ files)) }
+    ensures within { IfOk result (λ t. OfListing (S.tree store.old) (IsLoaded (paths_of t.files))) }
     ensures kept { S.tree store.new ≡ S.tree store.old }
     ensures later { S.fault_count store.old ≤ S.fault_count store.new }
     ensures cause { IfErr result (IsCaused (S.fault_count store.old) (S.fault_count store.new) (S.tree store.old)) }
@@ -37,8 +51,20 @@ pub fn load<S: Store>(alloc: Global, store: &mut S) -> Result<Tree, LoadFault>
         Err(StoreError::Failed) => return Err(LoadFault::Listing),
         Err(StoreError::Memory) => return Err(LoadFault::Memory),
     };
+    check_limits(alloc, entries.as_slice())?;
+    load_files(alloc, store, entries.as_slice())
+}
+
+fn load_files<S: Store>(alloc: Global, store: &mut S, entries: &[Entry]) -> Result<Tree, LoadFault>
+    requires { are_listed_in_order entries.now ≡ true }
+    ensures whole { IfOk result (λ t. IfSome (S.tree store.old) (λ files. entries.now ≡ entries_of files → t.files ≡ files)) }
+    ensures paths { IfOk result (λ t. paths_of t.files ≡ paths_in entries.now) }
+    ensures kept { S.tree store.new ≡ S.tree store.old }
+    ensures later { S.fault_count store.old ≤ S.fault_count store.new }
+    ensures cause { IfErr result (IsReadCaused (S.fault_count store.old) (S.fault_count store.new) (Contains (paths_in entries.now))) }
+{
     let mut files = List::new(alloc);
-    for entry in entries.as_slice() {
+    for entry in entries {
         files.push(load_file(alloc, store, entry)?)?;
     }
     Ok(Tree { files })
@@ -50,7 +76,7 @@ fn load_file<S: Store>(alloc: Global, store: &mut S, entry: &Entry) -> Result<Fi
     ensures bytes { IfOk result (λ f. IfSome (S.tree store.old) (λ files. f.bytes ≡ take entry.now.size (bytes_at entry.now.path files))) }
     ensures kept { S.tree store.new ≡ S.tree store.old }
     ensures later { S.fault_count store.old ≤ S.fault_count store.new }
-    ensures cause { IfErr result (IsReadCaused (S.fault_count store.old) (S.fault_count store.new) entry.now.path) }
+    ensures cause { IfErr result (IsReadCaused (S.fault_count store.old) (S.fault_count store.new) (λ path. path ≡ entry.now.path)) }
 {
     match store.read(alloc, entry.path.as_str(), entry.size) {
         Ok(bytes) => Ok(File {

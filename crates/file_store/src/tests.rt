@@ -1,9 +1,12 @@
+ghost use Rattle.std.specs.Prelude.{None};
+
+use crate::folder::{Found, entries_of};
 use crate::{
-    CommitFault, DirStore, File, LoadFault, MemSink, MemStore, Sink, SinkError, Store, StoreError,
-    Tree, commit, load,
+    CommitFault, DirStore, Entry, File, LoadFault, MemSink, MemStore, Sink, SinkError, Store,
+    StoreError, Tree, commit, load,
 };
 use msb_values::{List, NoMemory, Put, Text, Text8};
-use std::alloc::Global;
+use std::alloc::{AllocError, Global};
 use std::test::Fail;
 use std::{env, fs, process};
 
@@ -33,13 +36,20 @@ fn bytes_at<'a>(tree: &'a Tree, path: &str) -> Option<&'a [u8]> {
     Some(tree.find(path)?.bytes.as_bytes())
 }
 
-// The path of the file that a load failed to read.
-fn unread_path(loaded: Result<Tree, LoadFault>) -> Option<Text> {
-    let Err(fault) = loaded else { return None };
+// What a load answered, in words.
+fn said(alloc: Global, loaded: Result<Tree, LoadFault>) -> Result<String, AllocError> {
+    let fault = match loaded {
+        Ok(tree) => return format!(in alloc; "{} files", tree.files.len()),
+        Err(fault) => fault,
+    };
     match fault {
-        LoadFault::Reading(path) => Some(path),
-        LoadFault::Listing => None,
-        LoadFault::Memory => None,
+        LoadFault::Listing => String::from_str(alloc, "no listing"),
+        LoadFault::Reading(path) => format!(in alloc; "no reading of {}", path.as_str()),
+        LoadFault::Files(number) => format!(in alloc; "too many: {number} files"),
+        LoadFault::Bytes(total) => format!(in alloc; "too many: {total} bytes"),
+        LoadFault::Large(path) => format!(in alloc; "too large: {}", path.as_str()),
+        LoadFault::BadPath(path) => format!(in alloc; "bad path: {}", path.as_str()),
+        LoadFault::Memory => String::from_str(alloc, "no memory"),
     }
 }
 
@@ -71,8 +81,8 @@ fn chosen_calls_fail(rt: HostRuntime) -> Result<(), Fail> {
     fail.push(4)?;
     let tree = two_files(alloc)?.ok_or("the paths are in order")?;
     let mut store = MemStore::new(alloc, tree, fail)?;
-    let unread = unread_path(load(alloc, &mut store)).ok_or("the second read fails")?;
-    assert_eq!(rt; unread.as_str(), "a0");
+    let unread = said(alloc, load(alloc, &mut store))?;
+    assert_eq!(rt; unread.as_str(), "no reading of a0");
     let mut list = List::new(alloc);
     list.push(put(alloc, "a0", b"two")?)?;
     list.push(put(alloc, "a", b"three")?)?;
@@ -88,6 +98,92 @@ fn chosen_calls_fail(rt: HostRuntime) -> Result<(), Fail> {
     assert_eq!(rt; sink.write(b"three"), Ok(()));
     assert_eq!(rt; sink.bytes(), b"onethree".as_slice());
     assert_eq!(rt; sink.faults(), 1);
+    Ok(())
+}
+
+/// Files that are listed with made-up sizes, and read as empty.
+#[derive(Drop)]
+struct ListedStore {
+    found: Found,
+}
+
+impl Store for ListedStore {
+    ghost tree = { λ _. None };
+
+    ghost fault_count = { λ _. 0 };
+
+    ghost told_in_order = { λ _. tt };
+
+    fn list(&mut self, alloc: Global) -> Result<List<Entry>, StoreError> {
+        Ok(entries_of(alloc, &self.found)?)
+    }
+
+    fn read(&mut self, alloc: Global, _path: &str, _most: u64) -> Result<Text8, StoreError> {
+        Ok(Text8::new(alloc))
+    }
+
+    fn write(&mut self, _alloc: Global, _path: &str, _bytes: &[u8]) -> Result<(), StoreError> {
+        Err(StoreError::Memory)
+    }
+
+    fn faults(&self) -> u64 {
+        0
+    }
+}
+
+// What the load of a number of files of one size answers, with one more file behind them.
+fn said_of_listing(
+    alloc: Global,
+    number: u32,
+    size: u64,
+    path: &str,
+    last: u64,
+) -> Result<String, Fail> {
+    let mut found = Found::new(alloc);
+    for place in 0..number {
+        found.insert(Text::from(format!(in alloc; "{place:05}")?), (size, 1))?;
+    }
+    found.insert(Text::of(alloc, path)?, (last, 1))?;
+    Ok(said(alloc, load(alloc, &mut ListedStore { found }))?)
+}
+
+#[test]
+fn limits_are_kept(rt: HostRuntime) -> Result<(), Fail> {
+    let alloc = rt.alloc();
+    for (number, size, path, last, want) in [
+        (19_999, 0, "z", 0, "20000 files"),
+        (20_000, u64::MAX, "z", 0, "too many: 20001 files"),
+        (15, 16_777_216, "z", 16_777_216, "16 files"),
+        (16, 16_777_216, "z", 1, "too many: 268435457 bytes"),
+        (1, u64::MAX, "z", 1, "too many: 18446744073709551616 bytes"),
+        (2, 16_777_217, "z/", 0, "too large: 00000"),
+        (2, 0, "z/", 16_777_217, "bad path: z/"),
+    ] {
+        let answer = said_of_listing(alloc, number, size, path, last)?;
+        assert_eq!(rt; answer.as_str(), want);
+    }
+    Ok(())
+}
+
+// What the load of one file of this size answers.
+fn said_of_one(alloc: Global, size: usize) -> Result<String, Fail> {
+    let mut files = List::new(alloc);
+    files.push(File {
+        path: Text::of(alloc, "a")?,
+        bytes: Text8::from(vec![in alloc; 0u8; size]?),
+        stamp: 1,
+    })?;
+    let tree = Tree::of(files).ok_or("one path is in order")?;
+    let mut store = MemStore::new(alloc, tree, Vec::new(alloc))?;
+    Ok(said(alloc, load(alloc, &mut store))?)
+}
+
+#[test]
+fn a_large_file_loads(rt: HostRuntime) -> Result<(), Fail> {
+    let largest = said_of_one(rt.alloc(), 16_777_216)?;
+    assert_eq!(rt; largest.as_str(), "1 files");
+    let larger = said_of_one(rt.alloc(), 16_777_217)?;
+    assert_eq!(rt; larger.as_str(), "too large: a");
     Ok(())
 }
 

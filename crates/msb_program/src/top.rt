@@ -67,6 +67,11 @@ pub fn run_alone<S: Store, K: Sink, T: CountedTools>(
             }
             Err(NoMemory) => 7,
         },
+        // A listing past the limits has no status of its own yet.
+        Err(LoadFault::Files(_)) => 7,
+        Err(LoadFault::Bytes(_)) => 7,
+        Err(LoadFault::Large(_)) => 7,
+        Err(LoadFault::BadPath(_)) => 7,
         Err(LoadFault::Memory) => 7,
     }
 }

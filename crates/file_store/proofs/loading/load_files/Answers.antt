@@ -1,0 +1,33 @@
+use Rattle.std.proofs.Common.{◌∙◌, arith}
+use Rattle.std.proofs.lemmas.Result.{err_from_is_err_and}
+use Rattle.file_store.proofs.Loaded.{IsListed, IsRead, told, files_more, paths_more, read_among}
+use Rattle.file_store.proofs.loading.load_files.Goals as goal
+
+pub returns-in_err-load_file-clause-cause : goal.returns-in_err-load_file-clause-cause
+returns-in_err-load_file-clause-cause g c =
+    let l = c.loop-entry in
+    let p = err_from_is_err_and c.from_residual.result c.from_residual.ensures.1 in
+    rw (p.1, p.2) (read_among _ _ _ c.args.entries.now l.entry-index c.entry-item.result _ l.invariant.later c.loop-entry-test.true c.entry-item.is c.in_err-load_file.ensures.cause)
+
+pub loop-entry-preserved : goal.loop-entry-preserved
+loop-entry-preserved g c =
+    let l = c.loop-entry in
+    let f = c.in_ok-load_file.ensures in
+    record {
+      paths = rw c.in_ok-push.ensures.ok (paths_more _ l.entry-index c.entry-item.result _ _ c.loop-entry-test.true c.entry-item.is f.path l.invariant.paths);
+      files = λ t is listed.
+          let at : IsListed t l.entry-index c.args.entries.now c.entry-item.result = record {
+            in_order = told _ is (g.met.S.Store.told_in_order c.args.store.now);
+            listed = listed;
+            within = c.loop-entry-test.true;
+            entry = c.entry-item.is;
+          } in
+          let read : IsRead t c.entry-item.result c.in_ok-load_file.field-0 = record {
+            path = f.path;
+            stamp = f.stamp;
+            bytes = told _ (l.invariant.kept ∙ is) f.bytes;
+          } in
+          c.in_ok-push.ensures.ok ∙ files_more t l.entry-index _ c.entry-item.result _ _ at read (l.invariant.files t is listed);
+      kept = c.load_file.ensures.kept ∙ l.invariant.kept;
+      later = omega arith;
+    }
