@@ -11,6 +11,7 @@ mod loading;
 mod memory;
 mod memory_sink;
 mod output;
+mod presence;
 mod sink;
 mod store;
 mod tree;

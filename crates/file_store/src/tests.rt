@@ -5,6 +5,7 @@ use crate::{
     CommitFault, DirStore, Entry, File, LoadFault, MemSink, MemStore, Sink, SinkError, Store,
     StoreError, Tree, commit, load,
 };
+use msb_paths::Present;
 use msb_values::{List, NoMemory, Put, Text, Text8};
 use std::alloc::{AllocError, Global};
 use std::test::Fail;
@@ -184,6 +185,34 @@ fn a_large_file_loads(rt: HostRuntime) -> Result<(), Fail> {
     assert_eq!(rt; largest.as_str(), "1 files");
     let larger = said_of_one(rt.alloc(), 16_777_217)?;
     assert_eq!(rt; larger.as_str(), "too large: a");
+    Ok(())
+}
+
+fn is_there<P: Present>(view: &P, path: &str) -> bool {
+    view.there(path)
+}
+
+#[test]
+fn paths_and_folders_are_there(rt: HostRuntime) -> Result<(), Fail> {
+    let alloc = rt.alloc();
+    let mut files = List::new(alloc);
+    for path in ["a", "a/b/c", "a0", "b-", "b/c", "b0"] {
+        files.push(file(alloc, path, b"", 1)?)?;
+    }
+    let tree = Tree::of(files).ok_or("the paths are in order")?;
+    for (path, want) in [
+        ("a", true),
+        ("a/b", true),
+        ("a/b/c", true),
+        ("a/c", false),
+        ("b", true),
+        ("b/", false),
+        ("b0/", false),
+        ("c", false),
+        ("", false),
+    ] {
+        assert_eq!(rt; is_there(&tree, path), want, "{path}");
+    }
     Ok(())
 }
 
