@@ -1,0 +1,10 @@
+pub mod Distinct
+pub mod References
+pub mod Values
+pub mod Buckets
+pub mod Answers
+pub mod Causes
+pub mod Growing
+pub mod Rows
+pub mod Numbers
+pub mod Filling

@@ -1,0 +1,58 @@
+ghost use Rattle.std.specs.Prelude.{◌≡◌, IfOk, None, Some, option_map, option_and_then, option_to_list};
+ghost use Rattle.msb_expand.specs.Keys.{key_of};
+ghost use Rattle.msb_expand.specs.Tokens.{reference_key};
+ghost use Rattle.msb_batching.specs.References.{keyed};
+
+use msb_expression::Word;
+use msb_values::{Name, NameFault, NoMemory};
+use std::alloc::Global;
+
+/// A reference to metadata: `%(Name)` or `%(Type.Name)`. (MSBuild batching.)
+#[derive(Drop, PartialEq, Eq, Hash)]
+pub(crate) struct Reference {
+    pub(crate) kind: Option<Name>,
+    pub(crate) name: Name,
+}
+
+/// The key of a name; a text that is no name has none.
+pub(crate) fn read_key(alloc: Global, name: &Word) -> Result<Option<Name>, NoMemory>
+    ensures { IfOk result (λ key. key ≡ key_of name.now) }
+{
+    match Name::read(alloc, name.as_str()) {
+        Ok(key) => Ok(Some(key)),
+        Err(NameFault::BadName(_)) => Ok(None),
+        Err(NameFault::Memory) => Err(NoMemory),
+    }
+}
+
+/// The reference, where its texts are names.
+pub(crate) fn read_reference(
+    alloc: Global,
+    qualifier: &Option<Word>,
+    name: &Word,
+) -> Result<Option<Reference>, NoMemory>
+    ensures { IfOk result (λ reference. option_to_list reference ≡ keyed (reference_key qualifier.now name.now)) }
+{
+    match qualifier {
+        None => Ok(unqualified(read_key(alloc, name)?)),
+        Some(qualifier) => Ok(qualified(read_key(alloc, qualifier)?, read_key(alloc, name)?)),
+    }
+}
+
+fn unqualified(name: Option<Name>) -> Option<Reference>
+    ensures { option_to_list result ≡ keyed (option_map (λ key. (None, key)) name) }
+{
+    let name = name?;
+    Some(Reference { kind: None, name })
+}
+
+fn qualified(kind: Option<Name>, name: Option<Name>) -> Option<Reference>
+    ensures { option_to_list result ≡ keyed (option_and_then (λ kind. option_map (λ key. (Some kind, key)) name) kind) }
+{
+    let kind = kind?;
+    let name = name?;
+    Some(Reference {
+        kind: Some(kind),
+        name,
+    })
+}
