@@ -1,0 +1,11 @@
+pub mod ChainLaws
+pub mod Complete
+pub mod Cuts
+pub mod MachineLaws
+pub mod NumberLaws
+pub mod ReadLaws
+pub mod Scans
+pub mod Sound
+pub mod TokenLaws
+pub mod TreeLaws
+pub mod TruthLaws

@@ -48,3 +48,10 @@ is_text (Quotes depth) = false
 abbrev pub reference_len : Inside → List ℕ → ℕ
 reference_len inside [] = 0
 reference_len inside (b ∷ bs) = elim (is_text inside) [ true ↦ 0 | false ↦ reference_len (behind inside b) bs + 1 ]
+
+-- how many parentheses are open in a reference, besides its own
+abbrev pub depth_of : Inside → ℕ
+depth_of Text = 0
+depth_of AtSign = 0
+depth_of (Reference depth) = depth
+depth_of (Quotes depth) = depth

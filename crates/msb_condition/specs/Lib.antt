@@ -2,9 +2,11 @@ pub mod Trees
 pub mod View
 pub mod Extents
 pub mod Tokens
+pub mod Places
 pub mod Grammar
 pub mod Machine
 pub mod Reading
+pub mod Leads
 pub mod Numbers
 pub mod Truth
 pub mod Answers

@@ -192,15 +192,18 @@ abbrev pub finish_tree : ℕ → Next → Result Tree Refusal
 finish_tree len (go frames (done tree)) = finished len (end_or frames tree)
 finish_tree len next = Err (syntax len)
 
+abbrev pub finish_left : ℕ → List Frame → Operand → Result Tree Refusal
+finish_left len (call_of function ∷ frames) left = Err (syntax len)
+finish_left len frames left = finish_tree len (end_unary frames (truth left))
+
 abbrev pub finish_operand : ℕ → Next → Result Tree Refusal
-finish_operand len (go (call_of function ∷ frames) (operand left)) = Err (syntax len)
-finish_operand len (go frames (operand left)) = finish_tree len (end_unary frames (truth left))
+finish_operand len (go frames (operand left)) = finish_left len frames left
 finish_operand len next = finish_tree len next
 
 abbrev pub finish : ℕ → List Frame → State → Result Tree Refusal
 finish len frames wants = Err (syntax len)
 finish len frames (named function word) = finish_operand len (end_operand frames (of_parts (Plain word ∷ [])))
-finish len frames (operand left) = finish_operand len (go frames (operand left))
+finish len frames (operand left) = finish_left len frames left
 finish len frames (done tree) = finish_tree len (go frames (done tree))
 
 abbrev pub on : Next → (List Frame → State → Result Tree Refusal) → Result Tree Refusal

@@ -1,41 +1,51 @@
 -- Texts as numbers, exactly. (MSBuild conditions.)
-use Rattle.std.specs.Prelude.{ℕ, ◌+◌, ◌-◌, ◌*◌, ◌^◌, Bool, true, false, ◌&&◌, ◌==◌, nat_lt, nat_le, List, [], ◌∷◌, length, drop, Option, Some, None, if◌then◌else◌}
+use Rattle.std.specs.Prelude.{ℕ, ◌+◌, ◌-◌, ◌*◌, ◌^◌, Bool, true, false, ◌&&◌, ◌==◌, nat_lt, nat_le, List, [], ◌∷◌, length, drop, Option, Some, None, option_map, if◌then◌else◌}
 use Rattle.std.specs.List.{list_all, before_first, after_first, position_or_len}
 use Rattle.std.specs.Char.{digit_value}
 use Rattle.std.specs.Str.Parse.{digits_value}
 use Rattle.msb_condition.specs.declared.numbers.Number.{Number}
 use Rattle.msb_condition.specs.Tokens.{begins}
 
-abbrev pub is_digit : ℕ → Bool
-is_digit b = nat_le 48 b && nat_le b 57
-
-abbrev pub is_hex : ℕ → Bool
-is_hex b = nat_lt (digit_value b) 16
+abbrev pub is_digit : ℕ → ℕ → Bool
+is_digit radix b = nat_lt (digit_value b) radix
 
 -- from 1 to so many digits
-abbrev pub are_digits : (ℕ → Bool) → ℕ → List ℕ → Bool
-are_digits is_one most digits = nat_lt 0 (length digits) && nat_le (length digits) most && list_all is_one digits
+abbrev pub are_digits : ℕ → ℕ → List ℕ → Bool
+are_digits radix most digits = nat_lt 0 (length digits) && nat_le (length digits) most && list_all (is_digit radix) digits
+
+-- what they write
+abbrev pub written : ℕ → ℕ → List ℕ → Option ℕ
+written radix most digits = if are_digits radix most digits then Some (digits_value radix digits) else None
 
 -- a number by its sign and its size, in units of 10^-18
 abbrev pub of_size : Bool → ℕ → Number
 of_size negative size = record { negative = negative; size = size }
 
+abbrev pub of_whole : Bool → Option ℕ → Option Number
+of_whole negative whole = option_map (λ n. of_size negative (n * 10 ^ 18)) whole
+
+-- `0x` and 1 to 16 digits
 abbrev pub hex_number : List ℕ → Option Number
-hex_number digits = if are_digits is_hex 16 digits then Some (of_size false (digits_value 16 digits * 10 ^ 18)) else None
+hex_number digits = of_whole false (written 16 16 digits)
 
 abbrev pub is_point : ℕ → Bool
 is_point b = b == 46
 
 -- digits without a point
 abbrev pub whole_number : Bool → List ℕ → Option Number
-whole_number negative digits =
-    if are_digits is_digit 18 digits then Some (of_size negative (digits_value 10 digits * 10 ^ 18)) else None
+whole_number negative digits = of_whole negative (written 10 18 digits)
 
--- digits before the point and behind it
+-- a whole, and so many digits behind the point
+abbrev pub of_parts : Bool → ℕ → Option ℕ → Option ℕ → Option Number
+of_parts negative digits (Some whole) (Some fraction) = Some (of_size negative (whole * 10 ^ 18 + fraction * 10 ^ (18 - digits)))
+of_parts negative digits (Some whole) None = None
+of_parts negative digits None fraction = None
+
+-- digits before the point and behind it, at most 18 in all
 abbrev pub parted_number : Bool → List ℕ → List ℕ → Option Number
 parted_number negative before after =
-    if are_digits is_digit 18 before && are_digits is_digit 18 after && nat_le (length before + length after) 18
-    then Some (of_size negative (digits_value 10 before * 10 ^ 18 + digits_value 10 after * 10 ^ (18 - length after)))
+    if nat_le (length before + length after) 18
+    then of_parts negative (length after) (written 10 18 before) (written 10 18 after)
     else None
 
 -- a number without its sign

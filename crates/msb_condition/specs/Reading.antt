@@ -17,12 +17,16 @@ read_tokens len (token ∷ tokens) = run len (token ∷ tokens) [] wants
 abbrev pub condition_of : List ℕ → Result Tree Refusal
 condition_of text = read_tokens (length text) (tokens_of text)
 
--- the answer is this tree or this refusal, but for want of memory
+-- the fault is the refusal, but for want of memory
+abbrev pub IsRefused : CondFault → Result Tree Refusal → Type 0
+IsRefused (Syntax place) read = read ≡ Err (syntax place)
+IsRefused (Expand (Expr fault)) read = read ≡ Err (inside fault)
+IsRefused (Expand _) read = ⊥
+IsRefused (NotBoolean text) read = ⊥
+IsRefused (NotNumbers left right) read = ⊥
+IsRefused fault.Memory read = Unit {0}
+
+-- the answer is this tree or this refusal
 abbrev pub IsRead : Result Cond CondFault → Result Tree Refusal → Type 0
 IsRead (Ok cond) read = read ≡ Ok (tree_of cond)
-IsRead (Err (Syntax place)) read = read ≡ Err (syntax place)
-IsRead (Err (Expand (Expr fault))) read = read ≡ Err (inside fault)
-IsRead (Err (Expand _)) read = ⊥
-IsRead (Err (NotBoolean text)) read = ⊥
-IsRead (Err (NotNumbers left right)) read = ⊥
-IsRead (Err fault.Memory) read = Unit {0}
+IsRead (Err fault) read = IsRefused fault read

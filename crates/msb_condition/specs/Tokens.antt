@@ -24,9 +24,12 @@ is_word_byte b =
     (nat_le 97 b && nat_le b 122) || (nat_le 65 b && nat_le b 90) || (nat_le 48 b && nat_le b 57)
     || b == 95 || b == 46 || b == 43 || b == 45
 
+abbrev pub begins_with : (ℕ → Bool) → List ℕ → Bool
+begins_with test [] = false
+begins_with test (b ∷ bs) = test b
+
 abbrev pub begins : ℕ → List ℕ → Bool
-begins byte [] = false
-begins byte (b ∷ bs) = b == byte
+begins byte text = begins_with (λ b. b == byte) text
 
 -- of two tokens, the one that the next byte belongs to
 abbrev pub joined : ℕ → Kind → Kind → List ℕ → Kind

@@ -32,8 +32,8 @@ abbrev pub is_found : List (List ℕ) → Result (List ℕ) PathFault → Bool
 is_found files (Ok path) = is_normal path && is_there files path
 is_found files (Err fault) = false
 
-abbrev pub exists : View → List ℕ → Bool
-exists view path = not (length path == 0) && is_found view.files (normalized view.folder path)
+abbrev pub exists_in : (folder : List ℕ) (files : List (List ℕ)) → List ℕ → Bool
+exists_in folder files path = not (length path == 0) && is_found files (normalized folder path)
 
 -- `/` or `\`
 abbrev pub has_trailing_slash : List ℕ → Bool
@@ -41,7 +41,7 @@ has_trailing_slash [] = false
 has_trailing_slash (b ∷ bs) = is_separator (slice_index (b ∷ bs) (length bs))
 
 abbrev pub called : View → Function → List ℕ → Bool
-called view Exists path = exists view path
+called view Exists path = exists_in view.folder view.files path
 called view HasTrailingSlash path = has_trailing_slash path
 
 abbrev pub shown : Bool → List ℕ
@@ -60,11 +60,15 @@ operand_text view (call function inner) = map_ok (λ value. shown (called view f
 abbrev pub is_one_of : List (List ℕ) → List ℕ → Bool
 is_one_of words value = list_any (λ word. is_same_text value word) words
 
+abbrev pub true_words : List (List ℕ)
+true_words = codes "true" ∷ codes "on" ∷ codes "yes" ∷ codes "!false" ∷ codes "!off" ∷ codes "!no" ∷ []
+
+abbrev pub false_words : List (List ℕ)
+false_words = codes "false" ∷ codes "off" ∷ codes "no" ∷ codes "!true" ∷ codes "!on" ∷ codes "!yes" ∷ []
+
 -- the truth value that a text is, without case
 abbrev pub boolean_of : List ℕ → Option Bool
-boolean_of value =
-    if is_one_of (codes "true" ∷ codes "on" ∷ codes "yes" ∷ codes "!false" ∷ codes "!off" ∷ codes "!no" ∷ []) value then Some true else
-    if is_one_of (codes "false" ∷ codes "off" ∷ codes "no" ∷ codes "!true" ∷ codes "!on" ∷ codes "!yes" ∷ []) value then Some false else None
+boolean_of value = if is_one_of true_words value then Some true else if is_one_of false_words value then Some false else None
 
 abbrev pub boolean_or_fault : List ℕ → Option Bool → Result Bool CondFault
 boolean_or_fault value (Some b) = Ok b
@@ -130,3 +134,13 @@ truth_of view (negated tree) = map_ok not (truth_of view tree)
 truth_of view (compared comparison left right) =
     and_then (operand_text view left) (λ a. and_then (operand_text view right) (λ b. compare comparison a b))
 truth_of view (truth operand) = and_then (operand_text view operand) is_true
+
+-- the truth of several conditions, of which any is enough
+abbrev pub any_truth : View → List Tree → Result Bool CondFault
+any_truth view [] = Ok false
+any_truth view (tree ∷ trees) = or_else (truth_of view tree) (any_truth view trees)
+
+-- or all are needed
+abbrev pub every_truth : View → List Tree → Result Bool CondFault
+every_truth view [] = Ok true
+every_truth view (tree ∷ trees) = and_also (truth_of view tree) (every_truth view trees)

@@ -5,8 +5,10 @@ use msb_expression::Expr;
 pub enum Cond {
     /// The condition of a text without tokens, which is true.
     Empty,
-    Or(Box<Cond>, Box<Cond>),
-    And(Box<Cond>, Box<Cond>),
+    /// A condition, and one or more others behind an `Or` each.
+    Or(Box<Cond>, Vec<Cond>),
+    /// A condition, and one or more others behind an `And` each.
+    And(Box<Cond>, Vec<Cond>),
     Not(Box<Cond>),
     Compare(Comparison, Operand, Operand),
     /// An operand that is a truth value.

@@ -2,7 +2,9 @@ ghost use Rattle.std.specs.Prelude.{◌≡◌};
 ghost use Rattle.msb_condition.specs.declared.faults.CondFault.TheVariants.{Memory};
 
 use msb_expand::ExpandFault;
+use msb_expression::NoRoom;
 use msb_values::{Cause, NoMemory, Text};
+use std::alloc::AllocFailed;
 
 /// Why a condition is not read, or has no truth value.
 #[derive(Drop)]
@@ -22,6 +24,36 @@ impl From<NoMemory> for CondFault {
     ghost from_gives = { λ _ e. e ≡ Memory };
 
     fn from(_: NoMemory) -> Self {
+        CondFault::Memory
+    }
+}
+
+impl From<ExpandFault> for CondFault {
+    ghost use Rattle.msb_condition.specs.Causes.{fault_of};
+
+    ghost from_gives = { λ fault e. e ≡ fault_of fault };
+
+    /// Want of memory stays what it is.
+    fn from(fault: ExpandFault) -> Self {
+        match fault {
+            ExpandFault::Memory => CondFault::Memory,
+            fault => CondFault::Expand(fault),
+        }
+    }
+}
+
+impl From<NoRoom> for CondFault {
+    ghost from_gives = { λ _ e. e ≡ Memory };
+
+    fn from(_: NoRoom) -> Self {
+        CondFault::Memory
+    }
+}
+
+impl<T: Drop> From<AllocFailed<T>> for CondFault {
+    ghost from_gives = { λ _ e. e ≡ Memory };
+
+    fn from(_: AllocFailed<T>) -> Self {
         CondFault::Memory
     }
 }

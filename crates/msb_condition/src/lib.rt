@@ -3,15 +3,27 @@
 //! `parse` reads a condition, and `holds` says whether it is true in a scope and a view of files.
 #![tactic(auto)]
 
+mod booleans;
+mod comparing;
 mod condition;
 mod extents;
 mod faults;
+mod functions;
+mod groups;
 mod numbers;
+mod operands;
 mod parsing;
 mod tokens;
 mod truth;
+mod values;
+mod words;
 
 pub use condition::{Comparison, Cond, Function, Operand};
 pub use faults::CondFault;
 pub use parsing::parse;
 pub use truth::holds;
+
+#[cfg(test)]
+mod random_tests;
+#[cfg(test)]
+mod tests;

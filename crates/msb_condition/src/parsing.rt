@@ -5,6 +5,8 @@ ghost use Rattle.msb_condition.specs.Trees.{Tree};
 ghost use Rattle.msb_condition.specs.View.{tree_of};
 ghost use Rattle.msb_condition.specs.declared.faults.CondFault.TheVariants.{Memory};
 
+use crate::groups::{or, stray};
+use crate::tokens::token_at;
 use crate::{Cond, CondFault};
 use std::alloc::Global;
 
@@ -22,5 +24,18 @@ pub fn parse(alloc: Global, text: &str) -> Result<Cond, CondFault>
     // The answer is a function of the text.
     ensures read { IsRead result (condition_of text.now) }
 {
-    Err(CondFault::Memory)
+    read(alloc, text)
+}
+
+fn read(alloc: Global, text: &str) -> Result<Cond, CondFault>
+    ensures { IsRead result (condition_of text.now) }
+{
+    let Some(_) = token_at(text, 0) else {
+        return Ok(Cond::Empty);
+    };
+    let (cond, end) = or(alloc, text, 0, 64)?;
+    match token_at(text, end) {
+        Some(token) => Err(stray(text, token)),
+        None => Ok(cond),
+    }
 }
