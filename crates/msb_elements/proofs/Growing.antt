@@ -1,16 +1,17 @@
 -- The tree that a value says, by the values of its members.
-use Rattle.std.proofs.Common.{◌≡◌, ℕ, ◌==◌, List, [], ◌∷◌, length, true, false, true≢false, Option, Some, None, is_some, option_map, Ordering, Less, Equal, Greater, if◌then◌else◌, codes, refl, sym, ap}
+use Rattle.std.proofs.Common.{◌≡◌, ℕ, ◌==◌, List, [], ◌∷◌, length, true, false, true≢false, Option, Some, None, is_some, option_map, Result, Ordering, Less, Equal, Greater, if◌then◌else◌, codes, refl, sym, ap, subst}
 use Rattle.std.proofs.lemmas.Map.Text.{is_eq-slice_cmp}
-use Rattle.std.specs.Option.{option_and_then}
 use Rattle.std.specs.Ordering.{nat_cmp, is_eq, match_ordering}
 use Rattle.std.specs.Str.{bytes_eq}
 use Rattle.std.specs.Cmp.Lexicographic.{slice_cmp}
 use Rattle.serde_json.specs.Data.{Data, null, boolean, number, string, array, object, Members, no_members, member}
-use Rattle.serde_json.specs.Find.{get, get_member, as_object}
+use Rattle.serde_json.specs.Find.{get, get_member}
 use Rattle.serde_json.specs.View.{items_view}
 use Rattle.serde_json.specs.declared.value.Value.{Value}
 use Rattle.msb_elements.specs.Forms.{has_element_members, name_in, attributes_in, text_in}
-use Rattle.msb_elements.specs.Trees.{Trees, grown_of, tree_of, trees_of, entries_in_members, entries_at, entries_if, as_element, of_members}
+use Rattle.msb_elements.specs.Trees.{Tree, Trees, grown_of, tree_of, trees_of, entries_in_members, entries_at, entries_if, as_element, of_values}
+use Rattle.msb_elements.specs.Reads.{Gives}
+use Rattle.msb_elements.specs.declared.errors.ReadFault.{ReadFault}
 use Rattle.msb_elements.specs.Checks.{Pair, is_when, missing_in}
 use Rattle.msb_elements.specs.declared.kind.Kind.TheVariants.{Choose}
 
@@ -40,13 +41,12 @@ no_tree (number n) has = refl
 no_tree (string s) has = refl
 no_tree (array ds) has = refl
 
-pub tree_by_members : (d : Data) → has_element_members d ≡ true → as_element (tree_of d) ≡ option_and_then of_members (as_object d)
-tree_by_members (object ms) has = ap as_element (grown_by_members (object ms) has)
-tree_by_members null has = absurd (cc)
-tree_by_members (boolean b) has = absurd (cc)
-tree_by_members (number n) has = absurd (cc)
-tree_by_members (string s) has = absurd (cc)
-tree_by_members (array ds) has = absurd (cc)
+pub tree_by_values : (ms : Members) (name attributes text entries : Option Data) → has_element_members (object ms) ≡ true → name ≡ get_member (codes "e") ms → attributes ≡ get_member (codes "a") ms → text ≡ get_member (codes "t") ms → entries ≡ get_member (codes "c") ms
+    → of_values name attributes text entries ≡ as_element (tree_of (object ms))
+tree_by_values ms name attributes text entries has name_is attributes_is text_is entries_is = rw (name_is, attributes_is, text_is, entries_is) (sym (ap as_element (grown_by_members (object ms) has)))
+
+pub gives_same : {X : Type 0} (seen : X → Tree) (result : Result X ReadFault) (found whole : Option Tree) → found ≡ whole → Gives seen result found → Gives seen result whole
+gives_same seen result found whole same given = let P : Option Tree → Type 0 = Gives seen result in subst P same given
 
 pub none_at : {X : Type 0} (found : Option X) → is_some found ≡ false → found ≡ None
 none_at None is = refl

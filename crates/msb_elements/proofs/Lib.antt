@@ -3,7 +3,7 @@ pub mod Depths
 pub mod Fronts
 pub mod Forming
 pub mod Growing
-pub mod Taking
+pub mod Sorting
 pub mod Heights
 pub mod Formed
 pub mod Files

@@ -10,3 +10,4 @@ pub mod Follows
 pub mod Checks
 pub mod Checked
 pub mod Projects
+pub mod Sorted

@@ -5,7 +5,7 @@
 use Rattle.std.specs.Prelude.{ℕ, List, Option, Some, None, option_and_then, if◌then◌else◌, codes}
 use Rattle.std.specs.Str.{bytes_eq}
 use Rattle.serde_json.specs.Data.{Data, null, boolean, number, string, array, object, Items, no_items, item, Members, no_members, member}
-use Rattle.serde_json.specs.Find.{as_str, get_member}
+use Rattle.serde_json.specs.Find.{as_str}
 use Rattle.msb_elements.specs.Forms.{has_element_members, name_in, attributes_in, text_in, texts_at, text_at}
 
 -- an element's name, its attributes in byte order of their names, its text and the entries that stand below it
@@ -65,6 +65,6 @@ abbrev pub as_element : Tree → Option Tree
 as_element no_element = None
 as_element (element name attributes text entries) = Some (element name attributes text entries)
 
--- the element of an object that has only members of an element
-abbrev pub of_members : Members → Option Tree
-of_members ms = as_element (grown_of (option_and_then as_str (get_member (codes "e") ms)) (texts_at (get_member (codes "a") ms)) (text_at (get_member (codes "t") ms)) (entries_if (get_member (codes "c") ms)))
+-- the element of an object that has only members of an element, and these values at their keys
+abbrev pub of_values : Option Data → Option Data → Option Data → Option Data → Option Tree
+of_values name attributes text entries = as_element (grown_of (option_and_then as_str name) (texts_at attributes) (text_at text) (entries_if entries))

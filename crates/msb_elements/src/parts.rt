@@ -1,14 +1,15 @@
 //! What a value has as an element, taken out of it.
-ghost use Rattle.std.specs.Prelude.{◌≡◌, List, ℕ, codes, false, option_map, option_and_then};
-ghost use Rattle.std.specs.Str.{bytes_eq};
-ghost use Rattle.serde_json.specs.Find.{as_str, as_object, get_member};
+ghost use Rattle.std.specs.Prelude.{◌≡◌, option_map, option_and_then};
+ghost use Rattle.serde_json.specs.Data.{object};
+ghost use Rattle.serde_json.specs.Find.{as_str};
 ghost use Rattle.serde_json.specs.View.{view as value_of, items_view, members_view};
 ghost use Rattle.msb_elements.specs.Forms.{texts_of, texts_at, text_at};
 ghost use Rattle.msb_elements.specs.Reads.{Gives};
-ghost use Rattle.msb_elements.specs.Trees.{element, tree_of, trees_of, entries_if, as_element, of_members};
+ghost use Rattle.msb_elements.specs.Trees.{element, tree_of, trees_of, entries_if, as_element, of_values};
+ghost use Rattle.msb_elements.specs.Sorted.{Sorts, with_member};
 
 use crate::ReadFault;
-use crate::reading::is_element_object;
+use crate::reading::is_key_of_element;
 use msb_values::Text;
 use serde_json::{Map, Value};
 use std::alloc::Global;
@@ -26,28 +27,34 @@ pub struct Own {
 pub fn own_of(alloc: Global, value: Value) -> Result<Own, ReadFault>
     ensures { Gives (λ own. element own.name own.attributes.items own.text (trees_of (items_view own.entries.items))) result (as_element (tree_of (value_of value))) }
 {
-    if !is_element_object(&value) {
-        return Err(ReadFault::NotYet);
-    }
-    own_in(alloc, value)
-}
-
-fn own_in(alloc: Global, value: Value) -> Result<Own, ReadFault>
-    ensures { Gives (λ own. element own.name own.attributes.items own.text (trees_of (items_view own.entries.items))) result (option_and_then of_members (as_object (value_of value))) }
-{
     match value {
-        Value::Object(members) => own_from(alloc, members),
+        Value::Object(members) => own_in(alloc, members),
         _ => Err(ReadFault::NotYet),
     }
 }
 
-fn own_from(alloc: Global, mut members: Map<String, Value>) -> Result<Own, ReadFault>
-    ensures { Gives (λ own. element own.name own.attributes.items own.text (trees_of (items_view own.entries.items))) result (of_members (members_view members.entries)) }
+fn own_in(alloc: Global, members: Map<String, Value>) -> Result<Own, ReadFault>
+    ensures { Gives (λ own. element own.name own.attributes.items own.text (trees_of (items_view own.entries.items))) result (as_element (tree_of (object (members_view members.entries)))) }
 {
-    let name = name_of(take(&mut members, "e"))?;
-    let attributes = attributes_of(alloc, take(&mut members, "a"))?;
-    let text = text_of(alloc, take(&mut members, "t"))?;
-    let entries = entries_of(alloc, take(&mut members, "c"))?;
+    match sorted(members) {
+        Some(values) => own_from(alloc, values),
+        None => Err(ReadFault::NotYet),
+    }
+}
+
+fn own_from(alloc: Global, values: Values) -> Result<Own, ReadFault>
+    ensures { Gives (λ own. element own.name own.attributes.items own.text (trees_of (items_view own.entries.items))) result (of_values (option_map value_of values.name) (option_map value_of values.attributes) (option_map value_of values.text) (option_map value_of values.entries)) }
+{
+    let Values {
+        name,
+        attributes,
+        text,
+        entries,
+    } = values;
+    let name = name_of(name)?;
+    let attributes = attributes_of(alloc, attributes)?;
+    let text = text_of(alloc, text)?;
+    let entries = entries_of(alloc, entries)?;
     Ok(Own {
         name,
         attributes,
@@ -56,12 +63,81 @@ fn own_from(alloc: Global, mut members: Map<String, Value>) -> Result<Own, ReadF
     })
 }
 
-/// Takes the value of a key out.
-fn take(members: &mut Map<String, Value>, key: &str) -> Option<Value>
-    ensures value { option_map value_of result ≡ get_member key.now (members_view members.old.entries) }
-    ensures others { (q : List ℕ) → bytes_eq q key.now ≡ false → get_member q (members_view members.new.entries) ≡ get_member q (members_view members.old.entries) }
+/// The values of an object's members, by their keys.
+#[derive(Drop)]
+pub struct Values {
+    name: Option<Value>,
+    attributes: Option<Value>,
+    text: Option<Value>,
+    entries: Option<Value>,
+}
+
+/// The values of members that are an element's; none where another is among them, or a text stands beside children.
+fn sorted(members: Map<String, Value>) -> Option<Values>
+    ensures { Sorts result (members_view members.entries) }
 {
-    members.remove(key)
+    let mut values = Values {
+        name: None,
+        attributes: None,
+        text: None,
+        entries: None,
+    };
+    for (key, value) in members {
+        if !is_key_of_element(key.as_str()) {
+            return None;
+        }
+        values = values.with(key.as_str(), value);
+    }
+    if values.text.is_some() && values.entries.is_some() {
+        return None;
+    }
+    Some(values)
+}
+
+impl Values {
+    /// With the value of one more member. A map has each key once, and of equal keys the first would count.
+    fn with(self, key: &str, value: Value) -> Values
+        ensures { result ≡ with_member key.now value self }
+    {
+        let Values {
+            name,
+            attributes,
+            text,
+            entries,
+        } = self;
+        match key {
+            "e" => Values {
+                name: name.or(Some(value)),
+                attributes,
+                text,
+                entries,
+            },
+            "a" => Values {
+                name,
+                attributes: attributes.or(Some(value)),
+                text,
+                entries,
+            },
+            "t" => Values {
+                name,
+                attributes,
+                text: text.or(Some(value)),
+                entries,
+            },
+            "c" => Values {
+                name,
+                attributes,
+                text,
+                entries: entries.or(Some(value)),
+            },
+            _ => Values {
+                name,
+                attributes,
+                text,
+                entries,
+            },
+        }
+    }
 }
 
 fn name_of(value: Option<Value>) -> Result<Text, ReadFault>

@@ -100,7 +100,7 @@ fn has_only_element_keys(members: &Map<String, Value>) -> bool
     true
 }
 
-fn is_key_of_element(key: &str) -> bool
+pub fn is_key_of_element(key: &str) -> bool
     ensures { result ≡ is_element_key key.now }
 {
     matches!(key, "e" | "a" | "t" | "c")
