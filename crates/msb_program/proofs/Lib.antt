@@ -3,3 +3,8 @@ pub mod Questions
 pub mod Readings
 pub mod Walking
 pub mod Telling
+pub mod Cuts
+pub mod Behind
+pub mod Collecting
+pub mod Saying
+pub mod Childhood

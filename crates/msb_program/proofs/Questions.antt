@@ -1,11 +1,11 @@
 -- The order asks only for conditions, lists and bodies.
-use Rattle.std.proofs.Common.{◌≡◌, ℕ, zero, suc, ◌+◌, List, [], ◌∷◌, length, Bool, true, false, Option, Some, None, refl}
+use Rattle.std.proofs.Common.{◌≡◌, ℕ, zero, suc, List, [], ◌∷◌, length, Bool, true, false, Option, refl}
 use Rattle.msb_laws.specs.Asking.{Asking, gives, asks}
 use Rattle.target_order.specs.declared.asks.OrderAsk.{OrderAsk}
 use Rattle.target_order.specs.declared.asks.OrderAnswer.{OrderAnswer}
 use Rattle.target_order.specs.declared.asks.OrderAnswer.TheVariants.{First, Truth, Names, Ok as Ran, Failed}
 use Rattle.target_order.specs.declared.row.TargetRow.{TargetRow}
-use Rattle.target_order.specs.Visit.{Name, End, Rest, Hooks, Opened, Standing, strange, settled, circular, fresh, with, in_order, step_2, step_3, step_4, step_5, step_6, after_body, after_condition, standing, visit_by, visit, first_rows, hooks_in, order, finished, stopped}
+use Rattle.target_order.specs.Visit.{Name, End, Rest, Hooks, Opened, Standing, strange, settled, circular, fresh, with, in_order, step_3, step_4, step_5, step_6, after_body, after_condition, standing, visit_by, visit, first_rows, hooks_in, order, finished, stopped}
 use Rattle.msb_program.specs.Asked.{is_question}
 
 -- each of its asks wants an answer

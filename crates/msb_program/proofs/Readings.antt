@@ -13,12 +13,12 @@ json_from_element : (bytes : List ℕ) (n : Node) → element_in bytes ≡ Some 
 unfolding element_in
 json_from_element bytes n is = json_behind (json_in bytes) n is
 
-some_json : (path : List ℕ) (json : Option Data) (element : Option Node) → IsSome json → outcome_of_json path json element ≡ outcome_of_element path element
-some_json path None element some = cc
-some_json path (Some d) element some = refl
+some_json : (path : List ℕ) (files : List (List ℕ)) (json : Option Data) (element : Option Node) → IsSome json → outcome_of_json path files json element ≡ outcome_of_element path files element
+some_json path files None element some = cc
+some_json path files (Some d) element some = refl
 
-pub outcome_of_bytes-some : (path bytes : List ℕ) (n : Node) → element_in bytes ≡ Some n → outcome_of_bytes path bytes ≡ outcome_of_element path (Some n)
-outcome_of_bytes-some path bytes n is = some_json path (json_in bytes) (element_in bytes) (json_from_element bytes n is) ∙ ap (outcome_of_element path) is
+pub outcome_of_bytes-some : (path : List ℕ) (files : List (List ℕ)) (bytes : List ℕ) (n : Node) → element_in bytes ≡ Some n → outcome_of_bytes path files bytes ≡ outcome_of_element path files (Some n)
+outcome_of_bytes-some path files bytes n is = some_json path files (json_in bytes) (element_in bytes) (json_from_element bytes n is) ∙ ap (outcome_of_element path files) is
 
-pub outcome_of_bytes-none : (path bytes : List ℕ) → IsSome (json_in bytes) → element_in bytes ≡ None → outcome_of_bytes path bytes ≡ outcome_of_element path None
-outcome_of_bytes-none path bytes some none = some_json path (json_in bytes) (element_in bytes) some ∙ ap (outcome_of_element path) none
+pub outcome_of_bytes-none : (path : List ℕ) (files : List (List ℕ)) (bytes : List ℕ) → IsSome (json_in bytes) → element_in bytes ≡ None → outcome_of_bytes path files bytes ≡ outcome_of_element path files None
+outcome_of_bytes-none path files bytes some none = some_json path files (json_in bytes) (element_in bytes) some ∙ ap (outcome_of_element path files) none

@@ -1,17 +1,26 @@
 -- The answer of the program where its outcome was told to the sink.
-use Rattle.std.proofs.Common.{◌≡◌, ◌⊎◌, ℕ, List, Option, Some, None, IfSome, inl, inr, refl, sym, ap, subst, ◌∙◌, arith}
+use Rattle.std.proofs.Common.{◌≡◌, ◌⊎◌, ℕ, List, [], true, false, Option, Some, None, Result, Ok, Err, IfSome, IsSome, inl, inr, refl, sym, ap, subst, ◌∙◌, arith}
 use Rattle.serde_json.specs.Data.{Data}
 use Rattle.msb_laws.specs.Faults.{Rose}
-use Rattle.file_store.specs.Files.{file_at}
+use Rattle.file_store.specs.Files.{file_at, paths_of}
 use Rattle.file_store.specs.declared.tree.File.{File}
 use Rattle.msb_elements.specs.Forms.{json_in, element_in}
 use Rattle.msb_elements.specs.Nodes.{Node}
 use Rattle.msb_program.specs.Command.{Command, command_in}
 use Rattle.msb_program.specs.declared.project.Project.{Project}
-use Rattle.msb_program.specs.Outcomes.{Outcome, outcome_of, outcome_of_request, outcome_of_project, status_of, outcome_of_element, outcome_of_json, outcome_of_file}
+use Rattle.msb_paths.specs.Normal.{normalized}
+use Rattle.msb_paths.specs.declared.errors.PathFault.{PathFault}
+use Rattle.file_store.specs.Limits.{limit_fault}
+use Rattle.file_store.specs.Loads.{OfListing, IsLoaded, IsCaused}
+use Rattle.file_store.specs.declared.loading.LoadFault.{LoadFault}
+use Rattle.file_store.specs.declared.loading.LoadFault.TheVariants.{Listing, Reading, Files, Bytes, Large, BadPath, Memory}
+use Rattle.msb_program.specs.declared.request.Request.{Request}
+use Rattle.msb_program.specs.Report.{line}
+use Rattle.msb_program.specs.Outcomes.{Outcome, outcome_of, outcome_by, outcome_within, outcome_of_request, outcome_of_instance, outcome_of_project, status_of, outcome_of_element, outcome_of_json, outcome_at, load_fault_text, fault_status}
 use Rattle.msb_program.specs.Projects.{project_of}
-use Rattle.msb_program.specs.Requests.{Request, request_of}
-use Rattle.msb_program.specs.Answers.{Printing, PrintedAll, PrintedFront, Printed, Answers, IsStatusOf}
+use Rattle.msb_program.specs.Instances.{Instance, instance_of}
+use Rattle.msb_program.specs.Requests.{has_failed, request_of}
+use Rattle.msb_program.specs.Answers.{Printing, PrintedAll, PrintedFront, Printed, Answers, IsStatusOf, LoadFails, IsStoreFault}
 
 -- what the sink's part of the work says, of a text and of the status that it is to have
 pub record Tells (p : Printing) (intended : ℕ) (text : List ℕ) (status : ℕ) : Type 0 where
@@ -27,7 +36,7 @@ known_of (inl e) (inr (inl one_is)) = inr (inl (e ∙ one_is))
 known_of (inl e) (inr (inr three_is)) = inr (inr (inl (e ∙ three_is)))
 known_of (inr e) either = inr (inr (inr e.0))
 
-widened : {s : ℕ} → (s ≡ 0) ⊎ (s ≡ 1) ⊎ (s ≡ 3) ⊎ (s ≡ 6) → (s ≡ 0) ⊎ (s ≡ 1) ⊎ (s ≡ 2) ⊎ (s ≡ 3) ⊎ (s ≡ 5) ⊎ (s ≡ 6) ⊎ (s ≡ 7)
+widened : {s : ℕ} → (s ≡ 0) ⊎ (s ≡ 1) ⊎ (s ≡ 3) ⊎ (s ≡ 6) → (s ≡ 0) ⊎ (s ≡ 1) ⊎ (s ≡ 2) ⊎ (s ≡ 3) ⊎ (s ≡ 5) ⊎ (s ≡ 6) ⊎ (s ≡ 7) ⊎ (s ≡ 8)
 widened (inl e) = inl e
 widened (inr (inl e)) = inr (inl e)
 widened (inr (inr (inl e))) = inr (inr (inr (inl e)))
@@ -62,33 +71,123 @@ told_answers words told before after p command o s asked is either tells =
           let failed = tells.failed e in
           (failed.1, (command, asked, over_told told command o (λ made. ((made.status ≡ 0) ⊎ (made.status ≡ 1)) × PrintedFront p made.text) is (failed.0, failed.2)));
       silent = λ e. absurd (grind arith);
+      limited = λ e. absurd (grind arith);
       unfailing = λ kept unfailing. status_told words told command o s asked is tells.whole unfailing;
     }
 
--- what was made of the loaded files was made of the told ones
-pub over_tree : (told : Option (List File)) (command : Command) (o : Outcome) (files : List File) → IfSome told (λ those. files ≡ those) → o ≡ outcome_of command files → IfSome told (λ those. o ≡ outcome_of command those)
-over_tree None command o files same is = tt
-over_tree (Some those) command o files same is = is ∙ ap (outcome_of command) same
+-- what was made of the loaded files was made of the told ones, which are within the limits
+pub over_tree : (told : Option (List File)) (command : Command) (o : Outcome) (files : List File)
+    → IfSome told (λ those. files ≡ those) → OfListing told (IsLoaded (paths_of files)) → o ≡ outcome_by command.project files (normalized [] command.project)
+    → IfSome told (λ those. o ≡ outcome_of command those)
+over_tree None command o files same loaded is = tt
+over_tree (Some those) command o files same loaded is =
+    is ∙ ap (λ fs. outcome_by command.project fs (normalized [] command.project)) same ∙ sym (ap (outcome_within command those) loaded.within)
 
-request_status : (path : List ℕ) (request : Request) → let o = outcome_of_request path request in (o.status ≡ 0) ⊎ (o.status ≡ 1) ⊎ (o.status ≡ 3)
-request_status path request = elim request.error as (λ error. (status_of error ≡ 0) ⊎ (status_of error ≡ 1) ⊎ (status_of error ≡ 3)) [ None ↦ inl refl | Some error ↦ inr (inl refl) ]
+request_status : (path : List ℕ) (made : Request) → let o = outcome_of_request path made in (o.status ≡ 0) ⊎ (o.status ≡ 1) ⊎ (o.status ≡ 3)
+request_status path made = elim (has_failed made) as (λ failed. (status_of failed ≡ 0) ⊎ (status_of failed ≡ 1) ⊎ (status_of failed ≡ 3)) [ false ↦ inl refl | true ↦ inr (inl refl) ]
 
-project_status : (path : List ℕ) (project : Option Project) → let o = outcome_of_project path project in (o.status ≡ 0) ⊎ (o.status ≡ 1) ⊎ (o.status ≡ 3)
-project_status path None = inr (inr refl)
-project_status path (Some project) = request_status path (request_of project)
+instance_status : (path : List ℕ) (instance : Option Instance) → let o = outcome_of_instance path instance in (o.status ≡ 0) ⊎ (o.status ≡ 1) ⊎ (o.status ≡ 3)
+instance_status path None = inr (inr refl)
+instance_status path (Some instance) = request_status path (request_of instance)
 
-element_status : (path : List ℕ) (root : Option Node) → let o = outcome_of_element path root in (o.status ≡ 0) ⊎ (o.status ≡ 1) ⊎ (o.status ≡ 3)
-element_status path None = inr (inr refl)
-element_status path (Some root) = project_status path (project_of root)
+project_status : (path : List ℕ) (files : List (List ℕ)) (project : Option Project) → let o = outcome_of_project path files project in (o.status ≡ 0) ⊎ (o.status ≡ 1) ⊎ (o.status ≡ 3)
+project_status path files None = inr (inr refl)
+project_status path files (Some project) = instance_status path (instance_of path files project)
 
-json_status : (path : List ℕ) (json : Option Data) (element : Option Node) → let o = outcome_of_json path json element in (o.status ≡ 0) ⊎ (o.status ≡ 1) ⊎ (o.status ≡ 3)
-json_status path None element = inr (inr refl)
-json_status path (Some json) element = element_status path element
+element_status : (path : List ℕ) (files : List (List ℕ)) (root : Option Node) → let o = outcome_of_element path files root in (o.status ≡ 0) ⊎ (o.status ≡ 1) ⊎ (o.status ≡ 3)
+element_status path files None = inr (inr refl)
+element_status path files (Some root) = project_status path files (project_of root)
 
-file_status : (path : List ℕ) (file : Option File) → let o = outcome_of_file path file in (o.status ≡ 0) ⊎ (o.status ≡ 1) ⊎ (o.status ≡ 3)
-file_status path None = inr (inr refl)
-file_status path (Some file) = json_status path (json_in file.bytes) (element_in file.bytes)
+json_status : (path : List ℕ) (files : List (List ℕ)) (json : Option Data) (element : Option Node) → let o = outcome_of_json path files json element in (o.status ≡ 0) ⊎ (o.status ≡ 1) ⊎ (o.status ≡ 3)
+json_status path files None element = inr (inr refl)
+json_status path files (Some json) element = element_status path files element
+
+file_status : (word path : List ℕ) (files : List File) (file : Option File) → let o = outcome_at word path files file in (o.status ≡ 0) ⊎ (o.status ≡ 1) ⊎ (o.status ≡ 3)
+file_status word path files None = inr (inr refl)
+file_status word path files (Some file) = json_status path (paths_of files) (json_in file.bytes) (element_in file.bytes)
+
+path_status : (word : List ℕ) (files : List File) (path : Result (List ℕ) PathFault) → let o = outcome_by word files path in (o.status ≡ 0) ⊎ (o.status ≡ 1) ⊎ (o.status ≡ 3)
+path_status word files (Ok path) = file_status word path files (file_at path files)
+path_status word files (Err fault) = inr (inr refl)
 
 -- a build succeeds or fails, or its project is refused
-pub known_status : (command : Command) (files : List File) → let o = outcome_of command files in (o.status ≡ 0) ⊎ (o.status ≡ 1) ⊎ (o.status ≡ 3)
-known_status command files = file_status command.project (file_at command.project files)
+pub known_status : (command : Command) (files : List File) → let o = outcome_by command.project files (normalized [] command.project) in (o.status ≡ 0) ⊎ (o.status ≡ 1) ⊎ (o.status ≡ 3)
+known_status command files = path_status command.project files (normalized [] command.project)
+
+-- A failed load.
+past_limit : (told : Option (List File)) (fault : LoadFault) (before after : ℕ) → fault_status fault ≡ 8 → IsCaused before after told fault → OfListing told (λ listing. limit_fault listing ≡ Some fault)
+past_limit told Listing before after is caused = absurd (grind arith)
+past_limit told (Reading path) before after is caused = absurd (grind arith)
+past_limit told (Files number) before after is caused = caused
+past_limit told (Bytes total) before after is caused = caused
+past_limit told (Large path) before after is caused = caused
+past_limit told (BadPath path) before after is caused = caused
+past_limit told Memory before after is caused = absurd (grind arith)
+
+store_fault : (told : Option (List File)) (fault : LoadFault) (before after : ℕ) → fault_status fault ≡ 5 → IsCaused before after told fault → IsStoreFault fault × Rose before after
+store_fault told Listing before after is caused = (inl refl, caused)
+store_fault told (Reading path) before after is caused = (inr (path, refl), caused.0)
+store_fault told (Files number) before after is caused = absurd (grind arith)
+store_fault told (Bytes total) before after is caused = absurd (grind arith)
+store_fault told (Large path) before after is caused = absurd (grind arith)
+store_fault told (BadPath path) before after is caused = absurd (grind arith)
+store_fault told Memory before after is caused = absurd (grind arith)
+
+either_status : (fault : LoadFault) → (fault ≡ Memory → ⊥) → (fault_status fault ≡ 5) ⊎ (fault_status fault ≡ 8)
+either_status Listing never = inl refl
+either_status (Reading path) never = inl refl
+either_status (Files number) never = inr refl
+either_status (Bytes total) never = inr refl
+either_status (Large path) never = inr refl
+either_status (BadPath path) never = inr refl
+either_status Memory never = absurd (never refl)
+
+limited_status : (told : Option (List File)) (command : Command) (fault : LoadFault) → OfListing told (λ listing. limit_fault listing ≡ Some fault) → IfSome told (λ files. fault_status fault ≡ (outcome_of command files).status)
+limited_status None command fault past = tt
+limited_status (Some files) command fault past = sym (ap (λ limit. (outcome_within command files limit).status) past)
+
+store_known : {s : ℕ} → s ≡ 5 → (s ≡ 0) ⊎ (s ≡ 1) ⊎ (s ≡ 2) ⊎ (s ≡ 3) ⊎ (s ≡ 5) ⊎ (s ≡ 6) ⊎ (s ≡ 7) ⊎ (s ≡ 8)
+store_known e = inr (inr (inr (inr (inl e))))
+
+limit_known : {s : ℕ} → s ≡ 8 → (s ≡ 0) ⊎ (s ≡ 1) ⊎ (s ≡ 2) ⊎ (s ≡ 3) ⊎ (s ≡ 5) ⊎ (s ≡ 6) ⊎ (s ≡ 7) ⊎ (s ≡ 8)
+limit_known e = inr (inr (inr (inr (inr (inr (inr e))))))
+
+module _ (words : List (List ℕ)) (told : Option (List File)) (before after : ℕ) (p : Printing) (command : Command) (fault : LoadFault) (asked : command_in words ≡ Some command)
+    (caused : IsCaused before after told fault) (printed : Printed p (line (load_fault_text fault))) where
+  fails : LoadFails before after words told p fault
+  fails = (subst IsSome (sym asked) refl, caused, printed)
+
+  failed_answers : (s : ℕ) → s ≡ fault_status fault → (fault_status fault ≡ 5) ⊎ (fault_status fault ≡ 8) → Answers words told before after p s
+  failed_answers s is (inl five) =
+      let e : s ≡ 5 = is ∙ five in
+      let stored = store_fault told fault before after five caused in
+      record {
+        known = store_known e;
+        done = λ other. absurd (grind arith);
+        failed = λ other. absurd (grind arith);
+        usage = λ other. absurd (grind arith);
+        refused = λ other. absurd (grind arith);
+        store = λ same. (fault, stored.0, stored.1, fails);
+        sink = λ other. absurd (grind arith);
+        silent = λ other. absurd (grind arith);
+        limited = λ other. absurd (grind arith);
+        unfailing = λ kept others. absurd (kept stored.1);
+      }
+  failed_answers s is (inr eight) =
+      let e : s ≡ 8 = is ∙ eight in
+      let past = past_limit told fault before after eight caused in
+      record {
+        known = limit_known e;
+        done = λ other. absurd (grind arith);
+        failed = λ other. absurd (grind arith);
+        usage = λ other. absurd (grind arith);
+        refused = λ other. absurd (grind arith);
+        store = λ other. absurd (grind arith);
+        sink = λ other. absurd (grind arith);
+        silent = λ other. absurd (grind arith);
+        limited = λ same. (fault, past, fails);
+        unfailing = λ kept others. inr (subst (λ asks. IsStatusOf asks told s) (sym asked) (subst (λ status. IfSome told (λ files. status ≡ (outcome_of command files).status)) (sym is) (limited_status told command fault past)));
+      }
+
+  pub load_failed : (s : ℕ) → s ≡ fault_status fault → (fault ≡ Memory → ⊥) → Answers words told before after p s
+  load_failed s is never = failed_answers s is (either_status fault never)

@@ -1,12 +1,15 @@
 -- What a status of the program says of its words, of the files that the store tells, and of what was printed.
-use Rattle.std.specs.Prelude.{◌≡◌, ◌⊎◌, ◌++◌, ℕ, List, Option, Some, None, IfSome, IsSome, codes}
+use Rattle.std.specs.Prelude.{◌≡◌, ◌⊎◌, ℕ, List, Option, Some, None, IfSome, IsSome, codes}
 use Rattle.msb_laws.specs.Faults.{Rose}
 use Rattle.msb_laws.specs.Gains.{Appends, AppendsFront, Prints}
-use Rattle.file_store.specs.Files.{file_at}
+use Rattle.file_store.specs.Limits.{limit_fault}
+use Rattle.file_store.specs.Loads.{OfListing, IsCaused}
+use Rattle.file_store.specs.declared.loading.LoadFault.{LoadFault}
+use Rattle.file_store.specs.declared.loading.LoadFault.TheVariants.{Listing, Reading}
 use Rattle.file_store.specs.declared.tree.File.{File}
 use Rattle.msb_program.specs.Command.{Command, command_in}
 use Rattle.msb_program.specs.Report.{line}
-use Rattle.msb_program.specs.Outcomes.{Outcome, outcome_of}
+use Rattle.msb_program.specs.Outcomes.{Outcome, outcome_of, load_fault_text}
 
 -- a sink's count of faults and the bytes that it tells, before and after the call
 pub record Printing : Type 0 where
@@ -53,13 +56,23 @@ IsUsage words p = (command_in words ≡ None) × Printed p usage
 abbrev pub IsRefused : List (List ℕ) → Option (List File) → Printing → Type 0
 IsRefused words told p = IfOutcome words told (λ o. (o.status ≡ 3) × Printed p o.text)
 
--- the store failed at its listing, or at the read of a file
-abbrev pub IsStoreFault : Option (List File) → List ℕ → Type 0
-IsStoreFault told text = (text ≡ line (codes "store fault")) ⊎ ((path : List ℕ) × IfSome told (λ files. IsSome (file_at path files)) × (text ≡ line (codes "store fault " ++ path)))
+-- a load fails for this reason, and so it is told
+abbrev pub LoadFails : ℕ → ℕ → List (List ℕ) → Option (List File) → Printing → LoadFault → Type 0
+LoadFails before after words told p fault =
+    IsSome (command_in words) × IsCaused before after told fault × Printed p (line (load_fault_text fault))
+
+-- the store failed at its listing, or at the read of a file of a listing within the limits
+abbrev pub IsStoreFault : LoadFault → Type 0
+IsStoreFault fault = (fault ≡ Listing) ⊎ ((path : List ℕ) × (fault ≡ Reading path))
 
 -- 5: the store's count of faults rose
 abbrev pub IsStoreFailure : ℕ → ℕ → List (List ℕ) → Option (List File) → Printing → Type 0
-IsStoreFailure before after words told p = Rose before after × IsSome (command_in words) × ((text : List ℕ) × IsStoreFault told text × Printed p text)
+IsStoreFailure before after words told p = (fault : LoadFault) × IsStoreFault fault × Rose before after × LoadFails before after words told p fault
+
+-- 8: the listing that was got passes a limit
+abbrev pub IsPastLimit : ℕ → ℕ → List (List ℕ) → Option (List File) → Printing → Type 0
+IsPastLimit before after words told p =
+    (fault : LoadFault) × OfListing told (λ listing. limit_fault listing ≡ Some fault) × LoadFails before after words told p fault
 
 -- 6: the sink's count of faults rose where all else was done
 abbrev pub IsSinkFailure : List (List ℕ) → Option (List File) → Printing → Type 0
@@ -72,7 +85,7 @@ IsStatusOf (Some command) told status = IfSome told (λ files. status ≡ (outco
 
 -- What each status says. 7 is want of memory, which may come at any place and prints nothing.
 pub record Answers (words : List (List ℕ)) (told : Option (List File)) (before after : ℕ) (p : Printing) (status : ℕ) : Type 0 where
-  pub known : (status ≡ 0) ⊎ (status ≡ 1) ⊎ (status ≡ 2) ⊎ (status ≡ 3) ⊎ (status ≡ 5) ⊎ (status ≡ 6) ⊎ (status ≡ 7)
+  pub known : (status ≡ 0) ⊎ (status ≡ 1) ⊎ (status ≡ 2) ⊎ (status ≡ 3) ⊎ (status ≡ 5) ⊎ (status ≡ 6) ⊎ (status ≡ 7) ⊎ (status ≡ 8)
   pub done : status ≡ 0 → IsDone words told p
   pub failed : status ≡ 1 → IsFailed words told p
   pub usage : status ≡ 2 → IsUsage words p
@@ -80,4 +93,5 @@ pub record Answers (words : List (List ℕ)) (told : Option (List File)) (before
   pub store : status ≡ 5 → IsStoreFailure before after words told p
   pub sink : status ≡ 6 → IsSinkFailure words told p
   pub silent : status ≡ 7 → p.after ≡ p.before
+  pub limited : status ≡ 8 → IsPastLimit before after words told p
   pub unfailing : ¬ Rose before after → ¬ Rose p.faults_before p.faults_after → (status ≡ 7) ⊎ IsStatusOf (command_in words) told status

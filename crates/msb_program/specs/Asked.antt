@@ -1,14 +1,15 @@
 -- What the program answers to an ask of the order, and what it makes of the last one.
-use Rattle.std.specs.Prelude.{◌≡◌, ℕ, List, [], ◌∷◌, ◌++◌, Bool, true, false, Option, Some, None, option_map, codes, map, string_bytes}
+use Rattle.std.specs.Prelude.{◌≡◌, ℕ, List, ◌∷◌, ◌++◌, Bool, true, false, Option, Some, None, Result, Ok, Err, codes}
 use Rattle.std.specs.List.{flat_map}
 use Rattle.target_order.specs.declared.asks.OrderAsk.{OrderAsk}
 use Rattle.target_order.specs.declared.asks.OrderAsk.TheVariants.{Condition, Depends, Body, Done, Circle, Unknown}
 use Rattle.target_order.specs.declared.asks.OrderAnswer.{OrderAnswer}
 use Rattle.target_order.specs.Answers.{fits, asked_by}
-use Rattle.msb_program.specs.declared.target.Target.{Target}
-use Rattle.msb_program.specs.declared.project.Project.{Project}
-use Rattle.msb_program.specs.declared.request.Request.{Request as Made}
-use Rattle.msb_program.specs.Requests.{Request, answer_in}
+use Rattle.msb_program.specs.declared.body.Run.{Run}
+use Rattle.msb_program.specs.declared.request.Reply.{Reply}
+use Rattle.msb_program.specs.declared.request.Reply.TheVariants.{Answer, Fault, End as TheEnd}
+use Rattle.msb_program.specs.Instances.{Instance}
+use Rattle.msb_program.specs.Requests.{answer_in}
 
 -- whether it wants an answer
 abbrev pub is_question : OrderAsk → Bool
@@ -19,10 +20,17 @@ is_question Done = false
 is_question (Circle names) = false
 is_question (Unknown name) = false
 
--- an answer that fits is the project's, and none is given where nothing is asked
-abbrev pub AnswersAsk : Project → OrderAsk → List Target → Option OrderAnswer → List Target → Type 0
-AnswersAsk project ask before None after = (is_question ask ≡ false) × (after ≡ before)
-AnswersAsk project ask before (Some answer) after = (is_question ask ≡ true) × (fits (asked_by ask) answer ≡ true) × (answer_in project.targets ask before ≡ (answer, after))
+-- a reply is this answer or this fault
+abbrev pub Replies : Result OrderAnswer (List ℕ) → Reply → Type 0
+Replies given (Answer answer) = given ≡ Ok answer
+Replies given (Fault text) = given ≡ Err text
+Replies given TheEnd = ⊥
+
+-- an answer that fits is the project's, a fault too, and none is given where nothing is asked
+abbrev pub RepliesTo : Instance → OrderAsk → List Run → Reply → List Run → Type 0
+RepliesTo instance ask before TheEnd after = (is_question ask ≡ false) × (after ≡ before)
+RepliesTo instance ask before (Answer answer) after = (is_question ask ≡ true) × (fits (asked_by ask) answer ≡ true) × (answer_in instance ask before ≡ Ok (answer, after))
+RepliesTo instance ask before (Fault text) after = (is_question ask ≡ true) × (answer_in instance ask before ≡ Err text) × (after ≡ before)
 
 abbrev pub error_of_ask : OrderAsk → Option (List ℕ)
 error_of_ask (Condition name) = None
@@ -31,6 +39,3 @@ error_of_ask (Body name) = None
 error_of_ask Done = None
 error_of_ask (Circle names) = Some (codes "circular targets" ++ flat_map (λ name. 32 ∷ name) names)
 error_of_ask (Unknown name) = Some (codes "unknown target " ++ name)
-
-abbrev pub seen_request : Made → Request
-seen_request made = record { ran = map (λ t. t.now) made.ran.items; error = option_map string_bytes made.error }

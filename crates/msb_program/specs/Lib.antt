@@ -1,9 +1,14 @@
 pub mod Command
 pub mod Forms
 pub mod Projects
+pub mod Children
+pub mod Givings
+pub mod Instances
+pub mod SeenInstance
+pub mod Conditions
 pub mod Requests
-pub mod Asked
 pub mod Report
+pub mod Asked
 pub mod Outcomes
 pub mod Seen
 pub mod Answers

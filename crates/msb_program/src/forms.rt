@@ -1,14 +1,17 @@
-ghost use Rattle.std.specs.Prelude.{◌≡◌, option_copied, IfOk, map, codes, [], ◌∷◌};
-ghost use Rattle.std.specs.List.{list_any};
+ghost use Rattle.std.specs.Prelude.{◌≡◌, ◌==◌, IfOk, map, drop, option_map, length, codes, [], ◌∷◌};
+ghost use Rattle.std.specs.List.{list_any, prefix_len};
 ghost use Rattle.std.specs.Str.{bytes_eq};
 ghost use Rattle.msb_laws.specs.Traverse.{traverse};
-ghost use Rattle.msb_values.specs.Same.{is_same_text};
+ghost use Rattle.msb_values.specs.Names.{is_name_byte};
 ghost use Rattle.msb_elements.specs.Nodes.{attributes_of};
 ghost use Rattle.msb_elements.specs.View.{view};
-ghost use Rattle.msb_program.specs.Forms.{is_plain, is_bare, has_only, message_of, plain_text_of, messages_of, target_name, target_name_of, names_in, names_at, truth_of, condition_of, is_any_of, true_texts, false_texts};
+ghost use Rattle.msb_expand.specs.Keys.{key_of};
+ghost use Rattle.msb_program.specs.Forms.{is_bare, has_only, target_name, names_in, names_at, is_known, begins_reference, begins_reserved, has_behind, is_reserved_key, name_in, without_spaces, known_if, known_at};
+ghost use Rattle.msb_program.specs.Projects.{target_name_of};
 
 use msb_elements::Element;
-use msb_values::{List, Name, NameFault, NoMemory, Text, same_text, split_list};
+use msb_expand::is_reserved;
+use msb_values::{List, Name, NameFault, NoMemory, Text, split_list};
 use std::alloc::Global;
 
 /// Whether it is an element of this name, without text.
@@ -95,98 +98,128 @@ fn each_name(alloc: Global, entries: &[Text]) -> Result<Option<List<Name>>, NoMe
     Ok(Some(names))
 }
 
-/// Whether the Condition holds, if it is one truth value; an absent one holds. (MSBuild conditions.)
-pub fn read_condition(element: &Element) -> Option<bool>
-    ensures { result ≡ condition_of (view element.now) }
+/// The name of a property, if the text is one. (MSBuild properties.)
+pub fn property_name(alloc: Global, text: &str) -> Result<Option<Name>, NoMemory>
+    ensures { IfOk result (λ o. o ≡ key_of text.now) }
 {
-    match element.attribute("Condition") {
-        Some(text) => truth(text),
-        None => Some(true),
+    match Name::read(alloc, text) {
+        Ok(name) => Ok(Some(name)),
+        Err(NameFault::BadName(_)) => Ok(None),
+        Err(NameFault::Memory) => Err(NoMemory),
     }
 }
 
-fn truth(text: &str) -> Option<bool>
-    ensures { result ≡ truth_of text.now }
+/// An attribute's text, which may be absent, if it refers to nothing that comes later.
+pub fn read_known(
+    alloc: Global,
+    element: &Element,
+    attribute: &str,
+) -> Result<Option<Option<Text>>, NoMemory>
+    ensures { IfOk result (λ o. o ≡ known_at attribute.now (view element.now)) }
 {
-    if is_true(text) {
-        return Some(true);
+    match element.attribute(attribute) {
+        Some(text) if is_known(alloc, text)? => Ok(Some(Some(Text::of(alloc, text)?))),
+        Some(_) => Ok(None),
+        None => Ok(Some(None)),
     }
-    if is_false(text) { Some(false) } else { None }
 }
 
-fn is_true(text: &str) -> bool
-    ensures { result ≡ is_any_of true_texts text.now }
+/// Whether a text refers neither to metadata nor to a property that the engine sets.
+pub fn is_known(alloc: Global, text: &str) -> Result<bool, NoMemory>
+    ensures { IfOk result (λ b. b ≡ is_known text.now) }
 {
-    let texts = [
-        "true", "on", "yes", "!false", "!off", "!no", "'true'", "'on'", "'yes'", "'!false'",
-        "'!off'", "'!no'",
-    ];
-    is_same_as_any(text, &texts)
+    if has_metadata(text) {
+        return Ok(false);
+    }
+    Ok(!has_reserved(alloc, text)?)
 }
 
-fn is_false(text: &str) -> bool
-    ensures { result ≡ is_any_of false_texts text.now }
+fn has_metadata(text: &str) -> bool
+    ensures { result ≡ has_behind begins_reference 37 text.now }
 {
-    let texts = [
-        "false", "off", "no", "!true", "!on", "!yes", "'false'", "'off'", "'no'", "'!true'",
-        "'!on'", "'!yes'",
-    ];
-    is_same_as_any(text, &texts)
-}
-
-fn is_same_as_any(text: &str, texts: &[&str]) -> bool
-    ensures { result ≡ is_any_of (map (λ t. t.now) texts.now) text.now }
-{
-    for other in texts {
-        if same_text(text, other) {
+    let mut rest = text;
+    while let Some((_, after)) = rest.split_once('%') {
+        if begins_reference(after) {
             return true;
         }
+        rest = after;
     }
     false
 }
 
-/// The texts of messages, if there is nothing else. (Message task.)
-pub fn read_messages(alloc: Global, elements: &[Element]) -> Result<Option<List<Text>>, NoMemory>
-    ensures { IfOk result (λ o. o ≡ messages_of (map view elements.now)) }
+fn begins_reference(text: &str) -> bool
+    ensures { result ≡ begins_reference text.now }
 {
-    let mut messages = List::new(alloc);
-    for element in elements {
-        match message(element) {
-            Some(text) => messages.push(Text::of(alloc, text)?)?,
-            None => return Ok(None),
+    match text.as_bytes() {
+        [] => false,
+        [first, ..] => *first == b'(',
+    }
+}
+
+fn has_reserved(alloc: Global, text: &str) -> Result<bool, NoMemory>
+    ensures { IfOk result (λ b. b ≡ has_behind begins_reserved 36 text.now) }
+{
+    let mut rest = text;
+    while let Some((_, after)) = rest.split_once('$') {
+        if begins_reserved(alloc, after)? {
+            return Ok(true);
         }
+        rest = after;
     }
-    Ok(Some(messages))
+    Ok(false)
 }
 
-// The text of a message that has nothing else.
-fn message(element: &Element) -> Option<&str>
-    ensures { option_copied result ≡ message_of (view element.now) }
+// Whether it begins with `(`, spaces and the name of a property that the engine sets.
+fn begins_reserved(alloc: Global, text: &str) -> Result<bool, NoMemory>
+    ensures { IfOk result (λ b. b ≡ begins_reserved text.now) }
 {
-    if is_bare_element(element, "Message")
-        && element.count() == 0
-        && has_only_attributes(element, &["Text"])
-    {
-        plain_text(element)
-    } else {
-        None
+    match text.strip_prefix('(') {
+        Some(rest) => is_reserved_name(alloc, name_in(without_spaces(rest))),
+        None => Ok(false),
     }
 }
 
-fn plain_text(element: &Element) -> Option<&str>
-    ensures { option_copied result ≡ plain_text_of (view element.now) }
+fn is_reserved_name(alloc: Global, name: &str) -> Result<bool, NoMemory>
+    ensures { IfOk result (λ b. b ≡ is_reserved_key (key_of name.now)) }
 {
-    match element.attribute("Text") {
-        Some(text) if is_plain_text(text) => Some(text),
-        _ => None,
+    match property_name(alloc, name)? {
+        Some(name) => Ok(is_reserved(&name)),
+        None => Ok(false),
     }
 }
 
-// It has no reference, so it stands for itself.
-fn is_plain_text(text: &str) -> bool
-    ensures { result ≡ is_plain text.now }
+fn without_spaces(text: &str) -> &str
+    ensures { result.now ≡ without_spaces text.now }
 {
-    text.as_bytes()
-        .iter()
-        .all(|byte| !(*byte == b'$' || *byte == b'@' || *byte == b'%'))
+    let spaces = spaces_at_start(text.as_bytes());
+    &text[spaces..]
+}
+
+fn spaces_at_start(bytes: &[u8]) -> usize
+    ensures { result ≡ prefix_len (λ b. b == 32) bytes.now }
+{
+    bytes.iter().take_while(|byte| **byte == b' ').count()
+}
+
+fn name_in(text: &str) -> &str
+    ensures { result.now ≡ name_in text.now }
+{
+    let end = name_len(text.as_bytes());
+    &text[..end]
+}
+
+fn name_len(bytes: &[u8]) -> usize
+    ensures { result ≡ prefix_len is_name_byte bytes.now }
+{
+    bytes.iter().take_while(|byte| is_name_byte(**byte)).count()
+}
+
+fn is_name_byte(byte: u8) -> bool
+    ensures { result ≡ is_name_byte byte }
+{
+    (b'A' <= byte && byte <= b'Z')
+        || (b'a' <= byte && byte <= b'z')
+        || byte == b'_'
+        || (b'0' <= byte && byte <= b'9')
+        || byte == b'-'
 }

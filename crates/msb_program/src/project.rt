@@ -1,26 +1,51 @@
-ghost use Rattle.std.specs.Prelude.{◌≡◌, ◌++◌, IfOk, OnOk, option_copied};
+ghost use Rattle.std.specs.Prelude.{◌≡◌, ◌++◌, IfOk, OnOk, option_copied, option_map, map};
+ghost use Rattle.msb_laws.specs.Traverse.{traverse};
 ghost use Rattle.msb_elements.specs.View.{view};
 
+use crate::child::Child;
 use crate::forms::{has_only_attributes, is_bare_element, read_names};
+use crate::property::Property;
 use crate::target::Target;
 use msb_elements::Element;
 use msb_values::{Copied, List, Name, NoMemory};
 use std::alloc::Global;
-use target_order::TargetRow;
 
-/// A project of targets that print messages. (Project element.)
+/// A project of properties, and of targets that print messages. (Project element.)
 #[derive(Drop)]
 pub struct Project {
     /// Its InitialTargets.
     pub initial: List<Name>,
     /// Its DefaultTargets.
     pub default: List<Name>,
+    /// Its groups of properties, in order.
+    pub groups: List<List<Property>>,
     pub targets: List<Target>,
 }
 
+/// Groups and targets, each in order.
+#[derive(Drop)]
+struct Children {
+    groups: List<List<Property>>,
+    targets: List<Target>,
+}
+
+impl Children {
+    ghost use Rattle.msb_program.specs.Children.{with_child};
+
+    fn add(&mut self, child: Child) -> Result<(), NoMemory>
+        ensures { OnOk result (self.new ≡ with_child self.old child) }
+    {
+        match child {
+            Child::Group(group) => self.groups.push(group),
+            Child::Target(target) => self.targets.push(target),
+        }
+    }
+}
+
 impl Project {
-    ghost use Rattle.msb_program.specs.Projects.{project_of};
-    ghost use Rattle.msb_program.specs.Requests.{wanted_of, rows_of, target_at};
+    ghost use Rattle.msb_program.specs.Projects.{project_of, child_of};
+    ghost use Rattle.msb_program.specs.Requests.{wanted_of, target_at};
+    ghost use Rattle.msb_program.specs.Children.{children_of};
 
     /// The project that an element is, if it is one.
     pub fn read(alloc: Global, root: &Element) -> Result<Option<Project>, NoMemory>
@@ -36,17 +61,50 @@ impl Project {
         let Some(default) = read_names(alloc, root, "DefaultTargets")? else {
             return Ok(None);
         };
-        let Some(targets) = Target::read_each(alloc, root.children())? else {
+        let Some(children) = Project::read_children(alloc, root.children())? else {
             return Ok(None);
         };
-        if !Target::have_distinct_names(targets.as_slice()) {
+        if !Target::have_distinct_names(children.targets.as_slice()) {
             return Ok(None);
         }
         Ok(Some(Project {
             initial,
             default,
-            targets,
+            groups: children.groups,
+            targets: children.targets,
         }))
+    }
+
+    fn read_children(alloc: Global, elements: &[Element]) -> Result<Option<Children>, NoMemory>
+        ensures { IfOk result (λ o. o ≡ option_map children_of (traverse child_of (map view elements.now))) }
+    {
+        let mut children = Children {
+            groups: List::new(alloc),
+            targets: List::new(alloc),
+        };
+        for element in elements {
+            match Project::read_child(alloc, element)? {
+                Some(child) => children.add(child)?,
+                None => return Ok(None),
+            }
+        }
+        Ok(Some(children))
+    }
+
+    fn read_child(alloc: Global, element: &Element) -> Result<Option<Child>, NoMemory>
+        ensures { IfOk result (λ o. o ≡ child_of (view element.now)) }
+    {
+        if element.name() == "PropertyGroup" {
+            match Property::read_group(alloc, element)? {
+                Some(group) => Ok(Some(Child::Group(group))),
+                None => Ok(None),
+            }
+        } else {
+            match Target::read(alloc, element)? {
+                Some(target) => Ok(Some(Child::Target(target))),
+                None => Ok(None),
+            }
+        }
     }
 
     /// The targets of its request: the initial ones, and then the default ones, or without these the first target.
@@ -56,27 +114,12 @@ impl Project {
         let mut wanted = self.initial.copy()?;
         if self.default.is_empty() {
             if let Some(first) = self.targets.get(0) {
-                wanted.push(first.row.name.copy()?)?;
+                wanted.push(first.name.copy()?)?;
             }
         } else {
             add_all(&mut wanted, self.default.as_slice())?;
         }
         Ok(wanted)
-    }
-
-    /// The rows of its targets, in order.
-    pub fn rows(&self, alloc: Global) -> Result<List<TargetRow>, NoMemory>
-        ensures { IfOk result (λ l. l ≡ rows_of self.now.targets) }
-    {
-        let mut rows = List::new(alloc);
-        for target in self.targets.as_slice() {
-            rows.push(TargetRow {
-                name: target.row.name.copy()?,
-                before: target.row.before.copy()?,
-                after: target.row.after.copy()?,
-            })?;
-        }
-        Ok(rows)
     }
 
     /// The target of this name.
@@ -86,7 +129,7 @@ impl Project {
         self.targets
             .as_slice()
             .iter()
-            .find(|target| target.row.name == *name)
+            .find(|target| target.name == *name)
     }
 }
 

@@ -1,45 +1,117 @@
-ghost use Rattle.std.specs.Prelude.{◌≡◌, IfOk, map};
+ghost use Rattle.std.specs.Prelude.{◌≡◌, IfOk, map, option_map};
+ghost use Rattle.msb_laws.specs.Traverse.{traverse};
 ghost use Rattle.msb_elements.specs.View.{view};
+ghost use Rattle.msb_elements.specs.Nodes.{place_of};
+ghost use Rattle.msb_program.specs.Forms.{if_known};
 
-use crate::forms::{
-    has_only_attributes, is_bare_element, read_condition, read_messages, read_name, read_names,
-};
-use msb_elements::Element;
-use msb_values::{List, Name, NoMemory, Text};
+use crate::forms::{has_only_attributes, is_bare_element, is_known, read_known, read_name};
+use msb_elements::{Element, Place};
+use msb_values::{Copied, List, Name, NoMemory, Text};
 use std::alloc::Global;
-use target_order::TargetRow;
 
-/// A target that prints messages. (Target element; Message task.)
+/// A Message task element: its place, and its Text as it is written. (Message task.)
 #[derive(Drop)]
-pub struct Target {
-    /// Its name, and the targets that it hooks on.
-    pub row: TargetRow,
-    /// Whether its Condition holds.
-    pub condition: bool,
-    /// Its DependsOnTargets.
-    pub depends: List<Name>,
-    /// The texts of its messages, in order.
-    pub messages: List<Text>,
+pub struct Message {
+    pub place: Place,
+    pub text: Text,
 }
 
-impl Target {
-    ghost use Rattle.msb_program.specs.Projects.{row_of, target_of, targets_of, has_name, are_distinct};
+/// The attributes that say when a target is built, as they are written. (Target build order.)
+#[derive(Drop)]
+pub struct BuildOrder {
+    pub condition: Option<Text>,
+    pub depends: Option<Text>,
+    pub before: Option<Text>,
+    pub after: Option<Text>,
+}
 
-    /// The targets that these elements are, if each is one.
-    pub fn read_each(alloc: Global, elements: &[Element]) -> Result<Option<List<Target>>, NoMemory>
-        ensures { IfOk result (λ o. o ≡ targets_of (map view elements.now)) }
+/// A target that prints messages. (Target element.)
+#[derive(Drop)]
+pub struct Target {
+    pub name: Name,
+    pub place: Place,
+    pub order: BuildOrder,
+    pub messages: List<Message>,
+}
+
+impl Message {
+    ghost use Rattle.msb_program.specs.Projects.{message_of, message_with};
+
+    /// The messages that these elements are, if each is one.
+    fn read_each(alloc: Global, elements: &[Element]) -> Result<Option<List<Message>>, NoMemory>
+        ensures { IfOk result (λ o. o ≡ traverse message_of (map view elements.now)) }
     {
-        let mut targets = List::new(alloc);
+        let mut messages = List::new(alloc);
         for element in elements {
-            match Target::read(alloc, element)? {
-                Some(target) => targets.push(target)?,
+            match Message::read(alloc, element)? {
+                Some(message) => messages.push(message)?,
                 None => return Ok(None),
             }
         }
-        Ok(Some(targets))
+        Ok(Some(messages))
     }
 
-    fn read(alloc: Global, element: &Element) -> Result<Option<Target>, NoMemory>
+    fn read(alloc: Global, element: &Element) -> Result<Option<Message>, NoMemory>
+        ensures { IfOk result (λ o. o ≡ message_of (view element.now)) }
+    {
+        if !is_bare_element(element, "Message")
+            || element.count() != 0
+            || !has_only_attributes(element, &["Text"])
+        {
+            return Ok(None);
+        }
+        match element.attribute("Text") {
+            Some(text) => Message::of(alloc, element.place(), text),
+            None => Ok(None),
+        }
+    }
+
+    fn of(alloc: Global, place: &Place, text: &str) -> Result<Option<Message>, NoMemory>
+        ensures { IfOk result (λ o. o ≡ option_map (λ t. record { place = place.now; text = t }) (if_known text.now)) }
+    {
+        if is_known(alloc, text)? {
+            Ok(Some(Message {
+                place: place.copy()?,
+                text: Text::of(alloc, text)?,
+            }))
+        } else {
+            Ok(None)
+        }
+    }
+}
+
+impl BuildOrder {
+    ghost use Rattle.msb_program.specs.Projects.{order_of};
+
+    fn read(alloc: Global, element: &Element) -> Result<Option<BuildOrder>, NoMemory>
+        ensures { IfOk result (λ o. o ≡ order_of (view element.now)) }
+    {
+        let Some(condition) = read_known(alloc, element, "Condition")? else {
+            return Ok(None);
+        };
+        let Some(depends) = read_known(alloc, element, "DependsOnTargets")? else {
+            return Ok(None);
+        };
+        let Some(before) = read_known(alloc, element, "BeforeTargets")? else {
+            return Ok(None);
+        };
+        let Some(after) = read_known(alloc, element, "AfterTargets")? else {
+            return Ok(None);
+        };
+        Ok(Some(BuildOrder {
+            condition,
+            depends,
+            before,
+            after,
+        }))
+    }
+}
+
+impl Target {
+    ghost use Rattle.msb_program.specs.Projects.{target_of, has_name, are_distinct};
+
+    /// The target that an element is, if it is one.
+    pub fn read(alloc: Global, element: &Element) -> Result<Option<Target>, NoMemory>
         ensures { IfOk result (λ o. o ≡ target_of (view element.now)) }
     {
         let attributes = [
@@ -52,42 +124,20 @@ impl Target {
         if !is_bare_element(element, "Target") || !has_only_attributes(element, &attributes) {
             return Ok(None);
         }
-        let Some(row) = Target::read_row(alloc, element)? else {
-            return Ok(None);
-        };
-        let Some(condition) = read_condition(element) else {
-            return Ok(None);
-        };
-        let Some(depends) = read_names(alloc, element, "DependsOnTargets")? else {
-            return Ok(None);
-        };
-        let Some(messages) = read_messages(alloc, element.children())? else {
-            return Ok(None);
-        };
-        Ok(Some(Target {
-            row,
-            condition,
-            depends,
-            messages,
-        }))
-    }
-
-    fn read_row(alloc: Global, element: &Element) -> Result<Option<TargetRow>, NoMemory>
-        ensures { IfOk result (λ o. o ≡ row_of (view element.now)) }
-    {
         let Some(name) = read_name(alloc, element)? else {
             return Ok(None);
         };
-        let Some(before) = read_names(alloc, element, "BeforeTargets")? else {
+        let Some(order) = BuildOrder::read(alloc, element)? else {
             return Ok(None);
         };
-        let Some(after) = read_names(alloc, element, "AfterTargets")? else {
+        let Some(messages) = Message::read_each(alloc, element.children())? else {
             return Ok(None);
         };
-        Ok(Some(TargetRow {
+        Ok(Some(Target {
             name,
-            before,
-            after,
+            place: element.place().copy()?,
+            order,
+            messages,
         }))
     }
 
@@ -96,7 +146,7 @@ impl Target {
         ensures { result ≡ are_distinct targets.now }
     {
         for (i, target) in targets.iter().enumerate() {
-            if Target::is_any_named(&target.row.name, &targets[i + 1..]) {
+            if Target::is_any_named(&target.name, &targets[i + 1..]) {
                 return false;
             }
         }
@@ -106,6 +156,6 @@ impl Target {
     fn is_any_named(name: &Name, targets: &[Target]) -> bool
         ensures { result ≡ has_name name.now targets.now }
     {
-        targets.iter().any(|target| target.row.name == *name)
+        targets.iter().any(|target| target.name == *name)
     }
 }

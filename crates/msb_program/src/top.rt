@@ -1,14 +1,16 @@
 ghost use Rattle.std.specs.Prelude.{◌≡◌, ◌++◌, ◌⊎◌, ◌≤◌, map, string_bytes, IfOk, codes};
 ghost use Rattle.msb_laws.specs.Faults.{Rose};
 ghost use Rattle.msb_laws.specs.Gains.{Appends, AppendsFront, Prints};
+ghost use Rattle.file_store.specs.declared.loading.LoadFault.TheVariants.{Memory};
 ghost use Rattle.msb_program.specs.Report.{line};
+ghost use Rattle.msb_program.specs.Outcomes.{load_fault_text, fault_status};
 ghost use Rattle.msb_program.specs.Answers.{Answers, printing};
 
 use crate::command::read_command;
 use crate::outcome::Outcome;
 use crate::tools::{Counted, CountedTools, Tools};
 use file_store::{LoadFault, Sink, Store, load};
-use msb_values::NoMemory;
+use msb_values::{NoMemory, Text};
 use std::alloc::Global;
 use std::sync::Wait;
 use std::thread::Threads;
@@ -20,7 +22,8 @@ const USAGE: &str =
 ///
 /// `words` are those after the program's name. The answer is the program's status: 0 where the command was carried
 /// out, 1 where the build failed, 2 where the words are outside the grammar, 3 where the project is refused, 5 where the store failed, 6 where
-/// the sink failed and nothing else did, and 7 for want of memory. Nothing is written to the store yet.
+/// the sink failed and nothing else did, 7 for want of memory, and 8 where the files pass a limit. Nothing is written to
+/// the store yet.
 pub fn run<R: Threads + Wait + Sync, S: Store, K: Sink, T: Tools + Sync>(
     _rt: &R,
     alloc: Global,
@@ -56,23 +59,13 @@ pub fn run_alone<S: Store, K: Sink, T: CountedTools>(
             Ok(outcome) => tell(sink, outcome.status, outcome.text.as_bytes()),
             Err(NoMemory) => 7,
         },
-        Err(LoadFault::Listing) => {
-            print(sink, b"store fault\n");
-            5
-        }
-        Err(LoadFault::Reading(path)) => match store_fault(alloc, path.as_str()) {
+        Err(fault) => match fault_text(alloc, &fault) {
             Ok(text) => {
                 print(sink, text.as_bytes());
-                5
+                fault_status(&fault)
             }
             Err(NoMemory) => 7,
         },
-        // A listing past the limits has no status of its own yet.
-        Err(LoadFault::Files(_)) => 7,
-        Err(LoadFault::Bytes(_)) => 7,
-        Err(LoadFault::Large(_)) => 7,
-        Err(LoadFault::BadPath(_)) => 7,
-        Err(LoadFault::Memory) => 7,
     }
 }
 
@@ -98,8 +91,36 @@ fn tell<K: Sink>(sink: &mut K, status: u8, text: &[u8]) -> u8
     status
 }
 
-fn store_fault(alloc: Global, path: &str) -> Result<String, NoMemory>
-    ensures { IfOk result (λ text. string_bytes text ≡ line (codes "store fault " ++ path.now)) }
+// How a load failed, or which limit the listing passes.
+fn fault_text(alloc: Global, fault: &LoadFault) -> Result<String, NoMemory>
+    ensures text { IfOk result (λ text. string_bytes text ≡ line (load_fault_text fault.now)) }
+    ensures cause { IfOk result (λ _. fault.now ≡ Memory → ⊥) }
 {
-    Ok(format!(in alloc; "store fault {path}\n")?)
+    match fault {
+        LoadFault::Listing => Ok(String::from_str(alloc, "store fault\n")?),
+        LoadFault::Reading(path) => path_line(alloc, "store fault ", path),
+        LoadFault::Files(number) => Ok(format!(in alloc; "too large: {number} files\n")?),
+        LoadFault::Bytes(total) => Ok(format!(in alloc; "too large: {total} bytes\n")?),
+        LoadFault::Large(path) => path_line(alloc, "too large: ", path),
+        LoadFault::BadPath(path) => path_line(alloc, "bad path: ", path),
+        LoadFault::Memory => Err(NoMemory),
+    }
+}
+
+fn path_line(alloc: Global, words: &str, path: &Text) -> Result<String, NoMemory>
+    ensures { IfOk result (λ text. string_bytes text ≡ line (words.now ++ path.now)) }
+{
+    let path = path.as_str();
+    Ok(format!(in alloc; "{words}{path}\n")?)
+}
+
+fn fault_status(fault: &LoadFault) -> u8
+    ensures { result ≡ fault_status fault.now }
+{
+    match fault {
+        LoadFault::Listing | LoadFault::Reading(_) => 5,
+        LoadFault::Files(_) | LoadFault::Bytes(_) | LoadFault::Large(_) | LoadFault::BadPath(_) =>
+            8,
+        LoadFault::Memory => 7,
+    }
 }

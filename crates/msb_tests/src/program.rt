@@ -89,6 +89,50 @@ fn hooks_of_a_skipped_target_run(rt: HostRuntime) -> Result<(), Fail> {
     Ok(())
 }
 
+// Properties in order, a Condition over them, a message with a reference, and the faults of each.
+#[test]
+fn properties_have_values(rt: HostRuntime) -> Result<(), Fail> {
+    let alloc = rt.alloc();
+    for (condition, message, status, printed) in [
+        (
+            "'$(B)' == '(x;)' And $(N) > 9",
+            "[$(b)] @(X)%25",
+            0u8,
+            "a.proj : t ran\n  [(x;)] %\nreturned 0\nbuild succeeded\n",
+        ),
+        ("'$(A)' == ''", "m", 0, "returned 0\nbuild succeeded\n"),
+        (
+            "'$(A)' < 1",
+            "m",
+            1,
+            "error: a.proj /1: 18 NotNumbers x 1\nreturned 0\nbuild failed\n",
+        ),
+        (
+            "",
+            "$(B",
+            1,
+            "a.proj : t failed\n  error: a.proj /1/0: 8 Unclosed 3\nreturned 0\nbuild failed\n",
+        ),
+        ("", "%(M)", 3, "project refused\n  a.proj /: 0 NotYet\n"),
+    ] {
+        let attributes = format!(in alloc; "\"Name\":\"T\",\"Condition\":\"{condition}\"")?;
+        let target = target(alloc, attributes.as_str(), message)?;
+        let properties =
+            "{\"e\":\"PropertyGroup\",\"c\":[{\"e\":\"A\",\"t\":\"x\"},{\"e\":\"B\",\"t\":\"($(a)%3B)\"},{\"e\":\"N\",\"t\":\"10\"}]}";
+        let children = format!(in alloc; "{properties},{target}")?;
+        let text = project(alloc, children.as_str())?;
+        let mut store = store(alloc, text.as_str(), 9)?;
+        let mut sink = MemSink::new(alloc, None)?;
+        let words = words(alloc, "./x/..//a.proj")?;
+        assert_eq!(rt;
+            run(&rt, alloc, &words, &mut store, &mut sink, &NoTools),
+            status
+        );
+        assert_eq!(rt; sink.bytes(), printed.as_bytes());
+    }
+    Ok(())
+}
+
 // A file that is not there, no JSON, no element, no target, and words outside the grammar.
 #[test]
 fn refusals_are_told(rt: HostRuntime) -> Result<(), Fail> {

@@ -1,17 +1,17 @@
-use Rattle.std.proofs.Common.{[], map}
-use Rattle.msb_laws.specs.Asking.{played_by}
+use Rattle.std.proofs.Common.{[]}
 use Rattle.target_order.specs.Answers.{Fits}
 use Rattle.target_order.specs.AsksLeft.{asks_left}
 use Rattle.target_order.specs.Left.{left}
 use Rattle.target_order.specs.Visit.{order}
-use Rattle.msb_program.specs.Requests.{answer_in, rows_of, wanted_of}
+use Rattle.msb_program.specs.Requests.{answer_in, until_fault, wanted_of}
+use Rattle.msb_program.specs.SeenInstance.{seen_instance}
 use Rattle.msb_program.proofs.Walking.{IsPlayed}
 use Rattle.msb_program.proofs.request.Request.visit.Given as goal
 
 abbrev pub invariant-loop-answer : goal.invariant-loop-answer
 invariant-loop-answer l = record {
   fits : Fits l.walk l.answer;
-  played : IsPlayed (answer_in l.project.targets) (left l.walk l.answer) (map (λ t. t.now) l.ran.items) (played_by (answer_in l.project.targets) (order (rows_of l.project.targets) (wanted_of l.project)) []);
+  played : IsPlayed (answer_in (seen_instance l.instance)) (left l.walk l.answer) l.ran (until_fault (answer_in (seen_instance l.instance)) (order l.instance.rows (wanted_of l.instance.project.now)) []);
 }
 
 abbrev pub decreases-loop-answer : goal.decreases-loop-answer
