@@ -15,3 +15,6 @@ mod tuples;
 
 pub use batching::buckets;
 pub use faults::BatchFault;
+
+#[cfg(test)]
+mod tests;
