@@ -1,5 +1,5 @@
 #!/bin/sh
-# Times the matcher where plain backtracking would take exponential time, and an expansion over 20,000 paths.
+# Times the matcher where plain backtracking would take exponential time, and expansions over growing numbers of paths.
 # Usage: bench/glob.sh. It makes a program of its own in a folder that is removed at the end.
 set -e
 root=$(cd "$(dirname "$0")/.." && pwd)
@@ -62,15 +62,20 @@ fn main(rt: HostRuntime) -> Result<()> {
     let time = start.elapsed(&rt)?.as_micros();
     println!(rt; "ten **, 100 segments: {fits} in {time} us")?;
 
-    let paths = tree(rt.alloc(), 20_000)?;
-    let fixed = pattern(rt.alloc(), "src7/**/*.c")?;
-    let start = Instant::now(&rt)?;
-    let found = match expand(rt.alloc(), &paths, &fixed) {
-        Ok(found) => found.len(),
-        Err(_) => 0,
-    };
-    let time = start.elapsed(&rt)?.as_micros();
-    println!(rt; "20,000 paths, 100 below the fixed part: {found} in {time} us")?;
+    let below = pattern(rt.alloc(), "src7/**/*.c")?;
+    let all = pattern(rt.alloc(), "**/*.c")?;
+    for files in [5_000, 20_000, 80_000] {
+        let paths = tree(rt.alloc(), files)?;
+        for (name, pattern) in [("src7/**/*.c", &below), ("**/*.c", &all)] {
+            let start = Instant::now(&rt)?;
+            let found = match expand(rt.alloc(), &paths, pattern) {
+                Ok(found) => found.len(),
+                Err(_) => 0,
+            };
+            let time = start.elapsed(&rt)?.as_micros();
+            println!(rt; "{files} paths, {name}: {found} in {time} us")?;
+        }
+    }
     Ok(())
 }
 PROGRAM

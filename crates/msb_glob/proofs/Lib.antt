@@ -1,3 +1,4 @@
 pub mod Searches
 pub mod Segments
 pub mod Sorting
+pub mod Fronts

@@ -4,3 +4,4 @@ pub mod Match
 pub mod Parsed
 pub mod Search
 pub mod Tokens
+pub mod Front

@@ -1,13 +1,13 @@
 -- Match: which paths a pattern stands for. (MSBuild items, wildcards to specify items)
 use Rattle.std.specs.Prelude.{ℕ, Bool, true, ◌==◌, List, [], map, Option, Some, None}
 use Rattle.std.specs.List.{slice_split}
-use Rattle.std.specs.Str.{chars}
+use Rattle.std.specs.Str.{bytes_eq, chars}
 use Rattle.msb_paths.specs.Segments.{is_slash}
 use Rattle.msb_glob.specs.Tokens.{Token, gap, one, fits}
 use Rattle.msb_glob.specs.declared.pieces.Piece.{Piece}
 use Rattle.msb_glob.specs.declared.pieces.Piece.TheVariants.{AnyCharacters, AnyCharacter, Character}
 use Rattle.msb_glob.specs.declared.parts.Part.{Part}
-use Rattle.msb_glob.specs.declared.parts.Part.TheVariants.{AnyFolders, Segment}
+use Rattle.msb_glob.specs.declared.parts.Part.TheVariants.{AnyFolders, Exact, Segment}
 
 -- `*` stands for any characters of one segment, `?` for one, and every other character for itself
 abbrev pub character_token : Piece → Token ℕ
@@ -18,9 +18,11 @@ character_token (Character c) = one (λ d. d == c)
 abbrev pub fits_segment : List Piece → List ℕ → Bool
 fits_segment pieces segment = fits (map character_token pieces) (chars segment)
 
--- `**` stands for any number of whole folders, and every other segment for one of its form
+-- `**` stands for any number of whole folders, a segment without wildcards for itself, and every other for one of its
+-- form
 abbrev pub segment_token : Part → Token (List ℕ)
 segment_token AnyFolders = gap
+segment_token (Exact text) = one (bytes_eq text)
 segment_token (Segment pieces) = one (fits_segment pieces)
 
 -- a pattern's parts stand for the segments of the whole path

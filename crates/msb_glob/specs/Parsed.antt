@@ -12,7 +12,7 @@ use Rattle.msb_glob.specs.declared.errors.GlobFault.TheVariants.{StarsInSegment,
 use Rattle.msb_glob.specs.declared.pieces.Piece.{Piece}
 use Rattle.msb_glob.specs.declared.pieces.Piece.TheVariants.{AnyCharacters, AnyCharacter, Character}
 use Rattle.msb_glob.specs.declared.parts.Part.{Part}
-use Rattle.msb_glob.specs.declared.parts.Part.TheVariants.{AnyFolders, Segment}
+use Rattle.msb_glob.specs.declared.parts.Part.TheVariants.{AnyFolders, Exact, Segment}
 
 -- the fixed part as written, the number of segments that it leads to, and the parts of the whole
 pub record Reading : Type 0 where
@@ -62,12 +62,17 @@ characters text = map Character (chars (unescaped text))
 abbrev pub pieces_of : List ℕ → List Piece
 pieces_of segment = around_wildcards AnyCharacters AnyCharacter characters segment
 
+abbrev pub is_wildcard : ℕ → Bool
+is_wildcard byte = is_star byte || is_question byte
+
+-- a segment without wildcards stands for itself
 abbrev pub part_of : List ℕ → Part
-part_of segment = if bytes_eq segment (codes "**") then AnyFolders else Segment (pieces_of segment)
+part_of segment = if bytes_eq segment (codes "**") then AnyFolders else if list_any is_wildcard segment then Segment (pieces_of segment) else Exact (unescaped segment)
 
 abbrev pub is_folders : Option Part → Bool
 is_folders None = false
 is_folders (Some AnyFolders) = true
+is_folders (Some (Exact text)) = false
 is_folders (Some (Segment pieces)) = false
 
 -- as a last segment, `**` stands for folders and one more segment

@@ -4,11 +4,12 @@ ghost use Rattle.std.specs.Ordering.{nat_cmp};
 ghost use Rattle.std.specs.Cmp.Lexicographic.{slice_cmp};
 ghost use Rattle.msb_glob.specs.Expanded.{Expands, is_match, behind, ident_of, folder_text, recursive_dir, match_of};
 ghost use Rattle.msb_glob.specs.Match.{segment_token, segments_left};
+ghost use Rattle.msb_glob.specs.Front.{front_of};
 ghost use Rattle.msb_glob.specs.Tokens.{ahead_of, fits};
 
 use crate::Pattern;
 use crate::errors::OutOfMemory;
-use crate::parts::{Part, first_segment, fits_left};
+use crate::parts::{Part, are_gaps, first_segment, fits_left};
 use msb_paths::{NoRoom, Word};
 use msb_values::{List, Text, escape};
 use std::alloc::Global;
@@ -38,14 +39,44 @@ fn found_in<'a>(
     ensures matching { IfOk result (λ found. IsPermutation (filter (is_match pattern.now) paths.now) (map (λ path. path.now) found.items)) }
     ensures in_order { IfOk result (λ found. IsSorted (slice_cmp nat_cmp) (map (λ path. path.now) found.items)) }
 {
+    let front = front_of(alloc, pattern.parts.as_slice())?;
     let mut found = Vec::new(alloc);
     for path in paths {
-        if pattern.matches(path.as_str()) {
+        if is_below(front.as_str(), pattern, path.as_str()) {
             found.push(path.as_str())?;
         }
     }
     found.sort()?;
     Ok(found)
+}
+
+/// Whether the pattern stands for a path. Only a path that begins as all of these do is looked at further.
+fn is_below(front: &str, pattern: &Pattern, path: &str) -> bool
+    requires { front.now ≡ front_of pattern.now.parts }
+    ensures { result ≡ is_match pattern.now path.now }
+{
+    if !path.starts_with(front) {
+        return false;
+    }
+    pattern.matches(path)
+}
+
+/// What every path that the parts stand for begins with.
+fn front_of(alloc: Global, parts: &[Part]) -> Result<Word, OutOfMemory>
+    ensures { IfOk result (λ front. front ≡ front_of parts.now) }
+{
+    let mut front = Word::of(alloc, "")?;
+    for (at, part) in parts.iter().enumerate() {
+        let Part::Exact(text) = part else {
+            return Ok(front);
+        };
+        front.push_str(text.as_str())?;
+        if are_gaps(&parts[at + 1..]) {
+            return Ok(front);
+        }
+        front.push_str("/")?;
+    }
+    Ok(front)
 }
 
 fn matches_of(alloc: Global, found: &[&str], pattern: &Pattern) -> Result<List<Match>, OutOfMemory>

@@ -6,13 +6,15 @@ ghost use Rattle.msb_glob.specs.Tokens.{fits, passes};
 
 use crate::pieces::{Piece, fits_segment};
 use crate::splits::split_first;
-use msb_values::List;
+use msb_values::{List, Text};
 
 /// A segment of a pattern.
 #[derive(Drop)]
 pub(crate) enum Part {
     /// `**`
     AnyFolders,
+    /// A segment without wildcards, which stands for itself.
+    Exact(Text),
     Segment(List<Piece>),
 }
 
@@ -22,6 +24,7 @@ impl Part {
     {
         match self {
             Part::AnyFolders => true,
+            Part::Exact(_) => false,
             Part::Segment(_) => false,
         }
     }
@@ -31,6 +34,7 @@ impl Part {
     {
         match self {
             Part::AnyFolders => false,
+            Part::Exact(text) => text.as_str() == segment,
             Part::Segment(pieces) => fits_segment(pieces.as_slice(), segment),
         }
     }
@@ -75,7 +79,7 @@ pub(crate) fn fits_left(parts: &[Part], left: Option<&str>) -> bool
     are_gaps(&parts[place.at..])
 }
 
-fn are_gaps(parts: &[Part]) -> bool
+pub(crate) fn are_gaps(parts: &[Part]) -> bool
     ensures { result ≡ list_all (λ part. is_gap (segment_token part)) parts.now }
 {
     parts.iter().all(|part| part.is_gap())

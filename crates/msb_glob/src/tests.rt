@@ -36,6 +36,9 @@ fn matches_paths(rt: HostRuntime) -> Result<(), Fail> {
         ("a%2F*", "a/b", true),
         ("50%*", "50%x", true),
         ("x*/../src/*.c", "src/a.c", true),
+        ("src/**/a.c", "src2/a.c", false),
+        ("src/a.c", "src/a.c", true),
+        ("src/a.c", "src/a.c/b", false),
     ] {
         assert_eq!(rt;
             pattern_fits(rt.alloc(), pattern, path)?,
