@@ -67,12 +67,7 @@ impl Outcome {
         }
     }
 
-    fn of_root(
-        alloc: Global,
-        path: &str,
-        tree: &Tree,
-        root: &Element,
-    ) -> Result<Outcome, NoMemory>
+    fn of_root(alloc: Global, path: &str, tree: &Tree, root: &Element) -> Result<Outcome, NoMemory>
         ensures { IfOk result (λ o. seen o ≡ outcome_of_root path.now (paths_of tree.now.files) (view root.now)) }
     {
         let Some(project) = Project::read(alloc, root)? else {
