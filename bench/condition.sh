@@ -8,7 +8,7 @@ work=$(mktemp -d)
 trap 'rm -rf "$work"' EXIT
 crates='msb_laws msb_values msb_paths msb_expression msb_expand msb_condition'
 for crate in $crates; do
-    (cd "$root" && tar cf - "crates/$crate") | (cd "$work" && tar xf -)
+    (cd "$root" && tar cf - --exclude=out "crates/$crate") | (cd "$work" && tar xf -)
     grep -E "^$crate[ :]" "$root/crates.txt" >> "$work/crates.txt"
 done
 echo 'condition_bench: msb_condition' >> "$work/crates.txt"
