@@ -59,7 +59,7 @@ fn items(alloc: Global, count: u32) -> Result<List<Item>, NoMemory> {
 fn scope(alloc: Global, count: u32) -> Result<Scope, NoMemory> {
     let mut props = Pairs::new(alloc);
     props.insert(name(alloc, "P")?, Text::of(alloc, "value")?)?;
-    props.insert(name(alloc, "R")?, repeated(alloc, "@(Y) ", count)?)?;
+    props.insert(name(alloc, "R")?, repeated(alloc, "@(Y);", count)?)?;
     let mut lists = Lists::new(alloc);
     lists.insert(name(alloc, "X")?, items(alloc, count)?)?;
     lists.insert(name(alloc, "Y")?, items(alloc, 1)?)?;
