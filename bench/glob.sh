@@ -62,19 +62,16 @@ fn main(rt: HostRuntime) -> Result<()> {
     let time = start.elapsed(&rt)?.as_micros();
     println!(rt; "ten **, 100 segments: {fits} in {time} us")?;
 
-    let below = pattern(rt.alloc(), "src7/**/*.c")?;
-    let all = pattern(rt.alloc(), "**/*.c")?;
+    let fixed = pattern(rt.alloc(), "src7/**/*.c")?;
     for files in [5_000, 20_000, 80_000] {
         let paths = tree(rt.alloc(), files)?;
-        for (name, pattern) in [("src7/**/*.c", &below), ("**/*.c", &all)] {
-            let start = Instant::now(&rt)?;
-            let found = match expand(rt.alloc(), &paths, pattern) {
-                Ok(found) => found.len(),
-                Err(_) => 0,
-            };
-            let time = start.elapsed(&rt)?.as_micros();
-            println!(rt; "{files} paths, {name}: {found} in {time} us")?;
-        }
+        let start = Instant::now(&rt)?;
+        let found = match expand(rt.alloc(), &paths, &fixed) {
+            Ok(found) => found.len(),
+            Err(_) => 0,
+        };
+        let time = start.elapsed(&rt)?.as_micros();
+        println!(rt; "{files} paths, 100 below the fixed part: {found} in {time} us")?;
     }
     Ok(())
 }
