@@ -9,28 +9,28 @@ work=$(mktemp -d)
 trap 'rm -rf "$work"' EXIT
 (cd "$root" && tar cf - crates/msb_laws crates/msb_values crates/msb_paths crates/msb_expression crates/msb_expand crates/msb_batching) | (cd "$work" && tar xf -)
 grep -E "^($libraries)[ :]" "$root/crates.txt" > "$work/crates.txt"
-echo 'batching_bench: msb_batching msb_expand msb_expression msb_values anyhow' >> "$work/crates.txt"
+echo 'batching_bench: msb_batching msb_expand msb_expression msb_values' >> "$work/crates.txt"
 mkdir -p "$work/crates/batching_bench/src" "$work/crates/batching_bench/specs" "$work/crates/batching_bench/proofs"
 : > "$work/crates/batching_bench/specs/Lib.antt"
 cat > "$work/crates/batching_bench/src/main.rt" <<'PROGRAM'
 #![tactic(auto)]
 
-use anyhow::{Result, anyhow};
 use msb_batching::buckets;
 use msb_expand::{Lens, Use};
 use msb_expression::{Expr, parse};
-use msb_values::{Defaults, Item, List, Lists, Name, Pairs, Scope, Text};
+use msb_values::{Defaults, Item, List, Lists, Name, NoMemory, Pairs, Scope, Text};
 use std::alloc::Global;
+use std::io;
 use std::time::Instant;
 
-fn name(alloc: Global, text: &str) -> Result<Name> {
+fn name(alloc: Global, text: &str) -> Result<Name, NoMemory> {
     match Name::read(alloc, text) {
         Ok(name) => Ok(name),
-        Err(_) => Err(anyhow!("no name")),
+        Err(_) => Err(NoMemory),
     }
 }
 
-fn item(alloc: Global, number: u32, keys: u32) -> Result<Item> {
+fn item(alloc: Global, number: u32, keys: u32) -> Result<Item, NoMemory> {
     let first = format!(in alloc; "Key {}", number % keys)?;
     let second = format!(in alloc; "PLACE {}", number / 2 % keys)?;
     let mut meta = Pairs::new(alloc);
@@ -44,7 +44,7 @@ fn item(alloc: Global, number: u32, keys: u32) -> Result<Item> {
     })
 }
 
-fn items(alloc: Global, size: u32, keys: u32) -> Result<List<Item>> {
+fn items(alloc: Global, size: u32, keys: u32) -> Result<List<Item>, NoMemory> {
     let mut list = List::new(alloc);
     for number in 0..size {
         list.push(item(alloc, number, keys)?)?;
@@ -52,27 +52,30 @@ fn items(alloc: Global, size: u32, keys: u32) -> Result<List<Item>> {
     Ok(list)
 }
 
-fn texts(alloc: Global) -> Result<List<Expr>> {
+fn texts(alloc: Global) -> Result<List<Expr>, NoMemory> {
     let mut texts = List::new(alloc);
     match parse(alloc, "%(K) %(X.M) @(X)") {
         Ok(text) => texts.push(text)?,
-        Err(_) => return Err(anyhow!("no expression")),
+        Err(_) => return Err(NoMemory),
     }
     Ok(texts)
 }
 
-fn time(rt: &HostRuntime, size: u32, keys: u32) -> Result<()> {
-    let alloc = rt.alloc();
+fn scope(alloc: Global, size: u32, keys: u32) -> Result<Scope, NoMemory> {
     let mut lists = Lists::new(alloc);
     lists.insert(name(alloc, "X")?, items(alloc, size, keys)?)?;
-    let scope = Scope {
+    Ok(Scope {
         globals: Pairs::new(alloc),
         props: Pairs::new(alloc),
         items: lists,
         defaults: Defaults::new(alloc),
-    };
+    })
+}
+
+// How many buckets there are; none where there is no memory.
+fn count(alloc: Global, scope: &Scope, texts: &List<Expr>) -> Option<usize> {
     let lens = Lens {
-        scope: &scope,
+        scope,
         dir: "",
         project: "a.proj",
         file: "a.proj",
@@ -80,18 +83,30 @@ fn time(rt: &HostRuntime, size: u32, keys: u32) -> Result<()> {
         own: None,
         bucket: None,
     };
-    let texts = texts(alloc)?;
-    let start = Instant::now(rt)?;
-    let made = match buckets(alloc, &lens, &texts, None) {
-        Ok(buckets) => buckets.len(),
-        Err(_) => return Err(anyhow!("no buckets")),
-    };
-    let micros = start.elapsed(rt)?.as_micros();
-    println!(rt; "{size} items, {made} buckets: {micros} us")?;
-    Ok(())
+    match buckets(alloc, &lens, texts, None) {
+        Ok(buckets) => Some(buckets.len()),
+        Err(_) => None,
+    }
 }
 
-fn main(rt: HostRuntime) -> Result<()> {
+fn time(rt: &HostRuntime, size: u32, keys: u32) -> io::Result<()> {
+    let alloc = rt.alloc();
+    let Ok(scope) = scope(alloc, size, keys) else {
+        return println!(rt; "no memory");
+    };
+    let Ok(texts) = texts(alloc) else {
+        return println!(rt; "no memory");
+    };
+    let start = Instant::now(rt)?;
+    let made = count(alloc, &scope, &texts);
+    let micros = start.elapsed(rt)?.as_micros();
+    match made {
+        Some(made) => println!(rt; "{size} items, {made} buckets: {micros} us"),
+        None => println!(rt; "no buckets"),
+    }
+}
+
+fn main(rt: HostRuntime) -> io::Result<()> {
     for size in [1_000, 2_000, 5_000, 10_000, 20_000, 50_000] {
         time(&rt, size, 10)?;
         time(&rt, size, size)?;
