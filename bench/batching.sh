@@ -30,9 +30,13 @@ fn name(alloc: Global, text: &str) -> Result<Name, NoMemory> {
     }
 }
 
+fn key(number: u32, keys: u32) -> u32 {
+    if keys == 0 { 0 } else { number % keys }
+}
+
 fn item(alloc: Global, number: u32, keys: u32) -> Result<Item, NoMemory> {
-    let first = format!(in alloc; "Key {}", number % keys)?;
-    let second = format!(in alloc; "PLACE {}", number / 2 % keys)?;
+    let first = format!(in alloc; "Key {}", key(number, keys))?;
+    let second = format!(in alloc; "PLACE {}", key(number / 2, keys))?;
     let mut meta = Pairs::new(alloc);
     meta.insert(name(alloc, "K")?, Text::of(alloc, first.as_str())?)?;
     meta.insert(name(alloc, "M")?, Text::of(alloc, second.as_str())?)?;
