@@ -133,6 +133,55 @@ fn properties_have_values(rt: HostRuntime) -> Result<(), Fail> {
     Ok(())
 }
 
+/// A condition, and whether it holds or its fault: each operator with numbers, truth values and texts.
+const COMPARISONS: &str = "1 == 1.0 => true
+1 != 0x1 => false
+2 < 10 => true
+0x10 > 9 => true
+-1 <= 0.5 => true
+1.5 >= 0x2 => false
+on == 'TRUE' => true
+on != yes => false
+on < 1 => 18 NotNumbers on 1
+1 > on => 18 NotNumbers 1 on
+on <= no => 18 NotNumbers on no
+no >= 1 => 18 NotNumbers no 1
+a == 'A' => true
+'a b' != 'A B' => false
+a < b => 18 NotNumbers a b
+a > 1 => 18 NotNumbers a 1
+'' <= 1 => 18 NotNumbers  1
+1 >= $(P) => 18 NotNumbers 1 
+1 == on => false
+a != on => true
+Exists('a.proj') == 'true' => true
+HasTrailingSlash('a/') != Exists('b') => true
+Exists(a.proj) < 1 => 18 NotNumbers true 1";
+
+#[test]
+fn operators_compare_each_kind_of_operand(rt: HostRuntime) -> Result<(), Fail> {
+    let alloc = rt.alloc();
+    for line in COMPARISONS.lines() {
+        let (condition, wanted) = line
+            .split_once(" => ")
+            .ok_or("a condition and its outcome")?;
+        let attributes = format!(in alloc; "\"Name\":\"T\",\"Condition\":\"{condition}\"")?;
+        let target = target(alloc, attributes.as_str(), "m")?;
+        let text = project(alloc, target.as_str())?;
+        let mut store = store(alloc, text.as_str(), 9)?;
+        let mut sink = MemSink::new(alloc, None)?;
+        let words = words(alloc, "a.proj")?;
+        run(&rt, alloc, &words, &mut store, &mut sink, &NoTools);
+        let printed = match wanted {
+            "true" => format!(in alloc; "a.proj : t ran\n  m\nreturned 0\nbuild succeeded\n")?,
+            "false" => format!(in alloc; "returned 0\nbuild succeeded\n")?,
+            fault => format!(in alloc; "error: a.proj /0: {fault}\nreturned 0\nbuild failed\n")?,
+        };
+        assert_eq!(rt; sink.bytes(), printed.as_bytes());
+    }
+    Ok(())
+}
+
 // A file that is not there, no JSON, no element, no target, and words outside the grammar.
 #[test]
 fn refusals_are_told(rt: HostRuntime) -> Result<(), Fail> {
