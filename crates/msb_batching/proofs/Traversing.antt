@@ -4,7 +4,7 @@ use Rattle.std.specs.Result.{IsErrAnd}
 use Rattle.msb_batching.specs.declared.faults.BatchFault.{BatchFault}
 use Rattle.msb_batching.specs.declared.faults.BatchFault.TheVariants.{NoList, NoValue, Expand, Memory}
 use Rattle.msb_batching.specs.Answers.{Gives, GivesAs}
-use Rattle.msb_expand.specs.Results.{and_then, map_ok, all_ok}
+use Rattle.msb_laws.specs.Results.{and_then, map_ok, all_ok}
 
 pub all_ok-map : {X Y Z E : Type 0} (f : Y → Result Z E) (g : X → Y) (xs : List X) → all_ok f (map g xs) ≡ all_ok (λ x. f (g x)) xs
 all_ok-map f g [] = refl

@@ -1,6 +1,6 @@
 -- How an answer is the one that a definition gives, but for want of memory.
 use Rattle.std.specs.Prelude.{◌≡◌, Result, Ok, Err}
-use Rattle.msb_expand.specs.Results.{map_ok}
+use Rattle.msb_laws.specs.Results.{map_ok}
 use Rattle.msb_batching.specs.declared.faults.BatchFault.{BatchFault}
 use Rattle.msb_batching.specs.declared.faults.BatchFault.TheVariants.{NoList, NoValue, Expand, Memory}
 

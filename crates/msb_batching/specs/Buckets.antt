@@ -8,7 +8,7 @@ use Rattle.msb_values.specs.Same.{is_same_text}
 use Rattle.msb_values.specs.declared.item.Item.{Item}
 use Rattle.msb_expression.specs.declared.expression.Expr.{Expr}
 use Rattle.msb_expand.specs.declared.lens.Bucket.{Bucket}
-use Rattle.msb_expand.specs.Results.{map_ok}
+use Rattle.msb_laws.specs.Results.{map_ok}
 use Rattle.msb_expand.specs.Scenes.{Scene}
 use Rattle.msb_batching.specs.declared.faults.BatchFault.{BatchFault}
 use Rattle.msb_batching.specs.declared.faults.BatchFault.TheVariants.{NoList}

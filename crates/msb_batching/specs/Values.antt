@@ -5,7 +5,7 @@ use Rattle.msb_values.specs.Pairs.{value_at}
 use Rattle.msb_values.specs.declared.item.Item.{Item}
 use Rattle.msb_expand.specs.declared.faults.ExpandFault.{ExpandFault}
 use Rattle.msb_expand.specs.Metadata.{metadata_at, well_known}
-use Rattle.msb_expand.specs.Results.{map_ok, all_ok}
+use Rattle.msb_laws.specs.Results.{map_ok, all_ok}
 use Rattle.msb_expand.specs.Scenes.{Scene, defaults_at, with_defaults, list_in}
 use Rattle.msb_batching.specs.declared.faults.BatchFault.{BatchFault}
 use Rattle.msb_batching.specs.declared.faults.BatchFault.TheVariants.{NoValue, Expand}

@@ -10,7 +10,7 @@ use Rattle.msb_values.specs.Same.{is_same_text}
 use Rattle.msb_expand.specs.declared.faults.ExpandFault.{ExpandFault}
 use Rattle.msb_expand.specs.Scenes.{Scene}
 use Rattle.msb_expand.specs.Values.{text_value}
-use Rattle.msb_expand.specs.Results.{and_then, map_ok}
+use Rattle.msb_laws.specs.Results.{and_then, map_ok}
 use Rattle.msb_condition.specs.declared.condition.Comparison.{Comparison}
 use Rattle.msb_condition.specs.declared.condition.Comparison.TheVariants.{Equal, NotEqual, Less, Greater, LessOrEqual, GreaterOrEqual}
 use Rattle.msb_condition.specs.declared.condition.Function.{Function}

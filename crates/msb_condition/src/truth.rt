@@ -2,7 +2,7 @@ ghost use Rattle.std.specs.Prelude.{map};
 ghost use Rattle.msb_condition.specs.Answers.{Gives, view_of};
 ghost use Rattle.msb_condition.specs.Truth.{truth_of, any_truth, every_truth, operand_text as text_of, is_true as truth_value};
 ghost use Rattle.msb_condition.specs.View.{tree_of, operand_of};
-ghost use Rattle.msb_expand.specs.Results.{and_then};
+ghost use Rattle.msb_laws.specs.Results.{and_then};
 
 use crate::booleans::boolean_of;
 use crate::comparing::compare;

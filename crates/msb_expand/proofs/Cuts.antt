@@ -6,7 +6,7 @@ use Rattle.std.proofs.lemmas.List.Elements.{All-nil, All-cons}
 use Rattle.std.proofs.lemmas.List.Splits.{slice_split_at, slice_split_none, length-slice_split}
 use Rattle.msb_values.specs.declared.item.Item.{Item}
 use Rattle.msb_expand.specs.declared.faults.ExpandFault.{ExpandFault}
-use Rattle.msb_expand.specs.Results.{and_then, map_ok}
+use Rattle.msb_laws.specs.Results.{and_then, map_ok}
 use Rattle.msb_expand.specs.Values.{Reading, reading, begun, closed, with_text, with_next, with_pieces}
 
 abbrev pub pieces_of : List ℕ → List (List ℕ)

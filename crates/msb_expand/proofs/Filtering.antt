@@ -2,7 +2,7 @@
 use Rattle.std.proofs.Common.{◌≡◌, Bool, true, false, List, [], ◌++◌, Result, Ok, Err, refl, sym, ap, ◌∙◌, append_assoc}
 use Rattle.msb_values.specs.declared.item.Item.{Item}
 use Rattle.msb_expand.specs.Answers.{Gives}
-use Rattle.msb_expand.specs.Results.{and_then, map_ok}
+use Rattle.msb_laws.specs.Results.{and_then, map_ok}
 use Rattle.msb_expand.specs.Functions.{kept_if}
 use Rattle.msb_expand.specs.declared.faults.ExpandFault.{ExpandFault}
 use Rattle.msb_expand.proofs.Giving.{and_then_stops, map_ok_stops, map_ok_stopped}

@@ -1,7 +1,7 @@
 -- What a fault of a part, or a value of it, makes of the whole.
 use Rattle.std.proofs.Common.{◌≡◌, Result, Ok, Err, ap, subst}
 use Rattle.msb_expand.specs.Answers.{Gives}
-use Rattle.msb_expand.specs.Results.{and_then, map_ok}
+use Rattle.msb_laws.specs.Results.{and_then, map_ok}
 use Rattle.msb_expand.specs.declared.faults.ExpandFault.{ExpandFault}
 use Rattle.msb_expand.specs.declared.faults.ExpandFault.TheVariants.{ItemsHere, MetadataHere, UnknownFunction, TooLong, MixedList, BadPath, Expr, Memory}
 

@@ -4,7 +4,7 @@ use Rattle.std.specs.List.{flat_map}
 use Rattle.std.proofs.lemmas.List.Concat.{flat_map-cons}
 use Rattle.msb_expression.specs.declared.expression.Part.{Part}
 use Rattle.msb_expand.specs.declared.faults.ExpandFault.{ExpandFault}
-use Rattle.msb_expand.specs.Results.{and_then}
+use Rattle.msb_laws.specs.Results.{and_then}
 use Rattle.msb_expand.specs.Scenes.{Scene}
 use Rattle.msb_expand.specs.Tokens.{Token, part_tokens}
 use Rattle.msb_expand.specs.Values.{Reading, reading, begun, closed, with_token, read_on, list_value}

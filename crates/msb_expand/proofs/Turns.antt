@@ -3,7 +3,7 @@ use Rattle.std.proofs.Common.{◌≡◌, ℕ, ◌+◌, ◌<◌, List, ◌∷◌,
 use Rattle.std.proofs.lemmas.List.{drop_more}
 use Rattle.msb_expand.specs.declared.faults.ExpandFault.{ExpandFault}
 use Rattle.msb_expand.specs.declared.faults.ExpandFault.TheVariants.{ItemsHere, MetadataHere, UnknownFunction, TooLong, MixedList, BadPath, Expr, Memory}
-use Rattle.msb_expand.specs.Results.{and_then}
+use Rattle.msb_laws.specs.Results.{and_then}
 use Rattle.msb_expand.specs.Answers.{Gives}
 
 -- a fault of a step is the fault of the whole

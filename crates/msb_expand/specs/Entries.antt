@@ -5,7 +5,7 @@ use Rattle.msb_expand.specs.declared.entry.Entry.TheVariants.{Begun, Given, Join
 use Rattle.msb_expand.specs.declared.reading.Reading.{Reading as Held}
 use Rattle.msb_expand.specs.declared.faults.ExpandFault.{ExpandFault}
 use Rattle.msb_expand.specs.declared.faults.ExpandFault.TheVariants.{TooLong}
-use Rattle.msb_expand.specs.Results.{and_then}
+use Rattle.msb_laws.specs.Results.{and_then}
 use Rattle.msb_expand.specs.Limits.{limit}
 use Rattle.msb_expand.specs.Scenes.{Scene}
 use Rattle.msb_expand.specs.Seen.{seen_item}

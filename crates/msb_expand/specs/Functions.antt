@@ -15,7 +15,7 @@ use Rattle.msb_expand.specs.declared.faults.ExpandFault.TheVariants.{UnknownFunc
 use Rattle.msb_expand.specs.declared.functions.Function.{Function}
 use Rattle.msb_expand.specs.declared.functions.Function.TheVariants.{Count, Distinct, Reverse, HasMetadata, WithMetadataValue, AnyHaveMetadataValue, ClearMetadata}
 use Rattle.msb_expand.specs.Keys.{key_of}
-use Rattle.msb_expand.specs.Results.{and_then, map_ok, all_ok}
+use Rattle.msb_laws.specs.Results.{and_then, map_ok, all_ok}
 use Rattle.msb_expand.specs.Limits.{grown_by}
 use Rattle.msb_expand.specs.Scenes.{Scene}
 use Rattle.msb_expand.specs.Reserved.{property_of}

@@ -1,4 +1,3 @@
-pub mod Results
 pub mod Keys
 pub mod Limits
 pub mod Scenes

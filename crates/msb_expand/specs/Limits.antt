@@ -2,7 +2,7 @@
 use Rattle.std.specs.Prelude.{ℕ, nat_lt, List, [], ◌∷◌, ◌++◌, length, Result, Ok, Err, if◌then◌else◌}
 use Rattle.msb_expand.specs.declared.faults.ExpandFault.{ExpandFault}
 use Rattle.msb_expand.specs.declared.faults.ExpandFault.TheVariants.{TooLong}
-use Rattle.msb_expand.specs.Results.{and_then}
+use Rattle.msb_laws.specs.Results.{and_then}
 
 abbrev pub limit : ℕ
 limit = 4194304

@@ -11,7 +11,7 @@ use Rattle.msb_expand.specs.declared.faults.ExpandFault.TheVariants.{BadPath}
 use Rattle.msb_expand.specs.declared.well_known.WellKnown.{WellKnown}
 use Rattle.msb_expand.specs.declared.well_known.WellKnown.TheVariants.{Identity, FullPath, RootDir, Directory, RelativeDir, Filename, Extension, RecursiveDir}
 use Rattle.msb_expand.specs.Keys.{key_of}
-use Rattle.msb_expand.specs.Results.{map_ok}
+use Rattle.msb_laws.specs.Results.{map_ok}
 use Rattle.msb_expand.specs.Reserved.{folder_of, from_root}
 
 -- the names

@@ -2,7 +2,7 @@ ghost use Rattle.std.specs.Prelude.{◌≡◌, IfOk, string_bytes, option_copied
 ghost use Rattle.std.specs.List.{flat_map};
 ghost use Rattle.msb_expand.specs.Answers.{GivesAs};
 ghost use Rattle.msb_expand.specs.Entries.{entry_of};
-ghost use Rattle.msb_expand.specs.Results.{map_ok};
+ghost use Rattle.msb_laws.specs.Results.{map_ok};
 ghost use Rattle.msb_expand.specs.Scenes.{scene_of};
 ghost use Rattle.msb_expand.specs.Values.{given, entry_with, is_open, entry_list};
 

@@ -3,7 +3,7 @@ ghost use Rattle.msb_values.specs.Same.{is_same_text};
 ghost use Rattle.msb_expand.specs.Answers.{Gives, GivesAs};
 ghost use Rattle.msb_expand.specs.Keys.{key_of};
 ghost use Rattle.msb_expand.specs.Metadata.{metadata_if};
-ghost use Rattle.msb_expand.specs.Results.{map_ok};
+ghost use Rattle.msb_laws.specs.Results.{map_ok};
 ghost use Rattle.msb_expand.specs.Functions.{filtered, any_passes, is_some_text};
 ghost use Rattle.msb_expand.specs.Seen.{seen_item};
 ghost use Rattle.msb_expand.specs.Wanted.{passes};

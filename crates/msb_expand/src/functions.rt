@@ -5,7 +5,7 @@ ghost use Rattle.msb_values.specs.Same.{is_same_text};
 ghost use Rattle.msb_expand.specs.declared.faults.ExpandFault.TheVariants.{UnknownFunction};
 ghost use Rattle.msb_expand.specs.Answers.{GivesAs};
 ghost use Rattle.msb_expand.specs.Keys.{key_of};
-ghost use Rattle.msb_expand.specs.Results.{map_ok};
+ghost use Rattle.msb_laws.specs.Results.{map_ok};
 ghost use Rattle.msb_expand.specs.Functions.{functions, called, any_passes, plain_item, truth_text};
 ghost use Rattle.msb_expand.specs.Seen.{seen_item};
 

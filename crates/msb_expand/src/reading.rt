@@ -2,7 +2,7 @@ ghost use Rattle.std.specs.Prelude.{◌≡◌, ◌==◌, [], option_copied};
 ghost use Rattle.std.specs.List.{slice_split};
 ghost use Rattle.msb_expand.specs.Answers.{Gives, GivesAs};
 ghost use Rattle.msb_expand.specs.Entries.{reading_of};
-ghost use Rattle.msb_expand.specs.Results.{map_ok};
+ghost use Rattle.msb_laws.specs.Results.{map_ok};
 ghost use Rattle.msb_expand.specs.Scenes.{scene_of};
 ghost use Rattle.msb_expand.specs.Tokens.{referred, written};
 ghost use Rattle.msb_expand.specs.Values.{reading, begun, closed, with_text, with_pieces, with_token};

@@ -1,7 +1,7 @@
 ghost use Rattle.std.specs.Prelude.{◌≡◌, [], IfOk, map};
 ghost use Rattle.msb_expand.specs.Answers.{Gives, GivesAs};
 ghost use Rattle.msb_expand.specs.Limits.{grown, grown_by};
-ghost use Rattle.msb_expand.specs.Results.{all_ok};
+ghost use Rattle.msb_laws.specs.Results.{all_ok};
 ghost use Rattle.msb_expand.specs.Scenes.{scene_of};
 ghost use Rattle.msb_expand.specs.Functions.{piece_value, transformed, stepped, after_steps, quoted_value};
 ghost use Rattle.msb_expand.specs.Seen.{seen_item};

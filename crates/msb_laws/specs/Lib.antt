@@ -1,4 +1,5 @@
 pub mod Asking
 pub mod Faults
 pub mod Gains
+pub mod Results
 pub mod Traverse

@@ -1,7 +1,7 @@
 -- Loops that go on from one element to the next.
 use Rattle.std.proofs.Common.{◌≡◌, ℕ, ◌+◌, ◌<◌, ◌≤◌, List, [], ◌∷◌, ◌++◌, length, drop, get_or, Option, Some, None, Result, Ok, Err, refl, sym, ap, ◌∙◌, append_assoc, append-nil, add-one, drop-cons, arith}
 use Rattle.std.proofs.lemmas.Grind.{common_steps}
-use Rattle.msb_expand.specs.Results.{map_ok, all_ok}
+use Rattle.msb_laws.specs.Results.{map_ok, all_ok}
 use Rattle.msb_program.specs.Instances.{each_after}
 
 past : {X : Type 0} (xs : List X) (i : ℕ) → length xs ≤ i → drop i xs ≡ []

@@ -20,7 +20,7 @@ use Rattle.msb_expand.specs.declared.faults.ExpandFault.TheVariants.{Expr}
 use Rattle.msb_expand.specs.declared.lens.Use.{Use}
 use Rattle.msb_expand.specs.declared.lens.Use.TheVariants.{Properties, All}
 use Rattle.msb_expand.specs.Causes.{cause_of}
-use Rattle.msb_expand.specs.Results.{all_ok}
+use Rattle.msb_laws.specs.Results.{all_ok}
 use Rattle.msb_expand.specs.Scenes.{Scene}
 use Rattle.msb_expand.specs.Values.{text_value, list_value}
 use Rattle.msb_program.specs.declared.property.Property.{Property}

@@ -15,7 +15,7 @@ use Rattle.msb_elements.specs.Places.{shown_place}
 use Rattle.msb_expand.specs.declared.faults.ExpandFault.{ExpandFault}
 use Rattle.msb_expand.specs.declared.lens.Use.TheVariants.{All, Batched}
 use Rattle.msb_expand.specs.Causes.{cause_of}
-use Rattle.msb_expand.specs.Results.{map_ok}
+use Rattle.msb_laws.specs.Results.{map_ok}
 use Rattle.msb_program.specs.declared.target.Message.{Message}
 use Rattle.msb_program.specs.declared.target.Target.{Target}
 use Rattle.msb_program.specs.declared.project.Project.{Project}

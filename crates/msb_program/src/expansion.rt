@@ -1,6 +1,6 @@
 ghost use Rattle.std.specs.Prelude.{◌≡◌, IfOk};
 ghost use Rattle.msb_expand.specs.Answers.{Gives};
-ghost use Rattle.msb_expand.specs.Results.{all_ok};
+ghost use Rattle.msb_laws.specs.Results.{all_ok};
 ghost use Rattle.msb_expand.specs.Scenes.{scene_of};
 ghost use Rattle.msb_program.specs.Givings.{GivesCause};
 ghost use Rattle.msb_program.specs.Instances.{expanded, listed, name_of_entry, names_of, target_names};

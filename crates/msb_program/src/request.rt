@@ -1,7 +1,7 @@
 ghost use Rattle.std.specs.Prelude.{◌≡◌, ◌∷◌, ◌++◌, IfOk, is_some, codes, string_bytes};
 ghost use Rattle.std.specs.List.{flat_map, list_any};
 ghost use Rattle.target_order.specs.declared.asks.OrderAnswer.TheVariants.{Truth, Names};
-ghost use Rattle.msb_expand.specs.Results.{map_ok};
+ghost use Rattle.msb_laws.specs.Results.{map_ok};
 ghost use Rattle.msb_program.specs.Requests.{target_at, answer_of_run, after_body, holds_of, depends_of, fault_text};
 ghost use Rattle.msb_program.specs.Asked.{RepliesTo, Replies, error_of_ask};
 ghost use Rattle.msb_program.specs.SeenInstance.{seen_instance};

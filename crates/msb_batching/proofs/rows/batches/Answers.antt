@@ -1,7 +1,7 @@
 use Rattle.std.proofs.Common.{◌≡◌, ◌+◌, ◌∷◌, ◌++◌, [], map, drop, sym, ap, ◌∙◌, arith}
 use Rattle.std.proofs.lemmas.Grind.{common_steps}
 use Rattle.std.proofs.lemmas.List.{map-append}
-use Rattle.msb_expand.specs.Results.{map_ok, all_ok}
+use Rattle.msb_laws.specs.Results.{map_ok, all_ok}
 use Rattle.msb_expand.specs.Scenes.{scene_of}
 use Rattle.msb_batching.specs.Growing.{spoken_of}
 use Rattle.msb_batching.specs.Rows.{pairs_of}

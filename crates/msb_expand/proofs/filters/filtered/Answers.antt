@@ -2,7 +2,7 @@ use Rattle.std.proofs.Common.{sym, ap, ◌∙◌, map, ◌++◌, Err}
 use Rattle.std.specs.Vec.Iter.{into_iter_items}
 use Rattle.std.proofs.lemmas.Result.{err_from_is_err_and}
 use Rattle.msb_expand.specs.Functions.{filtered, kept_if}
-use Rattle.msb_expand.specs.Results.{map_ok}
+use Rattle.msb_laws.specs.Results.{map_ok}
 use Rattle.msb_expand.specs.Seen.{seen_item}
 use Rattle.msb_expand.specs.Wanted.{passes}
 use Rattle.msb_expand.proofs.Giving.{gives_same}

@@ -2,7 +2,7 @@ use Rattle.std.proofs.Common.{◌≡◌, ◌++◌, map}
 use Rattle.std.specs.Vec.Iter.{into_iter_items}
 use Rattle.msb_expand.specs.Scenes.{scene_of}
 use Rattle.msb_expand.specs.Functions.{transformed}
-use Rattle.msb_expand.specs.Results.{map_ok, all_ok}
+use Rattle.msb_laws.specs.Results.{map_ok, all_ok}
 use Rattle.msb_expand.specs.Seen.{seen_item}
 use Rattle.msb_expand.proofs.steps.transform.Given as goal
 

@@ -1,4 +1,4 @@
-use Rattle.msb_expand.specs.Results.{all_ok}
+use Rattle.msb_laws.specs.Results.{all_ok}
 use Rattle.msb_program.specs.Instances.{name_of_entry}
 use Rattle.msb_program.proofs.Collecting.{IsOk}
 use Rattle.msb_program.proofs.expansion.names_of.Given as goal

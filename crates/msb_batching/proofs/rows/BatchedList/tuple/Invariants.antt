@@ -1,5 +1,5 @@
 use Rattle.std.proofs.Common.{◌≡◌, ◌++◌, drop}
-use Rattle.msb_expand.specs.Results.{map_ok}
+use Rattle.msb_laws.specs.Results.{map_ok}
 use Rattle.msb_expand.specs.Scenes.{scene_of}
 use Rattle.msb_batching.specs.Values.{tuple_of}
 use Rattle.msb_batching.proofs.rows.BatchedList.tuple.Given as goal

@@ -14,3 +14,8 @@ map_ok f (Err fault) = Err fault
 abbrev pub all_ok : {X Y E : Type 0} → (X → Result Y E) → List X → Result (List Y) E
 all_ok f [] = Ok []
 all_ok f (x ∷ xs) = and_then (f x) (λ y. map_ok (λ ys. y ∷ ys) (all_ok f xs))
+
+-- a step after another, each from where the one before it has led, up to the first fault
+abbrev pub fold_ok : {S X E : Type 0} → (S → X → Result S E) → S → List X → Result S E
+fold_ok step s [] = Ok s
+fold_ok step s (x ∷ xs) = and_then (step s x) (λ next. fold_ok step next xs)
