@@ -1,9 +1,11 @@
-pub mod Names
-pub mod ReadsNames
+pub mod Caused
 pub mod Causes
-pub mod Kinds
-pub mod Pairs
-pub mod Same
-pub mod Lists
 pub mod Escapes
 pub mod Folded
+pub mod InstanceKeys
+pub mod Kinds
+pub mod Lists
+pub mod Names
+pub mod Pairs
+pub mod ReadsNames
+pub mod Same

@@ -1,4 +1,4 @@
-ghost use Rattle.std.specs.Prelude.{◌≡◌, ◌==◌, [], length, OnOk, OnErr, option_copied};
+ghost use Rattle.std.specs.Prelude.{◌≡◌, ◌==◌, [], length, OnOk, OnErr, option_copied, unwrap_or};
 ghost use Rattle.std.specs.Ordering.{nat_cmp};
 ghost use Rattle.std.specs.BTreeMap.{insert_entry};
 ghost use Rattle.std.specs.Cmp.Lexicographic.{slice_cmp};
@@ -8,6 +8,7 @@ use crate::{Copied, Item, List, Name, NoMemory, Text};
 use std::alloc::Global;
 use std::collections::{BTreeMap, btree_map};
 use std::marker::Model;
+use std::mem;
 
 /// What each of some names has: each name once, in byte order of the names.
 #[derive(Drop)]
@@ -76,6 +77,20 @@ impl<T: Drop> Named<T> {
     {
         self.map.insert(name, value)?;
         Ok(())
+    }
+
+    /// Puts a value in the place of what a name has, and gives that back; where the name isn't there, the value comes
+    /// back.
+    pub fn replace(&mut self, name: &Name, value: T) -> T
+        ensures had { result ≡ unwrap_or (value_at name.now self.old) value }
+
+        // An insert at the name makes the same of it as of what was there before.
+        ensures inserted { (next : T) → insert_entry (slice_cmp nat_cmp) self.new name.now next ≡ insert_entry (slice_cmp nat_cmp) self.old name.now next }
+    {
+        match self.map.get_mut(name) {
+            Some(held) => mem::replace(held, value),
+            None => value,
+        }
     }
 }
 
