@@ -28,3 +28,7 @@ list_of (more n ns) = n ∷ list_of ns
 
 abbrev pub children_in : Node → List Node
 children_in (node place name attributes text children) = list_of children
+
+-- the element alone
+abbrev pub without_children : Node → Node
+without_children (node place name attributes text children) = node place name attributes text no_nodes

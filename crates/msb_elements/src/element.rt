@@ -1,10 +1,11 @@
 ghost use Rattle.std.specs.Prelude.{◌≡◌, length, map, slice_get, option_map};
 ghost use Rattle.std.specs.Option.{option_copied};
 ghost use Rattle.msb_values.specs.Pairs.{value_at};
-ghost use Rattle.msb_elements.specs.Nodes.{node, place_of, name_of, attributes_of, inner_text, children_in};
+ghost use Rattle.msb_elements.specs.Nodes.{node, place_of, name_of, attributes_of, inner_text, children_in, without_children};
 
 use crate::Place;
 use msb_values::Text;
+use std::alloc::Global;
 
 /// A project file. (MSBuild project file schema reference.)
 #[derive(Drop)]
@@ -87,6 +88,22 @@ impl Element {
         ensures { result ≡ length (children_in (view self.now)) }
     {
         self.children().len()
+    }
+
+    /// The element without its children, and these, which move.
+    pub fn split(self, alloc: Global) -> (Element, Vec<Element>)
+        ensures element { view result.0 ≡ without_children (view self) }
+        ensures children { map view result.1.items ≡ children_in (view self) }
+    {
+        let Element {
+            place,
+            name,
+            attributes,
+            text,
+            children,
+        } = self;
+        let alone = Element::new(place, name, attributes, text, Vec::new(alloc));
+        (alone, children)
     }
 
     /// The child with this number, counted from 0.
