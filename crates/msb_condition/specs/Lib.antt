@@ -11,3 +11,4 @@ pub mod Numbers
 pub mod Truth
 pub mod Answers
 pub mod Causes
+pub mod Written

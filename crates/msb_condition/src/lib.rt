@@ -17,13 +17,10 @@ mod tokens;
 mod truth;
 mod values;
 mod words;
+mod written;
 
 pub use condition::{Comparison, Cond, Function, Operand};
 pub use faults::CondFault;
 pub use parsing::parse;
 pub use truth::holds;
-
-#[cfg(test)]
-mod random_tests;
-#[cfg(test)]
-mod tests;
+pub use written::condition_holds;

@@ -15,3 +15,4 @@ pub mod Joins
 pub mod Taken
 pub mod Again
 pub mod Entries
+pub mod Written

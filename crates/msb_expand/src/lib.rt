@@ -32,6 +32,7 @@ mod texts;
 mod tokens;
 mod well_known;
 mod whole;
+mod written;
 
 pub use expansion::{list, text};
 pub use faults::{ExpandFault, expression_cause};
@@ -40,6 +41,4 @@ pub use lens::{Bucket, Lens, Use};
 pub use parts::folder_of;
 pub use reserved::is_reserved;
 pub use well_known::{WellKnown, is_well_known};
-
-#[cfg(test)]
-mod tests;
+pub use written::{expand_list, expand_names, expand_text};
