@@ -15,6 +15,3 @@ mod tuples;
 
 pub use batching::buckets;
 pub use faults::BatchFault;
-
-#[cfg(test)]
-mod tests;

@@ -3,6 +3,16 @@
 #![tactic(auto)]
 
 #[cfg(test)]
+mod batching;
+#[cfg(test)]
+mod conditions;
+#[cfg(test)]
+mod expansion;
+#[cfg(test)]
 mod program;
+#[cfg(test)]
+mod random_conditions;
+#[cfg(test)]
+mod scenes;
 #[cfg(test)]
 mod values;

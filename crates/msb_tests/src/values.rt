@@ -1,11 +1,30 @@
+use crate::scenes::{name, pairs};
 use msb_values::{
-    Copied, List, Name, NameFault, Pairs, Text, Text8, escape, same_text, split_list, unescape,
+    Copied, InstanceKey, List, Name, NameFault, Pairs, Text, Text8, escape, same_text, split_list,
+    unescape,
 };
 use std::alloc::Global;
 use std::test::Fail;
 
-fn name(alloc: Global, text: &str) -> Result<Name, Fail> {
-    Ok(Name::read(alloc, text).map_err(|_| "a name")?)
+fn key(alloc: Global, globals: &str) -> Result<Text, Fail> {
+    let key = InstanceKey {
+        path: Text::of(alloc, "a/b.proj")?,
+        globals: pairs(alloc, globals)?,
+    };
+    Ok(key.shown(alloc)?)
+}
+
+#[test]
+fn instances_are_named(rt: HostRuntime) -> Result<(), Fail> {
+    for (globals, wanted) in [
+        ("", "a/b.proj"),
+        ("B=2", "a/b.proj [b=2]"),
+        ("Q=x y\nB=1%3B2", "a/b.proj [b=1%3B2;q=x y]"),
+    ] {
+        let shown = key(rt.alloc(), globals)?;
+        assert_eq!(rt; shown.as_str(), wanted);
+    }
+    Ok(())
 }
 
 #[test]
@@ -47,6 +66,7 @@ fn texts_are_read(rt: HostRuntime) -> Result<(), Fail> {
     assert!(rt; !same_text("a", "b"));
     for (text, plain) in [
         ("a%3Bb", "a;b"),
+        ("2 a%3Bb;c", "2 a;b;c"),
         ("%2541", "%41"),
         ("%e9", "\u{e9}"),
         ("5%", "5%"),

@@ -1,0 +1,252 @@
+use crate::scenes::{cut, lens, scope};
+use file_store::Tree;
+use msb_condition::{Comparison, Cond, CondFault, Function, Operand, condition_holds, parse};
+use msb_expand::Use;
+use msb_values::{Cause, List, Scope, Text};
+use std::alloc::Global;
+use std::test::Fail;
+
+/// A condition, and its form or its refusal.
+const FORMS: &str = "x or y AND z Or w => ['x'|['y'&'z']|'w']
+(x or y) and !!z => [['x'|'y']&!!'z']
+! a == 1.5 Or$(P)!='b' => [!'a'=='1.5'|'$(P)'!='b']
+(a<b)and@(X)>=%(M) => ['a'<'b'&'@(X)'>='%(M)']
+exists ( 'a' ) == HasTrailingSlash(Exists(b)) => E('a')==S(E('b'))
+Exists => 'Exists'
+a == hasTrailingSlash and exists => ['a'=='hasTrailingSlash'&'exists']
+'@(X->'a)', ')')' <= '$(P)(@@(X)' => '@(X->'a)',')')'<='$(P)(@@(X)'
+@(X->F(')')->'(', '(') => '@(X->F(')')->'(','(')'
+x => 'x'
+and => 16 Syntax 3
+and or => 16 Syntax 3
+an => 'an'
+a an => 16 Syntax 4
+a andb => 16 Syntax 5
+a ox => 16 Syntax 3
+true true => 16 Syntax 5
+true a => 16 Syntax 6
+a = => 16 Syntax 3
+a = b => 16 Syntax 3
+a !b => 16 Syntax 3
+(a) !b => 16 Syntax 4
+a == => 16 Syntax 4
+1 == 2 == 3 => 16 Syntax 7
+(a) == b => 16 Syntax 4
+== a => 16 Syntax 0
+!= a => 16 Syntax 1
+a == !b => 16 Syntax 5
+a == (b) => 16 Syntax 5
+Exists(!a) => 16 Syntax 7
+Exists(a == b) => 16 Syntax 9
+Exists 'a' => 16 Syntax 7
+Exists('a' => 16 Syntax 10
+foo('a') => 16 Syntax 3
+() => 16 Syntax 1
+(a => 16 Syntax 2
+a) => 16 Syntax 1
+$P => 16 Syntax 1
+a & b => 16 Syntax 2
+é => 16 Syntax 0
+a 'b => 16 Syntax 2
+'a => 16 Syntax 2
+'$(1)' => 7 BadName 3
+false And '$(1)' => 7 BadName 13
+'$(A' => 8 Unclosed 4
+'$(P' == '' => 8 Unclosed 4
+'$(A => 8 Unclosed 4
+'@(X' == 'a' => 7 BadName 4
+a == $(A => 8 Unclosed 8
+a == $(A B) => 7 BadName 9
+@(X->) == b => 9 BadTransform 5
+'@(X->'@(Y)')' => 10 NestedTransform 8
+a $(1) => 16 Syntax 2";
+
+const PROPS: &str = "X=x
+One=1
+Two=2
+Word=two";
+
+/// A condition where there are no files, and whether it holds or its fault: first how far it is taken from the left,
+/// then numbers, truth values and texts, and functions.
+const TRUTHS: &str = " => true
+ON => true
+'!no' => true
+!True => false
+'%6fff' => false
+x => 17 NotBoolean x
+$(P) => 17 NotBoolean 
+false or true and true => true
+true Or (1 < a) => true
+!(false And x) => true
+false Or 1 > b => 18 NotNumbers 1 b
+false Or x Or true => 17 NotBoolean x
+true And true And false And x => false
+'$(X)' == '' Or '$(Two)' > '1' And 'on' == 'true' => true
+'$(P)' == '' Or '$(Word)' > '1' And 'on' == 'true' => true
+'$(X)' == '' Or '$(Word)' > '1' And 'on' == 'true' => 18 NotNumbers two 1
+'$(X)' == '' Or '$(One)' > '1' And 'on' == 'true' => false
+'$(1)' => 7 BadName 3
+1 == 1.0 => true
+'0x10' > 15 => true
+0xFFFFFFFFFFFFFFFF > 1 => true
+-0 == +0 => true
+-2 < -1.5 => true
+1 >= 1.01 => false
+0.00000000000000001 > 0 => true
+123456789012345678 <= 123456789012345677 => false
+'1234567890123456789' == '1234567890123456789.0' => false
+1234567890123456789 > 1 => 18 NotNumbers 1234567890123456789 1
+'1.' == '1' => false
+'.5' != '0.5' => true
+'0X10' == 16 => false
+0x == 0 => false
+'%31' < 2 => true
+'on' == 'TRUE' => true
+'!on' != false => false
+'on' == '1' => false
+'ß' == 'SS' => true
+'a' < 'b' => 18 NotNumbers a b
+Exists('a.proj') => false
+Exists('..') or Exists('') => false
+HasTrailingSlash('a\\') => true
+HasTrailingSlash('/a') => false
+Exists('') == HasTrailingSlash('') => true";
+
+fn push_operand(alloc: Global, shown: &mut Text, operand: &Operand) -> Result<(), Fail> {
+    match operand {
+        Operand::Text(expr) => {
+            shown.push_str("'")?;
+            shown.push_str(expr.text(alloc)?.as_str())?;
+            shown.push_str("'")?;
+        }
+        Operand::Call(function, inner) => {
+            shown.push_str(opening_of(*function))?;
+            push_operand(alloc, shown, inner)?;
+            shown.push_str(")")?;
+        }
+    }
+    Ok(())
+}
+
+fn opening_of(function: Function) -> &'static str {
+    match function {
+        Function::Exists => "E(",
+        Function::HasTrailingSlash => "S(",
+    }
+}
+
+fn sign_of(comparison: Comparison) -> &'static str {
+    match comparison {
+        Comparison::Equal => "==",
+        Comparison::NotEqual => "!=",
+        Comparison::Less => "<",
+        Comparison::Greater => ">",
+        Comparison::LessOrEqual => "<=",
+        Comparison::GreaterOrEqual => ">=",
+    }
+}
+
+#[cycle(shown)]
+fn push_others(alloc: Global, shown: &mut Text, sign: &str, others: &[Cond]) -> Result<(), Fail> {
+    for other in others {
+        shown.push_str(sign)?;
+        push_cond(alloc, shown, other)?;
+    }
+    shown.push_str("]")?;
+    Ok(())
+}
+
+#[cycle(shown)]
+fn push_cond(alloc: Global, shown: &mut Text, cond: &Cond) -> Result<(), Fail> {
+    match cond {
+        Cond::Empty => {}
+        Cond::Or(first, others) => {
+            shown.push_str("[")?;
+            push_cond(alloc, shown, first)?;
+            push_others(alloc, shown, "|", others)?;
+        }
+        Cond::And(first, others) => {
+            shown.push_str("[")?;
+            push_cond(alloc, shown, first)?;
+            push_others(alloc, shown, "&", others)?;
+        }
+        Cond::Not(inner) => {
+            shown.push_str("!")?;
+            push_cond(alloc, shown, inner)?;
+        }
+        Cond::Compare(comparison, left, right) => {
+            push_operand(alloc, shown, left)?;
+            shown.push_str(sign_of(*comparison))?;
+            push_operand(alloc, shown, right)?;
+        }
+        Cond::Truth(operand) => push_operand(alloc, shown, operand)?,
+    }
+    Ok(())
+}
+
+fn form_of(alloc: Global, text: &str) -> Result<Text, Fail> {
+    let mut shown = Text::of(alloc, "")?;
+    match parse(alloc, text) {
+        Ok(cond) => push_cond(alloc, &mut shown, &cond)?,
+        Err(fault) => shown = Cause::from(fault).shown(alloc)?,
+    }
+    Ok(shown)
+}
+
+#[test]
+fn conditions_are_read_or_refused(rt: HostRuntime) -> Result<(), Fail> {
+    let blank = form_of(rt.alloc(), " \t\r\n")?;
+    assert_eq!(rt; blank.as_str(), "");
+    for row in FORMS.lines() {
+        let (text, wanted) = cut(row, " => ");
+        let found = form_of(rt.alloc(), text)?;
+        assert_eq!(rt; found.as_str(), wanted, "{text}");
+    }
+    Ok(())
+}
+
+fn nested(alloc: Global, opening: &str, closing: &str, times: usize) -> Result<String, Fail> {
+    let front = opening.repeat(alloc, times)?;
+    let back = closing.repeat(alloc, times)?;
+    Ok(format!(in alloc; "{front}a{back}")?)
+}
+
+#[test]
+fn conditions_nest_to_64(rt: HostRuntime) -> Result<(), Fail> {
+    let alloc = rt.alloc();
+    for (opening, closing, refusal) in [
+        ("!", "", "16 Syntax 64"),
+        ("(", ")", "16 Syntax 64"),
+        ("Exists(", ")", "16 Syntax 454"),
+    ] {
+        let deep = nested(alloc, opening, closing, 64)?;
+        assert!(rt; parse(alloc, deep.as_str()).is_ok());
+        let deeper = nested(alloc, opening, closing, 65)?;
+        let found = form_of(alloc, deeper.as_str())?;
+        assert_eq!(rt; found.as_str(), refusal);
+    }
+    Ok(())
+}
+
+fn truth_of(alloc: Global, scope: &Scope, files: &Tree, text: Option<&str>) -> Result<Text, Fail> {
+    match condition_holds(alloc, &lens(scope, Use::All), files, text) {
+        Ok(true) => Ok(Text::of(alloc, "true")?),
+        Ok(false) => Ok(Text::of(alloc, "false")?),
+        Err(cause) => Ok(cause.shown(alloc)?),
+    }
+}
+
+#[test]
+fn conditions_hold_or_not(rt: HostRuntime) -> Result<(), Fail> {
+    let alloc = rt.alloc();
+    let scope = scope(alloc, PROPS)?;
+    let files = Tree::of(List::new(alloc)).ok_or("no path is in order")?;
+    let absent = truth_of(alloc, &scope, &files, None)?;
+    assert_eq!(rt; absent.as_str(), "true");
+    for row in TRUTHS.lines() {
+        let (text, wanted) = cut(row, " => ");
+        let found = truth_of(alloc, &scope, &files, Some(text))?;
+        assert_eq!(rt; found.as_str(), wanted, "{text}");
+    }
+    Ok(())
+}
