@@ -34,7 +34,7 @@ joined_first : (x : List ℕ) (xs : List (List ℕ)) → starts_with eqb (join_w
 joined_first x [] = begins_alone x
 joined_first x (y ∷ ys) = begins_itself x (47 ∷ join_with_byte 47 (y ∷ ys))
 
-both_true : (a b : Bool) → (a && b) ≡ true → (a ≡ true) × (b ≡ true)
+pub both_true : (a b : Bool) → (a && b) ≡ true → (a ≡ true) × (b ≡ true)
 both_true true true is = (refl, refl)
 both_true true false is = absurd (true≢false (sym is))
 both_true false b is = absurd (true≢false (sym is))

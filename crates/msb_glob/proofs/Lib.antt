@@ -2,3 +2,4 @@ pub mod Searches
 pub mod Segments
 pub mod Sorting
 pub mod Fronts
+pub mod Blocks

@@ -7,9 +7,9 @@ ghost use Rattle.msb_glob.specs.Match.{segment_token, segments_left};
 ghost use Rattle.msb_glob.specs.Front.{front_of};
 ghost use Rattle.msb_glob.specs.Tokens.{ahead_of, fits};
 
-use crate::Pattern;
 use crate::errors::OutOfMemory;
 use crate::parts::{Part, are_gaps, first_segment, fits_left};
+use crate::{Pattern, SortedPaths};
 use msb_paths::{NoRoom, Word};
 use msb_values::{List, Text, escape};
 use std::alloc::Global;
@@ -24,11 +24,41 @@ pub struct Match {
 }
 
 /// The paths that a pattern stands for, in byte order.
+///
+/// It looks at the first bytes of every path, since these may stand in any order.
 pub fn expand(alloc: Global, paths: &List<Text>, pattern: &Pattern) -> Result<List<Match>, NoRoom>
     ensures { IfOk result (Expands pattern.now paths.now) }
 {
     let found = found_in(alloc, paths.as_slice(), pattern)?;
     Ok(matches_of(alloc, &found, pattern)?)
+}
+
+/// The paths that a pattern stands for, of paths in byte order.
+///
+/// Those that begin as every match does are found by halves, and only they are matched: the time grows with their
+/// number, and with the logarithm of the number of all paths.
+pub fn expand_in(
+    alloc: Global,
+    paths: &SortedPaths,
+    pattern: &Pattern,
+) -> Result<List<Match>, NoRoom>
+    ensures sorted { IfOk result (Expands pattern.now paths.now) }
+    ensures kept { IfOk result (λ matches. matches ≡ map (match_of pattern.now) (filter (is_match pattern.now) paths.now)) }
+{
+    let front = front_of(alloc, pattern.parts.as_slice())?;
+    let found = matching(alloc, paths.beginning_with(front.as_str()), pattern)?;
+    Ok(matches_of(alloc, &found, pattern)?)
+}
+
+fn matching<'a>(
+    alloc: Global,
+    paths: &[&'a str],
+    pattern: &Pattern,
+) -> Result<Vec<&'a str>, OutOfMemory>
+    ensures { IfOk result (λ found. found.items ≡ filter (λ path. is_match pattern.now path.now) paths.now) }
+{
+    let found = paths.iter().copied().filter(|path| pattern.matches(path));
+    Ok(found.collect(alloc)?)
 }
 
 fn found_in<'a>(

@@ -11,11 +11,13 @@ mod parts;
 mod patterns;
 mod pieces;
 mod reading;
+mod sorted;
 mod splits;
 
 pub use errors::GlobFault;
-pub use expansion::{Match, expand};
+pub use expansion::{Match, expand, expand_in};
 pub use patterns::Pattern;
+pub use sorted::SortedPaths;
 
 #[cfg(test)]
 mod tests;

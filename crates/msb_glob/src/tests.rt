@@ -108,17 +108,85 @@ fn expands(rt: HostRuntime) -> Result<(), Fail> {
             "a.c= a/x/x/c.c=a/x/x/ n.h= x/b.c=x/ x/skip.c=x/ ",
         ),
     ] {
-        let mut shown = String::new(rt.alloc());
         let pattern_read = Pattern::parse(rt.alloc(), base, pattern)?;
-        for found in expand(rt.alloc(), &tree, &pattern_read)?.as_slice() {
-            shown.push_str(found.ident.as_str())?;
-            shown.push_str("=")?;
-            shown.push_str(found.recursive.as_str())?;
-            shown.push_str(" ")?;
-        }
-        assert_eq!(rt; shown.as_str(), want, "{pattern} on {base}");
+        let found = expand(rt.alloc(), &tree, &pattern_read)?;
+        assert_eq!(rt;
+            shown(rt.alloc(), &found)?.as_str(),
+            want,
+            "{pattern} on {base}"
+        );
     }
     Ok(())
+}
+
+#[test]
+fn expands_sorted_paths(rt: HostRuntime) -> Result<(), Fail> {
+    let Some(tree) = sorted(
+        rt.alloc(),
+        &[
+            "app/a.c",
+            "src",
+            "src-old/a.c",
+            "src/a.c",
+            "src/b/a.c",
+            "src/b/n.h",
+            "src2/a.c",
+            "src2/d/a.c",
+            "x.c",
+            "x.c",
+        ],
+    )?
+    else {
+        return Err(Fail::new("a tree in byte order"));
+    };
+    for (pattern, want) in [
+        ("src/**/*.c", "src/a.c= src/b/a.c=b/ "),
+        ("src/b/*", "src/b/a.c= src/b/n.h= "),
+        ("src2/**", "src2/a.c= src2/d/a.c=d/ "),
+        ("src", "src= "),
+        ("sr/**", ""),
+        ("app/*.c", "app/a.c= "),
+        ("aa/**", ""),
+        ("x.c", "x.c= x.c= "),
+        ("z/**", ""),
+        ("*.c", "x.c= x.c= "),
+        ("src?/*.c", "src2/a.c= "),
+        (
+            "**/a.c",
+            "app/a.c=app/ src-old/a.c=src-old/ src/a.c=src/ src/b/a.c=src/b/ src2/a.c=src2/ src2/d/a.c=src2/d/ ",
+        ),
+    ] {
+        let pattern_read = Pattern::parse(rt.alloc(), "", pattern)?;
+        let found = expand_in(rt.alloc(), &tree, &pattern_read)?;
+        assert_eq!(rt; shown(rt.alloc(), &found)?.as_str(), want, "{pattern}");
+    }
+    for (paths, want) in [
+        ("", true),
+        ("a", true),
+        ("a a ab", true),
+        ("ab a", false),
+        ("a/b a-b", false),
+    ] {
+        let list = paths.split(' ').collect(rt.alloc())?;
+        assert_eq!(rt; SortedPaths::of(list).is_some(), want, "{paths}");
+    }
+    Ok(())
+}
+
+fn sorted<'a>(alloc: Global, paths: &[&'a str]) -> Result<Option<SortedPaths<'a>>, Fail> {
+    Ok(SortedPaths::of(paths.iter().copied().collect(alloc)?))
+}
+
+/// Each match with its RecursiveDir.
+fn shown(alloc: Global, matches: &List<Match>) -> Result<String, Fail> {
+    let mut text = String::new(alloc);
+    for found in matches.as_slice() {
+        text.push_str(found.ident.as_str())?;
+        text.push_str("=")?;
+        text.push_str(found.recursive.as_str())?;
+        text.push_str(" ")?;
+    }
+    Ok(text)
 }
 
 /// Every pattern of up to five characters against every path of up to five, by a plain slow matcher.
