@@ -1,0 +1,26 @@
+-- The command line: an action and a project, and options with a value each. (MSBuild command-line reference.)
+use Rattle.std.specs.Prelude.{ℕ, List, Some, true, codes}
+use Rattle.clap.specs.Walk.{Rule}
+use Rattle.clap.specs.Simple.{App, Shape, new_app, new_rule, on_top, with_rule}
+
+-- a word that has to be there
+abbrev pub positional : List ℕ → Rule
+positional name = record (new_rule name) { required = true }
+
+-- a word `--NAME` with a value, which may be left out
+abbrev pub option : List ℕ → Rule
+option name = record (new_rule name) { long = Some name }
+
+-- no word is the program's name, and none asks for help
+abbrev pub plain : Shape → Shape
+plain shape = record shape { no_binary_name = true; disable_help_flag = true }
+
+abbrev pub grammar : App
+grammar =
+    with_rule (with_rule (with_rule (with_rule (with_rule
+    (on_top plain (new_app (codes "msb")))
+    (positional (codes "action")))
+    (positional (codes "project")))
+    (option (codes "target")))
+    (option (codes "property")))
+    (option (codes "show"))

@@ -1,0 +1,111 @@
+ghost use Rattle.std.specs.Prelude.{◌≡◌, map, string_bytes, option_map};
+ghost use Rattle.msb_words.specs.Answers.{Reads};
+ghost use Rattle.msb_words.specs.Given.{seen};
+ghost use Rattle.msb_words.specs.Options.{action_of, has_options, options_in, options_for, options_of};
+ghost use Rattle.msb_words.specs.Values.{low_if};
+
+use crate::WordFault;
+use crate::given::Given;
+use crate::globals::globals;
+use crate::targets::targets;
+use msb_values::{List, Name, Pairs, Text};
+use std::alloc::Global;
+
+/// What is to be done with the project.
+#[derive(Clone, Copy, Debug, PartialEq, Eq)]
+pub enum Action {
+    /// Build targets of it.
+    Build,
+    /// Show its properties and items.
+    Eval,
+    /// Show its targets.
+    Targets,
+}
+
+/// What the words ask for. (MSBuild command-line reference.)
+#[derive(Drop)]
+pub struct Options {
+    pub action: Action,
+    /// The project file's path, as the word gives it.
+    pub project: Text,
+    /// The targets to build, of which there are none where the project chooses them.
+    pub targets: List<Name>,
+    /// The global properties, with their values as they are written.
+    pub globals: Pairs,
+    /// Whether messages of low importance are shown.
+    pub low: bool,
+}
+
+/// Reads the words behind the program's name:
+///
+/// ```text
+/// build PROJECT [--target LIST] [--property LIST] [--show low]
+/// eval PROJECT [--property LIST]
+/// targets PROJECT [--property LIST]
+/// ```
+///
+/// Options may stand anywhere, each once. A value stands behind `=` or is the next word; it is not empty and does not
+/// begin with `-`. Nothing is shortened. Other words are [`WordFault::Usage`]. (MSBuild command-line reference.)
+pub fn read_words(alloc: Global, words: &[String]) -> Result<Options, WordFault>
+    ensures { Reads (options_in (map string_bytes words.now)) result }
+{
+    let given = Given::of(alloc, words)?;
+    options_of(alloc, &given)
+}
+
+fn options_of(alloc: Global, given: &Given<'_>) -> Result<Options, WordFault>
+    ensures { Reads (options_of (seen given.now)) result }
+{
+    match action_of(given.action) {
+        Some(action) => options_for(alloc, given, action),
+        None => Err(WordFault::Usage),
+    }
+}
+
+fn action_of(word: &str) -> Option<Action>
+    ensures { result ≡ action_of word.now }
+{
+    match word {
+        "build" => Some(Action::Build),
+        "eval" => Some(Action::Eval),
+        "targets" => Some(Action::Targets),
+        _ => None,
+    }
+}
+
+fn options_for(alloc: Global, given: &Given<'_>, action: Action) -> Result<Options, WordFault>
+    ensures { Reads (options_for (seen given.now) action) result }
+{
+    if !action.has_options(given) {
+        return Err(WordFault::Usage);
+    }
+    Ok(Options {
+        action,
+        targets: targets(alloc, given.target)?,
+        globals: globals(alloc, given.property)?,
+        low: is_low(given.show)?,
+        project: Text::of(alloc, given.project)?,
+    })
+}
+
+impl Action {
+    // Each action has `--property`, and a build alone has `--target` and `--show`.
+    fn has_options(self, given: &Given<'_>) -> bool
+        ensures { result ≡ has_options self (seen given.now) }
+    {
+        match self {
+            Action::Build => true,
+            Action::Eval | Action::Targets => given.target.is_none() && given.show.is_none(),
+        }
+    }
+}
+
+fn is_low(value: Option<&str>) -> Result<bool, WordFault>
+    ensures { Reads (low_if (option_map (λ v. v.now) value.entry)) result }
+{
+    match value {
+        Some("low") => Ok(true),
+        Some(_) => Err(WordFault::Usage),
+        None => Ok(false),
+    }
+}

@@ -1,0 +1,96 @@
+use crate::{Options, WordFault, read_words};
+use std::alloc::{AllocError, Global};
+use std::fmt::Write;
+use std::test::Fail;
+
+/// The words, with `|` between them, and what they ask for: the action and the project, `@` before each target, the
+/// global properties, and `low`.
+const ROWS: &str = " => usage
+build => usage
+build|a.proj => Build a.proj
+eval|a.proj => Eval a.proj
+targets|a.proj => Targets a.proj
+a.proj|build => usage
+Build|a.proj => usage
+check|a.proj => usage
+build|a.proj|b.proj => usage
+build| => usage
+build|a.proj| => usage
+build|- => usage
+--|build|a.proj => usage
+build|a.proj|-- => usage
+build|a.proj|-h => usage
+build|a.proj|--help => usage
+build|a.proj|--clean => usage
+build|a.proj|--nodes|2 => usage
+build|a.proj|--targ|x => usage
+build|a.proj|-t|x => usage
+build|a.proj|--target => usage
+build|a.proj|--target= => usage
+build|a.proj|--target|-x => usage
+build|a.proj|--target=-x => usage
+build|a.proj|--target|; ; => usage
+build|a.proj|--target|1 => usage
+build|a.proj|--target|x|--target|y => usage
+build|a.proj|--target=Build => Build a.proj @build
+build|a.proj|--target|Build => Build a.proj @build
+build|a.proj|--target| A ;;b.C:d => Build a.proj @a @b.c:d
+eval|a.proj|--target|x => usage
+targets|a.proj|--show|low => usage
+build|a.proj|--show|low => Build a.proj low
+build|a.proj|--show|high => usage
+--show=low|build|--property|A=1;B=2|a.proj|--target|x => Build a.proj @x a=1 b=2 low
+eval|--property=A=x|a.proj => Eval a.proj a=x
+targets|a.proj|--property|A= => Targets a.proj a=
+eval|a.proj|--property| B = x=%3By ;A=-1 => usage
+eval|a.proj|--property| B= x=%3By ;A=-1 => Eval a.proj a=-1 b= x=%3By
+eval|a.proj|--property|A=1;b=2;a=3 => Eval a.proj a=3 b=2
+eval|a.proj|--property|A => usage
+eval|a.proj|--property|=1 => usage
+eval|a.proj|--property|A=1;MSBuildProjectName=x => usage
+--property|--property|eval => usage";
+
+fn words_of(alloc: Global, row: &str) -> Result<Vec<String>, AllocError> {
+    let mut words = Vec::new(alloc);
+    if !row.is_empty() {
+        for word in row.split('|') {
+            words.push(String::from_str(alloc, word)?)?;
+        }
+    }
+    Ok(words)
+}
+
+fn push_options(shown: &mut String, options: &Options) -> Result<(), Fail> {
+    write!(shown, "{:?} {}", options.action, options.project.as_str())?;
+    for target in options.targets.as_slice() {
+        write!(shown, " @{}", target.key())?;
+    }
+    for (name, value) in options.globals.iter() {
+        write!(shown, " {}={}", name.key(), value.as_str())?;
+    }
+    if options.low {
+        shown.push_str(" low")?;
+    }
+    Ok(())
+}
+
+fn shown(alloc: Global, words: &[String]) -> Result<String, Fail> {
+    let mut shown = String::new(alloc);
+    match read_words(alloc, words) {
+        Ok(options) => push_options(&mut shown, &options)?,
+        Err(WordFault::Usage) => shown.push_str("usage")?,
+        Err(WordFault::Memory) => shown.push_str("memory")?,
+    }
+    Ok(shown)
+}
+
+#[test]
+fn words_are_read(rt: HostRuntime) -> Result<(), Fail> {
+    for row in ROWS.split('\n') {
+        let (words, want) = row.split_once(" => ").ok_or("a row has an arrow")?;
+        let words = words_of(rt.alloc(), words)?;
+        let shown = shown(rt.alloc(), words.as_slice())?;
+        assert_eq!(rt; shown.as_str(), want, "{row}");
+    }
+    Ok(())
+}
