@@ -1,0 +1,4 @@
+pub mod Answers
+pub mod Elements
+pub mod Faults
+pub mod Readings

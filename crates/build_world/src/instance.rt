@@ -1,0 +1,27 @@
+use crate::Placed;
+use msb_values::{List, Name, Scope, Text};
+use target_order::TargetRow;
+
+/// The Target element that is used of all those with its name: the last one. (MSBuild targets.)
+#[derive(Drop)]
+pub struct UsedTarget {
+    pub name: Name,
+    pub at: Placed,
+    /// Whether any Target element of its file has Returns, so that Outputs are not returned instead.
+    pub file_has_returns: bool,
+}
+
+/// An evaluated project. (How MSBuild builds projects, evaluation phase.)
+#[derive(Drop)]
+pub struct Instance {
+    pub scope: Scope,
+    /// The targets in the order of the first element of each name, with those that they hook on.
+    pub rows: List<TargetRow>,
+    /// The element that is used, for each row.
+    pub targets: List<UsedTarget>,
+    pub initial: List<Name>,
+    /// The default targets: without DefaultTargets the first target.
+    pub default: List<Name>,
+    /// The path of each import that was ignored, since its file was laid out before.
+    pub duplicates: List<Text>,
+}

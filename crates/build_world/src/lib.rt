@@ -1,0 +1,16 @@
+//! What a build is made of, as plain data: the world, the elements of a project laid out, and the evaluated project.
+//!
+//! It also says how a fault of evaluation is told.
+#![tactic(auto)]
+
+mod fault;
+mod instance;
+mod laid_out;
+mod reading;
+mod world;
+
+pub use fault::EvalFault;
+pub use instance::{Instance, UsedTarget};
+pub use laid_out::{LaidOut, Placed};
+pub use reading::read_file;
+pub use world::World;

@@ -1,0 +1,50 @@
+ghost use Rattle.std.specs.Prelude.{◌≡◌, Err};
+ghost use Rattle.msb_elements.specs.View.{view};
+ghost use Rattle.build_world.specs.Answers.{GivesFault};
+ghost use Rattle.build_world.specs.Readings.{form_place, form_cause, project_of, project_or_fault};
+
+use crate::EvalFault;
+use file_store::File;
+use msb_elements::{FormFault, Place, Project, read_form};
+use msb_values::{Cause, Copied};
+use std::alloc::Global;
+
+/// Reads a project file, or says which element of it has the first fault. (MSBuild project file schema reference.)
+pub fn read_file(alloc: Global, file: &File) -> Result<Project, EvalFault>
+    ensures { GivesFault (λ project. view project.root) result (project_of file.now) }
+{
+    match read_form(alloc, file.bytes.as_bytes()) {
+        Ok(project) => Ok(project),
+        Err(fault) => Err(fault_of(alloc, file, fault)),
+    }
+}
+
+// A refused file as a fault; want of memory for its path is want of memory.
+fn fault_of(alloc: Global, file: &File, fault: FormFault) -> EvalFault
+    ensures { GivesFault (λ node. node) (Err result) (project_or_fault file.now.path (Err fault)) }
+{
+    let Ok(path) = file.path.copy() else {
+        return EvalFault::memory(alloc);
+    };
+    let (place, cause) = told(alloc, fault);
+    EvalFault {
+        file: path,
+        place,
+        cause,
+    }
+}
+
+fn told(alloc: Global, fault: FormFault) -> (Place, Cause)
+    ensures { result ≡ (form_place fault, form_cause fault) }
+{
+    match fault {
+        FormFault::NotJson => (Place::root(alloc), Cause::NotJson),
+        FormFault::NotElement(place) => (place, Cause::NotElement),
+        FormFault::UnknownElement(place) => (place, Cause::UnknownElement),
+        FormFault::Misplaced(place) => (place, Cause::Misplaced),
+        FormFault::MissingAttribute(place, name) => (place, Cause::MissingAttribute(name)),
+        FormFault::BothAttributes(place, one, other) => (place, Cause::BothAttributes(one, other)),
+        FormFault::BadName(place, at) => (place, Cause::BadName(at)),
+        FormFault::Memory => (Place::root(alloc), Cause::Memory),
+    }
+}

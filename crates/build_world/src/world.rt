@@ -1,0 +1,16 @@
+use file_store::Tree;
+use msb_values::{List, Mode, Name, Pairs, Text};
+
+/// What a build is given. (MSBuild command-line reference.)
+#[derive(Drop)]
+pub struct World {
+    /// The files, as they stood at the start.
+    pub tree: Tree,
+    /// The path of the root project's file.
+    pub root: Text,
+    /// The global properties of the root.
+    pub globals: Pairs,
+    /// The targets that are named, or none, for the default targets.
+    pub targets: List<Name>,
+    pub mode: Mode,
+}
