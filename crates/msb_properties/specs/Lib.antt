@@ -1,0 +1,5 @@
+pub mod Settings
+pub mod Propertied
+pub mod Laid
+pub mod Passed
+pub mod Seen

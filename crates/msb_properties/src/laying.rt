@@ -1,0 +1,242 @@
+ghost use Rattle.std.specs.Prelude.{◌≡◌, ◌<◌, ◌-◌, [], ◌∷◌, ◌++◌, length, IfOk, OnOk};
+ghost use Rattle.msb_elements.specs.View.{view, views};
+ghost use Rattle.build_world.specs.Answers.{GivesFault};
+ghost use Rattle.msb_elements.specs.Nodes.{name_of};
+ghost use Rattle.msb_properties.specs.declared.part.Part.TheVariants.{Grouped};
+ghost use Rattle.msb_properties.specs.Laid.{import_text, imported_as, lay_import, lay, part_of, lay_all, lay_chosen, lay_project, lay_within};
+ghost use Rattle.msb_properties.specs.Seen.{seen_setting, seen_spot, seen_properties, seen_laid, IsPlain, IsKept};
+
+use crate::layout::Layout;
+use crate::part::Part;
+use crate::properties::Properties;
+use crate::setting::{Setting, Spot};
+use build_world::{EvalFault, read_file};
+use msb_elements::Element;
+use msb_expand::Use;
+use msb_import::{ImportFault, resolve};
+use msb_values::{Cause, Copied, List, NoMemory, Text, unescape};
+use std::alloc::Global;
+
+/// Lays out the file at a path, which the last of the chain imports. (How MSBuild builds projects, evaluation phase.)
+#[cycle(laying)]
+pub(crate) fn lay_file(
+    alloc: Global,
+    setting: &Setting<'_>,
+    layout: &mut Layout,
+    chain: &List<Text>,
+    path: &Text,
+) -> Result<(), EvalFault>
+    requires short { length chain.now < 64 }
+    requires kept { IsKept (seen_setting setting.now) layout.old }
+    ensures laid { GivesFault (λ _. seen_laid layout.new) result (lay_within (64 - length chain.now) (seen_setting setting.now) chain.now path.now (seen_laid layout.old)) }
+    ensures kept { OnOk result (IsKept (seen_setting setting.now) layout.new) }
+{
+    let Some(file) = setting.tree.find(path.as_str()) else {
+        return Ok(());
+    };
+    let Ok(chain) = with_file(chain, path) else {
+        return Err(EvalFault::memory(alloc));
+    };
+    let project = read_file(alloc, file)?;
+    lay_project(alloc, setting, layout, &chain, &file.path, project.root)
+}
+
+/// The chain with one more file.
+fn with_file(chain: &List<Text>, file: &Text) -> Result<List<Text>, NoMemory>
+    ensures { IfOk result (λ longer. longer ≡ chain.now ++ file.now ∷ []) }
+{
+    let mut longer = chain.copy()?;
+    longer.push(file.copy()?)?;
+    Ok(longer)
+}
+
+/// A file: its Project element, and then the children of this.
+#[cycle(laying)]
+fn lay_project(
+    alloc: Global,
+    setting: &Setting<'_>,
+    layout: &mut Layout,
+    chain: &List<Text>,
+    file: &Text,
+    root: Element,
+) -> Result<(), EvalFault>
+    requires { IsKept (seen_setting setting.now) layout.old }
+    ensures laid { GivesFault (λ _. seen_laid layout.new) result (lay_project (lay_within (64 - length chain.now) (seen_setting setting.now)) (seen_setting setting.now) chain.now file.now (seen_laid layout.old) (view root)) }
+    ensures kept { OnOk result (IsKept (seen_setting setting.now) layout.new) }
+{
+    let (element, children) = root.split(alloc);
+    layout.add_file(alloc, file)?;
+    layout.extend(alloc, setting, file, element)?;
+    lay_all(alloc, setting, layout, chain, file, children)
+}
+
+/// Each of some elements in turn.
+#[cycle(laying)]
+fn lay_all(
+    alloc: Global,
+    setting: &Setting<'_>,
+    layout: &mut Layout,
+    chain: &List<Text>,
+    file: &Text,
+    children: Vec<Element>,
+) -> Result<(), EvalFault>
+    requires { IsKept (seen_setting setting.now) layout.old }
+    ensures laid { GivesFault (λ _. seen_laid layout.new) result (lay_all (lay_within (64 - length chain.now) (seen_setting setting.now)) (seen_setting setting.now) chain.now file.now (seen_laid layout.old) (views children.items)) }
+    ensures kept { OnOk result (IsKept (seen_setting setting.now) layout.new) }
+{
+    for child in children {
+        lay_one(alloc, setting, layout, chain, file, child)?;
+    }
+    Ok(())
+}
+
+#[cycle(laying)]
+fn lay_one(
+    alloc: Global,
+    setting: &Setting<'_>,
+    layout: &mut Layout,
+    chain: &List<Text>,
+    file: &Text,
+    child: Element,
+) -> Result<(), EvalFault>
+    requires { IsKept (seen_setting setting.now) layout.old }
+    ensures laid { GivesFault (λ _. seen_laid layout.new) result (lay (lay_within (64 - length chain.now) (seen_setting setting.now)) (seen_setting setting.now) chain.now file.now (seen_laid layout.old) (view child)) }
+    ensures kept { OnOk result (IsKept (seen_setting setting.now) layout.new) }
+{
+    match Part::of(child.name()) {
+        Part::Imported => {
+            let spot = Spot {
+                file,
+                element: &child,
+            };
+            lay_import(alloc, setting, layout, chain, &spot)
+        }
+        Part::Grouped => lay_group(alloc, setting, layout, chain, file, child),
+        Part::Chosen => {
+            let (_, choices) = child.split(alloc);
+            lay_chosen(alloc, setting, layout, chain, file, choices)
+        }
+        Part::PassedOver => Ok(()),
+        Part::LaidOut => layout.extend(alloc, setting, file, child),
+    }
+}
+
+/// The imports of an ImportGroup whose Condition holds. (ImportGroup element.)
+#[cycle(laying)]
+fn lay_group(
+    alloc: Global,
+    setting: &Setting<'_>,
+    layout: &mut Layout,
+    chain: &List<Text>,
+    file: &Text,
+    group: Element,
+) -> Result<(), EvalFault>
+    requires group { part_of (name_of (view group)) ≡ Grouped }
+    requires kept { IsKept (seen_setting setting.now) layout.old }
+    ensures laid { GivesFault (λ _. seen_laid layout.new) result (lay (lay_within (64 - length chain.now) (seen_setting setting.now)) (seen_setting setting.now) chain.now file.now (seen_laid layout.old) (view group)) }
+    ensures kept { OnOk result (IsKept (seen_setting setting.now) layout.new) }
+{
+    let spot = Spot {
+        file,
+        element: &group,
+    };
+    if layout.properties.holds_in_file(alloc, setting, &spot)? {
+        let (_, imports) = group.split(alloc);
+        return lay_all(alloc, setting, layout, chain, file, imports);
+    }
+    Ok(())
+}
+
+/// The first of the children of a Choose whose Condition holds; an Otherwise has none. (Choose element.)
+#[cycle(laying)]
+fn lay_chosen(
+    alloc: Global,
+    setting: &Setting<'_>,
+    layout: &mut Layout,
+    chain: &List<Text>,
+    file: &Text,
+    choices: Vec<Element>,
+) -> Result<(), EvalFault>
+    requires { IsKept (seen_setting setting.now) layout.old }
+    ensures laid { GivesFault (λ _. seen_laid layout.new) result (lay_chosen (lay_within (64 - length chain.now) (seen_setting setting.now)) (seen_setting setting.now) chain.now file.now (seen_laid layout.old) (views choices.items)) }
+    ensures kept { OnOk result (IsKept (seen_setting setting.now) layout.new) }
+{
+    for choice in choices {
+        let spot = Spot {
+            file,
+            element: &choice,
+        };
+        if layout.properties.holds_in_project(alloc, setting, &spot)? {
+            let (_, children) = choice.split(alloc);
+            return lay_all(alloc, setting, layout, chain, file, children);
+        }
+    }
+    Ok(())
+}
+
+/// An Import whose Condition holds brings in a file. (Import element.)
+#[cycle(laying)]
+fn lay_import(
+    alloc: Global,
+    setting: &Setting<'_>,
+    layout: &mut Layout,
+    chain: &List<Text>,
+    spot: &Spot<'_>,
+) -> Result<(), EvalFault>
+    requires { IsKept (seen_setting setting.now) layout.old }
+    ensures laid { GivesFault (λ _. seen_laid layout.new) result (lay_import (lay_within (64 - length chain.now) (seen_setting setting.now)) (seen_setting setting.now) chain.now (seen_laid layout.old) (seen_spot spot.now)) }
+    ensures kept { OnOk result (IsKept (seen_setting setting.now) layout.new) }
+{
+    if !layout.properties.holds_in_file(alloc, setting, spot)? {
+        return Ok(());
+    }
+    let text = import_text(alloc, setting, &layout.properties, spot)?;
+    let found = resolve(alloc, setting.tree, chain, &layout.files, text.as_str());
+    lay_found(alloc, setting, layout, chain, spot, found)
+}
+
+/// What an import brings in, or why it brings in nothing. A file that was laid out before is noted and ignored.
+#[cycle(laying)]
+fn lay_found(
+    alloc: Global,
+    setting: &Setting<'_>,
+    layout: &mut Layout,
+    chain: &List<Text>,
+    spot: &Spot<'_>,
+    found: Result<Text, ImportFault>,
+) -> Result<(), EvalFault>
+    requires short { IfOk found (λ _. length chain.now < 64) }
+    requires kept { IsKept (seen_setting setting.now) layout.old }
+    ensures laid { GivesFault (λ _. seen_laid layout.new) result (imported_as (lay_within (64 - length chain.now) (seen_setting setting.now)) chain.now (seen_laid layout.old) (seen_spot spot.now) found) }
+    ensures kept { OnOk result (IsKept (seen_setting setting.now) layout.new) }
+{
+    match found {
+        Ok(path) => lay_file(alloc, setting, layout, chain, &path),
+        Err(ImportFault::Duplicate(path)) => layout.add_duplicate(alloc, path),
+        Err(ImportFault::Missing(path)) => Err(spot.fault(alloc, Cause::MissingImport(path))),
+        Err(ImportFault::ImportDepth) => Err(spot.fault(alloc, Cause::ImportDepth)),
+        Err(ImportFault::Path(text)) => Err(spot.fault(alloc, Cause::BadPath(text))),
+        Err(ImportFault::Memory) => Err(EvalFault::memory(alloc)),
+    }
+}
+
+/// The text of an import's Project, unescaped.
+fn import_text(
+    alloc: Global,
+    setting: &Setting<'_>,
+    properties: &Properties,
+    spot: &Spot<'_>,
+) -> Result<Text, EvalFault>
+    requires { IsPlain (seen_setting setting.now) properties.now }
+    ensures { GivesFault (λ text. text) result (import_text (seen_setting setting.now) (seen_properties properties.now) (seen_spot spot.now)) }
+{
+    let written = match spot.element.attribute("Project") {
+        Some(written) => written,
+        None => "",
+    };
+    let text = properties.expanded(alloc, setting, spot, Use::Definition, written)?;
+    match unescape(alloc, text.as_str()) {
+        Ok(text) => Ok(text),
+        Err(_) => Err(EvalFault::memory(alloc)),
+    }
+}

@@ -1,0 +1,86 @@
+ghost use Rattle.std.specs.Prelude.{◌≡◌, [], ◌∷◌, ◌++◌, Ok, OnOk};
+ghost use Rattle.build_world.specs.Answers.{GivesFault};
+ghost use Rattle.build_world.specs.Elements.{at};
+ghost use Rattle.msb_elements.specs.View.{view};
+
+use crate::properties::Properties;
+use crate::setting::{Setting, Spot};
+use crate::taking::take_element;
+use build_world::{EvalFault, Placed};
+use msb_elements::Element;
+use msb_values::{Copied, List, NoMemory, Text};
+use std::alloc::Global;
+
+/// The elements so far with the properties that they give, the files that they come from, and the imports that were
+/// ignored.
+#[derive(Drop)]
+pub(crate) struct Layout {
+    pub properties: Properties,
+    pub elements: Vec<Placed>,
+    pub files: List<Text>,
+    pub duplicates: List<Text>,
+}
+
+impl Layout {
+    ghost use Rattle.msb_properties.specs.Settings.{Setting as Given};
+    ghost use Rattle.msb_properties.specs.Laid.{extended, with_file, with_duplicate};
+    ghost use Rattle.msb_properties.specs.Seen.{seen_setting, seen_laid, IsKept};
+
+    /// Adds an element of a file, with what it changes of the properties.
+    pub(crate) fn extend(
+        &mut self,
+        alloc: Global,
+        setting: &Setting<'_>,
+        file: &Text,
+        element: Element,
+    ) -> Result<(), EvalFault>
+        requires { IsKept (seen_setting setting.now) self.old }
+        ensures laid { GivesFault (λ _. seen_laid self.new) result (extended (seen_setting setting.now) (seen_laid self.old) (at file.now (view element))) }
+        ensures kept { OnOk result (IsKept (seen_setting setting.now) self.new) }
+    {
+        let spot = Spot {
+            file,
+            element: &element,
+        };
+        take_element(alloc, setting, &mut self.properties, &spot)?;
+        let Ok(file) = file.copy() else {
+            return Err(EvalFault::memory(alloc));
+        };
+        match push_element(&mut self.elements, Placed { file, element }) {
+            Ok(()) => Ok(()),
+            Err(_) => Err(EvalFault::memory(alloc)),
+        }
+    }
+
+    /// Notes that a file is laid out.
+    pub(crate) fn add_file(&mut self, alloc: Global, file: &Text) -> Result<(), EvalFault>
+        ensures laid { GivesFault (λ _. seen_laid self.new) result (Ok (with_file (seen_laid self.old) file.now)) }
+        ensures kept { (s : Given) → IsKept s self.old → OnOk result (IsKept s self.new) }
+    {
+        let Ok(file) = file.copy() else {
+            return Err(EvalFault::memory(alloc));
+        };
+        match self.files.push(file) {
+            Ok(()) => Ok(()),
+            Err(_) => Err(EvalFault::memory(alloc)),
+        }
+    }
+
+    /// Notes an import that is ignored.
+    pub(crate) fn add_duplicate(&mut self, alloc: Global, file: Text) -> Result<(), EvalFault>
+        ensures laid { GivesFault (λ _. seen_laid self.new) result (Ok (with_duplicate (seen_laid self.old) file)) }
+        ensures kept { (s : Given) → IsKept s self.old → OnOk result (IsKept s self.new) }
+    {
+        match self.duplicates.push(file) {
+            Ok(()) => Ok(()),
+            Err(_) => Err(EvalFault::memory(alloc)),
+        }
+    }
+}
+
+fn push_element(elements: &mut Vec<Placed>, placed: Placed) -> Result<(), NoMemory>
+    ensures { OnOk result (elements.new.items ≡ elements.old.items ++ placed ∷ []) }
+{
+    elements.push(placed)?;
+    Ok(())
+}
