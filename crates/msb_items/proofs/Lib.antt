@@ -1,0 +1,4 @@
+pub mod Turning
+pub mod Stopping
+pub mod Rising
+pub mod Holding

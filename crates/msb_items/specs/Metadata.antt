@@ -1,0 +1,58 @@
+-- The metadata that an element gives: its attributes that are not reserved there, and then its children.
+-- (Item element; ItemMetadata element; MSBuild well-known item metadata)
+use Rattle.std.specs.Prelude.{ℕ, List, [], ◌∷◌, ◌++◌, map, filter, not, Bool, true, false, Option, Some, None, Result, Ok, Err, codes, is_some}
+use Rattle.std.specs.List.{list_any}
+use Rattle.std.specs.Str.{bytes_eq}
+use Rattle.msb_laws.specs.Results.{and_then, map_ok}
+use Rattle.msb_values.specs.Pairs.{value_at}
+use Rattle.msb_values.specs.declared.cause.Cause.TheVariants.{Reserved}
+use Rattle.msb_elements.specs.Nodes.{name_of, attributes_of, inner_text}
+use Rattle.msb_expand.specs.Keys.{key_of}
+use Rattle.msb_expand.specs.Metadata.{well_known}
+use Rattle.build_world.specs.declared.fault.EvalFault.{EvalFault}
+use Rattle.build_world.specs.Elements.{At, children_of, attribute_of, fault_of}
+use Rattle.msb_items.specs.Places.{Place, holds_at, text_at}
+
+-- a name and a value as written, the Condition if there is one, and the element at which a fault is told
+pub record Given : Type 0 where
+  pub name : List ℕ
+  pub text : List ℕ
+  pub condition : Option (List ℕ)
+  pub element : At
+
+abbrev pub given_attribute : At → List ℕ × List ℕ → Given
+given_attribute e pair = record { name = pair.0; text = pair.1; condition = None; element = e }
+
+abbrev pub given_child : At → Given
+given_child child = record { name = name_of child.node; text = inner_text child.node; condition = attribute_of (codes "Condition") child; element = child }
+
+abbrev pub is_one_of : List (List ℕ) → List ℕ → Bool
+is_one_of names name = list_any (bytes_eq name) names
+
+abbrev pub given_by : List (List ℕ) → At → List Given
+given_by reserved e = map (given_attribute e) (filter (λ pair. not (is_one_of reserved pair.0)) (attributes_of e.node)) ++ map given_child (children_of e)
+
+-- well-known metadata are computed, and these are as well in other builds
+abbrev pub left_out : List (List ℕ)
+left_out = codes "modifiedtime" ∷ codes "createdtime" ∷ codes "accessedtime" ∷ codes "definingprojectfullpath"
+    ∷ codes "definingprojectdirectory" ∷ codes "definingprojectname" ∷ codes "definingprojectextension" ∷ []
+
+abbrev pub is_computed : List ℕ → Bool
+is_computed name = elim (is_some (value_at name well_known)) [ true ↦ true | false ↦ is_one_of left_out name ]
+
+abbrev pub value_unless : Bool → Place → Given → List ℕ → Result (Option (List ℕ × List ℕ)) EvalFault
+value_unless true p given name = Err (fault_of given.element (Reserved name))
+value_unless false p given name = map_ok (λ text. Some (name, text)) (text_at p given.element given.text)
+
+-- a name that is none names nothing
+abbrev pub value_named : Option (List ℕ) → Place → Given → Result (Option (List ℕ × List ℕ)) EvalFault
+value_named None p given = Ok None
+value_named (Some name) p given = value_unless (is_computed name) p given name
+
+abbrev pub value_if : Bool → Place → Given → Result (Option (List ℕ × List ℕ)) EvalFault
+value_if true p given = value_named (key_of given.name) p given
+value_if false p given = Ok None
+
+-- the name and the value that are given, if the Condition holds; a name that is computed is refused
+abbrev pub value_given : Place → Given → Result (Option (List ℕ × List ℕ)) EvalFault
+value_given p given = and_then (holds_at p given.element given.condition) (λ holds. value_if holds p given)
