@@ -1,0 +1,13 @@
+//! The whole evaluation of a project: four passes over one laid-out list of elements.
+//! (How MSBuild builds projects, evaluation phase.)
+//!
+//! What an evaluated project is stands in `specs/Evaluated.antt`, above what its targets are, in `specs/Targets.antt`.
+#![tactic(auto)]
+
+mod evaluation;
+mod names;
+mod returns;
+mod rows;
+mod targets;
+
+pub use evaluation::evaluate;
