@@ -1,10 +1,7 @@
 pub mod Each
 pub mod Questions
-pub mod Readings
 pub mod Walking
 pub mod Telling
-pub mod Cuts
-pub mod Behind
-pub mod Collecting
 pub mod Saying
-pub mod Childhood
+pub mod Finding
+pub mod Naming

@@ -1,13 +1,14 @@
 -- The answer of the program where its outcome was told to the sink.
 use Rattle.std.proofs.Common.{◌≡◌, ◌⊎◌, ℕ, List, [], true, false, Option, Some, None, Result, Ok, Err, IfSome, IsSome, inl, inr, refl, sym, ap, subst, ◌∙◌, arith}
-use Rattle.serde_json.specs.Data.{Data}
 use Rattle.msb_laws.specs.Faults.{Rose}
 use Rattle.file_store.specs.Files.{file_at, paths_of}
 use Rattle.file_store.specs.declared.tree.File.{File}
-use Rattle.msb_elements.specs.Forms.{json_in, element_in}
-use Rattle.msb_elements.specs.Nodes.{Node}
-use Rattle.msb_program.specs.Command.{Command, command_in}
-use Rattle.msb_program.specs.declared.project.Project.{Project}
+use Rattle.msb_words.specs.Options.{options_in}
+use Rattle.msb_words.specs.declared.options.Options.{Options}
+use Rattle.msb_words.specs.declared.options.Action.{Action}
+use Rattle.msb_words.specs.declared.options.Action.TheVariants.{Build, Eval, Targets}
+use Rattle.msb_values.specs.InstanceKeys.{key_text}
+use Rattle.msb_values.specs.declared.key.InstanceKey.{InstanceKey}
 use Rattle.msb_paths.specs.Normal.{normalized}
 use Rattle.msb_paths.specs.declared.errors.PathFault.{PathFault}
 use Rattle.file_store.specs.Limits.{limit_fault}
@@ -16,9 +17,10 @@ use Rattle.file_store.specs.declared.loading.LoadFault.{LoadFault}
 use Rattle.file_store.specs.declared.loading.LoadFault.TheVariants.{Listing, Reading, Files, Bytes, Large, BadPath, Memory}
 use Rattle.msb_program.specs.declared.request.Request.{Request}
 use Rattle.msb_program.specs.Report.{line}
-use Rattle.msb_program.specs.Outcomes.{Outcome, outcome_of, outcome_by, outcome_within, outcome_of_request, outcome_of_instance, outcome_of_project, status_of, outcome_of_element, outcome_of_json, outcome_at, load_fault_text, fault_status}
-use Rattle.msb_program.specs.Projects.{project_of}
-use Rattle.msb_program.specs.Instances.{Instance, instance_of}
+use Rattle.msb_program.specs.Outcomes.{Outcome, outcome_of, outcome_by, outcome_within, outcome_of_request, outcome_by_action, outcome_if_evaluated, status_of, outcome_at, key_at, load_fault_text, fault_status}
+use Rattle.build_world.specs.declared.fault.EvalFault.{EvalFault}
+use Rattle.msb_instance.specs.Evaluated.{Instance, evaluated}
+use Rattle.msb_program.specs.Projects.{project}
 use Rattle.msb_program.specs.Requests.{has_failed, request_of}
 use Rattle.msb_program.specs.Answers.{Printing, PrintedAll, PrintedFront, Printed, Answers, IsStatusOf, LoadFails, IsStoreFault}
 
@@ -42,77 +44,70 @@ widened (inr (inl e)) = inr (inl e)
 widened (inr (inr (inl e))) = inr (inr (inr (inl e)))
 widened (inr (inr (inr e))) = inr (inr (inr (inr (inr (inl e)))))
 
-over_told : (told : Option (List File)) (command : Command) (o : Outcome) (P : Outcome → Type 0) → IfSome told (λ files. o ≡ outcome_of command files) → P o → IfSome told (λ files. P (outcome_of command files))
-over_told None command o P is holds = tt
-over_told (Some files) command o P is holds = subst P is holds
+over_told : (told : Option (List File)) (options : Options) (o : Outcome) (P : Outcome → Type 0) → IfSome told (λ files. o ≡ outcome_of options files) → P o → IfSome told (λ files. P (outcome_of options files))
+over_told None options o P is holds = tt
+over_told (Some files) options o P is holds = subst P is holds
 
-same_status : (told : Option (List File)) (command : Command) (o : Outcome) (s : ℕ) → IfSome told (λ files. o ≡ outcome_of command files) → s ≡ o.status → IfSome told (λ files. s ≡ (outcome_of command files).status)
-same_status told command o s is same = over_told told command o (λ made. s ≡ made.status) is same
+same_status : (told : Option (List File)) (options : Options) (o : Outcome) (s : ℕ) → IfSome told (λ files. o ≡ outcome_of options files) → s ≡ o.status → IfSome told (λ files. s ≡ (outcome_of options files).status)
+same_status told options o s is same = over_told told options o (λ made. s ≡ made.status) is same
 
-status_told : (words : List (List ℕ)) (told : Option (List File)) (command : Command) (o : Outcome) (s : ℕ) {R : Type 0}
-    → command_in words ≡ Some command → IfSome told (λ files. o ≡ outcome_of command files) → (s ≡ o.status) ⊎ ((s ≡ 6) × R) → ¬ R
-    → (s ≡ 7) ⊎ IsStatusOf (command_in words) told s
-status_told words told command o s asked is (inl same) unfailing = inr (subst (λ asks. IsStatusOf asks told s) (sym asked) (same_status told command o s is same))
-status_told words told command o s asked is (inr failed) unfailing = absurd (unfailing failed.1)
+status_told : (words : List (List ℕ)) (told : Option (List File)) (options : Options) (o : Outcome) (s : ℕ) {R : Type 0}
+    → options_in words ≡ Some options → IfSome told (λ files. o ≡ outcome_of options files) → (s ≡ o.status) ⊎ ((s ≡ 6) × R) → ¬ R
+    → (s ≡ 7) ⊎ IsStatusOf (options_in words) told s
+status_told words told options o s asked is (inl same) unfailing = inr (subst (λ asks. IsStatusOf asks told s) (sym asked) (same_status told options o s is same))
+status_told words told options o s asked is (inr failed) unfailing = absurd (unfailing failed.1)
 
-pub told_answers : (words : List (List ℕ)) (told : Option (List File)) (before after : ℕ) (p : Printing) (command : Command) (o : Outcome) (s : ℕ)
-    → command_in words ≡ Some command → IfSome told (λ files. o ≡ outcome_of command files) → (o.status ≡ 0) ⊎ (o.status ≡ 1) ⊎ (o.status ≡ 3) → Tells p o.status o.text s
+pub told_answers : (words : List (List ℕ)) (told : Option (List File)) (before after : ℕ) (p : Printing) (options : Options) (o : Outcome) (s : ℕ)
+    → options_in words ≡ Some options → IfSome told (λ files. o ≡ outcome_of options files) → (o.status ≡ 0) ⊎ (o.status ≡ 1) ⊎ (o.status ≡ 3) → Tells p o.status o.text s
     → Answers words told before after p s
-told_answers words told before after p command o s asked is either tells =
+told_answers words told before after p options o s asked is either tells =
     let some : (s ≡ 0) ⊎ (s ≡ 1) ⊎ (s ≡ 3) ⊎ (s ≡ 6) = known_of tells.whole either in
     record {
       known = widened some;
-      done = λ e. (command, asked, over_told told command o (λ made. (made.status ≡ 0) × PrintedAll p made.text) is (tells.done e));
-      failed = λ e. (command, asked, over_told told command o (λ made. (made.status ≡ 1) × PrintedAll p made.text) is (tells.unsuccessful e));
+      done = λ e. (options, asked, over_told told options o (λ made. (made.status ≡ 0) × PrintedAll p made.text) is (tells.done e));
+      failed = λ e. (options, asked, over_told told options o (λ made. (made.status ≡ 1) × PrintedAll p made.text) is (tells.unsuccessful e));
       usage = λ e. absurd (grind arith);
-      refused = λ e. (command, asked, over_told told command o (λ made. (made.status ≡ 3) × Printed p made.text) is (tells.refused e));
+      refused = λ e. (options, asked, over_told told options o (λ made. (made.status ≡ 3) × Printed p made.text) is (tells.refused e));
       store = λ e. absurd (grind arith);
       sink = λ e.
           let failed = tells.failed e in
-          (failed.1, (command, asked, over_told told command o (λ made. ((made.status ≡ 0) ⊎ (made.status ≡ 1)) × PrintedFront p made.text) is (failed.0, failed.2)));
+          (failed.1, (options, asked, over_told told options o (λ made. ((made.status ≡ 0) ⊎ (made.status ≡ 1)) × PrintedFront p made.text) is (failed.0, failed.2)));
       silent = λ e. absurd (grind arith);
       limited = λ e. absurd (grind arith);
-      unfailing = λ kept unfailing. status_told words told command o s asked is tells.whole unfailing;
+      unfailing = λ kept unfailing. status_told words told options o s asked is tells.whole unfailing;
     }
 
 -- what was made of the loaded files was made of the told ones, which are within the limits
-pub over_tree : (told : Option (List File)) (command : Command) (o : Outcome) (files : List File)
-    → IfSome told (λ those. files ≡ those) → OfListing told (IsLoaded (paths_of files)) → o ≡ outcome_by command.project files (normalized [] command.project)
-    → IfSome told (λ those. o ≡ outcome_of command those)
-over_tree None command o files same loaded is = tt
-over_tree (Some those) command o files same loaded is =
-    is ∙ ap (λ fs. outcome_by command.project fs (normalized [] command.project)) same ∙ sym (ap (outcome_within command those) loaded.within)
+pub over_tree : (told : Option (List File)) (options : Options) (o : Outcome) (files : List File)
+    → IfSome told (λ those. files ≡ those) → OfListing told (IsLoaded (paths_of files)) → o ≡ outcome_by options files (normalized [] options.project)
+    → IfSome told (λ those. o ≡ outcome_of options those)
+over_tree None options o files same loaded is = tt
+over_tree (Some those) options o files same loaded is =
+    is ∙ ap (λ fs. outcome_by options fs (normalized [] options.project)) same ∙ sym (ap (outcome_within options those) loaded.within)
 
 request_status : (path : List ℕ) (made : Request) → let o = outcome_of_request path made in (o.status ≡ 0) ⊎ (o.status ≡ 1) ⊎ (o.status ≡ 3)
 request_status path made = elim (has_failed made) as (λ failed. (status_of failed ≡ 0) ⊎ (status_of failed ≡ 1) ⊎ (status_of failed ≡ 3)) [ false ↦ inl refl | true ↦ inr (inl refl) ]
 
-instance_status : (path : List ℕ) (instance : Option Instance) → let o = outcome_of_instance path instance in (o.status ≡ 0) ⊎ (o.status ≡ 1) ⊎ (o.status ≡ 3)
-instance_status path None = inr (inr refl)
-instance_status path (Some instance) = request_status path (request_of instance)
+action_status : (action : Action) (named files : List (List ℕ)) (key : InstanceKey) (instance : Instance) → let o = outcome_by_action action named key files instance in (o.status ≡ 0) ⊎ (o.status ≡ 1) ⊎ (o.status ≡ 3)
+action_status Build named files key instance = request_status (key_text key) (request_of (project key.path files instance) named)
+action_status Eval named files key instance = inl refl
+action_status Targets named files key instance = inl refl
 
-project_status : (path : List ℕ) (files : List (List ℕ)) (project : Option Project) → let o = outcome_of_project path files project in (o.status ≡ 0) ⊎ (o.status ≡ 1) ⊎ (o.status ≡ 3)
-project_status path files None = inr (inr refl)
-project_status path files (Some project) = instance_status path (instance_of path files project)
+instance_status : (options : Options) (key : InstanceKey) (files : List (List ℕ)) (instance : Result Instance EvalFault) → let o = outcome_if_evaluated options key files instance in (o.status ≡ 0) ⊎ (o.status ≡ 1) ⊎ (o.status ≡ 3)
+instance_status options key files (Ok instance) = action_status options.action options.targets files key instance
+instance_status options key files (Err fault) = inr (inr refl)
 
-element_status : (path : List ℕ) (files : List (List ℕ)) (root : Option Node) → let o = outcome_of_element path files root in (o.status ≡ 0) ⊎ (o.status ≡ 1) ⊎ (o.status ≡ 3)
-element_status path files None = inr (inr refl)
-element_status path files (Some root) = project_status path files (project_of root)
+file_status : (options : Options) (key : InstanceKey) (files : List File) (file : Option File) → let o = outcome_at options key files file in (o.status ≡ 0) ⊎ (o.status ≡ 1) ⊎ (o.status ≡ 3)
+file_status options key files None = inr (inr refl)
+file_status options key files (Some file) = instance_status options key (paths_of files) (evaluated files key)
 
-json_status : (path : List ℕ) (files : List (List ℕ)) (json : Option Data) (element : Option Node) → let o = outcome_of_json path files json element in (o.status ≡ 0) ⊎ (o.status ≡ 1) ⊎ (o.status ≡ 3)
-json_status path files None element = inr (inr refl)
-json_status path files (Some json) element = element_status path files element
+path_status : (options : Options) (files : List File) (path : Result (List ℕ) PathFault) → let o = outcome_by options files path in (o.status ≡ 0) ⊎ (o.status ≡ 1) ⊎ (o.status ≡ 3)
+path_status options files (Ok path) = file_status options (key_at path options) files (file_at path files)
+path_status options files (Err fault) = inr (inr refl)
 
-file_status : (word path : List ℕ) (files : List File) (file : Option File) → let o = outcome_at word path files file in (o.status ≡ 0) ⊎ (o.status ≡ 1) ⊎ (o.status ≡ 3)
-file_status word path files None = inr (inr refl)
-file_status word path files (Some file) = json_status path (paths_of files) (json_in file.bytes) (element_in file.bytes)
-
-path_status : (word : List ℕ) (files : List File) (path : Result (List ℕ) PathFault) → let o = outcome_by word files path in (o.status ≡ 0) ⊎ (o.status ≡ 1) ⊎ (o.status ≡ 3)
-path_status word files (Ok path) = file_status word path files (file_at path files)
-path_status word files (Err fault) = inr (inr refl)
-
--- a build succeeds or fails, or its project is refused
-pub known_status : (command : Command) (files : List File) → let o = outcome_by command.project files (normalized [] command.project) in (o.status ≡ 0) ⊎ (o.status ≡ 1) ⊎ (o.status ≡ 3)
-known_status command files = path_status command.project files (normalized [] command.project)
+-- a build succeeds or fails, a project is shown, or it is refused
+pub known_status : (options : Options) (files : List File) → let o = outcome_by options files (normalized [] options.project) in (o.status ≡ 0) ⊎ (o.status ≡ 1) ⊎ (o.status ≡ 3)
+known_status options files = path_status options files (normalized [] options.project)
 
 -- A failed load.
 past_limit : (told : Option (List File)) (fault : LoadFault) (before after : ℕ) → fault_status fault ≡ 8 → IsCaused before after told fault → OfListing told (λ listing. limit_fault listing ≡ Some fault)
@@ -142,9 +137,9 @@ either_status (Large path) never = inr refl
 either_status (BadPath path) never = inr refl
 either_status Memory never = absurd (never refl)
 
-limited_status : (told : Option (List File)) (command : Command) (fault : LoadFault) → OfListing told (λ listing. limit_fault listing ≡ Some fault) → IfSome told (λ files. fault_status fault ≡ (outcome_of command files).status)
-limited_status None command fault past = tt
-limited_status (Some files) command fault past = sym (ap (λ limit. (outcome_within command files limit).status) past)
+limited_status : (told : Option (List File)) (options : Options) (fault : LoadFault) → OfListing told (λ listing. limit_fault listing ≡ Some fault) → IfSome told (λ files. fault_status fault ≡ (outcome_of options files).status)
+limited_status None options fault past = tt
+limited_status (Some files) options fault past = sym (ap (λ limit. (outcome_within options files limit).status) past)
 
 store_known : {s : ℕ} → s ≡ 5 → (s ≡ 0) ⊎ (s ≡ 1) ⊎ (s ≡ 2) ⊎ (s ≡ 3) ⊎ (s ≡ 5) ⊎ (s ≡ 6) ⊎ (s ≡ 7) ⊎ (s ≡ 8)
 store_known e = inr (inr (inr (inr (inl e))))
@@ -152,7 +147,7 @@ store_known e = inr (inr (inr (inr (inl e))))
 limit_known : {s : ℕ} → s ≡ 8 → (s ≡ 0) ⊎ (s ≡ 1) ⊎ (s ≡ 2) ⊎ (s ≡ 3) ⊎ (s ≡ 5) ⊎ (s ≡ 6) ⊎ (s ≡ 7) ⊎ (s ≡ 8)
 limit_known e = inr (inr (inr (inr (inr (inr (inr e))))))
 
-module _ (words : List (List ℕ)) (told : Option (List File)) (before after : ℕ) (p : Printing) (command : Command) (fault : LoadFault) (asked : command_in words ≡ Some command)
+module _ (words : List (List ℕ)) (told : Option (List File)) (before after : ℕ) (p : Printing) (options : Options) (fault : LoadFault) (asked : options_in words ≡ Some options)
     (caused : IsCaused before after told fault) (printed : Printed p (line (load_fault_text fault))) where
   fails : LoadFails before after words told p fault
   fails = (subst IsSome (sym asked) refl, caused, printed)
@@ -186,7 +181,7 @@ module _ (words : List (List ℕ)) (told : Option (List File)) (before after : �
         sink = λ other. absurd (grind arith);
         silent = λ other. absurd (grind arith);
         limited = λ same. (fault, past, fails);
-        unfailing = λ kept others. inr (subst (λ asks. IsStatusOf asks told s) (sym asked) (subst (λ status. IfSome told (λ files. status ≡ (outcome_of command files).status)) (sym is) (limited_status told command fault past)));
+        unfailing = λ kept others. inr (subst (λ asks. IsStatusOf asks told s) (sym asked) (subst (λ status. IfSome told (λ files. status ≡ (outcome_of options files).status)) (sym is) (limited_status told options fault past)));
       }
 
   pub load_failed : (s : ℕ) → s ≡ fault_status fault → (fault ≡ Memory → ⊥) → Answers words told before after p s

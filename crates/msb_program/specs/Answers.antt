@@ -7,7 +7,8 @@ use Rattle.file_store.specs.Loads.{OfListing, IsCaused}
 use Rattle.file_store.specs.declared.loading.LoadFault.{LoadFault}
 use Rattle.file_store.specs.declared.loading.LoadFault.TheVariants.{Listing, Reading}
 use Rattle.file_store.specs.declared.tree.File.{File}
-use Rattle.msb_program.specs.Command.{Command, command_in}
+use Rattle.msb_words.specs.Options.{options_in}
+use Rattle.msb_words.specs.declared.options.Options.{Options}
 use Rattle.msb_program.specs.Report.{line}
 use Rattle.msb_program.specs.Outcomes.{Outcome, outcome_of, load_fault_text}
 
@@ -36,11 +37,11 @@ Printed p text = Prints p.faults_before p.faults_after p.before p.after text
 abbrev pub usage : List ℕ
 usage = line (codes "usage: msb ACTION PROJECT [--target LIST] [--property LIST] [--nodes N] [--clean] [--show low] [--size N]")
 
--- the words are a command, and of its outcome over the told files P holds
+-- the words ask for something, and of its outcome over the told files P holds
 abbrev pub IfOutcome : List (List ℕ) → Option (List File) → (Outcome → Type 0) → Type 0
-IfOutcome words told P = (command : Command) × (command_in words ≡ Some command) × IfSome told (λ files. P (outcome_of command files))
+IfOutcome words told P = (options : Options) × (options_in words ≡ Some options) × IfSome told (λ files. P (outcome_of options files))
 
--- 0: the command was carried out, and its text was printed whole
+-- 0: what the words ask for was done, and its text was printed whole
 abbrev pub IsDone : List (List ℕ) → Option (List File) → Printing → Type 0
 IsDone words told p = IfOutcome words told (λ o. (o.status ≡ 0) × PrintedAll p o.text)
 
@@ -50,7 +51,7 @@ IsFailed words told p = IfOutcome words told (λ o. (o.status ≡ 1) × PrintedA
 
 -- 2: the words are outside the grammar
 abbrev pub IsUsage : List (List ℕ) → Printing → Type 0
-IsUsage words p = (command_in words ≡ None) × Printed p usage
+IsUsage words p = (options_in words ≡ None) × Printed p usage
 
 -- 3: the project is refused
 abbrev pub IsRefused : List (List ℕ) → Option (List File) → Printing → Type 0
@@ -59,7 +60,7 @@ IsRefused words told p = IfOutcome words told (λ o. (o.status ≡ 3) × Printed
 -- a load fails for this reason, and so it is told
 abbrev pub LoadFails : ℕ → ℕ → List (List ℕ) → Option (List File) → Printing → LoadFault → Type 0
 LoadFails before after words told p fault =
-    IsSome (command_in words) × IsCaused before after told fault × Printed p (line (load_fault_text fault))
+    IsSome (options_in words) × IsCaused before after told fault × Printed p (line (load_fault_text fault))
 
 -- the store failed at its listing, or at the read of a file of a listing within the limits
 abbrev pub IsStoreFault : LoadFault → Type 0
@@ -79,9 +80,9 @@ abbrev pub IsSinkFailure : List (List ℕ) → Option (List File) → Printing �
 IsSinkFailure words told p = Rose p.faults_before p.faults_after × IfOutcome words told (λ o. ((o.status ≡ 0) ⊎ (o.status ≡ 1)) × PrintedFront p o.text)
 
 -- where neither failed, the status is that of the words and the files, or want of memory
-abbrev pub IsStatusOf : Option Command → Option (List File) → ℕ → Type 0
+abbrev pub IsStatusOf : Option Options → Option (List File) → ℕ → Type 0
 IsStatusOf None told status = status ≡ 2
-IsStatusOf (Some command) told status = IfSome told (λ files. status ≡ (outcome_of command files).status)
+IsStatusOf (Some options) told status = IfSome told (λ files. status ≡ (outcome_of options files).status)
 
 -- What each status says. 7 is want of memory, which may come at any place and prints nothing.
 pub record Answers (words : List (List ℕ)) (told : Option (List File)) (before after : ℕ) (p : Printing) (status : ℕ) : Type 0 where
@@ -94,4 +95,4 @@ pub record Answers (words : List (List ℕ)) (told : Option (List File)) (before
   pub sink : status ≡ 6 → IsSinkFailure words told p
   pub silent : status ≡ 7 → p.after ≡ p.before
   pub limited : status ≡ 8 → IsPastLimit before after words told p
-  pub unfailing : ¬ Rose before after → ¬ Rose p.faults_before p.faults_after → (status ≡ 7) ⊎ IsStatusOf (command_in words) told status
+  pub unfailing : ¬ Rose before after → ¬ Rose p.faults_before p.faults_after → (status ≡ 7) ⊎ IsStatusOf (options_in words) told status

@@ -8,7 +8,7 @@ use Rattle.target_order.specs.Answers.{fits, asked_by}
 use Rattle.msb_program.specs.declared.body.Run.{Run}
 use Rattle.msb_program.specs.declared.request.Reply.{Reply}
 use Rattle.msb_program.specs.declared.request.Reply.TheVariants.{Answer, Fault, End as TheEnd}
-use Rattle.msb_program.specs.Instances.{Instance}
+use Rattle.msb_program.specs.Projects.{Project}
 use Rattle.msb_program.specs.Requests.{answer_in}
 
 -- whether it wants an answer
@@ -27,10 +27,10 @@ Replies given (Fault text) = given ≡ Err text
 Replies given TheEnd = ⊥
 
 -- an answer that fits is the project's, a fault too, and none is given where nothing is asked
-abbrev pub RepliesTo : Instance → OrderAsk → List Run → Reply → List Run → Type 0
-RepliesTo instance ask before TheEnd after = (is_question ask ≡ false) × (after ≡ before)
-RepliesTo instance ask before (Answer answer) after = (is_question ask ≡ true) × (fits (asked_by ask) answer ≡ true) × (answer_in instance ask before ≡ Ok (answer, after))
-RepliesTo instance ask before (Fault text) after = (is_question ask ≡ true) × (answer_in instance ask before ≡ Err text) × (after ≡ before)
+abbrev pub RepliesTo : Project → OrderAsk → List Run → Reply → List Run → Type 0
+RepliesTo project ask before TheEnd after = (is_question ask ≡ false) × (after ≡ before)
+RepliesTo project ask before (Answer answer) after = (is_question ask ≡ true) × (fits (asked_by ask) answer ≡ true) × (answer_in project ask before ≡ Ok (answer, after))
+RepliesTo project ask before (Fault text) after = (is_question ask ≡ true) × (answer_in project ask before ≡ Err text) × (after ≡ before)
 
 abbrev pub error_of_ask : OrderAsk → Option (List ℕ)
 error_of_ask (Condition name) = None

@@ -1,11 +1,6 @@
-pub mod Command
-pub mod Forms
 pub mod Projects
-pub mod Children
-pub mod Givings
-pub mod Instances
-pub mod SeenInstance
-pub mod Conditions
+pub mod Named
+pub mod Bodies
 pub mod Requests
 pub mod Report
 pub mod Asked

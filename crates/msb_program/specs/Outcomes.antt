@@ -1,7 +1,8 @@
 -- What the program does: from the words and the files to a status, a text and the files that are written.
 use Rattle.std.specs.Prelude.{ℕ, List, [], ◌++◌, Bool, true, false, Option, Some, None, Result, Ok, Err, codes}
 use Rattle.std.specs.Fmt.{decimal}
-use Rattle.msb_values.specs.declared.cause.Cause.TheVariants.{NotYet, NotJson}
+use Rattle.msb_values.specs.InstanceKeys.{key_text}
+use Rattle.msb_values.specs.declared.key.InstanceKey.{InstanceKey}
 use Rattle.msb_values.specs.declared.put.Put.{Put}
 use Rattle.file_store.specs.Files.{file_at, paths_of}
 use Rattle.file_store.specs.Entries.{entries_of}
@@ -11,16 +12,18 @@ use Rattle.file_store.specs.declared.loading.LoadFault.{LoadFault}
 use Rattle.file_store.specs.declared.loading.LoadFault.TheVariants.{Listing, Reading, Files, Bytes, Large, BadPath, Memory}
 use Rattle.msb_paths.specs.Normal.{normalized}
 use Rattle.msb_paths.specs.declared.errors.PathFault.{PathFault}
-use Rattle.serde_json.specs.Data.{Data}
-use Rattle.msb_elements.specs.Forms.{json_in, element_in}
-use Rattle.msb_elements.specs.Nodes.{Node}
-use Rattle.msb_program.specs.declared.project.Project.{Project}
-use Rattle.msb_program.specs.Command.{Command}
-use Rattle.msb_program.specs.Projects.{project_of}
+use Rattle.build_world.specs.Faults.{fault_text}
+use Rattle.build_world.specs.declared.fault.EvalFault.{EvalFault}
+use Rattle.msb_instance.specs.Evaluated.{Instance, evaluated}
+use Rattle.build_report.specs.Eval.{eval_text}
+use Rattle.build_report.specs.Targets.{targets_text}
+use Rattle.msb_words.specs.declared.options.Options.{Options}
+use Rattle.msb_words.specs.declared.options.Action.{Action}
+use Rattle.msb_words.specs.declared.options.Action.TheVariants.{Build, Eval, Targets}
+use Rattle.msb_program.specs.Projects.{project}
 use Rattle.msb_program.specs.Report.{line, report_of}
+use Rattle.msb_program.specs.Requests.{has_failed, request_of}
 use Rattle.msb_program.specs.declared.request.Request.{Request}
-use Rattle.msb_program.specs.Instances.{Instance, instance_of}
-use Rattle.msb_program.specs.Requests.{fault_text, has_failed, request_of}
 
 -- the status, the text that is printed, and the files that are written, in order
 pub record Outcome : Type 0 where
@@ -32,47 +35,43 @@ pub record Outcome : Type 0 where
 abbrev pub refused : List ℕ → Outcome
 refused reason = record { status = 3; text = line (codes "project refused") ++ line (codes "  " ++ reason); commit = [] }
 
+abbrev pub not_found : List ℕ → Outcome
+not_found word = refused (word ++ codes ": not found")
+
+-- what was asked for is shown
+abbrev pub shown : List ℕ → Outcome
+shown text = record { status = 0; text = text; commit = [] }
+
 -- a request succeeds or fails
 abbrev pub status_of : Bool → ℕ
 status_of false = 0
 status_of true = 1
 
 abbrev pub outcome_of_request : List ℕ → Request → Outcome
-outcome_of_request path request = record { status = status_of (has_failed request); text = report_of path request; commit = [] }
+outcome_of_request key request = record { status = status_of (has_failed request); text = report_of key request; commit = [] }
 
--- the default targets are built
-abbrev pub outcome_of_instance : List ℕ → Option Instance → Outcome
-outcome_of_instance path None = refused (fault_text path [] NotYet)
-outcome_of_instance path (Some instance) = outcome_of_request path (request_of instance)
+-- an evaluated project is built, or it or its targets are shown
+abbrev pub outcome_by_action : Action → List (List ℕ) → InstanceKey → List (List ℕ) → Instance → Outcome
+outcome_by_action Build named key files instance = outcome_of_request (key_text key) (request_of (project key.path files instance) named)
+outcome_by_action Eval named key files instance = shown (eval_text instance.scope instance.duplicates)
+outcome_by_action Targets named key files instance = shown (targets_text instance.rows instance.initial instance.default)
 
-abbrev pub outcome_of_project : List ℕ → List (List ℕ) → Option Project → Outcome
-outcome_of_project path files None = refused (fault_text path [] NotYet)
-outcome_of_project path files (Some project) = outcome_of_instance path (instance_of path files project)
+abbrev pub outcome_if_evaluated : Options → InstanceKey → List (List ℕ) → Result Instance EvalFault → Outcome
+outcome_if_evaluated options key files (Ok instance) = outcome_by_action options.action options.targets key files instance
+outcome_if_evaluated options key files (Err fault) = refused (fault_text fault)
 
-abbrev pub outcome_of_root : List ℕ → List (List ℕ) → Node → Outcome
-outcome_of_root path files root = outcome_of_project path files (project_of root)
+abbrev pub outcome_at : Options → InstanceKey → List File → Option File → Outcome
+outcome_at options key files None = not_found options.project
+outcome_at options key files (Some file) = outcome_if_evaluated options key (paths_of files) (evaluated files key)
 
-abbrev pub outcome_of_element : List ℕ → List (List ℕ) → Option Node → Outcome
-outcome_of_element path files None = refused (fault_text path [] NotYet)
-outcome_of_element path files (Some root) = outcome_of_root path files root
-
--- by the JSON value that a file's bytes are, and by the element that the value stands for
-abbrev pub outcome_of_json : List ℕ → List (List ℕ) → Option Data → Option Node → Outcome
-outcome_of_json path files None element = refused (fault_text path [] NotJson)
-outcome_of_json path files (Some json) element = outcome_of_element path files element
-
--- what the bytes of the project file come to
-abbrev pub outcome_of_bytes : List ℕ → List (List ℕ) → List ℕ → Outcome
-outcome_of_bytes path files bytes = outcome_of_json path files (json_in bytes) (element_in bytes)
-
-abbrev pub outcome_at : List ℕ → List ℕ → List File → Option File → Outcome
-outcome_at word path files None = refused (word ++ codes ": not found")
-outcome_at word path files (Some file) = outcome_of_bytes path (paths_of files) file.bytes
+-- the project at a path, with the global properties of the words
+abbrev pub key_at : List ℕ → Options → InstanceKey
+key_at path options = record { path = path; globals = options.globals }
 
 -- the project's file is the one at the normal path that the word gives from the root of the store
-abbrev pub outcome_by : List ℕ → List File → Result (List ℕ) PathFault → Outcome
-outcome_by word files (Ok path) = outcome_at word path files (file_at path files)
-outcome_by word files (Err fault) = refused (word ++ codes ": not found")
+abbrev pub outcome_by : Options → List File → Result (List ℕ) PathFault → Outcome
+outcome_by options files (Ok path) = outcome_at options (key_at path options) files (file_at path files)
+outcome_by options files (Err fault) = not_found options.project
 
 -- how a load failed, or which limit the listing passes
 abbrev pub load_fault_text : LoadFault → List ℕ
@@ -94,10 +93,10 @@ fault_status (Large path) = 8
 fault_status (BadPath path) = 8
 fault_status Memory = 7
 
-abbrev pub outcome_within : Command → List File → Option LoadFault → Outcome
-outcome_within command files (Some fault) = record { status = fault_status fault; text = line (load_fault_text fault); commit = [] }
-outcome_within command files None = outcome_by command.project files (normalized [] command.project)
+abbrev pub outcome_within : Options → List File → Option LoadFault → Outcome
+outcome_within options files (Some fault) = record { status = fault_status fault; text = line (load_fault_text fault); commit = [] }
+outcome_within options files None = outcome_by options files (normalized [] options.project)
 
--- what a command comes to over these files
-abbrev pub outcome_of : Command → List File → Outcome
-outcome_of command files = outcome_within command files (limit_fault (entries_of files))
+-- what the words come to over these files
+abbrev pub outcome_of : Options → List File → Outcome
+outcome_of options files = outcome_within options files (limit_fault (entries_of files))

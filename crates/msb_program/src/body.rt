@@ -1,13 +1,16 @@
-ghost use Rattle.std.specs.Prelude.{◌≡◌, ◌++◌, IfOk, map};
-ghost use Rattle.msb_program.specs.Requests.{run, run_of, said_of, fault_text};
-ghost use Rattle.msb_program.specs.SeenInstance.{seen_instance};
+ghost use Rattle.std.specs.Prelude.{◌≡◌, ◌++◌, IfOk, map, codes};
+ghost use Rattle.msb_elements.specs.View.{view};
+ghost use Rattle.build_world.specs.Elements.{seen_placed};
+ghost use Rattle.msb_instance.specs.Evaluated.{seen_target};
+ghost use Rattle.msb_program.specs.Bodies.{run_of, said_by, all_said, has_lists};
+ghost use Rattle.msb_program.specs.Projects.{seen_project};
 
-use crate::expansion::expanded;
-use crate::instance::Instance;
-use crate::target::{Message, Target};
-use msb_elements::Place;
-use msb_expand::{ExpandFault, Use};
-use msb_values::{Cause, Copied, List, Name, NoMemory, Text, unescape};
+use crate::fault::fault_text;
+use crate::message::{Said, say};
+use crate::project::Project;
+use build_world::{Placed, UsedTarget};
+use msb_elements::Element;
+use msb_values::{Cause, Copied, List, Name, NoMemory, Text};
 use std::alloc::Global;
 
 /// What a target's run has said: its messages, and the error for which it failed. (Message task.)
@@ -18,31 +21,13 @@ pub struct Run {
     pub error: Option<Text>,
 }
 
-/// What a message says: its text, or the error of its fault.
-#[derive(Drop)]
-enum Said {
-    Text(Text),
-    Fault(Text),
-}
-
 impl Run {
-    /// Runs a target: its messages in order, up to the first that has a fault.
-    pub fn of(alloc: Global, instance: &Instance<'_>, target: &Target) -> Result<Run, NoMemory>
-        ensures { IfOk result (λ r. r ≡ run_of (seen_instance instance.now) target.now) }
+    /// Runs a target: its children in order, up to the first that has a fault. A target with Inputs, Outputs or Returns
+    /// has one itself, since these are not there yet. (Target element.)
+    pub fn of(alloc: Global, project: &Project<'_>, target: &UsedTarget) -> Result<Run, NoMemory>
+        ensures { IfOk result (λ r. r ≡ run_of (seen_project project.now) (seen_target target.now)) }
     {
-        let mut messages = List::new(alloc);
-        for message in target.messages.as_slice() {
-            match say(alloc, instance, message)? {
-                Said::Text(text) => messages.push(text)?,
-                Said::Fault(error) => return Run::ended(target, messages, Some(error)),
-            }
-        }
-        Run::ended(target, messages, None)
-    }
-
-    fn ended(target: &Target, messages: List<Text>, error: Option<Text>) -> Result<Run, NoMemory>
-        ensures { IfOk result (λ r. r ≡ run target.now.name messages error) }
-    {
+        let (messages, error) = said_by(alloc, project, &target.at)?;
         Ok(Run {
             target: target.name.copy()?,
             messages,
@@ -51,24 +36,44 @@ impl Run {
     }
 }
 
-fn say(alloc: Global, instance: &Instance<'_>, message: &Message) -> Result<Said, NoMemory>
-    ensures { IfOk result (λ s. s ≡ said_of (seen_instance instance.now) message.now) }
+fn said_by(
+    alloc: Global,
+    project: &Project<'_>,
+    target: &Placed,
+) -> Result<(List<Text>, Option<Text>), NoMemory>
+    ensures { IfOk result (λ said. said ≡ said_by (seen_project project.now) (seen_placed target.now)) }
 {
-    match expanded(alloc, &instance.lens(Use::Batched), message.text.as_str()) {
-        Ok(text) => Ok(Said::Text(unescape(alloc, text.as_str())?)),
-        Err(ExpandFault::Memory) => Err(NoMemory),
-        Err(fault) => {
-            let cause = Cause::from(fault);
-            Ok(Said::Fault(fault_text(alloc, instance.path, &message.place, &cause)?))
-        }
+    let file = target.file.as_str();
+    if has_lists(&target.element) {
+        let error = fault_text(alloc, file, &target.element, Cause::NotYet)?;
+        return Ok((List::new(alloc), Some(error)));
     }
+    all_said(alloc, project, file, target.element.children())
 }
 
-/// A fault as it is printed: its file and place, and its cause.
-pub fn fault_text(alloc: Global, file: &str, place: &Place, cause: &Cause) -> Result<Text, NoMemory>
-    ensures { IfOk result (λ text. text ≡ fault_text file.now place.now cause.now) }
+// Whether it has Inputs, Outputs or Returns.
+fn has_lists(target: &Element) -> bool
+    ensures { result ≡ has_lists (view target.now) }
 {
-    let shown = cause.shown(alloc)?;
-    let shown = shown.as_str();
-    Ok(Text::from(format!(in alloc; "{file} {place}: {shown}")?))
+    target.attribute("Inputs").is_some()
+        || target.attribute("Outputs").is_some()
+        || target.attribute("Returns").is_some()
+}
+
+fn all_said(
+    alloc: Global,
+    project: &Project<'_>,
+    file: &str,
+    elements: &[Element],
+) -> Result<(List<Text>, Option<Text>), NoMemory>
+    ensures { IfOk result (λ said. said ≡ all_said (seen_project project.now) file.now (map view elements.now)) }
+{
+    let mut messages = List::new(alloc);
+    for element in elements {
+        match say(alloc, project, file, element)? {
+            Said::Text(text) => messages.push(text)?,
+            Said::Fault(error) => return Ok((messages, Some(error))),
+        }
+    }
+    Ok((messages, None))
 }

@@ -1,108 +1,153 @@
-ghost use Rattle.std.specs.Prelude.{◌≡◌, ◌++◌, [], IfOk, codes};
-ghost use Rattle.file_store.specs.Files.{paths_of};
-ghost use Rattle.msb_elements.specs.View.{view};
-ghost use Rattle.msb_program.specs.Requests.{fault_text, request_of};
-ghost use Rattle.msb_program.specs.SeenInstance.{seen_instance};
-ghost use Rattle.msb_program.specs.Outcomes.{outcome_by, outcome_at, outcome_of_bytes, outcome_of_root, outcome_of_request, refused};
+ghost use Rattle.std.specs.Prelude.{◌≡◌, [], IfOk};
+ghost use Rattle.file_store.specs.Files.{file_at, paths_of};
 ghost use Rattle.msb_paths.specs.Normal.{normalized};
-ghost use Rattle.file_store.specs.Files.{file_at};
+ghost use Rattle.msb_values.specs.InstanceKeys.{key_text};
+ghost use Rattle.build_world.specs.Faults.{fault_text};
+ghost use Rattle.msb_instance.specs.Evaluated.{seen_instance};
+ghost use Rattle.msb_words.specs.declared.options.Action.TheVariants.{Build};
+ghost use Rattle.msb_program.specs.Outcomes.{not_found, outcome_at, outcome_by, outcome_by_action, outcome_of_request, refused, shown};
 
-use crate::body::fault_text;
-use crate::command::Command;
-use crate::instance::Instance;
 use crate::project::Project;
 use crate::report::report;
 use crate::request::Request;
+use build_report::{shown_eval, shown_targets};
+use build_world::{EvalFault, Instance};
 use file_store::Tree;
-use msb_elements::{Element, Place, ReadFault, read_project};
+use msb_instance::evaluate;
 use msb_paths::{PathFault, normalize};
-use msb_values::{Cause, NoMemory};
+use msb_values::{Cause, Copied, InstanceKey, List, Name, NoMemory, Text, Text8};
+use msb_words::{Action, Options};
 use std::alloc::Global;
 
-/// What a command comes to: a status, and the text that is printed. No file is written yet.
+/// What the words come to: a status, and the text that is printed. No file is written yet.
 #[derive(Drop)]
 pub struct Outcome {
     pub status: u8,
-    pub text: String,
+    pub text: Text8,
 }
 
 impl Outcome {
     ghost use Rattle.msb_program.specs.Seen.{seen};
 
-    /// What a command comes to over the files of a tree that is within the limits.
-    pub fn of(alloc: Global, command: Command<'_>, tree: &Tree) -> Result<Outcome, NoMemory>
-        ensures { IfOk result (λ o. seen o ≡ outcome_by command.entry.project.now tree.now.files (normalized [] command.entry.project.now)) }
+    /// What the words come to over the files of a tree that is within the limits.
+    pub fn of(alloc: Global, options: &Options, tree: &Tree) -> Result<Outcome, NoMemory>
+        ensures { IfOk result (λ o. seen o ≡ outcome_by options.now tree.now.files (normalized [] options.now.project)) }
     {
-        let word = command.project;
-        match normalize(alloc, "", word) {
-            Ok(path) => Outcome::at(alloc, word, path.as_str(), tree),
+        match normalize(alloc, "", options.project.as_str()) {
+            Ok(path) => {
+                let key = InstanceKey {
+                    path: Text::of(alloc, path.as_str())?,
+                    globals: options.globals.copy()?,
+                };
+                Outcome::at(alloc, options, &key, tree)
+            }
             Err(PathFault::Memory) => Err(NoMemory),
-            Err(_) => Outcome::not_found(alloc, word),
+            Err(_) => Outcome::not_found(alloc, options.project.as_str()),
         }
     }
 
-    fn at(alloc: Global, word: &str, path: &str, tree: &Tree) -> Result<Outcome, NoMemory>
-        ensures { IfOk result (λ o. seen o ≡ outcome_at word.now path.now tree.now.files (file_at path.now tree.now.files)) }
+    fn at(
+        alloc: Global,
+        options: &Options,
+        key: &InstanceKey,
+        tree: &Tree,
+    ) -> Result<Outcome, NoMemory>
+        ensures { IfOk result (λ o. seen o ≡ outcome_at options.now key.now tree.now.files (file_at key.now.path tree.now.files)) }
     {
-        match tree.find(path) {
-            Some(file) => Outcome::of_file(alloc, path, tree, file.bytes.as_bytes()),
-            None => Outcome::not_found(alloc, word),
+        if tree.find(key.path.as_str()).is_none() {
+            return Outcome::not_found(alloc, options.project.as_str());
+        }
+        match evaluate(alloc, tree, key) {
+            Ok(instance) => Outcome::of_instance(alloc, options, key, tree, &instance),
+            Err(
+                EvalFault {
+                    cause: Cause::Memory,
+                    ..
+                },
+            ) => Err(NoMemory),
+            Err(fault) => Outcome::of_fault(alloc, &fault),
         }
     }
 
-    fn not_found(alloc: Global, word: &str) -> Result<Outcome, NoMemory>
-        ensures { IfOk result (λ o. seen o ≡ refused (word.now ++ codes ": not found")) }
+    fn of_instance(
+        alloc: Global,
+        options: &Options,
+        key: &InstanceKey,
+        tree: &Tree,
+        instance: &Instance,
+    ) -> Result<Outcome, NoMemory>
+        ensures { IfOk result (λ o. seen o ≡ outcome_by_action options.now.action options.now.targets key.now (paths_of tree.now.files) (seen_instance instance.now)) }
     {
-        Outcome::refusal(alloc, format!(in alloc; "{word}: not found")?.as_str())
-    }
-
-    fn of_file(alloc: Global, path: &str, tree: &Tree, bytes: &[u8]) -> Result<Outcome, NoMemory>
-        ensures { IfOk result (λ o. seen o ≡ outcome_of_bytes path.now (paths_of tree.now.files) bytes.now) }
-    {
-        match read_project(alloc, bytes) {
-            Ok(project) => Outcome::of_root(alloc, path, tree, &project.root),
-            Err(ReadFault::NotJson) => Outcome::fault(alloc, path, &Cause::NotJson),
-            Err(ReadFault::NotYet) => Outcome::fault(alloc, path, &Cause::NotYet),
-            Err(ReadFault::Memory) => Err(NoMemory),
+        match options.action {
+            Action::Build => Outcome::built(alloc, &options.targets, key, tree, instance),
+            Action::Eval => Ok(Outcome::shown(shown_eval(
+                alloc,
+                &instance.scope,
+                &instance.duplicates,
+            )?)),
+            Action::Targets => Ok(Outcome::shown(shown_targets(
+                alloc,
+                &instance.rows,
+                &instance.initial,
+                &instance.default,
+            )?)),
         }
     }
 
-    fn of_root(alloc: Global, path: &str, tree: &Tree, root: &Element) -> Result<Outcome, NoMemory>
-        ensures { IfOk result (λ o. seen o ≡ outcome_of_root path.now (paths_of tree.now.files) (view root.now)) }
+    fn built(
+        alloc: Global,
+        named: &List<Name>,
+        key: &InstanceKey,
+        tree: &Tree,
+        instance: &Instance,
+    ) -> Result<Outcome, NoMemory>
+        ensures { IfOk result (λ o. seen o ≡ outcome_by_action Build named.now key.now (paths_of tree.now.files) (seen_instance instance.now)) }
     {
-        let Some(project) = Project::read(alloc, root)? else {
-            return Outcome::fault(alloc, path, &Cause::NotYet);
+        let project = Project {
+            path: key.path.as_str(),
+            tree,
+            instance,
         };
-        match Instance::of(alloc, path, tree, &project)? {
-            Some(instance) => Outcome::of_instance(alloc, &instance),
-            None => Outcome::fault(alloc, path, &Cause::NotYet),
-        }
+        let request = Request::of(alloc, &project, named)?;
+        Outcome::of_request(alloc, key, &request)
     }
 
-    fn of_instance(alloc: Global, instance: &Instance<'_>) -> Result<Outcome, NoMemory>
-        ensures { IfOk result (λ o. seen o ≡ outcome_of_request instance.now.path.now (request_of (seen_instance instance.now))) }
+    fn of_request(alloc: Global, key: &InstanceKey, request: &Request) -> Result<Outcome, NoMemory>
+        ensures { IfOk result (λ o. seen o ≡ outcome_of_request (key_text key.now) request.now) }
     {
-        let request = Request::of(alloc, instance)?;
+        let key = key.shown(alloc)?;
         Ok(Outcome {
             status: if request.has_failed() { 1 } else { 0 },
-            text: report(alloc, instance.path, &request)?,
+            text: report(alloc, key.as_str(), request)?,
         })
     }
 
-    // A fault at the root of a file.
-    fn fault(alloc: Global, file: &str, cause: &Cause) -> Result<Outcome, NoMemory>
-        ensures { IfOk result (λ o. seen o ≡ refused (fault_text file.now [] cause.now)) }
+    fn shown(text: Text8) -> Outcome
+        ensures { seen result ≡ shown text }
     {
-        let text = fault_text(alloc, file, &Place::root(alloc), cause)?;
-        Outcome::refusal(alloc, text.as_str())
+        Outcome { status: 0, text }
     }
 
-    fn refusal(alloc: Global, reason: &str) -> Result<Outcome, NoMemory>
+    fn of_fault(alloc: Global, fault: &EvalFault) -> Result<Outcome, NoMemory>
+        ensures { IfOk result (λ o. seen o ≡ refused (fault_text fault.now)) }
+    {
+        let reason = fault.shown(alloc)?;
+        Outcome::refused(alloc, reason.as_str())
+    }
+
+    fn not_found(alloc: Global, word: &str) -> Result<Outcome, NoMemory>
+        ensures { IfOk result (λ o. seen o ≡ not_found word.now) }
+    {
+        Outcome::refused(alloc, format!(in alloc; "{word}: not found")?.as_str())
+    }
+
+    fn refused(alloc: Global, reason: &str) -> Result<Outcome, NoMemory>
         ensures { IfOk result (λ o. seen o ≡ refused reason.now) }
     {
+        let text = format!(in alloc; "project refused\n  {reason}\n")?;
         Ok(Outcome {
             status: 3,
-            text: format!(in alloc; "project refused\n  {reason}\n")?,
+            text: Text8::from(text.into_bytes()),
         })
     }
 }

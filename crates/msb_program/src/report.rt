@@ -4,17 +4,17 @@ ghost use Rattle.msb_program.specs.Report.{ran_lines, run_line, word_of, notes_o
 
 use crate::body::Run;
 use crate::request::Request;
-use msb_values::{NoMemory, Text};
+use msb_values::{NoMemory, Text, Text8};
 use std::alloc::Global;
 
-/// The report of a build, line by line. (MSBuild command-line reference.)
-pub fn report(alloc: Global, key: &str, request: &Request) -> Result<String, NoMemory>
-    ensures { IfOk result (λ text. string_bytes text ≡ report_of key.now request.now) }
+/// The report of a build of the instance of this key, line by line. (MSBuild command-line reference.)
+pub fn report(alloc: Global, key: &str, request: &Request) -> Result<Text8, NoMemory>
+    ensures { IfOk result (λ text. text ≡ report_of key.now request.now) }
 {
     let mut text = String::new(alloc);
     add_runs(&mut text, key, request.ran.as_slice())?;
     add_end(&mut text, request)?;
-    Ok(text)
+    Ok(Text8::from(text.into_bytes()))
 }
 
 fn add_runs(text: &mut String, key: &str, ran: &[Run]) -> Result<(), NoMemory>

@@ -6,11 +6,11 @@ ghost use Rattle.msb_program.specs.Report.{line};
 ghost use Rattle.msb_program.specs.Outcomes.{load_fault_text, fault_status};
 ghost use Rattle.msb_program.specs.Answers.{Answers, printing};
 
-use crate::command::read_command;
 use crate::outcome::Outcome;
 use crate::tools::{Counted, CountedTools, Tools};
 use file_store::{LoadFault, Sink, Store, load};
 use msb_values::{NoMemory, Text};
+use msb_words::{WordFault, read_words};
 use std::alloc::Global;
 use std::sync::Wait;
 use std::thread::Threads;
@@ -18,12 +18,13 @@ use std::thread::Threads;
 const USAGE: &str =
     "usage: msb ACTION PROJECT [--target LIST] [--property LIST] [--nodes N] [--clean] [--show low] [--size N]\n";
 
-/// Carries out a command: reads the words, loads the store's files, builds, and prints to the sink.
+/// Does what the words ask for: reads them, loads the store's files, evaluates the project, builds or shows it, and
+/// prints to the sink.
 ///
-/// `words` are those after the program's name. The answer is the program's status: 0 where the command was carried
-/// out, 1 where the build failed, 2 where the words are outside the grammar, 3 where the project is refused, 5 where the store failed, 6 where
-/// the sink failed and nothing else did, 7 for want of memory, and 8 where the files pass a limit. Nothing is written to
-/// the store yet.
+/// `words` are those after the program's name. The answer is the program's status: 0 where it was done, 1 where the
+/// build failed, 2 where the words are outside the grammar, 3 where the project is refused, 5 where the store failed, 6
+/// where the sink failed and nothing else did, 7 for want of memory, and 8 where the files pass a limit. Nothing is
+/// written to the store yet.
 pub fn run<R: Threads + Wait + Sync, S: Store, K: Sink, T: Tools + Sync>(
     _rt: &R,
     alloc: Global,
@@ -50,12 +51,16 @@ pub fn run_alone<S: Store, K: Sink, T: CountedTools>(
     ensures kept { S.tree store.new ≡ S.tree store.old }
     ensures uncalled { T.calls tools.new ≡ T.calls tools.old }
 {
-    let Some(command) = read_command(words) else {
-        print(sink, USAGE.as_bytes());
-        return 2;
+    let options = match read_words(alloc, words) {
+        Ok(options) => options,
+        Err(WordFault::Usage) => {
+            print(sink, USAGE.as_bytes());
+            return 2;
+        }
+        Err(WordFault::Memory) => return 7,
     };
     match load(alloc, store) {
-        Ok(tree) => match Outcome::of(alloc, command, &tree) {
+        Ok(tree) => match Outcome::of(alloc, &options, &tree) {
             Ok(outcome) => tell(sink, outcome.status, outcome.text.as_bytes()),
             Err(NoMemory) => 7,
         },

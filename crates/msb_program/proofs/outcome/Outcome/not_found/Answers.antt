@@ -6,4 +6,4 @@ use Rattle.msb_program.proofs.outcome.Outcome.not_found.Goals as goal
 pub returns : goal.returns
 returns c =
     let reason_is = c.as_str.ensures.value ∙ c.in_ok-format.ensures.ok in
-    subst (λ (reason : List ℕ). IfOk c.refusal.result (λ o. seen o ≡ refused reason)) reason_is c.refusal.ensures
+    subst (λ (reason : List ℕ). IfOk c.refused.result (λ o. seen o ≡ refused reason)) reason_is c.refused.ensures

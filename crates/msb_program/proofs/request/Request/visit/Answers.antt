@@ -4,21 +4,22 @@ use Rattle.target_order.specs.Answers.{fits}
 use Rattle.target_order.specs.Left.{left}
 use Rattle.target_order.specs.Visit.{order}
 use Rattle.msb_program.specs.Requests.{request, request_at, answer_in, until_fault, wanted_of}
-use Rattle.msb_program.specs.SeenInstance.{seen_instance}
+use Rattle.msb_program.specs.Projects.{seen_project}
 use Rattle.msb_program.proofs.Questions.{OnlyAsks, order-only}
 use Rattle.msb_program.proofs.Walking.{walk_step, walk_end, walk_fault}
 use Rattle.msb_program.proofs.request.Request.visit.Goals as goal
 
 pub loop-answer-init : goal.loop-answer-init
 loop-answer-init c =
-    let instance = c.args.instance.now in
-    let tree : left c.in_ok-walk.walk First ≡ order instance.rows (wanted_of instance.project.now) =
-    c.in_ok-walk.ensures.order ∙ ap (order instance.rows) c.in_ok-wanted.ensures in
+    let project = seen_project c.args.project.now in
+    let wanted = wanted_of project.instance c.args.named.now in
+    let tree : left c.in_ok-walk.walk First ≡ order project.instance.rows wanted =
+    c.in_ok-walk.ensures.order ∙ ap (order project.instance.rows) c.in_ok-wanted.ensures in
     record {
       fits = c.in_ok-walk.ensures.first;
       played = record {
-        played = rw c.new-ran.ensures (ap (λ t. until_fault (answer_in (seen_instance instance)) t []) tree);
-        only = subst OnlyAsks (sym tree) (order-only instance.rows (wanted_of instance.project.now));
+        played = rw c.new-ran.ensures (ap (λ t. until_fault (answer_in project) t []) tree);
+        only = subst OnlyAsks (sym tree) (order-only project.instance.rows wanted);
       };
     }
 
@@ -27,7 +28,7 @@ loop-answer-preserved-in-Answer c =
     let replied = rw c.in-Answer.is at c.in_ok-next.ensures in
     record {
       fits = ap (λ asked. fits asked c.in-Answer.next) c.in_ok-ask.ensures.asked ∙ replied.1;
-      played = walk_step (answer_in (seen_instance c.args.instance.now)) _ _ _ c.in_ok-ask.ask _ c.in-Answer.next _ c.loop-answer.invariant.played c.in_ok-ask.ensures.asks replied.0 replied.2;
+      played = walk_step (answer_in (seen_project c.args.project.now)) _ _ _ c.in_ok-ask.ask _ c.in-Answer.next _ c.loop-answer.invariant.played c.in_ok-ask.ensures.asks replied.0 replied.2;
     }
 
 pub loop-answer-preserved-in-Answer-2 : goal.loop-answer-preserved-in-Answer-2
@@ -35,7 +36,7 @@ loop-answer-preserved-in-Answer-2 c =
     let replied = rw c.in-Answer.is at c.in_ok-next.ensures in
     record {
       fits = ap (λ asked. fits asked c.in-Answer.next) c.in_ok-ask.ensures.asked ∙ replied.1;
-      played = walk_step (answer_in (seen_instance c.args.instance.now)) _ _ _ c.in_ok-ask.ask _ c.in-Answer.next _ c.loop-answer.invariant.played c.in_ok-ask.ensures.asks replied.0 replied.2;
+      played = walk_step (answer_in (seen_project c.args.project.now)) _ _ _ c.in_ok-ask.ask _ c.in-Answer.next _ c.loop-answer.invariant.played c.in_ok-ask.ensures.asks replied.0 replied.2;
     }
 
 pub loop-answer-preserved-in-Answer-3 : goal.loop-answer-preserved-in-Answer-3
@@ -43,17 +44,17 @@ loop-answer-preserved-in-Answer-3 c =
     let replied = rw c.in-Answer.is at c.in_ok-next.ensures in
     record {
       fits = ap (λ asked. fits asked c.in-Answer.next) c.in_ok-ask.ensures.asked ∙ replied.1;
-      played = walk_step (answer_in (seen_instance c.args.instance.now)) _ _ _ c.in_ok-ask.ask _ c.in-Answer.next _ c.loop-answer.invariant.played c.in_ok-ask.ensures.asks replied.0 replied.2;
+      played = walk_step (answer_in (seen_project c.args.project.now)) _ _ _ c.in_ok-ask.ask _ c.in-Answer.next _ c.loop-answer.invariant.played c.in_ok-ask.ensures.asks replied.0 replied.2;
     }
 
 pub returns-in-End : goal.returns-in-End
 returns-in-End c =
     let ended = rw c.in-End.is at c.in_ok-next.ensures in
-    let ends = walk_end (answer_in (seen_instance c.args.instance.now)) _ _ _ c.in_ok-ask.ask _ c.loop-answer.invariant.played c.in_ok-ask.ensures.asks ended.0 in
+    let ends = walk_end (answer_in (seen_project c.args.project.now)) _ _ _ c.in_ok-ask.ask _ c.loop-answer.invariant.played c.in_ok-ask.ensures.asks ended.0 in
     ap (λ ran. request ran c.in_ok-error_text-in-End.field-0) (c.ran-in-loop-answer.view_is ∙ ended.1 ∙ ends.1) ∙ ap (request _) (c.in_ok-error_text-in-End.ensures ∙ ends.0)
 
 pub returns-in-Fault : goal.returns-in-Fault
 returns-in-Fault c =
     let faulted = rw c.in-Fault.is at c.in_ok-next.ensures in
     ap (λ ran. request ran (Some c.in-Fault.fault)) faulted.2
-    ∙ sym (ap request_at (walk_fault (answer_in (seen_instance c.args.instance.now)) _ _ _ c.in_ok-ask.ask _ c.in-Fault.fault c.loop-answer.invariant.played c.in_ok-ask.ensures.asks faulted.0 faulted.1))
+    ∙ sym (ap request_at (walk_fault (answer_in (seen_project c.args.project.now)) _ _ _ c.in_ok-ask.ask _ c.in-Fault.fault c.loop-answer.invariant.played c.in_ok-ask.ensures.asks faulted.0 faulted.1))
