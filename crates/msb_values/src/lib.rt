@@ -5,6 +5,7 @@
 #![tactic(auto)]
 
 mod cause;
+mod change;
 mod errors;
 mod escapes;
 mod folded;
@@ -23,6 +24,7 @@ mod text;
 mod text8;
 
 pub use cause::Cause;
+pub use change::Change;
 pub use errors::{NameFault, NoMemory};
 pub use escapes::{escape, unescape};
 pub use folded::Folded;
