@@ -1,0 +1,5 @@
+pub mod Journal
+pub mod Lists
+pub mod Replay
+pub mod Same
+pub mod Table

@@ -1,0 +1,51 @@
+//! What a build keeps of its requests and runs, as plain data: which run it is, what a request asked and got, and the
+//! record of a run. (MSBuild task; MSBuild targets.)
+//!
+//! `specs/` says what a journal is, what a table of records holds, and how a record is replayed in a journal that has
+//! not made it. The functions here are laws of these definitions: they run no code, and their contracts are what is proved.
+#![tactic(auto)]
+
+ghost use Rattle.std.specs.Prelude.{◌≡◌, ℕ, [], List, Some};
+ghost use Rattle.std.specs.Bool.{Decides};
+ghost use Rattle.msb_values.specs.declared.key.InstanceKey.{InstanceKey};
+ghost use Rattle.msb_values.specs.declared.put.Put.{Put};
+ghost use Rattle.result_cache.specs.declared.run.RunId.{RunId};
+ghost use Rattle.result_cache.specs.declared.request.RequestKey.{RequestKey};
+ghost use Rattle.result_cache.specs.declared.record.Record.{Record};
+ghost use Rattle.result_cache.specs.Same.{same_run, same_instance, same_keys};
+ghost use Rattle.result_cache.specs.Journal.{Journal, wrote, ended, add, merge};
+ghost use Rattle.result_cache.specs.Table.{Records};
+ghost use Rattle.result_cache.specs.Replay.{HasAll, effects_of, IsClosed, replay};
+
+mod record;
+mod request;
+mod run;
+
+pub use record::{Decision, Record, Segment};
+pub use request::{RequestKey, RequestResult, Returned};
+pub use run::RunId;
+
+/// The tests that tell instances, runs and lists of requests apart hold exactly of equal ones.
+pub fn tests_are_exact()
+    ensures instances { (a b : InstanceKey) → Decides (same_instance a b) (a ≡ b) }
+    ensures runs { (a b : RunId) → Decides (same_run a b) (a ≡ b) }
+    ensures requests { (a b : List RequestKey) → Decides (same_keys a b) (a ≡ b) }
+{}
+
+/// A closed journal stays closed: when a file is written, when a run ends of whose record it has everything, when another
+/// closed journal is merged, and when a run is replayed.
+pub fn closed_stays()
+    ensures empty { IsClosed [] }
+    ensures wrote { (journal : Journal) (run : RunId) (place : ℕ) (put : Put) → IsClosed journal → IsClosed (add journal (wrote run place put)) }
+    ensures ended { (journal : Journal) (run : RunId) (made : Record) → IsClosed journal → HasAll (effects_of run made) journal →
+        IsClosed (add journal (ended run made)) }
+    ensures merged { (journal other : Journal) → IsClosed journal → IsClosed other → IsClosed (merge journal other) }
+    ensures replayed { (table : Records) (run : RunId) (journal after : Journal) → IsClosed journal →
+        replay table run journal ≡ Some after → IsClosed after }
+{}
+
+/// A run that was replayed adds nothing when it is replayed again.
+pub fn replayed_once()
+    ensures { (table : Records) (run : RunId) (journal after : Journal) → replay table run journal ≡ Some after →
+        replay table run after ≡ Some after }
+{}
