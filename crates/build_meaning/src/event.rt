@@ -1,0 +1,28 @@
+use msb_values::List;
+use result_cache::{RequestKey, RunId};
+
+/// How the claim of a run is answered.
+#[derive(Drop)]
+pub enum ClaimKind {
+    /// Nobody has begun the run: this request begins it.
+    Go,
+    /// The run is finished: its record is used.
+    Use,
+    /// Another request has begun the run: its record is waited for.
+    Wait,
+}
+
+/// One step of a scheduler. The first number is that of the request; the root is 0.
+#[derive(Drop)]
+pub enum Event {
+    /// The request, which is ready, goes to the node of the second number.
+    Assign(u64, u32),
+    /// The request wants a run, and is answered.
+    Claim(u64, RunId, ClaimKind),
+    /// The body that the request is in calls these requests at once.
+    Request(u64, List<RequestKey>),
+    /// The body that the request is in has come to its end: the run is finished.
+    Result(u64, RunId),
+    /// The request is over.
+    Done(u64),
+}

@@ -1,0 +1,75 @@
+//! What holds of every legal history, whatever its world is like.
+
+ghost use Rattle.std.specs.Prelude.{◌≡◌, ◌≤◌, ℕ, false, true, List, length, None, Some};
+ghost use Rattle.std.specs.Bool.{Decides};
+ghost use Rattle.result_cache.specs.declared.run.RunId.{RunId};
+ghost use Rattle.result_cache.specs.declared.record.Record.{Record};
+ghost use Rattle.build_meaning.specs.declared.event.Event.{Event};
+ghost use Rattle.build_meaning.specs.Lists.{at};
+ghost use Rattle.result_cache.specs.Journal.{Journal, end_of, write_of, has};
+ghost use Rattle.result_cache.specs.Table.{found, is_begun};
+ghost use Rattle.build_meaning.specs.World.{World};
+ghost use Rattle.build_meaning.specs.Walk.{Walk, wants, Body};
+ghost use Rattle.build_meaning.specs.Stop.{Stop};
+ghost use Rattle.build_meaning.specs.State.{Within, Place, walking, within, assigned, RequestState, State};
+ghost use Rattle.build_meaning.specs.ByTable.{IsConsistent};
+ghost use Rattle.build_meaning.specs.Cycle.{ShowsCycle, is_in_cycle};
+ghost use Rattle.build_meaning.specs.Step.{waiting, after_all};
+ghost use Rattle.build_meaning.specs.History.{IsHistory, AreOfOthers};
+ghost use Rattle.build_meaning.specs.Orderly.{IsOrderly, RecordsStay};
+ghost use Rattle.build_meaning.specs.Progress.{GoesOn, IsNeverStuck};
+
+/// In every legal history each run is begun and finished at most once, and each journal is closed.
+pub fn every_history_is_orderly<I, A>()
+    ensures { (w : World I A) (events : List Event) (s : State I A) → IsHistory w events s → IsOrderly events s }
+{}
+
+/// The record of a run stays, and is replayed alike, whatever comes after its Result.
+pub fn records_stay<I, A>()
+    ensures { (w : World I A) (events more : List Event) (s t : State I A) →
+        IsHistory w events s → after_all w s more ≡ Some t → RecordsStay s t }
+{}
+
+/// In every legal history each record is what the body of its run makes by the records that were finished before it.
+pub fn every_table_is_consistent<I, A>()
+    ensures { (w : World I A) (events : List Event) (s : State I A) → IsHistory w events s → IsConsistent w events s.table }
+{}
+
+/// In every legal history the end of a body, and each write that may follow, are new in the journal of its request: so
+/// each of them is appended.
+pub fn entries_are_new<I, A>()
+    ensures { (w : World I A) (events : List Event) (s : State I A) → IsHistory w events s → (id node : ℕ) (q : RequestState I A) →
+        (x : Within I A) (stop : Stop I A) → at s.requests id ≡ Some q → q.status ≡ assigned node (within x stop) →
+        (has (end_of x.run) q.journal ≡ false) ×
+        ((n : ℕ) → length x.so_far.segments ≤ n → has (write_of x.run n) q.journal ≡ false) }
+{}
+
+/// In every legal history what a request asks for is possible, or it is refused for its cause.
+pub fn every_history_goes_on<I, A>()
+    ensures { (w : World I A) (events : List Event) (s : State I A) → IsHistory w events s → GoesOn w s }
+{}
+
+/// A request that is with a node stays as it is through the events of others.
+pub fn assigned_stays<I, A>()
+    ensures { (w : World I A) (s t : State I A) (events : List Event) (id node : ℕ) (q : RequestState I A) (place : Place I A) →
+        at s.requests id ≡ Some q → q.status ≡ assigned node place → AreOfOthers id events → after_all w s events ≡ Some t →
+        at t.requests id ≡ Some q }
+{}
+
+/// In every legal history some request may go on until the root is done.
+pub fn never_stuck<I, A>()
+    ensures { (w : World I A) (events : List Event) (s : State I A) → IsHistory w events s → IsNeverStuck s }
+{}
+
+/// In every legal history the test of a wait holds exactly where it would close a cycle that can be shown, and only for a
+/// run that is begun and not finished.
+pub fn cycles_are_shown<I, A>()
+    ensures shown { (w : World I A) (events : List Event) (s : State I A) → IsHistory w events s → (id node : ℕ) (q : RequestState I A) →
+        (run : RunId) (b : Body I A) (go : Record → Journal → Walk I A) → at s.requests id ≡ Some q →
+        q.status ≡ assigned node (walking (wants run b go)) → is_begun run s.begun ≡ true → found s.table run ≡ None →
+        Decides (is_in_cycle (waiting w s id q.origin q.journal q.runs run b go) run)
+        (ShowsCycle (waiting w s id q.origin q.journal q.runs run b go) run) }
+    ensures open { (w : World I A) (events : List Event) (s : State I A) → IsHistory w events s → (id : ℕ) (q : RequestState I A) (run : RunId)
+        (b : Body I A) (go : Record → Journal → Walk I A) → is_in_cycle (waiting w s id q.origin q.journal q.runs run b go) run ≡ true →
+        (is_begun run s.begun ≡ true) × (found s.table run ≡ None) }
+{}
