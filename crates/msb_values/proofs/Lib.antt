@@ -1,4 +1,5 @@
-pub mod Lookups
-pub mod Spaces
+pub mod Causing
 pub mod Escaping
 pub mod Folding
+pub mod Lookups
+pub mod Spaces

@@ -3,9 +3,12 @@ pub mod Causes
 pub mod Escapes
 pub mod Folded
 pub mod InstanceKeys
+pub mod Keys
 pub mod Kinds
 pub mod Lists
 pub mod Names
+pub mod Overlays
 pub mod Pairs
 pub mod ReadsNames
 pub mod Same
+pub mod Truths

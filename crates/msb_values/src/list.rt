@@ -1,7 +1,7 @@
 ghost use Rattle.std.specs.Prelude.{◌≡◌, ◌==◌, [], ◌∷◌, ◌++◌, length, IfOk, OnOk, OnErr, slice_get, option_copied};
 
 use crate::NoMemory;
-use std::alloc::Global;
+use std::alloc::{AllocError, Global};
 use std::marker::Model;
 
 /// A value that can be copied where memory is found.
@@ -57,6 +57,13 @@ impl<T> List<T> {
     {
         self.entries.get(at)
     }
+
+    /// The entries as a vector.
+    pub fn into_vec(self) -> Vec<T>
+        ensures { result.items ≡ self }
+    {
+        self.entries
+    }
 }
 
 impl<T> From<Vec<T>> for List<T> {
@@ -78,12 +85,34 @@ impl<T: Drop> List<T> {
     }
 }
 
+impl<T: Copied + Drop> List<T> {
+    /// The list of copies of these.
+    pub fn of(alloc: Global, entries: &[T]) -> Result<List<T>, NoMemory>
+        ensures { IfOk result (λ l. l ≡ entries.now) }
+    {
+        let mut copies = Vec::with_capacity(alloc, entries.len())?;
+        for entry in entries {
+            copies.push(entry.copy()?)?;
+        }
+        Ok(List { entries: copies })
+    }
+}
+
 impl<T: Copied + Drop> Copied for List<T> {
     fn copy(&self) -> Result<List<T>, NoMemory> {
-        let mut entries = Vec::with_capacity(*self.entries.allocator(), self.entries.len())?;
-        for entry in &self.entries {
-            entries.push(entry.copy()?)?;
+        List::of(*self.entries.allocator(), &self.entries)
+    }
+}
+
+impl<T: Copied + Drop> Clone for List<T> {
+    ghost use Rattle.std.specs.Prelude.{◌≡◌};
+
+    ghost is_clone = { λ a b. b ≡ a };
+
+    fn clone(&self) -> Result<List<T>, AllocError> {
+        match self.copy() {
+            Ok(copied) => Ok(copied),
+            Err(NoMemory) => Err(AllocError),
         }
-        Ok(List { entries })
     }
 }

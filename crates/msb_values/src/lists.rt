@@ -1,6 +1,6 @@
 ghost use Rattle.std.specs.Prelude.{◌≡◌, IfOk};
-ghost use Rattle.std.specs.List.{prefix_len, suffix_len};
-ghost use Rattle.msb_values.specs.Lists.{is_list_space, trimmed_start, trimmed_end, list_of};
+ghost use Rattle.std.specs.List.{list_all, prefix_len, suffix_len};
+ghost use Rattle.msb_values.specs.Lists.{is_list_space, trimmed_start, trimmed_end, trimmed, list_of};
 
 use crate::{List, NoMemory, Text};
 use std::alloc::Global;
@@ -13,12 +13,26 @@ pub fn split_list(alloc: Global, text: &str) -> Result<List<Text>, NoMemory>
 {
     let mut list = List::new(alloc);
     for piece in text.split(';') {
-        let entry = trim_end(trim_start(piece));
+        let entry = trim(piece);
         if !entry.is_empty() {
             list.push(Text::of(alloc, entry)?)?;
         }
     }
     Ok(list)
+}
+
+/// The text without the spaces, tabs, CR and LF at both ends.
+pub fn trim(text: &str) -> &str
+    ensures { result.now ≡ trimmed text.now }
+{
+    trim_end(trim_start(text))
+}
+
+/// Whether the text is nothing but spaces, tabs, CR and LF.
+pub fn is_blank(text: &str) -> bool
+    ensures { result ≡ list_all is_list_space text.now }
+{
+    text.as_bytes().iter().all(|byte| is_space(*byte))
 }
 
 fn trim_start(text: &str) -> &str

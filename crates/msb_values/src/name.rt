@@ -2,6 +2,7 @@ ghost use Rattle.std.specs.Prelude.{◌≡◌, ◌<◌, not, length, IfOk, IfSom
 ghost use Rattle.std.specs.List.{position};
 ghost use Rattle.std.specs.Str.{str_to_ascii_lowercase};
 ghost use Rattle.msb_values.specs.Names.{is_letter, is_name_byte, is_target_byte, bad_place};
+ghost use Rattle.msb_values.specs.Keys.{key_of};
 ghost use Rattle.msb_values.specs.Kinds.{may_follow};
 
 use crate::{Copied, NameFault, NoMemory, Text};
@@ -33,9 +34,9 @@ impl Name {
     pub fn read(alloc: Global, text: &str) -> Result<Name, NameFault>
         ensures { ReadsName is_name_byte text.now result }
     {
-        match first_bad(text.as_bytes(), Kind::Plain) {
+        match bad_name(text) {
             None => Ok(Name::lower(alloc, text)?),
-            Some(at) => Err(NameFault::BadName(at as u64)),
+            Some(at) => Err(NameFault::BadName(at)),
         }
     }
 
@@ -43,9 +44,20 @@ impl Name {
     pub fn read_target(alloc: Global, text: &str) -> Result<Name, NameFault>
         ensures { ReadsName is_target_byte text.now result }
     {
-        match first_bad(text.as_bytes(), Kind::Target) {
+        match bad_target_name(text) {
             None => Ok(Name::lower(alloc, text)?),
-            Some(at) => Err(NameFault::BadName(at as u64)),
+            Some(at) => Err(NameFault::BadName(at)),
+        }
+    }
+
+    /// The name that a text is, as it is looked up; a text that is none names nothing. (MSBuild properties.)
+    pub fn written(alloc: Global, text: &str) -> Result<Option<Name>, NoMemory>
+        ensures { IfOk result (λ name. name ≡ key_of text.now) }
+    {
+        match Name::read(alloc, text) {
+            Ok(name) => Ok(Some(name)),
+            Err(NameFault::BadName(_)) => Ok(None),
+            Err(NameFault::Memory) => Err(NoMemory),
         }
     }
 
@@ -63,6 +75,20 @@ impl Name {
             key: Text::from(text.to_ascii_lowercase(alloc)?),
         })
     }
+}
+
+/// The place of the first byte that a name which is no target's can't have there, or 0 for an empty text.
+pub fn bad_name(text: &str) -> Option<u64>
+    ensures { result ≡ bad_place is_name_byte text.now }
+{
+    first_bad(text.as_bytes(), Kind::Plain)
+}
+
+/// The same of a target's name.
+pub fn bad_target_name(text: &str) -> Option<u64>
+    ensures { result ≡ bad_place is_target_byte text.now }
+{
+    first_bad(text.as_bytes(), Kind::Target)
 }
 
 fn is_ascii_letter(byte: u8) -> bool
@@ -91,12 +117,12 @@ impl Kind {
 }
 
 /// The place of the first byte that a name of this kind can't have there.
-fn first_bad(text: &[u8], kind: Kind) -> Option<usize>
+fn first_bad(text: &[u8], kind: Kind) -> Option<u64>
     ensures { result ≡ bad_place (may_follow kind) text.now }
 {
     match text {
         [first, rest @ ..] if is_ascii_letter(*first) => match first_other(rest, kind) {
-            Some(at) => Some(at + 1),
+            Some(at) => Some(at as u64 + 1),
             None => None,
         },
         _ => Some(0),

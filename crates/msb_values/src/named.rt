@@ -1,11 +1,11 @@
-ghost use Rattle.std.specs.Prelude.{◌≡◌, ◌==◌, [], length, OnOk, OnErr, option_copied, unwrap_or};
+ghost use Rattle.std.specs.Prelude.{◌≡◌, ◌==◌, [], length, IfOk, OnOk, OnErr, option_copied, unwrap_or};
 ghost use Rattle.std.specs.Ordering.{nat_cmp};
 ghost use Rattle.std.specs.BTreeMap.{insert_entry};
 ghost use Rattle.std.specs.Cmp.Lexicographic.{slice_cmp};
-ghost use Rattle.msb_values.specs.Pairs.{value_at};
+ghost use Rattle.msb_values.specs.Pairs.{value_at, AreRising, changed_at, without_name, all_put};
 
 use crate::{Copied, Item, List, Name, NoMemory, Text};
-use std::alloc::Global;
+use std::alloc::{AllocError, Global};
 use std::collections::{BTreeMap, btree_map};
 use std::marker::Model;
 use std::mem;
@@ -54,6 +54,13 @@ impl<T> Named<T> {
         self.map.len() == 0
     }
 
+    /// The names are distinct, each above the one before it in byte order.
+    pub fn names_rise(&self)
+        ensures { AreRising self.now }
+    {
+        let _ = self.map.len();
+    }
+
     /// What a name has, if it is there.
     pub fn get(&self, name: &Name) -> Option<&T>
         ensures { option_copied result ≡ value_at name.now self.now }
@@ -70,6 +77,17 @@ impl<T> Named<T> {
 }
 
 impl<T: Drop> Named<T> {
+    /// The names with these values; the last value of a name holds.
+    pub fn of(alloc: Global, entries: Vec<(Name, T)>) -> Result<Named<T>, NoMemory>
+        ensures { IfOk result (λ pairs. pairs ≡ all_put [] entries.items) }
+    {
+        let mut pairs = Named::new(alloc);
+        for (name, value) in entries {
+            pairs.insert(name, value)?;
+        }
+        Ok(pairs)
+    }
+
     /// Gives the name this, in place of what it has; where there is no memory, nothing changes.
     pub fn insert(&mut self, name: Name, value: T) -> Result<(), NoMemory>
         ensures ok { OnOk result (self.new ≡ insert_entry (slice_cmp nat_cmp) self.old name value) }
@@ -86,16 +104,64 @@ impl<T: Drop> Named<T> {
 
         // An insert at the name makes the same of it as of what was there before.
         ensures inserted { (next : T) → insert_entry (slice_cmp nat_cmp) self.new name.now next ≡ insert_entry (slice_cmp nat_cmp) self.old name.now next }
+        ensures left { self.new ≡ changed_at name.now (λ _. value) self.old }
     {
         match self.map.get_mut(name) {
             Some(held) => mem::replace(held, value),
             None => value,
         }
     }
+
+    /// Takes a name away with what it has, if it is there. This takes no memory.
+    pub fn take(&mut self, name: &Name) -> Option<T>
+        ensures had { result ≡ value_at name.now self.old }
+        ensures left { self.new ≡ without_name name.now self.old }
+
+        // An insert at the name makes the same of what is left as of what was there before.
+        ensures inserted { (next : T) → insert_entry (slice_cmp nat_cmp) self.new name.now next ≡ insert_entry (slice_cmp nat_cmp) self.old name.now next }
+    {
+        self.names_rise();
+        self.map.remove(name)
+    }
+
+    /// The names with what they have, in byte order of the names.
+    pub fn into_entries(self) -> btree_map::IntoIter<Name, T>
+        ensures { result ≡ self }
+    {
+        self.map.into_iter()
+    }
 }
 
 impl Copied for Named<Text> {
     fn copy(&self) -> Result<Named<Text>, NoMemory> {
+        Ok(Named {
+            map: self.map.clone()?,
+        })
+    }
+}
+
+impl Copied for Named<List<Item>> {
+    fn copy(&self) -> Result<Named<List<Item>>, NoMemory> {
+        Ok(Named {
+            map: self.map.clone()?,
+        })
+    }
+}
+
+impl Copied for Named<Named<Text>> {
+    fn copy(&self) -> Result<Named<Named<Text>>, NoMemory> {
+        Ok(Named {
+            map: self.map.clone()?,
+        })
+    }
+}
+
+impl Clone for Named<Text> {
+    ghost use Rattle.std.specs.Prelude.{◌≡◌};
+
+    ghost is_clone = { λ a b. b ≡ a };
+
+    fn clone(&self) -> Result<Named<Text>, AllocError> {
         Ok(Named {
             map: self.map.clone()?,
         })

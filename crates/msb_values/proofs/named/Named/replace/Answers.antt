@@ -4,8 +4,8 @@ use Rattle.std.specs.Cmp.Lexicographic.{slice_cmp}
 use Rattle.std.specs.Option.{option_copied_mut}
 use Rattle.std.specs.List.Sorted.{IsStrictlySortedBy}
 use Rattle.std.specs.Ordering.{nat_cmp}
-use Rattle.msb_values.specs.Pairs.{value_at}
-use Rattle.msb_values.proofs.Lookups.{lookup-value_at, insert-set}
+use Rattle.msb_values.specs.Pairs.{value_at, changed_at}
+use Rattle.msb_values.proofs.Lookups.{lookup-value_at, insert-set, set-changed, changed-absent}
 use Rattle.msb_values.proofs.named.Named.replace.Goals as goal
 use Rattle.msb_values.proofs.named.Named.replace.Goals.{in-Some, in-None}
 
@@ -35,3 +35,22 @@ returns-clause-inserted g c = λ next. elim c.match-get_mut.branch [
       ∙ ap (λ map. insert_entry (slice_cmp nat_cmp) map.entries name next) c.get_mut.follows.holds-at-none
       ∙ ap (λ entries. insert_entry (slice_cmp nat_cmp) entries name next) c.self.view_is
 ]
+
+pub returns-clause-left : goal.returns-clause-left
+returns-clause-left g c =
+    let name = c.args.name.now in
+    let value = c.args.value in
+    elim c.match-get_mut.branch [
+      | in-Some w ↦
+          ap (λ inside. inside.map.entries) w.self-inside-is
+          ∙ (c.get_mut.follows.holds w.replace.new.dest).0
+          ∙ set-changed name w.replace.new.dest c.self.inside.map.entries
+          ∙ ap (λ next. changed_at name (λ _. next) c.self.inside.map.entries) w.replace.ensures.after
+          ∙ ap (changed_at name (λ _. value)) c.self.view_is
+      | in-None w ↦
+          let none = sym (c.get_mut.ensures.value ∙ lookup-value_at name c.self.inside.map.entries ∙ ap (value_at name) c.self.view_is) ∙ ap option_copied_mut w.in-None.is in
+          ap (λ inside. inside.map.entries) w.self-inside-is
+          ∙ ap (λ map. map.entries) c.get_mut.follows.holds-at-none
+          ∙ c.self.view_is
+          ∙ sym (changed-absent name (λ _. value) c.args.self.now none)
+    ]
