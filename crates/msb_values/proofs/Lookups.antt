@@ -1,5 +1,5 @@
 -- A look-up by bytes is the map's look-up by order.
-use Rattle.std.proofs.Common.{◌≡◌, ℕ, List, [], ◌∷◌, Option, Some, None, Bool, true, false, cond, is_eq, refl, sym, subst, ap, ◌∙◌}
+use Rattle.std.proofs.Common.{◌≡◌, ℕ, List, [], ◌∷◌, Option, Some, None, unwrap_or, Bool, true, false, cond, is_eq, refl, sym, subst, ap, ◌∙◌}
 use Rattle.std.specs.BTreeMap.{is_at, insert_entry}
 use Rattle.std.specs.Cmp.Lexicographic.{slice_cmp}
 use Rattle.std.specs.List.{AllByRecursion}
@@ -85,3 +85,72 @@ insert-removed name next (p ∷ ps) sorted = go (insert-removed name next ps sor
         let above = subst (λ n. AllByRecursion (λ other. slice_cmp nat_cmp n other ≡ Less) (keys_of ps)) (sym same) sorted.0 in
         inserted-below name next ps above ∙ ap (λ n. (n, next) ∷ ps) same
     go later Greater is = rw is (ap (λ rest. p ∷ rest) later)
+
+-- what a name has is changed
+
+pub changed-value : {T : Type 0} (name : List ℕ) (change : T → T) (value : T) (pairs : List (List ℕ × T)) → value_at name pairs ≡ Some value → changed_at name (λ _. change value) pairs ≡ changed_at name change pairs
+changed-value name change value [] has = refl
+changed-value {T} name change value (p ∷ ps) has = go (changed-value name change value ps) (bytes_eq name p.0) has
+  where
+    go : (value_at name ps ≡ Some value → changed_at name (λ _. change value) ps ≡ changed_at name change ps) → (b : Bool) → cond b (Some p.1) (value_at name ps) ≡ Some value
+        → cond b ((p.0, change value) ∷ ps) (p ∷ changed_at name (λ _. change value) ps) ≡ cond b ((p.0, change p.1) ∷ ps) (p ∷ changed_at name change ps)
+    go later true has =
+        let same : p.1 ≡ value = cc in
+        ap (λ v. (p.0, change v) ∷ ps) (sym same)
+    go later false has = ap (λ rest. p ∷ rest) (later has)
+
+-- by what comes of the value that it has
+pub changed-by : {T : Type 0} (name : List ℕ) (change : T → T) (other : T) (pairs : List (List ℕ × T)) → changed_at name (λ _. change (unwrap_or (value_at name pairs) other)) pairs ≡ changed_at name change pairs
+changed-by {T} name change other pairs = go (value_at name pairs) refl
+  where
+    go : (o : Option T) → value_at name pairs ≡ o → changed_at name (λ _. change (unwrap_or o other)) pairs ≡ changed_at name change pairs
+    go None is = changed-absent name _ pairs is ∙ sym (changed-absent name change pairs is)
+    go (Some value) is = changed-value name change value pairs is
+
+pub changed-twice : {T : Type 0} (name : List ℕ) (first second : T → T) (pairs : List (List ℕ × T)) → changed_at name second (changed_at name first pairs) ≡ changed_at name (λ value. second (first value)) pairs
+changed-twice name first second [] = refl
+changed-twice {T} name first second (p ∷ ps) = go (changed-twice name first second ps) (bytes_eq name p.0) refl
+  where
+    go : changed_at name second (changed_at name first ps) ≡ changed_at name (λ value. second (first value)) ps → (b : Bool) → bytes_eq name p.0 ≡ b
+        → changed_at name second (cond b ((p.0, first p.1) ∷ ps) (p ∷ changed_at name first ps)) ≡ cond b ((p.0, second (first p.1)) ∷ ps) (p ∷ changed_at name (λ value. second (first value)) ps)
+    go later true is = rw is refl
+    go later false is = rw is (ap (λ rest. p ∷ rest) later)
+
+pub changed-same : {T : Type 0} (name : List ℕ) (pairs : List (List ℕ × T)) → changed_at name (λ value. value) pairs ≡ pairs
+changed-same name [] = refl
+changed-same {T} name (p ∷ ps) = go (changed-same name ps) (bytes_eq name p.0)
+  where
+    go : changed_at name (λ value. value) ps ≡ ps → (b : Bool) → cond b ((p.0, p.1) ∷ ps) (p ∷ changed_at name (λ value. value) ps) ≡ p ∷ ps
+    go later true = refl
+    go later false = ap (λ rest. p ∷ rest) later
+
+value-below : {T : Type 0} (name first : List ℕ) (pairs : List (List ℕ × T)) → AllByRecursion (λ other. slice_cmp nat_cmp first other ≡ Less) (keys_of pairs) → slice_cmp nat_cmp name first ≡ Less → value_at name pairs ≡ None
+value-below name first [] above less = refl
+value-below name first (p ∷ ps) above less =
+    let below : is_eq (slice_cmp nat_cmp name p.0) ≡ false = ap is_eq (nat_list_cmp_total.trans name first p.0 less above.0) in
+    ap (λ b. cond b (Some p.1) (value_at name ps)) (sym (is_eq-slice_cmp name p.0) ∙ below) ∙ value-below name first ps above.1 less
+
+-- an insert at a name that is there changes what it has
+pub insert-present : {T : Type 0} (name : List ℕ) (value next : T) (pairs : List (List ℕ × T)) → IsStrictlySortedBy (slice_cmp nat_cmp) (keys_of pairs) → value_at name pairs ≡ Some value
+    → insert_entry (slice_cmp nat_cmp) pairs name next ≡ changed_at name (λ _. next) pairs
+unfolding IsStrictlySortedBy
+insert-present name value next [] sorted has = cc
+insert-present {T} name value next (p ∷ ps) sorted has = go (insert-present name value next ps sorted.1) (slice_cmp nat_cmp name p.0) refl (bytes_eq name p.0) (is_eq-slice_cmp name p.0) has
+  where
+    go : (value_at name ps ≡ Some value → insert_entry (slice_cmp nat_cmp) ps name next ≡ changed_at name (λ _. next) ps)
+        → (o : Ordering) → slice_cmp nat_cmp name p.0 ≡ o → (b : Bool) → is_eq (slice_cmp nat_cmp name p.0) ≡ b → cond b (Some p.1) (value_at name ps) ≡ Some value
+        → match_ordering o ((name, next) ∷ p ∷ ps) ((p.0, next) ∷ ps) (p ∷ insert_entry (slice_cmp nat_cmp) ps name next) ≡ cond b ((p.0, next) ∷ ps) (p ∷ changed_at name (λ _. next) ps)
+    go later Less is true same has =
+        let no : is_eq Less ≡ true = sym (ap is_eq is) ∙ same in
+        cc
+    go later Less is false same has =
+        let none = value-below name p.0 ps sorted.0 is in
+        cc
+    go later Equal is true same has = refl
+    go later Equal is false same has =
+        let yes' : is_eq Equal ≡ false = sym (ap is_eq is) ∙ same in
+        cc
+    go later Greater is true same has =
+        let no : is_eq Greater ≡ true = sym (ap is_eq is) ∙ same in
+        cc
+    go later Greater is false same has = ap (λ rest. p ∷ rest) (later has)

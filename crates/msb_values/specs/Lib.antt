@@ -1,5 +1,7 @@
 pub mod Caused
 pub mod Causes
+pub mod Changes
+pub mod Equal
 pub mod Escapes
 pub mod Folded
 pub mod InstanceKeys

@@ -1,7 +1,7 @@
 use crate::{Copied, NoMemory, Pairs, Text};
 
 /// An item of a list: its identity and metadata. (MSBuild items.)
-#[derive(Drop)]
+#[derive(Drop, PartialEq, Eq, PartialOrd, Ord, Hash)]
 pub struct Item {
     pub ident: Text,
     /// What the first `**` of the pattern stood for that the item came from, else empty.

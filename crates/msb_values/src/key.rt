@@ -8,7 +8,7 @@ use std::collections::btree_map;
 
 /// Which instance of a project: the path of its file, and the global properties that it is built with.
 /// (MSBuild task; MSBuild properties, global properties.)
-#[derive(Drop)]
+#[derive(Drop, PartialEq, Eq, PartialOrd, Ord, Hash)]
 pub struct InstanceKey {
     pub path: Text,
     pub globals: Pairs,

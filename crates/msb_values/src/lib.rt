@@ -4,8 +4,11 @@
 //! a [`Name`] as the bytes of its key, and a [`Named`] as its names with what they have.
 #![tactic(auto)]
 
+mod apply;
 mod cause;
 mod change;
+mod changed_items;
+mod compared;
 mod errors;
 mod escapes;
 mod folded;
@@ -16,6 +19,7 @@ mod lists;
 mod mode;
 mod name;
 mod named;
+mod named_compared;
 mod note;
 mod overlay;
 mod put;

@@ -83,6 +83,16 @@ impl<T: Drop> List<T> {
         self.entries.push(entry)?;
         Ok(())
     }
+
+    /// Adds entries at the end; where there is no memory, the list stays as it was, and the entries are dropped.
+    pub fn append(&mut self, more: List<T>) -> Result<(), NoMemory>
+        ensures ok { OnOk result (self.new ≡ self.old ++ more) }
+        ensures err { OnErr result (self.new ≡ self.old) }
+    {
+        let mut more = more;
+        self.entries.append(&mut more.entries)?;
+        Ok(())
+    }
 }
 
 impl<T: Copied + Drop> List<T> {

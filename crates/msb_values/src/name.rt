@@ -136,6 +136,14 @@ fn first_other(bytes: &[u8], kind: Kind) -> Option<usize>
     bytes.iter().position(|byte| !kind.may_follow(*byte))
 }
 
+impl From<Name> for Text {
+    ghost from_gives = { λ n t. t ≡ n };
+
+    fn from(name: Name) -> Text {
+        name.key
+    }
+}
+
 impl Copied for Name {
     fn copy(&self) -> Result<Name, NoMemory> {
         Ok(self.clone()?)

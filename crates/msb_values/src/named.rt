@@ -13,7 +13,7 @@ use std::mem;
 /// What each of some names has: each name once, in byte order of the names.
 #[derive(Drop)]
 pub struct Named<T> {
-    map: BTreeMap<Name, T>,
+    pub(crate) map: BTreeMap<Name, T>,
 }
 
 /// Names with texts, as properties or metadata are.

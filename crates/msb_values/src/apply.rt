@@ -1,0 +1,121 @@
+ghost use Rattle.std.specs.Prelude.{◌≡◌, ◌++◌, OnOk, OnErr};
+ghost use Rattle.msb_values.specs.Pairs.{changed_at};
+ghost use Rattle.msb_values.specs.Changes.{applied, with_added, without_named, with_metadata_on};
+
+use crate::changed_items::{with_metadata_on, without_named};
+use crate::{Change, Copied, Item, List, Lists, Name, NoMemory, Pairs, Scope, Text};
+use std::alloc::Global;
+
+impl Scope {
+    /// Does what a target's body changed; where there is no memory, the scope stays as it was.
+    ///
+    /// A property gets its value, and items are put behind those of their type. An item goes whose identity equals one
+    /// of the texts without case; an item that equals one of the given gets the metadata.
+    /// (MSBuild targets; PropertyGroup element; ItemGroup element.)
+    pub fn apply(&mut self, alloc: Global, change: &Change) -> Result<(), NoMemory>
+        ensures ok { OnOk result (self.new ≡ applied change.now self.old) }
+        ensures err { OnErr result (self.new ≡ self.old) }
+    {
+        match change {
+            Change::SetProp(name, value) => self.props.insert(name.copy()?, value.copy()?),
+            Change::AddItems(kind, items) => add_items(alloc, &mut self.items, kind, items),
+            Change::RemoveItems(kind, texts) => remove_items(alloc, &mut self.items, kind, texts),
+            Change::SetMeta(kind, given, pairs) => {
+                set_metadata(alloc, &mut self.items, kind, given, pairs)
+            }
+        }
+    }
+}
+
+impl Copied for Scope {
+    fn copy(&self) -> Result<Scope, NoMemory> {
+        Ok(Scope {
+            globals: self.globals.copy()?,
+            props: self.props.copy()?,
+            items: self.items.copy()?,
+            defaults: self.defaults.copy()?,
+        })
+    }
+}
+
+impl Copied for Change {
+    fn copy(&self) -> Result<Change, NoMemory> {
+        match self {
+            Change::SetProp(name, value) => Ok(Change::SetProp(name.copy()?, value.copy()?)),
+            Change::AddItems(kind, items) => Ok(Change::AddItems(kind.copy()?, items.copy()?)),
+            Change::RemoveItems(kind, texts) => {
+                Ok(Change::RemoveItems(kind.copy()?, texts.copy()?))
+            }
+            Change::SetMeta(kind, given, pairs) => {
+                Ok(Change::SetMeta(kind.copy()?, given.copy()?, pairs.copy()?))
+            }
+        }
+    }
+}
+
+fn add_items(
+    alloc: Global,
+    lists: &mut Lists,
+    kind: &Name,
+    items: &List<Item>,
+) -> Result<(), NoMemory>
+    ensures ok { OnOk result (lists.new ≡ with_added kind.now items.now lists.old) }
+    ensures err { OnErr result (lists.new ≡ lists.old) }
+{
+    lists.names_rise();
+    let more = items.copy()?;
+    match lists.get(kind) {
+        Some(_) => append(alloc, lists, kind, more),
+        None => lists.insert(kind.copy()?, more),
+    }
+}
+
+/// Puts items behind those of a type that has some.
+fn append(alloc: Global, lists: &mut Lists, kind: &Name, more: List<Item>) -> Result<(), NoMemory>
+    ensures ok { OnOk result (lists.new ≡ changed_at kind.now (λ items. items ++ more) lists.old) }
+    ensures err { OnErr result (lists.new ≡ lists.old) }
+{
+    let mut list = lists.replace(kind, List::new(alloc));
+    let appended = list.append(more);
+    lists.replace(kind, list);
+    appended
+}
+
+fn remove_items(
+    alloc: Global,
+    lists: &mut Lists,
+    kind: &Name,
+    texts: &List<Text>,
+) -> Result<(), NoMemory>
+    ensures ok { OnOk result (lists.new ≡ changed_at kind.now (without_named texts.now) lists.old) }
+    ensures err { OnErr result (lists.new ≡ lists.old) }
+{
+    match lists.get(kind) {
+        None => Ok(()),
+        Some(items) => {
+            let kept = without_named(alloc, items.as_slice(), texts.as_slice())?;
+            lists.replace(kind, kept);
+            Ok(())
+        }
+    }
+}
+
+fn set_metadata(
+    alloc: Global,
+    lists: &mut Lists,
+    kind: &Name,
+    given: &List<Item>,
+    pairs: &Pairs,
+) -> Result<(), NoMemory>
+    ensures ok { OnOk result (lists.new ≡ changed_at kind.now (with_metadata_on given.now pairs.now) lists.old) }
+    ensures err { OnErr result (lists.new ≡ lists.old) }
+{
+    match lists.get(kind) {
+        None => Ok(()),
+        Some(items) => {
+            let changed = with_metadata_on(alloc, items.as_slice(), given.as_slice(), pairs)?;
+            lists.replace(kind, changed);
+            Ok(())
+        }
+    }
+}
