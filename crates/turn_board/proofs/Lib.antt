@@ -1,0 +1,10 @@
+pub mod Prefixes
+pub mod Sums
+pub mod OneSeesAll
+pub mod TrueViews
+pub mod TakeKeeps
+pub mod GiveKeeps
+pub mod LoadKeeps
+pub mod SplitKeeps
+pub mod JoinKeeps
+pub mod OpenClose
