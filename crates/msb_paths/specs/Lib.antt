@@ -3,4 +3,5 @@ pub mod Join
 pub mod Normal
 pub mod Parts
 pub mod Presence
+pub mod Refused
 pub mod Segments

@@ -1,5 +1,6 @@
 ghost use Rattle.std.specs.Prelude.{◌≡◌};
 ghost use Rattle.msb_paths.specs.declared.errors.PathFault.TheVariants.{Memory};
+ghost use Rattle.msb_paths.specs.Refused.{normal_fault};
 
 use std::alloc::{AllocError, AllocFailed};
 
@@ -37,5 +38,30 @@ impl<T: Drop> From<AllocFailed<T>> for PathFault {
 
     fn from(_: AllocFailed<T>) -> Self {
         PathFault::Memory
+    }
+}
+
+/// Why a text is not read as a normal path.
+#[derive(Clone, Copy, Debug, PartialEq, Eq)]
+pub enum NormalFault {
+    /// A `..` has nothing to take away.
+    AboveRoot,
+    /// No segment is left.
+    Empty,
+    /// A segment that is left has a character below U+0020.
+    ControlCharacter,
+    /// Want of memory.
+    Memory,
+}
+
+impl From<PathFault> for NormalFault {
+    ghost from_gives = { λ fault e. e ≡ normal_fault fault };
+
+    fn from(fault: PathFault) -> Self {
+        match fault {
+            PathFault::AboveRoot => NormalFault::AboveRoot,
+            PathFault::Empty => NormalFault::Empty,
+            PathFault::Memory => NormalFault::Memory,
+        }
     }
 }

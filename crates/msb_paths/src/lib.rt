@@ -12,12 +12,9 @@ mod presence;
 mod segments;
 mod text;
 
-pub use errors::{NoRoom, PathFault};
+pub use errors::{NoRoom, NormalFault, PathFault};
 pub use folder::join;
 pub use names::{Split, parts};
-pub use normal::{is_normal, normalize};
+pub use normal::{is_normal, normal_path, normalize};
 pub use presence::Present;
 pub use text::Word;
-
-#[cfg(test)]
-mod tests;

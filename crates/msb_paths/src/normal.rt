@@ -1,11 +1,13 @@
-ghost use Rattle.std.specs.Prelude.{◌≡◌, true, [], ◌++◌, map, Some, IfOk};
+ghost use Rattle.std.specs.Prelude.{◌≡◌, true, false, Err, [], ◌++◌, map, Some, IfOk};
 ghost use Rattle.std.specs.List.{slice_split};
 ghost use Rattle.msb_paths.specs.Answer.{Gives, ComesTo};
 ghost use Rattle.msb_paths.specs.Normal.{is_normal, is_clean, is_rooted, start_of, entered, walked, path_of, normalized};
+ghost use Rattle.msb_paths.specs.Refused.{normal_path, GivesNormal};
 ghost use Rattle.msb_paths.specs.Segments.{is_backslash, segments};
+ghost use Rattle.msb_paths.specs.declared.errors.NormalFault.TheVariants.{ControlCharacter};
 
 use crate::segments::{is_here, is_normal_segment, is_parent, is_separator};
-use crate::{PathFault, Word};
+use crate::{NormalFault, PathFault, Word};
 use std::alloc::Global;
 
 /// Whether a path is normal: one or more normal segments joined by `/`.
@@ -19,8 +21,7 @@ pub fn is_normal(path: &str) -> bool
 ///
 /// `\` is read as `/`. A text that begins with `/` starts at the root, any other at the base. Empty
 /// segments and `.` are dropped, and `..` takes the last segment away. The path is normal where
-/// neither the base nor the text has a control character; who is handed other texts asks
-/// [`is_normal`] of the path.
+/// neither the base nor the text has a control character; [`normal_path`] refuses what isn't.
 pub fn normalize(alloc: Global, base: &str, text: &str) -> Result<Word, PathFault>
     ensures exact { Gives result (normalized base.now text.now) }
     ensures normal { IfOk result
@@ -28,6 +29,22 @@ pub fn normalize(alloc: Global, base: &str, text: &str) -> Result<Word, PathFaul
 {
     let names = names_of(alloc, start_of(base, text), text)?;
     path_of(alloc, &names)
+}
+
+/// The normal path of a text on a base folder, made as [`normalize`] makes it.
+///
+/// A path that has a character below U+0020 is refused; such a character in a segment that `..` takes away is not.
+pub fn normal_path(alloc: Global, base: &str, text: &str) -> Result<Word, NormalFault>
+    ensures exact { GivesNormal result (normal_path base.now text.now) }
+    ensures normal { IfOk result (λ path. is_normal path ≡ true) }
+    ensures control { result ≡ Err ControlCharacter → is_clean base.now ≡ true → is_clean text.now ≡ false }
+{
+    let path = normalize(alloc, base, text)?;
+    if is_normal(path.as_str()) {
+        Ok(path)
+    } else {
+        Err(NormalFault::ControlCharacter)
+    }
 }
 
 fn is_rooted(text: &str) -> bool
