@@ -1,13 +1,12 @@
 -- The parts of a text between its separators.
-use Rattle.std.proofs.Common.{◌≡◌, ◌≢◌, ℕ, ◌+◌, ◌<◌, Bool, true, false, ◌||◌, cond, if◌then◌else◌, eqb, List, [], ◌∷◌, ◌++◌, length, get_or, map, drop, ◌≤◌, Option, Some, None, MatchOption, IfSome, Bor, refl, sym, ap, ◌∙◌, arith, append_assoc}
-use Rattle.std.specs.List.{All, slice_split, position_or_len, after_first, list_any, flat_map, onto_first, join_with_byte}
+use Rattle.std.proofs.Common.{◌≡◌, ◌≢◌, ℕ, ◌+◌, ◌<◌, Bool, true, false, ◌||◌, cond, if◌then◌else◌, eqb, List, [], ◌∷◌, ◌++◌, length, get_or, map, Option, Some, None, MatchOption, IfSome, Bor, refl, sym, ap, ◌∙◌, arith, append_assoc}
+use Rattle.std.specs.List.{All, slice_split, position_or_len, after_first, list_any, flat_map, onto_first}
 use Rattle.std.proofs.lemmas.Bool.{eqb-true}
-use Rattle.std.proofs.lemmas.List.{get_or_default, length-drop, length-map, drop-drop, drop_all}
+use Rattle.std.proofs.lemmas.List.{get_or_default, length-drop, length-map}
 use Rattle.std.proofs.lemmas.List.Folds.{list_any-append}
-use Rattle.std.proofs.lemmas.List.Splits.{slice_split_first, slice_split_none, length-slice_split, join_with_byte-slice_split}
+use Rattle.std.proofs.lemmas.List.Splits.{slice_split_first, slice_split_none, length-slice_split}
 use Rattle.std.proofs.lemmas.Str.Pattern.{IsSplitOnceResult, split_once_first, split_parts}
-use Rattle.msb_paths.specs.Segments.{is_slash, is_backslash}
-use Rattle.msb_glob.specs.Expanded.{behind}
+use Rattle.msb_paths.specs.Segments.{is_backslash}
 use Rattle.msb_glob.specs.Parsed.{parted_by, with_slashes}
 
 other_byte : (b c : ℕ) (x : Bool) → eqb b c ≡ x → b ≢ c → x ≡ false
@@ -74,13 +73,3 @@ pub with_slashes_is : (text : List ℕ) → parted_by 47 (map (λ part. part) (s
 with_slashes_is [] = refl
 with_slashes_is (b ∷ bs) =
     with_slashes_on b (slice_split is_backslash bs) (is_backslash b) (omega (arith, length-slice_split is_backslash bs)) ∙ ap (λ xs. (if is_backslash b then 47 else b) ∷ xs) (with_slashes_is bs)
-
--- the segments behind one more, behind all, and a text by its segments
-pub drop_next : {A : Type 0} (xs : List A) (i : ℕ) (x : A) (rest : List A) → drop i xs ≡ x ∷ rest → drop (i + 1) xs ≡ rest
-drop_next xs i x rest is = sym (drop-drop 1 i xs) ∙ ap (drop 1) is
-
-pub drop_past : {A : Type 0} (xs : List A) (i n : ℕ) → drop i xs ≡ [] → i ≤ n → drop n xs ≡ []
-drop_past xs i n is below = drop_all n xs (omega (arith, length-drop i xs, ap length is))
-
-pub behind_is : (text path : List ℕ) (n : ℕ) → slice_split is_slash text ≡ drop n (slice_split is_slash path) → text ≡ behind n path
-behind_is text path n is = sym (join_with_byte-slice_split 47 text) ∙ ap (join_with_byte 47) is

@@ -1,6 +1,6 @@
 -- The matches of a pattern among paths. (MSBuild items, wildcards to specify items)
-use Rattle.std.specs.Prelude.{◌≡◌, ℕ, Bool, List, [], ◌∷◌, ◌++◌, map, filter, drop, IsPermutation, IsSorted}
-use Rattle.std.specs.List.{slice_split, flat_map, join_with_byte}
+use Rattle.std.specs.Prelude.{◌≡◌, ℕ, nat_eq, Bool, List, [], ◌∷◌, ◌++◌, map, filter, length, drop, IsPermutation, IsSorted, if◌then◌else◌}
+use Rattle.std.specs.List.{slice_split, flat_map, starts_with}
 use Rattle.std.specs.Ordering.{nat_cmp}
 use Rattle.std.specs.Cmp.Lexicographic.{slice_cmp}
 use Rattle.msb_paths.specs.Segments.{is_slash}
@@ -14,13 +14,12 @@ use Rattle.msb_glob.specs.declared.parts.Part.{Part}
 abbrev pub is_match : Reading → List ℕ → Bool
 is_match pattern path = fits_path pattern.parts path
 
--- what a path has behind its first n segments
-abbrev pub behind : ℕ → List ℕ → List ℕ
-behind n path = join_with_byte 47 (drop n (slice_split is_slash path))
-
--- the pattern's fixed part, and then what the path has behind it
-abbrev pub ident_of : List ℕ → ℕ → List ℕ → List ℕ
-ident_of fixed taken path = fixed ++ escaped (behind taken path)
+-- the pattern's fixed part, and then the rest of a path below the folder that the fixed part leads to; any other path
+-- from the root
+abbrev pub ident_of : Reading → List ℕ → List ℕ
+ident_of pattern path =
+    if starts_with nat_eq path pattern.folder then pattern.fixed ++ escaped (drop (length pattern.folder) path)
+    else 47 ∷ escaped path
 
 -- the folders that the first `**` stands for, each with `/`
 abbrev pub folder_text : List ℕ → List ℕ
@@ -30,7 +29,7 @@ abbrev pub recursive_dir : List Part → List ℕ → List ℕ
 recursive_dir parts path = flat_map folder_text (first_gap (map segment_token parts) (slice_split is_slash path))
 
 abbrev pub match_of : Reading → List ℕ → Match
-match_of pattern path = record { ident = ident_of pattern.fixed pattern.taken path; recursive = recursive_dir pattern.parts path }
+match_of pattern path = record { ident = ident_of pattern path; recursive = recursive_dir pattern.parts path }
 
 -- the matching paths in byte order, each with its identity and its RecursiveDir
 pub record Expands (pattern : Reading) (paths : List (List ℕ)) (matches : List Match) : Type 0 where

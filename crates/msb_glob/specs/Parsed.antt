@@ -14,10 +14,10 @@ use Rattle.msb_glob.specs.declared.pieces.Piece.TheVariants.{AnyCharacters, AnyC
 use Rattle.msb_glob.specs.declared.parts.Part.{Part}
 use Rattle.msb_glob.specs.declared.parts.Part.TheVariants.{AnyFolders, Exact, Segment}
 
--- the fixed part as written, the number of segments that it leads to, and the parts of the whole
+-- the fixed part as written, what the paths below the folder that it leads to begin with, and the parts of the whole
 pub record Reading : Type 0 where
   pub fixed : List ℕ
-  pub taken : ℕ
+  pub folder : List ℕ
   pub parts : List Part
 
 abbrev pub is_star : ℕ → Bool
@@ -65,9 +65,13 @@ pieces_of segment = around_wildcards AnyCharacters AnyCharacter characters segme
 abbrev pub is_wildcard : ℕ → Bool
 is_wildcard byte = is_star byte || is_question byte
 
+-- an entry of a list is a pattern if it has a wildcard that is not escaped
+abbrev pub is_pattern : List ℕ → Bool
+is_pattern text = list_any is_wildcard text
+
 -- a segment without wildcards stands for itself
 abbrev pub part_of : List ℕ → Part
-part_of segment = if bytes_eq segment (codes "**") then AnyFolders else if list_any is_wildcard segment then Segment (pieces_of segment) else Exact (unescaped segment)
+part_of segment = if bytes_eq segment (codes "**") then AnyFolders else if is_pattern segment then Segment (pieces_of segment) else Exact (unescaped segment)
 
 abbrev pub is_folders : Option Part → Bool
 is_folders None = false
@@ -82,22 +86,27 @@ closed parts = if is_folders (slice_get parts (length parts - 1)) then parts ++ 
 abbrev pub parts_of : List ℕ → List Part
 parts_of path = closed (map part_of (slice_split is_slash path))
 
--- the folders ahead of the first segment with a wildcard, as written but with `/`
+-- the folders ahead of the first segment with a wildcard, as written
 abbrev pub fixed_text : List ℕ → List ℕ
 fixed_text text = relative_dir (before_first is_question (before_first is_star text))
 
+-- the text with `/` for each `\`
 abbrev pub with_slashes : List ℕ → List ℕ
 with_slashes text = map (λ byte. if is_backslash byte then 47 else byte) text
 
--- how many segments a text leads to
-abbrev pub segment_count : Result (List ℕ) PathFault → ℕ
-segment_count (Ok path) = length (slice_split is_slash path)
-segment_count (Err fault) = 0
+-- what the paths below a folder begin with, which is nothing for the root
+abbrev pub below : Result (List ℕ) PathFault → List ℕ
+below (Ok folder) = folder ++ 47 ∷ []
+below (Err fault) = []
+
+-- the folder that the fixed part leads to from the base
+abbrev pub fixed_folder : List ℕ → List ℕ → Result (List ℕ) PathFault
+fixed_folder base text = normalized base (unescaped (fixed_text text))
 
 abbrev pub reading_of : List ℕ → List ℕ → List ℕ → Reading
 reading_of base text path = record {
   fixed = with_slashes (fixed_text text);
-  taken = segment_count (normalized (escaped base) (literal (fixed_text text)));
+  folder = below (fixed_folder base text);
   parts = parts_of path;
 }
 

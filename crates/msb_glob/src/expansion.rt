@@ -1,11 +1,12 @@
-ghost use Rattle.std.specs.Prelude.{◌≡◌, ◌++◌, map, filter, IfOk, option_copied, IsPermutation, IsSorted};
-ghost use Rattle.std.specs.List.{flat_map};
+ghost use Rattle.std.specs.Prelude.{◌≡◌, ◌++◌, true, false, nat_eq, map, filter, length, drop, IfOk, MatchOption, option_copied, IsPermutation, IsSorted};
+ghost use Rattle.std.specs.List.{flat_map, starts_with};
 ghost use Rattle.std.specs.Ordering.{nat_cmp};
 ghost use Rattle.std.specs.Cmp.Lexicographic.{slice_cmp};
-ghost use Rattle.msb_glob.specs.Expanded.{Expands, is_match, behind, ident_of, folder_text, recursive_dir, match_of};
+ghost use Rattle.msb_glob.specs.Expanded.{Expands, is_match, ident_of, folder_text, recursive_dir, match_of};
 ghost use Rattle.msb_glob.specs.Match.{segment_token, segments_left};
 ghost use Rattle.msb_glob.specs.Front.{front_of};
 ghost use Rattle.msb_glob.specs.Tokens.{ahead_of, fits};
+ghost use Rattle.msb_values.specs.Escapes.{escaped};
 
 use crate::errors::OutOfMemory;
 use crate::parts::{Part, are_gaps, first_segment, fits_left};
@@ -17,7 +18,8 @@ use std::alloc::Global;
 /// A path that a pattern stands for.
 #[derive(Drop)]
 pub struct Match {
-    /// The pattern's fixed part as written, with `/`, and then the rest of the path, escaped.
+    /// The pattern's fixed part as written, with `/`, and then the rest of the path, escaped; or where the path doesn't
+    /// lie below the folder that the fixed part leads to, `/` and the whole path, escaped.
     pub ident: Word,
     /// The folders that the first `**` stands for, as few as it can, each with `/`, escaped.
     pub recursive: Word,
@@ -123,35 +125,35 @@ fn match_of(alloc: Global, pattern: &Pattern, path: &str) -> Result<Match, OutOf
     ensures { IfOk result (λ matching. matching ≡ match_of pattern.now path.now) }
 {
     Ok(Match {
-        ident: ident_of(alloc, pattern.fixed.as_str(), pattern.taken, path)?,
+        ident: ident_of(alloc, pattern, path)?,
         recursive: recursive_dir(alloc, pattern.parts.as_slice(), path)?,
     })
 }
 
-fn ident_of(alloc: Global, fixed: &str, taken: usize, path: &str) -> Result<Word, OutOfMemory>
-    ensures { IfOk result (λ ident. ident ≡ ident_of fixed.now taken path.now) }
+fn ident_of(alloc: Global, pattern: &Pattern, path: &str) -> Result<Word, OutOfMemory>
+    ensures { IfOk result (λ ident. ident ≡ ident_of pattern.now path.now) }
 {
-    let mut ident = Word::of(alloc, fixed)?;
-    let rest = escape(alloc, behind(path, taken))?;
-    ident.push_str(rest.as_str())?;
-    Ok(ident)
+    match behind(path, pattern.folder.as_str()) {
+        Some(rest) => with_escaped(alloc, pattern.fixed.as_str(), rest),
+        None => with_escaped(alloc, "/", path),
+    }
 }
 
-/// What a path has behind its first segments.
-fn behind(path: &str, taken: usize) -> &str
-    ensures { result.now ≡ behind taken path.now }
+/// What a path has behind a text that it may begin with.
+fn behind<'a>(path: &'a str, front: &str) -> Option<&'a str>
+    ensures { MatchOption result (starts_with nat_eq path.now front.now ≡ false)
+        (λ rest. (starts_with nat_eq path.now front.now ≡ true) × (rest.now ≡ drop (length front.now) path.now)) }
 {
-    let mut left = Some(path);
-    for _at in 0..taken {
-        match first_segment(left) {
-            Some((_, behind)) => left = behind,
-            None => return "",
-        }
-    }
-    match left {
-        Some(rest) => rest,
-        None => "",
-    }
+    path.strip_prefix(front)
+}
+
+fn with_escaped(alloc: Global, front: &str, rest: &str) -> Result<Word, OutOfMemory>
+    ensures { IfOk result (λ ident. ident ≡ front.now ++ escaped rest.now) }
+{
+    let mut ident = Word::of(alloc, front)?;
+    let rest = escape(alloc, rest)?;
+    ident.push_str(rest.as_str())?;
+    Ok(ident)
 }
 
 /// The folders that the first `**` stands for.

@@ -4,6 +4,7 @@
 //! folders. Characters match exactly.
 #![tactic(auto)]
 
+mod entries;
 mod errors;
 mod expansion;
 mod fixed;
@@ -14,10 +15,8 @@ mod reading;
 mod sorted;
 mod splits;
 
+pub use entries::{is_pattern, with_slashes};
 pub use errors::GlobFault;
 pub use expansion::{Match, expand, expand_in};
 pub use patterns::Pattern;
 pub use sorted::SortedPaths;
-
-#[cfg(test)]
-mod tests;

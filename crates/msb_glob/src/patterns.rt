@@ -6,19 +6,20 @@ ghost use Rattle.msb_glob.specs.Match.{fits_path};
 ghost use Rattle.msb_glob.specs.Parsed.{cleared, parsed};
 
 use crate::GlobFault;
-use crate::fixed::{fixed_text, segment_count, with_slashes};
+use crate::entries::with_slashes;
+use crate::fixed::{fixed_folder, fixed_text};
 use crate::parts::{Part, fits_path};
 use crate::reading::{cleared, has_stars_inside, parts_of};
 use msb_paths::{PathFault, Word, normalize};
-use msb_values::{List, escape};
+use msb_values::{List, Text, escape};
 use std::alloc::Global;
 use std::marker::Model;
 
 /// A pattern with wildcards, made normal on a base folder.
 #[derive(Drop)]
 pub struct Pattern {
-    pub(crate) fixed: Word,
-    pub(crate) taken: usize,
+    pub(crate) fixed: Text,
+    pub(crate) folder: Word,
     pub(crate) parts: List<Part>,
 }
 
@@ -27,7 +28,7 @@ impl Model for Pattern {
 
     ghost Value = { Reading };
 
-    ghost view = { λ p. record { fixed = p.fixed; taken = p.taken; parts = p.parts } };
+    ghost view = { λ p. record { fixed = p.fixed; folder = p.folder; parts = p.parts } };
 }
 
 impl Pattern {
@@ -42,10 +43,10 @@ impl Pattern {
             return Err(GlobFault::StarsInSegment);
         }
         let path = normal_pattern(alloc, base, text)?;
-        let folders = fixed_text(alloc, text)?;
+        let fixed = fixed_text(alloc, text)?;
         Ok(Pattern {
-            fixed: with_slashes(alloc, folders.as_str())?,
-            taken: segment_count(alloc, base, folders.as_str())?,
+            fixed: with_slashes(alloc, fixed.as_str())?,
+            folder: fixed_folder(alloc, base, fixed.as_str())?,
             parts: parts_of(alloc, path.as_str())?,
         })
     }

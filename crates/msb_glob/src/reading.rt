@@ -2,9 +2,10 @@ ghost use Rattle.std.specs.Prelude.{◌≡◌, ◌++◌, false, map, IfOk};
 ghost use Rattle.std.specs.List.{slice_split, list_any};
 ghost use Rattle.std.specs.Str.{chars};
 ghost use Rattle.msb_paths.specs.Segments.{is_backslash, segments};
-ghost use Rattle.msb_glob.specs.Parsed.{around_questions, literal, cleared, doubles_star, has_stars_inside, characters, pieces_of, part_of, is_wildcard, closed, parts_of};
+ghost use Rattle.msb_glob.specs.Parsed.{around_questions, literal, cleared, doubles_star, has_stars_inside, characters, pieces_of, part_of, closed, parts_of};
 ghost use Rattle.msb_glob.specs.declared.pieces.Piece.TheVariants.{AnyCharacter, Character};
 
+use crate::entries::is_pattern;
 use crate::errors::OutOfMemory;
 use crate::parts::{Part, first_segment};
 use crate::pieces::Piece;
@@ -49,7 +50,7 @@ fn push_literal(alloc: Global, whole: &mut Word, text: &str) -> Result<(), OutOf
 }
 
 /// The text with its escapes undone, and what is special escaped anew.
-pub(crate) fn literal(alloc: Global, text: &str) -> Result<Text, OutOfMemory>
+fn literal(alloc: Global, text: &str) -> Result<Text, OutOfMemory>
     ensures { IfOk result (λ t. t ≡ literal text.now) }
 {
     let plain = unescape(alloc, text)?;
@@ -125,19 +126,10 @@ fn part_of(alloc: Global, segment: &str) -> Result<Part, OutOfMemory>
     if segment == "**" {
         return Ok(Part::AnyFolders);
     }
-    if has_wildcards(segment) {
+    if is_pattern(segment) {
         return Ok(Part::Segment(pieces_of(alloc, segment)?));
     }
     Ok(Part::Exact(unescape(alloc, segment)?))
-}
-
-fn has_wildcards(segment: &str) -> bool
-    ensures { result ≡ list_any is_wildcard segment.now }
-{
-    segment
-        .as_bytes()
-        .iter()
-        .any(|byte| *byte == b'*' || *byte == b'?')
 }
 
 fn pieces_of(alloc: Global, segment: &str) -> Result<List<Piece>, OutOfMemory>

@@ -2,7 +2,7 @@ use Rattle.std.proofs.Common.{◌++◌, ap, sym, ◌∙◌, rules}
 use Rattle.msb_paths.specs.Segments.{is_backslash}
 use Rattle.msb_glob.specs.Parsed.{with_slashes}
 use Rattle.msb_glob.proofs.Segments.{read_on, read_last, with_slashes_is}
-use Rattle.msb_glob.proofs.fixed.with_slashes.Goals as goal
+use Rattle.msb_glob.proofs.entries.with_slashes.Goals as goal
 
 pub loop-part-preserved : goal.loop-part-preserved
 loop-part-preserved c = record {
