@@ -6,3 +6,6 @@ pub mod Commits
 pub mod FirstFaults
 pub mod Loaded
 pub mod Puts
+pub mod Places
+pub mod AsListed
+pub mod FaultKinds

@@ -34,14 +34,14 @@ order_at path f = slice_cmp nat_cmp f.path path
 pub searchable : (path : List ℕ) (fs : List File) → are_in_order fs ≡ true → IsNonDecreasingBy (λ f. ordering_index (order_at path f)) fs
 searchable path fs h = searchable_from_sorted nat_list_cmp_total (λ f. f.path) fs path (λ k d low w. ap is_lt (greater (get_or fs k d).path (get_or fs (k + 1) d).path (before_later fs k (k + 1) d h (omega arith) w)))
 
-same : (path : List ℕ) (f : File) → order_at path f ≡ Equal → path ≡ f.path
+pub same : (path : List ℕ) (f : File) → order_at path f ≡ Equal → path ≡ f.path
 same path f e = sym ((bytes_eq-Decides f.path path).0 (sym (is_eq-slice_cmp f.path path) ∙ ap is_eq e))
 
 -- the file that a search by halves has met
 pub met : (path : List ℕ) (fs : List File) (i : ℕ) (f : File) → are_in_order fs ≡ true → i < length fs → f ≡ get_or fs i f → ((d : File) → order_at path (get_or fs i d) ≡ Equal) → Some f ≡ file_at path fs
 met path fs i f h w is equal = sym (ap (λ p. file_at p fs) (same path (get_or fs i f) (equal f)) ∙ found fs i f h w ∙ ap Some (sym is))
 
-below_or_not : (k i : ℕ) → (k < i) ⊎ (i ≤ k)
+pub below_or_not : (k i : ℕ) → (k < i) ⊎ (i ≤ k)
 below_or_not k zero = inr (omega arith)
 below_or_not zero (suc i) = inl (omega arith)
 below_or_not (suc k) (suc i) = elim (below_or_not k i) [ inl b ↦ inl (omega arith) | inr b ↦ inr (omega arith) ]

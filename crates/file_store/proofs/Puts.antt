@@ -142,9 +142,8 @@ put_in-IsWritten path bytes stamp fs newest = record {
   others = file_at-put_in_other path bytes stamp fs;
 }
 
--- the same, where a call was given the files under other names
-pub written : (path bytes : List ℕ) (stamp : ℕ) (old seen new : List File) → seen ≡ old → All (λ f. f.stamp < stamp) seen → new ≡ put_in path bytes stamp seen → IsWritten path bytes old new
-written path bytes stamp old seen new same newest is = rw (is, same) (put_in-IsWritten path bytes stamp old (rw same at newest))
-
-pub written-ordered : (path bytes : List ℕ) (stamp : ℕ) (old new : List File) → are_in_order old ≡ true → new ≡ put_in path bytes stamp old → are_in_order new ≡ true
-written-ordered path bytes stamp old new h is = ap are_in_order is ∙ put_in-ordered path bytes stamp old h
+-- the same, where a call was given the path, the bytes and the files under other names
+pub written : (path bytes p b : List ℕ) (stamp : ℕ) (old mid seen new : List File) → mid ≡ old → seen ≡ mid → All (λ f. f.stamp < stamp) seen → p ≡ path → b ≡ bytes
+    → new ≡ put_in p b stamp mid → IsWritten path bytes old new
+written path bytes p b stamp old mid seen new same shown newest there given is =
+    rw (is, there, given, same) (put_in-IsWritten path bytes stamp old (rw (shown, same) at newest))

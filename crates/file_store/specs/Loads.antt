@@ -1,6 +1,7 @@
 -- What a load answers.
-use Rattle.std.specs.Prelude.{◌≡◌, ℕ, true, List, Contains, Option, Some, None, IfSome, IsSome}
+use Rattle.std.specs.Prelude.{◌≡◌, ◌≤◌, ℕ, true, List, [], ◌∷◌, length, Contains, Option, Some, None, IfSome, IsSome}
 use Rattle.msb_laws.specs.Faults.{Rose}
+use Rattle.file_store.specs.Failed.{Failures}
 use Rattle.file_store.specs.Files.{file_at}
 use Rattle.file_store.specs.Entries.{entries_of, paths_in, are_listed_in_order}
 use Rattle.file_store.specs.Limits.{limit_fault}
@@ -18,6 +19,13 @@ OfListing (Some files) P = P (entries_of files)
 pub record IsLoaded (paths : List (List ℕ)) (listing : List Entry) : Type 0 where
   pub within : limit_fault listing ≡ None
   pub paths_are : paths ≡ paths_in listing
+
+-- files that were read by the entries of a listing: each has the path of its entry, and at most its size
+abbrev pub AreAsListed : List Entry → List File → Type 0
+AreAsListed [] [] = Unit {0}
+AreAsListed [] (f ∷ fs) = ⊥
+AreAsListed (e ∷ es) [] = ⊥
+AreAsListed (e ∷ es) (f ∷ fs) = (f.path ≡ e.path) × (length f.bytes ≤ e.size) × AreAsListed es fs
 
 -- the listing is within the limits, and has a file at the path
 pub record IsLoading (path : List ℕ) (listing : List Entry) : Type 0 where
@@ -38,6 +46,16 @@ IsCaused before now tree (Bytes total) = OfListing tree (IsPast (Bytes total))
 IsCaused before now tree (Large path) = OfListing tree (IsPast (Large path))
 IsCaused before now tree (BadPath path) = OfListing tree (IsPast (BadPath path))
 IsCaused before now tree Memory = Unit {0}
+
+-- What a load tells as the cause has failed: a listing, or the read of the path.
+abbrev pub IsOfKind : Failures → Failures → LoadFault → Type 0
+IsOfKind before now Listing = Rose before.listings now.listings
+IsOfKind before now (Reading path) = Rose (before.reads path) (now.reads path)
+IsOfKind before now (Files number) = Unit {0}
+IsOfKind before now (Bytes total) = Unit {0}
+IsOfKind before now (Large path) = Unit {0}
+IsOfKind before now (BadPath path) = Unit {0}
+IsOfKind before now Memory = Unit {0}
 
 -- the store's count has risen in the read of a path with P
 abbrev pub IsReadCaused : ℕ → ℕ → (List ℕ → Type 0) → LoadFault → Type 0

@@ -1,5 +1,6 @@
 -- What a store in memory does at a call.
 use Rattle.std.specs.Prelude.{◌≡◌, ◌+◌, ◌-◌, ◌^◌, ◌⊎◌, ℕ, min, List, Contains, Any, Bool, if◌then◌else◌}
+use Rattle.file_store.specs.Failed.{Failures, counted}
 use Rattle.file_store.specs.declared.tree.File.{File}
 use Rattle.file_store.specs.declared.memory.MemStore.{MemStore}
 
@@ -7,12 +8,17 @@ use Rattle.file_store.specs.declared.memory.MemStore.{MemStore}
 abbrev pub files_in : MemStore → List File
 files_in store = store.tree.files
 
+abbrev pub failures_of : MemStore → Failures
+failures_of store = counted store.failed_listings store.failed_reads
+
 -- it holds these files, no call has come, and these are to fail
 pub record IsNewStore (tree : List File) (to_fail : List ℕ) (store : MemStore) : Type 0 where
   pub files : files_in store ≡ tree
   pub fail : store.fail.items ≡ to_fail
   pub calls : store.calls ≡ 0
   pub faults : store.faults ≡ 0
+  pub listings : store.failed_listings ≡ 0
+  pub reads : store.failed_reads ≡ 0
 
 -- the next call is one of those that are to fail
 abbrev pub IsToFail : MemStore → Type 0

@@ -1,5 +1,5 @@
 -- What a write makes of a tree.
-use Rattle.std.specs.Prelude.{◌≡◌, ◌≢◌, ◌<◌, ◌⊎◌, ◌==◌, ℕ, List, ◌∷◌, ◌++◌, IfSome, IsSomeAnd, Bool}
+use Rattle.std.specs.Prelude.{◌≡◌, ◌≢◌, ◌<◌, ◌≤◌, ◌⊎◌, ◌==◌, ℕ, List, ◌∷◌, ◌++◌, length, take, drop, IfSome, IsSomeAnd, Bool}
 use Rattle.std.specs.List.{filter}
 use Rattle.std.specs.declared.cmp.Ordering.{Ordering}
 use Rattle.std.specs.declared.cmp.Ordering.TheVariants.{Less, Greater}
@@ -34,3 +34,9 @@ is_at_side path side f = ordering_index (slice_cmp nat_cmp f.path path) == order
 -- the files before a path, a new file there, and the files after it
 abbrev pub put_in : List ℕ → List ℕ → ℕ → List File → List File
 put_in path bytes stamp files = filter (is_at_side path Less) files ++ record { path = path; bytes = bytes; stamp = stamp } ∷ filter (is_at_side path Greater) files
+
+-- the files before place i stand before the path, those from i up to j have it, and those from j on stand after it
+pub record IsPlace (path : List ℕ) (files : List File) (i j : ℕ) : Type 0 where
+  pub front : take i files ≡ filter (is_at_side path Less) files
+  pub back : drop j files ≡ filter (is_at_side path Greater) files
+  pub within : j ≤ length files

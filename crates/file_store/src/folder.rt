@@ -1,6 +1,7 @@
-ghost use Rattle.std.specs.Prelude.{◌≡◌, ◌<ℤ◌, ◌+◌, ◌-◌, ◌*◌, ◌^◌, ◌≤◌, ℕ, pos, min, None, IfOk, true};
+ghost use Rattle.std.specs.Prelude.{◌≡◌, ◌<ℤ◌, ◌+◌, ◌-◌, ◌*◌, ◌^◌, ◌≤◌, ℕ, pos, min, length, None, IfOk, true};
 ghost use Rattle.msb_laws.specs.Faults.{Rose};
 ghost use Rattle.file_store.specs.Entries.{are_listed_in_order};
+ghost use Rattle.file_store.specs.Failed.{counted};
 
 use crate::{Entry, Store, StoreError};
 use msb_values::{Copied, List, NoMemory, Text, Text8};
@@ -20,17 +21,21 @@ pub struct DirStore<'a, R: Files> {
     rt: &'a R,
     folder: Text,
     faults: u64,
+    failed_listings: u64,
+    failed_reads: u64,
 }
 
 impl<'a, R: Files> DirStore<'a, R> {
     /// The store of a folder, which is given by its path from the working folder.
     pub fn new(rt: &'a R, alloc: Global, folder: &str) -> Result<DirStore<'a, R>, NoMemory>
-        ensures { IfOk result (λ s. (s.folder ≡ folder.now) × (s.faults ≡ 0)) }
+        ensures { IfOk result (λ s. (s.folder ≡ folder.now) × (s.faults ≡ 0) × (s.failed_listings ≡ 0) × (s.failed_reads ≡ 0)) }
     {
         Ok(DirStore {
             rt,
             folder: Text::of(alloc, folder)?,
             faults: 0,
+            failed_listings: 0,
+            failed_reads: 0,
         })
     }
 
@@ -38,6 +43,8 @@ impl<'a, R: Files> DirStore<'a, R> {
     fn fault(&mut self, error: io::Error) -> StoreError
         ensures later { self.old.faults ≤ self.new.faults }
         ensures rose { result ≡ StoreError.Failed → Rose self.old.faults self.new.faults }
+        ensures listings { self.new.failed_listings ≡ self.old.failed_listings }
+        ensures reads { self.new.failed_reads ≡ self.old.failed_reads }
     {
         if error.kind() == ErrorKind::OutOfMemory {
             return StoreError::Memory;
@@ -52,20 +59,35 @@ impl<'a, R: Files> Store for DirStore<'a, R> {
 
     ghost fault_count = { λ s. s.faults };
 
+    /// All its reads count as reads of a path.
+    ghost failures = { λ s. counted s.failed_listings s.failed_reads };
+
     ghost told_in_order = { λ _. tt };
 
     /// A name that is no UTF-8 fails the listing.
     fn list(&mut self, alloc: Global) -> Result<List<Entry>, StoreError> {
         match list_folder(&(self.rt, alloc), self.folder.as_str()) {
             Ok(found) => Ok(entries_of(alloc, &found)?),
-            Err(error) => Err(self.fault(error)),
+            Err(error) => {
+                let fault = self.fault(error);
+                if fault == StoreError::Failed {
+                    self.failed_listings = self.failed_listings.saturating_add(1);
+                }
+                Err(fault)
+            }
         }
     }
 
     fn read(&mut self, alloc: Global, path: &str, most: u64) -> Result<Text8, StoreError> {
         match read_file(&(self.rt, alloc), self.folder.as_str(), path, most) {
             Ok(bytes) => Ok(Text8::from(bytes)),
-            Err(error) => Err(self.fault(error)),
+            Err(error) => {
+                let fault = self.fault(error);
+                if fault == StoreError::Failed {
+                    self.failed_reads = self.failed_reads.saturating_add(1);
+                }
+                Err(fault)
+            }
         }
     }
 
@@ -98,11 +120,14 @@ fn read_file<R: Files>(
     folder: &str,
     path: &str,
     most: u64,
-) -> io::Result<Vec<u8>> {
+) -> io::Result<Vec<u8>>
+    ensures { IfOk result (λ bytes. length bytes.items ≤ most) }
+{
     let whole = joined(rt.alloc(), folder, path)?;
     let file = fs::open(rt, whole.as_str())?;
     let mut bytes = Vec::new(rt.alloc());
     file.take(most).read_to_end(&mut bytes)?;
+    bytes.truncate(most as usize);
     Ok(bytes)
 }
 

@@ -25,6 +25,3 @@ pub use output::OutSink;
 pub use sink::{Sink, SinkError};
 pub use store::{Entry, Store, StoreError};
 pub use tree::{File, Tree};
-
-#[cfg(test)]
-mod tests;

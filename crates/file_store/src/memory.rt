@@ -1,17 +1,16 @@
-ghost use Rattle.std.specs.Prelude.{◌≡◌, ◌↔◌, Some, Ok, Err, IfOk, OnOk, OnErr, take, ◌++◌, ◌<◌, ◌≤◌, ◌-◌, ◌^◌, true, IsTrue, IfSome};
-ghost use Rattle.std.specs.List.{filter, All, Any};
+ghost use Rattle.std.specs.Prelude.{◌≡◌, ◌↔◌, Some, Ok, Err, IfOk, OnOk, OnErr, length, take, ◌<◌, ◌≤◌, ◌-◌, ◌^◌, true, IsTrue, IfSome};
+ghost use Rattle.std.specs.List.{All, Any};
 ghost use Rattle.std.specs.Option.{IfNone};
 ghost use Rattle.msb_laws.specs.Faults.{HasCause};
 ghost use Rattle.file_store.specs.Files.{bytes_at};
 ghost use Rattle.file_store.specs.Entries.{entries_of, are_listed_in_order};
-ghost use Rattle.file_store.specs.Writes.{IsWritten, put_in, is_at_side};
-ghost use Rattle.file_store.specs.Failed.{has_failed};
+ghost use Rattle.file_store.specs.Writes.{IsWritten};
+ghost use Rattle.file_store.specs.Failed.{has_failed, CountsListing, CountsRead, CountsNeither};
 ghost use Rattle.file_store.specs.declared.store.StoreError.TheVariants.{Failed};
 
 use crate::{Entry, File, Store, StoreError, Tree};
 use msb_values::{Copied, List, NoMemory, Text, Text8};
 use std::alloc::Global;
-use std::cmp::Ordering;
 
 /// A store in memory, which tells its files.
 ///
@@ -22,6 +21,8 @@ pub struct MemStore {
     fail: Vec<u64>,
     calls: u64,
     faults: u64,
+    failed_listings: u64,
+    failed_reads: u64,
 }
 
 impl MemStore {
@@ -36,6 +37,8 @@ impl MemStore {
             fail,
             calls: 0,
             faults: 0,
+            failed_listings: 0,
+            failed_reads: 0,
         })
     }
 
@@ -44,6 +47,8 @@ impl MemStore {
         ensures exact { IsTrue result ↔ IsToFail self.old }
         ensures tree { files_in self.new ≡ files_in self.old }
         ensures counts { Counts result self.old self.new }
+        ensures listings { self.new.failed_listings ≡ self.old.failed_listings }
+        ensures reads { self.new.failed_reads ≡ self.old.failed_reads }
         ensures later { self.old.faults ≤ self.new.faults }
     {
         let call = self.calls;
@@ -64,11 +69,13 @@ impl MemStore {
 }
 
 impl Store for MemStore {
-    ghost use Rattle.file_store.specs.Memory.{files_in, IsToFail, IsNoWrite, Counts};
+    ghost use Rattle.file_store.specs.Memory.{files_in, failures_of, IsToFail, IsNoWrite, Counts};
 
     ghost tree = { λ s. Some (files_in s) };
 
     ghost fault_count = { λ s. s.faults };
+
+    ghost failures = { failures_of };
 
     ghost told_in_order = { λ s. s.tree.in_order };
 
@@ -78,10 +85,12 @@ impl Store for MemStore {
         ensures all { IfOk result (λ l. l ≡ entries_of (files_in self.old)) }
         ensures kept { files_in self.new ≡ files_in self.old }
         ensures cause { HasCause Failed self.old.faults self.new.faults result }
+        ensures kind { CountsListing (failures_of self.old) (failures_of self.new) result }
         ensures failed { (result ≡ Err Failed) ↔ IsToFail self.old }
         ensures counts { Counts (has_failed result) self.old self.new }
     {
         if self.is_failing() {
+            self.failed_listings = self.failed_listings.saturating_add(1);
             return Err(StoreError::Failed);
         }
         Ok(entries(alloc, self.tree.files.as_slice())?)
@@ -89,13 +98,16 @@ impl Store for MemStore {
 
     /// It fails exactly at the chosen numbers. A path without a file has no bytes.
     fn read(&mut self, alloc: Global, path: &str, most: u64) -> Result<Text8, StoreError>
+        ensures most { IfOk result (λ b. length b ≤ most) }
         ensures front { IfOk result (λ b. b ≡ take most (bytes_at path.now (files_in self.old))) }
         ensures kept { files_in self.new ≡ files_in self.old }
         ensures cause { HasCause Failed self.old.faults self.new.faults result }
+        ensures kind { CountsRead path.now (failures_of self.old) (failures_of self.new) result }
         ensures failed { (result ≡ Err Failed) ↔ IsToFail self.old }
         ensures counts { Counts (has_failed result) self.old self.new }
     {
         if self.is_failing() {
+            self.failed_reads = self.failed_reads.saturating_add(1);
             return Err(StoreError::Failed);
         }
         Ok(front(alloc, &self.tree, path, most)?)
@@ -106,18 +118,18 @@ impl Store for MemStore {
         ensures written { OnOk result (IsWritten path.now bytes.now (files_in self.old) (files_in self.new)) }
         ensures stopped { OnErr result (files_in self.new ≡ files_in self.old) }
         ensures cause { HasCause Failed self.old.faults self.new.faults result }
+        ensures kind { CountsNeither (failures_of self.old) (failures_of self.new) }
         ensures failed { (result ≡ Err Failed) ↔ IsNoWrite self.old }
         ensures counts { Counts (has_failed result) self.old self.new }
     {
         if self.is_failing() {
             return Err(StoreError::Failed);
         }
-        let files = self.tree.files.as_slice();
-        match next_stamp(files) {
+        match next_stamp(self.tree.files.as_slice()) {
             Some(stamp) => {
-                let files = with_file(alloc, files, path, bytes, stamp)?;
-                self.tree = Tree { files };
-                Ok(())
+                let path = Text::of(alloc, path)?;
+                let bytes = Text8::of(alloc, bytes)?;
+                Ok(self.tree.put(alloc, File { path, bytes, stamp })?)
             }
             None => {
                 self.faults = self.faults.saturating_add(1);
@@ -170,42 +182,4 @@ fn next_stamp(files: &[File]) -> Option<u64>
         }
     }
     Some(next)
-}
-
-// The files with these bytes at a path.
-fn with_file(
-    alloc: Global,
-    files: &[File],
-    path: &str,
-    bytes: &[u8],
-    stamp: u64,
-) -> Result<List<File>, NoMemory>
-    ensures { IfOk result (λ l. l ≡ put_in path.now bytes.now stamp files.now) }
-{
-    let mut all = List::new(alloc);
-    add_copies(&mut all, files, path, Ordering::Less)?;
-    all.push(File {
-        path: Text::of(alloc, path)?,
-        bytes: Text8::of(alloc, bytes)?,
-        stamp,
-    })?;
-    add_copies(&mut all, files, path, Ordering::Greater)?;
-    Ok(all)
-}
-
-// Adds a copy of each file whose path stands before the given one, or after it.
-fn add_copies(
-    all: &mut List<File>,
-    files: &[File],
-    path: &str,
-    side: Ordering,
-) -> Result<(), NoMemory>
-    ensures { OnOk result (all.new ≡ all.old ++ filter (is_at_side path.now side) files.now) }
-{
-    for file in files {
-        if file.path.as_str().cmp(path) == side {
-            all.push(file.copy()?)?;
-        }
-    }
-    Ok(())
 }

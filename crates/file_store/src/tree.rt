@@ -1,7 +1,10 @@
-ghost use Rattle.std.specs.Prelude.{◌≡◌, ◌↔◌, option_copied, IsSome, IfSome, IfOk, OnOk, true};
+ghost use Rattle.std.specs.Prelude.{◌≡◌, ◌↔◌, ◌+◌, option_copied, IsSome, IfSome, IfOk, IfErr, OnOk, OnErr, true};
 ghost use Rattle.file_store.specs.Files.{are_in_order, file_at};
+ghost use Rattle.file_store.specs.Writes.{put_in, IsPlace};
 
 use msb_values::{Copied, List, NoMemory, Text, Text8};
+use std::alloc::Global;
+use std::mem;
 
 /// A file: its path from the root of the store, its bytes, and the time of its last change in a unit of the store.
 #[derive(Drop)]
@@ -52,12 +55,51 @@ impl Tree {
     }
 }
 
+impl Tree {
+    // Puts a file at its path, in place of the one that may be there. Want of memory leaves the tree as it was.
+    pub(crate) fn put(&mut self, alloc: Global, file: File) -> Result<(), NoMemory>
+        ensures ok { OnOk result (self.new.files ≡ put_in file.path file.bytes file.stamp self.old.files) }
+        ensures err { OnErr result (self.new.files ≡ self.old.files) }
+    {
+        let none = Tree {
+            files: List::new(alloc),
+        };
+        let mut files = mem::replace(self, none).files.into_vec();
+        let done = put_at_place(&mut files, file);
+        *self = Tree {
+            files: List::from(files),
+        };
+        done
+    }
+}
+
 impl Copied for Tree {
     fn copy(&self) -> Result<Tree, NoMemory> {
         Ok(Tree {
             files: self.files.copy()?,
         })
     }
+}
+
+fn put_at_place(files: &mut Vec<File>, file: File) -> Result<(), NoMemory>
+    requires { are_in_order files.old.items ≡ true }
+    ensures ok { OnOk result (files.new.items ≡ put_in file.path file.bytes file.stamp files.old.items) }
+    ensures err { OnErr result (files.new.items ≡ files.old.items) }
+{
+    match place_of(files, file.path.as_str()) {
+        Ok(at) => files[at] = file,
+        Err(at) => files.insert(at, file)?,
+    }
+    Ok(())
+}
+
+// The place of the file at a path, or the place where one would stand.
+fn place_of(files: &[File], path: &str) -> Result<usize, usize>
+    requires { are_in_order files.now ≡ true }
+    ensures there { IfOk result (λ at. IsPlace path.now files.now at (at + 1)) }
+    ensures missing { IfErr result (λ at. IsPlace path.now files.now at at) }
+{
+    files.binary_search_by(|file| file.path.as_str().cmp(path))
 }
 
 fn is_in_order(files: &[File]) -> bool
