@@ -4,7 +4,7 @@ use Rattle.std.specs.List.{slice_split, All}
 use Rattle.std.proofs.lemmas.Bool.{eqb-true}
 use Rattle.std.proofs.lemmas.List.Elements.{All-nil, All-cons}
 use Rattle.std.proofs.lemmas.List.Splits.{slice_split_at, slice_split_none, length-slice_split}
-use Rattle.msb_values.specs.declared.item.Item.{Item}
+use Rattle.msb_expand.specs.declared.entry.Entry.{Entry}
 use Rattle.msb_expand.specs.declared.faults.ExpandFault.{ExpandFault}
 use Rattle.msb_laws.specs.Results.{and_then, map_ok}
 use Rattle.msb_expand.specs.Values.{Reading, reading, begun, closed, with_text, with_next, with_pieces}
@@ -16,7 +16,7 @@ pieces_of text = slice_split (λ b. b == 59) text
 abbrev pub opened : Reading → Result Reading ExpandFault
 opened r = map_ok (λ whole. reading whole (begun [])) (closed r)
 
-after_cut : (piece : List ℕ) (pieces : List (List ℕ)) (whole : Result (List Item) ExpandFault)
+after_cut : (piece : List ℕ) (pieces : List (List ℕ)) (whole : Result (List Entry) ExpandFault)
     → and_then (map_ok (λ w. reading w (begun piece)) whole) (λ s. with_next s pieces)
     ≡ and_then (map_ok (λ w. reading w (begun [])) whole) (λ s. with_pieces s (piece ∷ pieces))
 after_cut piece pieces (Ok whole) = refl

@@ -7,7 +7,7 @@ use Rattle.msb_expand.specs.declared.faults.ExpandFault.{ExpandFault}
 use Rattle.msb_laws.specs.Results.{and_then}
 use Rattle.msb_expand.specs.Scenes.{Scene}
 use Rattle.msb_expand.specs.Tokens.{Token, part_tokens}
-use Rattle.msb_expand.specs.Values.{Reading, reading, begun, closed, with_token, read_on, list_value}
+use Rattle.msb_expand.specs.Values.{Reading, reading, begun, closed, with_token, read_on, entries_value}
 use Rattle.msb_expand.specs.Entries.{with_tokens}
 
 abbrev Read : Type 0
@@ -42,17 +42,17 @@ pub read_on-ends : (scene : Scene) (tokens : List Token) (r : Reading) → read_
 read_on-ends scene [] r = refl
 read_on-ends scene (token ∷ tokens) r = ends_after scene tokens (read_on-ends scene tokens) (with_token scene r token)
 
-list_from : (scene : Scene) (parts given : List Part) (r : Reading) → given ≡ parts → r ≡ reading [] (begun [])
-    → list_value scene parts ≡ and_then (with_tokens scene r (flat_map (part_tokens scene) given)) closed
-list_from scene parts given r parts_are begins =
+entries_from : (scene : Scene) (parts given : List Part) (r : Reading) → given ≡ parts → r ≡ reading [] (begun [])
+    → entries_value scene parts ≡ and_then (with_tokens scene r (flat_map (part_tokens scene) given)) closed
+entries_from scene parts given r parts_are begins =
     read_on-ends scene (flat_map (part_tokens scene) parts) (reading [] (begun []))
     ∙ ap (λ s. and_then (with_tokens scene s (flat_map (part_tokens scene) parts)) closed) (sym begins)
     ∙ ap (λ ps. and_then (with_tokens scene r (flat_map (part_tokens scene) ps)) closed) (sym parts_are)
 
-pub list_stops : (scene : Scene) (parts given : List Part) (r : Reading) (f : ExpandFault) → given ≡ parts → r ≡ reading [] (begun [])
-    → with_tokens scene r (flat_map (part_tokens scene) given) ≡ Err f → list_value scene parts ≡ Err f
-list_stops scene parts given r f parts_are begins is = list_from scene parts given r parts_are begins ∙ ap (λ x. and_then x closed) is
+pub entries_stop : (scene : Scene) (parts given : List Part) (r : Reading) (f : ExpandFault) → given ≡ parts → r ≡ reading [] (begun [])
+    → with_tokens scene r (flat_map (part_tokens scene) given) ≡ Err f → entries_value scene parts ≡ Err f
+entries_stop scene parts given r f parts_are begins is = entries_from scene parts given r parts_are begins ∙ ap (λ x. and_then x closed) is
 
-pub list_ends : (scene : Scene) (parts given : List Part) (r s : Reading) → given ≡ parts → r ≡ reading [] (begun [])
-    → with_tokens scene r (flat_map (part_tokens scene) given) ≡ Ok s → list_value scene parts ≡ closed s
-list_ends scene parts given r s parts_are begins is = list_from scene parts given r parts_are begins ∙ ap (λ x. and_then x closed) is
+pub entries_end : (scene : Scene) (parts given : List Part) (r s : Reading) → given ≡ parts → r ≡ reading [] (begun [])
+    → with_tokens scene r (flat_map (part_tokens scene) given) ≡ Ok s → entries_value scene parts ≡ closed s
+entries_end scene parts given r s parts_are begins is = entries_from scene parts given r parts_are begins ∙ ap (λ x. and_then x closed) is

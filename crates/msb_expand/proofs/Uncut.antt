@@ -5,12 +5,12 @@ use Rattle.std.proofs.lemmas.Bool.{eqb-true, ltb-true, lt-ltb}
 use Rattle.std.proofs.lemmas.Bool.Decides.{nat_tests}
 use Rattle.std.proofs.lemmas.List.Concat.{flat_map-cons}
 use Rattle.std.proofs.lemmas.List.Sums.{sum_by-append, sum-map}
-use Rattle.msb_values.specs.declared.item.Item.{Item}
+use Rattle.msb_expand.specs.declared.entry.Entry.{Entry}
 use Rattle.msb_expand.specs.declared.faults.ExpandFault.{ExpandFault}
 use Rattle.msb_expand.specs.declared.faults.ExpandFault.TheVariants.{TooLong}
 use Rattle.msb_expand.specs.Functions.{plain_item}
 use Rattle.msb_expand.specs.Limits.{limit, if_short}
-use Rattle.msb_expand.specs.Values.{given, entry_items, size_of, if_small, uncut_byte, one_item}
+use Rattle.msb_expand.specs.Values.{given, entries_in, size_of, if_small, uncut_byte, one_item}
 
 other_byte : (b : ℕ) → b ≢ 59 → (t : Bool) → eqb b 59 ≡ t → uncut_byte b ≡ b ∷ []
 other_byte b differs true e = absurd (differs (eqb-true b 59 e))
@@ -59,9 +59,9 @@ uncut_length (b ∷ bs) =
     let e = ap length (flat_map-cons uncut_byte b bs) ∙ length-append (uncut_byte b) (flat_map uncut_byte bs) in
     omega (arith, e, some_byte b (eqb b 59), uncut_length bs)
 
-size_of-append : (xs ys : List Item) → size_of (xs ++ ys) ≡ size_of xs + size_of ys
+size_of-append : (xs ys : List Entry) → size_of (xs ++ ys) ≡ size_of xs + size_of ys
 size_of-append xs ys =
-    let size : Item → ℕ = λ item. length item.ident + 1 in
+    let size : Entry → ℕ = λ entry. length entry.item.ident + 1 in
     sum-map size (xs ++ ys) ∙ sum_by-append size xs ys ∙ sym (ap (λ n. n + size_of ys) (sum-map size xs) ∙ ap (λ n. sum_by size xs + n) (sum-map size ys))
 
 one_size : (n : ℕ) → sum (n ∷ []) ≡ n
@@ -71,25 +71,25 @@ not_empty : (b : ℕ) (bs : List ℕ) → eqb (length (b ∷ bs)) 0 ≡ false
 not_empty b bs = grind (arith, nat_tests)
 
 -- an item of a text that has bytes is kept
-kept_size : (bs : List ℕ) → 0 < length bs → size_of (entry_items (given (plain_item bs ∷ []))) ≡ length bs + 1
+kept_size : (bs : List ℕ) → 0 < length bs → size_of (entries_in (given (plain_item bs ∷ []))) ≡ length bs + 1
 kept_size [] some = absurd (omega arith)
 kept_size (b ∷ bs) some = rw (not_empty b bs) (one_size (length (b ∷ bs) + 1))
 
-joined_size : (whole : List Item) (text : List ℕ) → limit < length text → limit < size_of (whole ++ entry_items (given (one_item text)))
+joined_size : (whole : List Entry) (text : List ℕ) → limit < length text → limit < size_of (whole ++ entries_in (given (one_item text)))
 joined_size whole text long =
     let longer = uncut_length text in
     let kept = kept_size (flat_map uncut_byte text) (omega (arith, longer, long)) in
-    omega (arith, size_of-append whole (entry_items (given (one_item text))), kept, longer, long)
+    omega (arith, size_of-append whole (entries_in (given (one_item text))), kept, longer, long)
 
-too_long_at : (whole : List Item) (text : List ℕ) (f : ExpandFault) (t : Bool) → ltb limit (length text) ≡ t
-    → cond t (Err TooLong) (Ok text) ≡ Err f → if_small (whole ++ entry_items (given (one_item text))) ≡ Err f
+too_long_at : (whole : List Entry) (text : List ℕ) (f : ExpandFault) (t : Bool) → ltb limit (length text) ≡ t
+    → cond t (Err TooLong) (Ok text) ≡ Err f → if_small (whole ++ entries_in (given (one_item text))) ≡ Err f
 too_long_at whole text f true long is =
-    let size = size_of (whole ++ entry_items (given (one_item text))) in
-    ap (λ t. cond t (Err TooLong) (Ok (whole ++ entry_items (given (one_item text))))) (lt-ltb limit size (joined_size whole text (ltb-true limit (length text) long))) ∙ cc
+    let size = size_of (whole ++ entries_in (given (one_item text))) in
+    ap (λ t. cond t (Err TooLong) (Ok (whole ++ entries_in (given (one_item text))))) (lt-ltb limit size (joined_size whole text (ltb-true limit (length text) long))) ∙ cc
 too_long_at whole text f false long is = cc
 
 -- joined identities that are too long are no item
-pub joined_too_long : (whole : List Item) (none text : List ℕ) (f : ExpandFault) → none ≡ []
-    → if_short (none ++ text) ≡ Err f → if_small (whole ++ entry_items (given (one_item text))) ≡ Err f
+pub joined_too_long : (whole : List Entry) (none text : List ℕ) (f : ExpandFault) → none ≡ []
+    → if_short (none ++ text) ≡ Err f → if_small (whole ++ entries_in (given (one_item text))) ≡ Err f
 joined_too_long whole none text f none_is is =
     too_long_at whole text f (ltb limit (length text)) refl (ap (λ n. if_short (n ++ text)) (sym none_is) ∙ is)

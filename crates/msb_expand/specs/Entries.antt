@@ -1,7 +1,7 @@
 -- A list as far as it is read, as the code holds it.
 use Rattle.std.specs.Prelude.{ℕ, ◌+◌, nat_lt, List, [], ◌∷◌, length, map, Result, Ok, Err, if◌then◌else◌}
-use Rattle.msb_expand.specs.declared.entry.Entry.{Entry as Open}
-use Rattle.msb_expand.specs.declared.entry.Entry.TheVariants.{Begun, Given, Joined}
+use Rattle.msb_expand.specs.declared.open_entry.OpenEntry.{OpenEntry as Open}
+use Rattle.msb_expand.specs.declared.open_entry.OpenEntry.TheVariants.{Begun, Given, Joined}
 use Rattle.msb_expand.specs.declared.reading.Reading.{Reading as Held}
 use Rattle.msb_expand.specs.declared.faults.ExpandFault.{ExpandFault}
 use Rattle.msb_expand.specs.declared.faults.ExpandFault.TheVariants.{TooLong}
@@ -10,15 +10,15 @@ use Rattle.msb_expand.specs.Limits.{limit}
 use Rattle.msb_expand.specs.Scenes.{Scene}
 use Rattle.msb_expand.specs.Seen.{seen_item}
 use Rattle.msb_expand.specs.Tokens.{Token}
-use Rattle.msb_expand.specs.Values.{Entry, begun, given, Reading, reading, one_item, joined, with_token}
+use Rattle.msb_expand.specs.Values.{OpenEntry, begun, given, Reading, reading, one_item, joined, with_token}
 
-abbrev pub entry_of : Open → Entry
-entry_of (Begun text) = begun text
-entry_of (Given items) = given (map seen_item items.items)
-entry_of (Joined items separator) = given (one_item (joined separator (map seen_item items.items)))
+abbrev pub open_entry_of : Open → OpenEntry
+open_entry_of (Begun text) = begun text
+open_entry_of (Given items) = given (map seen_item items.items)
+open_entry_of (Joined items separator) = given (one_item (joined separator (map seen_item items.items)))
 
 abbrev pub reading_of : Held → Reading
-reading_of r = reading r.whole (entry_of r.entry)
+reading_of r = reading r.whole (open_entry_of r.entry)
 
 -- what is read behind what was read
 abbrev pub with_tokens : Scene → Reading → List Token → Result Reading ExpandFault

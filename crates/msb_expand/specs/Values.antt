@@ -7,6 +7,7 @@ use Rattle.msb_values.specs.declared.item.Item.{Item}
 use Rattle.msb_expression.specs.declared.expression.Piece.{Piece}
 use Rattle.msb_expression.specs.declared.expression.Step.{Step}
 use Rattle.msb_expression.specs.declared.expression.Part.{Part}
+use Rattle.msb_expand.specs.declared.entry.Entry.{Entry}
 use Rattle.msb_expand.specs.declared.faults.ExpandFault.{ExpandFault}
 use Rattle.msb_expand.specs.declared.faults.ExpandFault.TheVariants.{TooLong, MixedList}
 use Rattle.msb_expand.specs.Keys.{key_of}
@@ -42,46 +43,51 @@ token_text scene (faulty fault) = Err fault
 abbrev pub text_value : Scene → List Part → Result (List ℕ) ExpandFault
 text_value scene parts = grown_by (token_text scene) [] (tokens scene parts)
 
--- An entry of a list, as far as it is read: text, or the items of a reference that nothing but spaces may stand beside.
-pub data Entry : Type 0 where
-  begun : List ℕ → Entry
-  given : List Item → Entry
+-- An entry of a list is written as text, or given by a reference, which makes no pattern of it.
+abbrev pub entry_of : Bool → Item → Entry
+entry_of is_written item = record { item = item; written = is_written }
 
--- what was read of a list: whole items, and the entry that is open
+-- An entry as far as it is read: text, or the items of a reference that nothing but spaces may stand beside.
+pub data OpenEntry : Type 0 where
+  begun : List ℕ → OpenEntry
+  given : List Item → OpenEntry
+
+-- what was read of a list: whole entries, and the entry that is open
 pub record Reading : Type 0 where
-  pub whole : List Item
-  pub entry : Entry
+  pub whole : List Entry
+  pub entry : OpenEntry
 
-abbrev pub reading : List Item → Entry → Reading
+abbrev pub reading : List Entry → OpenEntry → Reading
 reading whole entry = record { whole = whole; entry = entry }
 
 abbrev pub is_blank : List ℕ → Bool
 is_blank text = list_all is_list_space text
 
-abbrev pub items_if : List ℕ → List Item
-items_if [] = []
-items_if (b ∷ bs) = plain_item (b ∷ bs) ∷ []
+-- an item of this text, unless it is empty
+abbrev pub text_entry : Bool → List ℕ → List Entry
+text_entry is_written [] = []
+text_entry is_written (b ∷ bs) = entry_of is_written (plain_item (b ∷ bs)) ∷ []
 
 -- an empty entry is dropped, and so is an item of empty identity
-abbrev pub entry_items : Entry → List Item
-entry_items (begun piece) = items_if (trimmed piece)
-entry_items (given list) = filter (λ item. not (length item.ident == 0)) list
+abbrev pub entries_in : OpenEntry → List Entry
+entries_in (begun piece) = text_entry true (trimmed piece)
+entries_in (given items) = map (entry_of false) (filter (λ item. not (length item.ident == 0)) items)
 
 -- the bytes of the identities, with one more for each
-abbrev pub size_of : List Item → ℕ
-size_of list = sum (map (λ item. length item.ident + 1) list)
+abbrev pub size_of : List Entry → ℕ
+size_of entries = sum (map (λ entry. length entry.item.ident + 1) entries)
 
-abbrev pub if_small : List Item → Result (List Item) ExpandFault
-if_small list = if nat_lt limit (size_of list) then Err TooLong else Ok list
+abbrev pub if_small : List Entry → Result (List Entry) ExpandFault
+if_small entries = if nat_lt limit (size_of entries) then Err TooLong else Ok entries
 
 -- the open entry is whole
-abbrev pub closed : Reading → Result (List Item) ExpandFault
-closed r = if_small (r.whole ++ entry_items r.entry)
+abbrev pub closed : Reading → Result (List Entry) ExpandFault
+closed r = if_small (r.whole ++ entries_in r.entry)
 
 -- text without `;` behind an entry
-abbrev pub entry_with : Entry → List ℕ → Result Entry ExpandFault
+abbrev pub entry_with : OpenEntry → List ℕ → Result OpenEntry ExpandFault
 entry_with (begun piece) more = Ok (begun (piece ++ more))
-entry_with (given list) more = if is_blank more then Ok (given list) else Err MixedList
+entry_with (given items) more = if is_blank more then Ok (given items) else Err MixedList
 
 abbrev pub with_text : Reading → List ℕ → Result Reading ExpandFault
 with_text r more = map_ok (reading r.whole) (entry_with r.entry more)
@@ -106,17 +112,17 @@ uncut_byte b = if b == 59 then codes "%3B" else b ∷ []
 abbrev pub one_item : List ℕ → List Item
 one_item joined_text = plain_item (flat_map uncut_byte joined_text) ∷ []
 
-abbrev pub entry_list : Scene → List ℕ → List Step → Option (List Piece) → Result (List Item) ExpandFault
-entry_list scene kind steps None = referred_items scene kind steps
-entry_list scene kind steps (Some separator) = map_ok (λ list. one_item (joined (quoted_value scene separator) list)) (referred_items scene kind steps)
+abbrev pub given_items : Scene → List ℕ → List Step → Option (List Piece) → Result (List Item) ExpandFault
+given_items scene kind steps None = referred_items scene kind steps
+given_items scene kind steps (Some separator) = map_ok (λ list. one_item (joined (quoted_value scene separator) list)) (referred_items scene kind steps)
 
 -- whether a reference may stand behind an entry
-abbrev pub is_open : Entry → Bool
+abbrev pub is_open : OpenEntry → Bool
 is_open (begun piece) = is_blank piece
-is_open (given list) = false
+is_open (given items) = false
 
 abbrev pub with_reference : Bool → Scene → Reading → List ℕ → List Step → Option (List Piece) → Result Reading ExpandFault
-with_reference true scene r kind steps separator = map_ok (λ list. reading r.whole (given list)) (entry_list scene kind steps separator)
+with_reference true scene r kind steps separator = map_ok (λ items. reading r.whole (given items)) (given_items scene kind steps separator)
 with_reference false scene r kind steps separator = Err MixedList
 
 abbrev pub with_token : Scene → Reading → Token → Result Reading ExpandFault
@@ -124,10 +130,17 @@ with_token scene r (written text) = with_pieces r (slice_split (λ b. b == 59) t
 with_token scene r (referred kind steps separator) = with_reference (is_open r.entry) scene r kind steps separator
 with_token scene r (faulty fault) = Err fault
 
-abbrev pub read_on : Scene → Reading → List Token → Result (List Item) ExpandFault
+abbrev pub read_on : Scene → Reading → List Token → Result (List Entry) ExpandFault
 read_on scene r [] = closed r
 read_on scene r (token ∷ tokens) = and_then (with_token scene r token) (λ s. read_on scene s tokens)
 
--- the list of an expression
+-- the entries of an expression, as a list
+abbrev pub entries_value : Scene → List Part → Result (List Entry) ExpandFault
+entries_value scene parts = read_on scene (reading [] (begun [])) (tokens scene parts)
+
+abbrev pub items_of : List Entry → List Item
+items_of entries = map (λ entry. entry.item) entries
+
+-- the list of an expression: the items of its entries
 abbrev pub list_value : Scene → List Part → Result (List Item) ExpandFault
-list_value scene parts = read_on scene (reading [] (begun [])) (tokens scene parts)
+list_value scene parts = map_ok items_of (entries_value scene parts)

@@ -9,10 +9,11 @@ use Rattle.msb_values.specs.declared.item.Item.{Item}
 use Rattle.msb_expression.specs.Reading.{reading}
 use Rattle.msb_expression.specs.declared.expression.Part.{Part}
 use Rattle.msb_expression.specs.declared.faults.ExprFault.{ExprFault}
+use Rattle.msb_expand.specs.declared.entry.Entry.{Entry}
 use Rattle.msb_expand.specs.declared.faults.ExpandFault.{ExpandFault}
 use Rattle.msb_expand.specs.Causes.{cause_of, expression_cause_of}
 use Rattle.msb_expand.specs.Scenes.{Scene}
-use Rattle.msb_expand.specs.Values.{text_value, list_value}
+use Rattle.msb_expand.specs.Values.{text_value, entries_value, list_value}
 
 abbrev pub or_cause : {X : Type 0} → Result X ExpandFault → Result X Cause
 or_cause (Ok x) = Ok x
@@ -26,6 +27,10 @@ or_unread (Err fault) = Err (expression_cause_of fault)
 -- its text
 abbrev pub expanded : Scene → List ℕ → Result (List ℕ) Cause
 expanded scene written = and_then (or_unread (reading written)) (λ parts. or_cause (text_value scene parts))
+
+-- the entries of its list
+abbrev pub expanded_entries : Scene → List ℕ → Result (List Entry) Cause
+expanded_entries scene written = and_then (or_unread (reading written)) (λ parts. or_cause (entries_value scene parts))
 
 -- its list
 abbrev pub listed : Scene → List ℕ → Result (List Item) Cause

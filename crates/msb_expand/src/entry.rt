@@ -1,66 +1,10 @@
-ghost use Rattle.std.specs.Prelude.{◌≡◌, IfOk, string_bytes, option_copied};
-ghost use Rattle.std.specs.List.{flat_map};
-ghost use Rattle.msb_expand.specs.Answers.{GivesAs};
-ghost use Rattle.msb_expand.specs.Entries.{entry_of};
-ghost use Rattle.msb_laws.specs.Results.{map_ok};
-ghost use Rattle.msb_expand.specs.Scenes.{scene_of};
-ghost use Rattle.msb_expand.specs.Values.{given, entry_with, is_open, entry_list};
+use msb_values::Item;
 
-use crate::references::{quoted_value, referred_items};
-use crate::seen::Seen;
-use crate::spaces::is_blank;
-use crate::{ExpandFault, Lens};
-use msb_expression::{Pieces, Steps};
-use msb_values::Text;
-use std::alloc::Global;
-
-/// An entry of a list, as far as it is read.
+/// An entry of a list: its item, and how it came. (MSBuild items.)
 #[derive(Drop)]
-pub(crate) enum Entry<'a> {
-    /// Text.
-    Begun(Text),
-    /// The items of a reference.
-    Given(Vec<Seen<'a>>),
-    /// The items of a reference with this separator, which are one item.
-    Joined(Vec<Seen<'a>>, Text),
-}
-
-impl<'a> Entry<'a> {
-    /// The entry that a reference is.
-    pub(crate) fn of_items(
-        alloc: Global,
-        lens: &Lens<'a>,
-        kind: &str,
-        steps: &Steps,
-        separator: Option<&Pieces>,
-    ) -> Result<Entry<'a>, ExpandFault>
-        ensures { GivesAs entry_of result (map_ok given (entry_list (scene_of lens.now) kind.now steps.now (option_copied separator.entry))) }
-    {
-        let items = referred_items(alloc, lens, kind, steps)?;
-        match separator {
-            None => Ok(Entry::Given(items)),
-            Some(pieces) => Ok(Entry::Joined(items, quoted_value(alloc, lens, pieces)?)),
-        }
-    }
-
-    /// Whether a reference may stand behind the entry.
-    pub(crate) fn is_open(&self) -> bool
-        ensures { result ≡ is_open (entry_of self.now) }
-    {
-        match self {
-            Entry::Begun(text) => is_blank(text.as_str()),
-            Entry::Given(_) | Entry::Joined(_, _) => false,
-        }
-    }
-
-    /// Adds text without `;`.
-    pub(crate) fn push_text(&mut self, more: &str) -> Result<(), ExpandFault>
-        ensures { GivesAs (λ _. entry_of self.new) result (entry_with (entry_of self.old) more.now) }
-    {
-        match self {
-            Entry::Begun(text) => Ok(text.push_str(more)?),
-            Entry::Given(_) | Entry::Joined(_, _) if is_blank(more) => Ok(()),
-            Entry::Given(_) | Entry::Joined(_, _) => Err(ExpandFault::MixedList),
-        }
-    }
+pub struct Entry {
+    pub item: Item,
+    /// Whether it was written as text, into which properties and metadata are put; else a reference gave it, and
+    /// its identity is no pattern.
+    pub written: bool,
 }

@@ -1,24 +1,24 @@
 ghost use Rattle.std.specs.Prelude.{◌≡◌, ◌==◌, [], option_copied};
 ghost use Rattle.std.specs.List.{slice_split};
-ghost use Rattle.msb_expand.specs.Answers.{Gives, GivesAs};
+ghost use Rattle.msb_expand.specs.Answers.{GivesAs};
 ghost use Rattle.msb_expand.specs.Entries.{reading_of};
 ghost use Rattle.msb_laws.specs.Results.{map_ok};
 ghost use Rattle.msb_expand.specs.Scenes.{scene_of};
 ghost use Rattle.msb_expand.specs.Tokens.{referred, written};
 ghost use Rattle.msb_expand.specs.Values.{reading, begun, closed, with_text, with_pieces, with_token};
 
-use crate::entry::Entry;
+use crate::open_entry::OpenEntry;
 use crate::whole::Whole;
-use crate::{ExpandFault, Lens};
+use crate::{Entry, ExpandFault, Lens};
 use msb_expression::{Pieces, Steps};
-use msb_values::{Item, List, Text};
+use msb_values::Text;
 use std::alloc::Global;
 
-/// A list as far as it is read: its whole items, and the entry that is open.
+/// A list as far as it is read: its whole entries, and the entry that is open.
 #[derive(Drop)]
 pub(crate) struct Reading<'a> {
     pub(crate) whole: Whole,
-    pub(crate) entry: Entry<'a>,
+    pub(crate) entry: OpenEntry<'a>,
 }
 
 impl<'a> Reading<'a> {
@@ -27,17 +27,17 @@ impl<'a> Reading<'a> {
     {
         Reading {
             whole: Whole::new(alloc),
-            entry: Entry::Begun(Text::from(String::new(alloc))),
+            entry: OpenEntry::Begun(Text::from(String::new(alloc))),
         }
     }
 
-    /// The list, where nothing more comes.
-    pub(crate) fn into_list(self, alloc: Global) -> Result<List<Item>, ExpandFault>
-        ensures { Gives result (closed (reading_of self.entry)) }
+    /// The entries, where nothing more comes.
+    pub(crate) fn into_entries(self, alloc: Global) -> Result<Vec<Entry>, ExpandFault>
+        ensures { GivesAs (λ entries. entries.items) result (closed (reading_of self.entry)) }
     {
         let Reading { mut whole, entry } = self;
         whole.push_entry(alloc, &entry)?;
-        Ok(whole.into_list())
+        Ok(whole.into_entries())
     }
 
     /// Adds text, which is cut at each `;`.
@@ -64,7 +64,7 @@ impl<'a> Reading<'a> {
         ensures { GivesAs (λ _. reading_of self.new) result (map_ok (λ whole. reading whole (begun [])) (closed (reading_of self.old))) }
     {
         self.whole.push_entry(alloc, &self.entry)?;
-        self.entry = Entry::Begun(Text::from(String::new(alloc)));
+        self.entry = OpenEntry::Begun(Text::from(String::new(alloc)));
         Ok(())
     }
 
@@ -82,7 +82,7 @@ impl<'a> Reading<'a> {
         if !self.entry.is_open() {
             return Err(ExpandFault::MixedList);
         }
-        self.entry = Entry::of_items(alloc, lens, kind, steps, separator)?;
+        self.entry = OpenEntry::of_items(alloc, lens, kind, steps, separator)?;
         Ok(())
     }
 }

@@ -1,9 +1,9 @@
 ghost use Rattle.msb_laws.specs.Results.{all_ok};
 ghost use Rattle.msb_values.specs.Caused.{GivesCause};
 ghost use Rattle.msb_expand.specs.Scenes.{scene_of};
-ghost use Rattle.msb_expand.specs.Written.{expanded, listed, target_name, target_names};
+ghost use Rattle.msb_expand.specs.Written.{expanded, expanded_entries, listed, target_name, target_names};
 
-use crate::{Lens, expression_cause, list, text};
+use crate::{Entry, Lens, entries, expression_cause, list, text};
 use msb_expression::parse;
 use msb_values::{Cause, Item, List, Name, NameFault, Text};
 use std::alloc::Global;
@@ -15,6 +15,19 @@ pub fn expand_text(alloc: Global, lens: &Lens<'_>, written: &str) -> Result<Text
     match parse(alloc, written) {
         Ok(expr) => match text(alloc, lens, &expr) {
             Ok(text) => Ok(text),
+            Err(fault) => Err(Cause::from(fault)),
+        },
+        Err(fault) => Err(expression_cause(fault)),
+    }
+}
+
+/// The entries that a text of a project file denotes as a list where it stands. (MSBuild items.)
+pub fn expand_entries(alloc: Global, lens: &Lens<'_>, written: &str) -> Result<List<Entry>, Cause>
+    ensures { GivesCause result (expanded_entries (scene_of lens.now) written.now) }
+{
+    match parse(alloc, written) {
+        Ok(expr) => match entries(alloc, lens, &expr) {
+            Ok(entries) => Ok(entries),
             Err(fault) => Err(Cause::from(fault)),
         },
         Err(fault) => Err(expression_cause(fault)),
