@@ -4,8 +4,8 @@ use Rattle.std.specs.List.{list_any}
 use Rattle.std.specs.Str.{bytes_eq}
 use Rattle.file_store.specs.Files.{file_at}
 use Rattle.file_store.specs.declared.tree.File.{File}
-use Rattle.msb_paths.specs.Normal.{normalized, is_normal}
-use Rattle.msb_paths.specs.declared.errors.PathFault.{PathFault}
+use Rattle.msb_paths.specs.Refused.{normal_path}
+use Rattle.msb_paths.specs.declared.errors.NormalFault.{NormalFault}
 use Rattle.msb_expand.specs.Reserved.{folder_of}
 use Rattle.msb_laws.specs.Results.{and_then}
 use Rattle.msb_import.specs.declared.resolving.ImportFault.{ImportFault}
@@ -19,17 +19,13 @@ folder_or_root None = []
 abbrev pub importing_folder : List (List ℕ) → List ℕ
 importing_folder chain = folder_or_root (slice_get chain (length chain - 1))
 
-abbrev pub if_normal : List ℕ → List ℕ → Bool → Result (List ℕ) ImportFault
-if_normal text path true = Ok path
-if_normal text path false = Err (Path text)
-
-abbrev pub normal_or_fault : List ℕ → Result (List ℕ) PathFault → Result (List ℕ) ImportFault
-normal_or_fault text (Ok path) = if_normal text path (is_normal path)
-normal_or_fault text (Err fault) = Err (Path text)
+abbrev pub path_or_refused : List ℕ → Result (List ℕ) NormalFault → Result (List ℕ) ImportFault
+path_or_refused text (Ok path) = Ok path
+path_or_refused text (Err fault) = Err (Path text)
 
 -- the path of a text on a folder
 abbrev pub path_or_fault : List ℕ → List ℕ → Result (List ℕ) ImportFault
-path_or_fault folder text = normal_or_fault text (normalized folder text)
+path_or_fault folder text = path_or_refused text (normal_path folder text)
 
 -- the chain has at most 64 files with the new one
 abbrev pub if_short : List ℕ → Bool → Result (List ℕ) ImportFault

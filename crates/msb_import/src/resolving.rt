@@ -4,9 +4,10 @@ ghost use Rattle.std.specs.Str.{bytes_eq};
 ghost use Rattle.msb_import.specs.Resolved.{Resolves, resolved, importing_folder, path_or_fault};
 ghost use Rattle.msb_import.specs.declared.resolving.ImportFault.TheVariants.{Memory};
 
+use crate::LaidOut;
 use file_store::Tree;
 use msb_expand::folder_of;
-use msb_paths::{PathFault, is_normal, normalize};
+use msb_paths::{NormalFault, normal_path};
 use msb_values::{List, NoMemory, Text};
 use std::alloc::Global;
 
@@ -62,13 +63,38 @@ pub fn resolve(
     }
 }
 
+/// The same, where the files that were laid out before are looked up by their paths: in a time that grows with the
+/// logarithm of their number.
+pub fn resolve_import(
+    alloc: Global,
+    tree: &Tree,
+    chain: &List<Text>,
+    done: &LaidOut,
+    text: &str,
+) -> Result<Text, ImportFault>
+    ensures { Resolves result (resolved tree.now.files chain.now done.now text.now) }
+{
+    let path = path_of(alloc, chain.as_slice(), text)?;
+    if tree.find(path.as_str()).is_none() {
+        return Err(ImportFault::Missing(path));
+    }
+    if done.has(&path) {
+        return Err(ImportFault::Duplicate(path));
+    }
+    if chain.len() < MOST_FILES {
+        Ok(path)
+    } else {
+        Err(ImportFault::ImportDepth)
+    }
+}
+
 fn path_of(alloc: Global, chain: &[Text], text: &str) -> Result<Text, ImportFault>
     ensures { Resolves result (path_or_fault (importing_folder chain.now) text.now) }
 {
-    match normalize(alloc, folder_in(chain), text) {
-        Ok(path) if is_normal(path.as_str()) => Ok(Text::of(alloc, path.as_str())?),
-        Err(PathFault::Memory) => Err(ImportFault::Memory),
-        _ => Err(ImportFault::Path(Text::of(alloc, text)?)),
+    match normal_path(alloc, folder_in(chain), text) {
+        Ok(path) => Ok(Text::of(alloc, path.as_str())?),
+        Err(NormalFault::Memory) => Err(ImportFault::Memory),
+        Err(_) => Err(ImportFault::Path(Text::of(alloc, text)?)),
     }
 }
 
