@@ -1,5 +1,5 @@
 -- What a failed load tells is what failed.
-use Rattle.std.proofs.Common.{◌≡◌, ℕ, ◌+◌, ◌≤◌, List, min, Result, Ok, Err, IfErr, arith, refl}
+use Rattle.std.proofs.Common.{◌≡◌, ℕ, ◌+◌, ◌≤◌, List, min, Result, Ok, Err, IfErr, arith}
 use Rattle.msb_laws.specs.Faults.{HasCause}
 use Rattle.file_store.specs.Failed.{Failures, counted, CountsListing, CountsRead, CountsNeither}
 use Rattle.file_store.specs.Loads.{IsOfKind, IsReadCaused}

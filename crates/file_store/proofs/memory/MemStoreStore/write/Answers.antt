@@ -1,4 +1,4 @@
-use Rattle.std.proofs.Common.{arith, rules}
+use Rattle.std.proofs.Common.{arith}
 use Rattle.file_store.proofs.FaultKinds.{neither_kind}
 use Rattle.file_store.proofs.Puts.{written}
 use Rattle.file_store.proofs.memory.MemStoreStore.write.Goals as goal

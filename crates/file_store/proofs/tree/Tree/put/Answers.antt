@@ -1,4 +1,4 @@
-use Rattle.std.proofs.Common.{◌≡◌, List, true, Result, Ok, Err, OnOk, OnErr, ap, ◌∙◌, rules}
+use Rattle.std.proofs.Common.{◌≡◌, List, true, Result, Ok, Err, OnOk, OnErr, ap, ◌∙◌}
 use Rattle.msb_values.specs.declared.errors.NoMemory.{NoMemory}
 use Rattle.file_store.specs.Files.{are_in_order}
 use Rattle.file_store.specs.Writes.{put_in}
