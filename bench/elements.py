@@ -4,8 +4,8 @@
 Run it at the top of the repository: bench/elements.py [MEBIBYTES ..]
 
 It makes a crate of its own in a temporary folder, over copies of the crates that it needs, whose program reads one file
-by `serde_json` alone, as a tree of elements, or with the check of the form. Each line that it prints has the size, and
-for each of the three the seconds and the peak memory in MiB.
+by `serde_json` alone or as a project. Each line that it prints has the size, and for both the seconds and the peak
+memory in MiB.
 """
 import os
 import resource
@@ -15,10 +15,10 @@ import sys
 import tempfile
 import time
 
-MAIN = """//! Reads a file in one of three ways.
+MAIN = """//! Reads a file in one of two ways.
 #![tactic(auto)]
 
-use msb_elements::{read_form, read_project};
+use msb_elements::read_project;
 use serde_json::Value;
 use std::env;
 use std::fs;
@@ -31,11 +31,7 @@ fn main(rt: HostRuntime) -> ExitCode {
     if way.as_str() == "json" {
         return ExitCode::from(if Value::from_slice(rt.alloc(), &bytes).is_ok() { 0 } else { 4 });
     }
-    let is_read = match way.as_str() {
-        "read" => read_project(rt.alloc(), &bytes).is_ok(),
-        _ => read_form(rt.alloc(), &bytes).is_ok(),
-    };
-    ExitCode::from(if is_read { 0 } else { 5 })
+    ExitCode::from(if read_project(rt.alloc(), &bytes).is_ok() { 0 } else { 5 })
 }
 """
 
@@ -80,13 +76,13 @@ def main():
     with tempfile.TemporaryDirectory() as folder:
         program = built(folder)
         path = os.path.join(folder, "large.proj")
-        print("    MiB elements     json s  MiB      read s  MiB     check s  MiB")
+        print("    MiB elements     json s  MiB      read s  MiB")
         for size in sizes:
             text, count = project(size)
             with open(path, "w") as file:
                 file.write(text)
             line = "%7.1f %8d" % (len(text) / 2**20, count)
-            for way in ("json", "read", "check"):
+            for way in ("json", "read"):
                 status, seconds, mebibytes = measured(program, way, path)
                 line += "  %9.2f %4.0f" % (seconds, mebibytes) if status == 0 else "  status %d" % status
             print(line, flush=True)

@@ -4,6 +4,7 @@ use Rattle.msb_values.specs.Pairs.{value_at}
 use Rattle.msb_values.specs.declared.cause.Cause.{Cause}
 use Rattle.msb_elements.specs.Nodes.{Node, place_of, attributes_of, children_in}
 use Rattle.msb_elements.specs.View.{view}
+use Rattle.build_world.specs.declared.element.PlacedElement.{PlacedElement}
 use Rattle.build_world.specs.declared.fault.EvalFault.{EvalFault}
 use Rattle.build_world.specs.declared.laid_out.Placed.{Placed}
 use Rattle.build_world.specs.Faults.{fault_at}
@@ -17,6 +18,9 @@ at file element = record { file = file; node = element }
 
 abbrev pub seen_placed : Placed → At
 seen_placed placed = at placed.file (view placed.element)
+
+abbrev pub seen_element : PlacedElement → At
+seen_element placed = at placed.file.now (view placed.element.now)
 
 abbrev pub children_of : At → List At
 children_of e = map (at e.file) (children_in e.node)

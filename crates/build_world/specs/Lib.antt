@@ -1,4 +1,5 @@
 pub mod Answers
 pub mod Elements
 pub mod Faults
+pub mod Instances
 pub mod Readings

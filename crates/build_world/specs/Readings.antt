@@ -5,35 +5,35 @@ use Rattle.msb_values.specs.declared.cause.Cause.{Cause}
 use Rattle.msb_values.specs.declared.cause.Cause.TheVariants as cause
 use Rattle.msb_elements.specs.Nodes.{Node}
 use Rattle.msb_elements.specs.Projects.{project_in}
-use Rattle.msb_elements.specs.declared.errors.FormFault.{FormFault}
-use Rattle.msb_elements.specs.declared.errors.FormFault.TheVariants.{NotJson, NotElement, UnknownElement, Misplaced, MissingAttribute, BothAttributes, BadName, Memory}
+use Rattle.msb_elements.specs.declared.errors.ReadFault.{ReadFault}
+use Rattle.msb_elements.specs.declared.errors.ReadFault.TheVariants.{NotJson, NotElement, UnknownElement, Misplaced, MissingAttribute, BothAttributes, BadName, Memory}
 use Rattle.build_world.specs.declared.fault.EvalFault.{EvalFault}
 use Rattle.build_world.specs.Faults.{fault_at}
 
 -- bytes that are no JSON text are told at the root
-abbrev pub form_place : FormFault → List ℕ
-form_place NotJson = []
-form_place (NotElement place) = place
-form_place (UnknownElement place) = place
-form_place (Misplaced place) = place
-form_place (MissingAttribute place name) = place
-form_place (BothAttributes place one other) = place
-form_place (BadName place at) = place
-form_place Memory = []
+abbrev pub place_of_fault : ReadFault → List ℕ
+place_of_fault NotJson = []
+place_of_fault (NotElement place) = place
+place_of_fault (UnknownElement place) = place
+place_of_fault (Misplaced place) = place
+place_of_fault (MissingAttribute place name) = place
+place_of_fault (BothAttributes place one other) = place
+place_of_fault (BadName place at) = place
+place_of_fault Memory = []
 
-abbrev pub form_cause : FormFault → Cause
-form_cause NotJson = cause.NotJson
-form_cause (NotElement place) = cause.NotElement
-form_cause (UnknownElement place) = cause.UnknownElement
-form_cause (Misplaced place) = cause.Misplaced
-form_cause (MissingAttribute place name) = cause.MissingAttribute name
-form_cause (BothAttributes place one other) = cause.BothAttributes one other
-form_cause (BadName place at) = cause.BadName at
-form_cause Memory = cause.Memory
+abbrev pub cause_of_fault : ReadFault → Cause
+cause_of_fault NotJson = cause.NotJson
+cause_of_fault (NotElement place) = cause.NotElement
+cause_of_fault (UnknownElement place) = cause.UnknownElement
+cause_of_fault (Misplaced place) = cause.Misplaced
+cause_of_fault (MissingAttribute place name) = cause.MissingAttribute name
+cause_of_fault (BothAttributes place one other) = cause.BothAttributes one other
+cause_of_fault (BadName place at) = cause.BadName at
+cause_of_fault Memory = cause.Memory
 
-abbrev pub project_or_fault : List ℕ → Result Node FormFault → Result Node EvalFault
+abbrev pub project_or_fault : List ℕ → Result Node ReadFault → Result Node EvalFault
 project_or_fault file (Ok project) = Ok project
-project_or_fault file (Err fault) = Err (fault_at file (form_place fault) (form_cause fault))
+project_or_fault file (Err fault) = Err (fault_at file (place_of_fault fault) (cause_of_fault fault))
 
 abbrev pub project_of : File → Result Node EvalFault
 project_of file = project_or_fault file.path (project_in file.bytes)

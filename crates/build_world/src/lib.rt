@@ -3,12 +3,14 @@
 //! It also says how a fault of evaluation is told.
 #![tactic(auto)]
 
+mod element;
 mod fault;
 mod instance;
 mod laid_out;
 mod reading;
 mod world;
 
+pub use element::PlacedElement;
 pub use fault::EvalFault;
 pub use instance::{Instance, UsedTarget};
 pub use laid_out::{LaidOut, Placed};

@@ -1,11 +1,11 @@
 ghost use Rattle.std.specs.Prelude.{◌≡◌, Err};
 ghost use Rattle.msb_elements.specs.View.{view};
 ghost use Rattle.build_world.specs.Answers.{GivesFault};
-ghost use Rattle.build_world.specs.Readings.{form_place, form_cause, project_of, project_or_fault};
+ghost use Rattle.build_world.specs.Readings.{place_of_fault, cause_of_fault, project_of, project_or_fault};
 
 use crate::EvalFault;
 use file_store::File;
-use msb_elements::{FormFault, Place, Project, read_form};
+use msb_elements::{Place, Project, ReadFault, read_project};
 use msb_values::{Cause, Copied};
 use std::alloc::Global;
 
@@ -13,14 +13,14 @@ use std::alloc::Global;
 pub fn read_file(alloc: Global, file: &File) -> Result<Project, EvalFault>
     ensures { GivesFault (λ project. view project.root) result (project_of file.now) }
 {
-    match read_form(alloc, file.bytes.as_bytes()) {
+    match read_project(alloc, file.bytes.as_bytes()) {
         Ok(project) => Ok(project),
         Err(fault) => Err(fault_of(alloc, file, fault)),
     }
 }
 
 // A refused file as a fault; want of memory for its path is want of memory.
-fn fault_of(alloc: Global, file: &File, fault: FormFault) -> EvalFault
+fn fault_of(alloc: Global, file: &File, fault: ReadFault) -> EvalFault
     ensures { GivesFault (λ node. node) (Err result) (project_or_fault file.now.path (Err fault)) }
 {
     let Ok(path) = file.path.copy() else {
@@ -34,17 +34,17 @@ fn fault_of(alloc: Global, file: &File, fault: FormFault) -> EvalFault
     }
 }
 
-fn told(alloc: Global, fault: FormFault) -> (Place, Cause)
-    ensures { result ≡ (form_place fault, form_cause fault) }
+fn told(alloc: Global, fault: ReadFault) -> (Place, Cause)
+    ensures { result ≡ (place_of_fault fault, cause_of_fault fault) }
 {
     match fault {
-        FormFault::NotJson => (Place::root(alloc), Cause::NotJson),
-        FormFault::NotElement(place) => (place, Cause::NotElement),
-        FormFault::UnknownElement(place) => (place, Cause::UnknownElement),
-        FormFault::Misplaced(place) => (place, Cause::Misplaced),
-        FormFault::MissingAttribute(place, name) => (place, Cause::MissingAttribute(name)),
-        FormFault::BothAttributes(place, one, other) => (place, Cause::BothAttributes(one, other)),
-        FormFault::BadName(place, at) => (place, Cause::BadName(at)),
-        FormFault::Memory => (Place::root(alloc), Cause::Memory),
+        ReadFault::NotJson => (Place::root(alloc), Cause::NotJson),
+        ReadFault::NotElement(place) => (place, Cause::NotElement),
+        ReadFault::UnknownElement(place) => (place, Cause::UnknownElement),
+        ReadFault::Misplaced(place) => (place, Cause::Misplaced),
+        ReadFault::MissingAttribute(place, name) => (place, Cause::MissingAttribute(name)),
+        ReadFault::BothAttributes(place, one, other) => (place, Cause::BothAttributes(one, other)),
+        ReadFault::BadName(place, at) => (place, Cause::BadName(at)),
+        ReadFault::Memory => (Place::root(alloc), Cause::Memory),
     }
 }

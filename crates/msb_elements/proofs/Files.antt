@@ -1,15 +1,10 @@
 -- The JSON value of a whole file.
-use Rattle.std.proofs.Common.{◌≡◌, ℕ, List, [], Bool, true, false, Some, None, Result, Ok, Err, refl, ◌∙◌}
+use Rattle.std.proofs.Common.{◌≡◌, ℕ, List, Bool, true, false, Some, None, refl}
 use Rattle.std.specs.Str.{IsUtf8, is_utf8}
 use Rattle.std.proofs.lemmas.Str.{IsUtf8-from_is_utf8, is_utf8-from_IsUtf8}
 use Rattle.serde_json.specs.Data.{Data}
 use Rattle.serde_json.specs.Read.{read}
-use Rattle.msb_elements.specs.Forms.{json_in, element_in, element_at}
-use Rattle.msb_elements.specs.Reads.{ReadsFile, Gives}
-use Rattle.msb_elements.specs.View.{view}
-use Rattle.msb_elements.specs.declared.element.Project.{Project}
-use Rattle.msb_elements.specs.declared.errors.ReadFault.{ReadFault}
-use Rattle.msb_elements.specs.declared.errors.ReadFault.TheVariants.{NotJson, NotYet, Memory}
+use Rattle.msb_elements.specs.Forms.{json_in}
 
 pub json_some : (bytes : List ℕ) (d : Data) → IsUtf8 bytes → read bytes ≡ Some d → json_in bytes ≡ Some d
 unfolding json_in
@@ -22,14 +17,3 @@ none_at bytes false is none = rw is refl
 
 pub json_none : (bytes : List ℕ) → (IsUtf8 bytes → read bytes ≡ None) → json_in bytes ≡ None
 json_none bytes none = none_at bytes _ refl none
-
-pub element_some : (bytes : List ℕ) (d : Data) → json_in bytes ≡ Some d → element_in bytes ≡ element_at [] d
-unfolding element_in
-element_some bytes d json = rw json refl
-
--- what is read from the value is read from the file
-pub file_read : (bytes : List ℕ) (d : Data) (result : Result Project ReadFault) → json_in bytes ≡ Some d → Gives (λ project. view project.root) result (element_at [] d) → ReadsFile bytes result
-file_read bytes d (Ok project) json given = element_some bytes d json ∙ given
-file_read bytes d (Err NotJson) json given = absurd given
-file_read bytes d (Err NotYet) json given = (rw json refl, element_some bytes d json ∙ given)
-file_read bytes d (Err Memory) json given = tt

@@ -1,5 +1,6 @@
 -- The tree that a value says, by the values of its members.
-use Rattle.std.proofs.Common.{◌≡◌, ℕ, ◌==◌, List, [], ◌∷◌, length, true, false, true≢false, Option, Some, None, is_some, option_map, Result, Ordering, Less, Equal, Greater, if◌then◌else◌, codes, refl, sym, ap, subst}
+use Rattle.std.proofs.Common.{◌≡◌, ℕ, ◌==◌, ◌&&◌, Bool, List, [], ◌∷◌, length, true, false, true≢false, Option, Some, None, is_some, Result, Ordering, Less, Equal, Greater, if◌then◌else◌, codes, refl, sym, ap, subst, ◌∙◌}
+use Rattle.std.specs.Option.{option_map_or}
 use Rattle.std.proofs.lemmas.Map.Text.{is_eq-slice_cmp}
 use Rattle.std.specs.Ordering.{nat_cmp, is_eq, match_ordering}
 use Rattle.std.specs.Str.{bytes_eq}
@@ -9,9 +10,9 @@ use Rattle.serde_json.specs.Find.{get, get_member}
 use Rattle.serde_json.specs.View.{items_view}
 use Rattle.serde_json.specs.declared.value.Value.{Value}
 use Rattle.msb_elements.specs.Forms.{has_element_members, name_in, attributes_in, text_in}
-use Rattle.msb_elements.specs.Trees.{Tree, Trees, grown_of, tree_of, trees_of, entries_in_members, entries_at, entries_if, as_element, of_values}
+use Rattle.msb_elements.specs.Trees.{Tree, no_element, element, Trees, grown_of, tree_of, trees_of, entries_in_members, entries_at, entries_if, as_element, of_values}
 use Rattle.msb_elements.specs.Reads.{Gives}
-use Rattle.msb_elements.specs.declared.errors.ReadFault.{ReadFault}
+use Rattle.msb_elements.specs.declared.errors.PartFault.{PartFault}
 use Rattle.msb_elements.specs.Checks.{Pair, is_when, missing_in}
 use Rattle.msb_elements.specs.declared.kind.Kind.TheVariants.{Choose}
 
@@ -45,31 +46,35 @@ pub tree_by_values : (ms : Members) (name attributes text entries : Option Data)
     → of_values name attributes text entries ≡ as_element (tree_of (object ms))
 tree_by_values ms name attributes text entries has name_is attributes_is text_is entries_is = rw (name_is, attributes_is, text_is, entries_is) (sym (ap as_element (grown_by_members (object ms) has)))
 
-pub gives_same : {X : Type 0} (seen : X → Tree) (result : Result X ReadFault) (found whole : Option Tree) → found ≡ whole → Gives seen result found → Gives seen result whole
+pub gives_same : {X : Type 0} (seen : X → Tree) (result : Result X PartFault) (found whole : Option Tree) → found ≡ whole → Gives seen result found → Gives seen result whole
 gives_same seen result found whole same given = let P : Option Tree → Type 0 = Gives seen result in subst P same given
 
-pub none_at : {X : Type 0} (found : Option X) → is_some found ≡ false → found ≡ None
-none_at None is = refl
-none_at (Some x) is = absurd (true≢false is)
+no_when : (t : Tree) → as_element t ≡ None → is_when t ≡ false
+no_when no_element none = refl
+no_when (element name attributes text entries) none = absurd (cc)
 
-grown_none : (name : Option (List ℕ)) (attributes : Option (List Pair)) (text : Option (List ℕ)) → as_element (grown_of name attributes text None) ≡ None
-grown_none None attributes text = refl
-grown_none (Some name) None text = refl
-grown_none (Some name) (Some attributes) None = refl
-grown_none (Some name) (Some attributes) (Some text) = refl
+-- whether an element with these parts has the name When
+abbrev when_of : Option (List ℕ) → Option (List Pair) → Option (List ℕ) → Option Trees → Bool
+when_of name attributes text entries = is_some attributes && (is_some text && (is_some entries && option_map_or (λ n. bytes_eq n (codes "When")) name false))
 
--- where the member `c` is no array there is no element
-pub when_none : (d : Data) → has_element_members d ≡ true → entries_if (get (codes "c") d) ≡ None → option_map is_when (as_element (tree_of d)) ≡ None
-when_none d has none = rw (grown_by_members d has, none) (ap (option_map is_when) (grown_none (name_in d) (attributes_in d) (text_in d)))
+when_grown : (name : Option (List ℕ)) (attributes : Option (List Pair)) (text : Option (List ℕ)) (entries : Option Trees) → is_when (grown_of name attributes text entries) ≡ when_of name attributes text entries
+when_grown None None text entries = refl
+when_grown None (Some attributes) None entries = refl
+when_grown None (Some attributes) (Some text) None = refl
+when_grown None (Some attributes) (Some text) (Some entries) = refl
+when_grown (Some name) None text entries = refl
+when_grown (Some name) (Some attributes) None entries = refl
+when_grown (Some name) (Some attributes) (Some text) None = refl
+when_grown (Some name) (Some attributes) (Some text) (Some entries) = refl
 
-named_when : (name : List ℕ) (attributes : List Pair) (text : List ℕ) (entries : Option Trees) → is_some entries ≡ true → option_map is_when (as_element (grown_of (Some name) (Some attributes) (Some text) entries)) ≡ Some (bytes_eq name (codes "When"))
-named_when name attributes text None is = absurd (true≢false (sym is))
-named_when name attributes text (Some entries) is = refl
+when_by : (d : Data) (has : Bool) → has_element_members d ≡ has → is_when (tree_of d) ≡ (has && when_of (name_in d) (attributes_in d) (text_in d) (entries_if (get (codes "c") d)))
+when_by d true has = ap is_when (grown_by_members d has) ∙ when_grown (name_in d) (attributes_in d) (text_in d) (entries_if (get (codes "c") d))
+when_by d false has = no_when (tree_of d) (no_tree d has)
 
--- whether an element has the name When
-pub when_found : (d : Data) (name : List ℕ) (attributes : List Pair) (text : List ℕ) → has_element_members d ≡ true → name_in d ≡ Some name → attributes_in d ≡ Some attributes → text_in d ≡ Some text
-    → is_some (entries_if (get (codes "c") d)) ≡ true → option_map is_when (as_element (tree_of d)) ≡ Some (bytes_eq name (codes "When"))
-when_found d name attributes text has named with_attributes with_text is = rw (grown_by_members d has, named, with_attributes, with_text) (named_when name attributes text _ is)
+-- whether a value is an element of the name When, by what each of its members is
+pub when_found : (d : Data) (has attributes text entries named : Bool) → has ≡ has_element_members d → attributes ≡ is_some (attributes_in d) → text ≡ is_some (text_in d)
+    → entries ≡ is_some (entries_if (get (codes "c") d)) → named ≡ option_map_or (λ n. bytes_eq n (codes "When")) (name_in d) false → is_when (tree_of d) ≡ (has && (attributes && (text && (entries && named))))
+when_found d has attributes text entries named has_is attributes_is text_is entries_is named_is = rw (has_is, attributes_is, text_is, entries_is, named_is) (when_by d (has_element_members d) refl)
 
 -- a Choose with something below it has no missing attribute
 pub not_missed : (attributes : List Pair) (vs : List Value) → (length vs == 0) ≡ false → None ≡ missing_in Choose attributes (trees_of (items_view vs))

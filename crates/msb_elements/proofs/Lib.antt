@@ -1,7 +1,5 @@
 pub mod Views
-pub mod Depths
 pub mod Fronts
-pub mod Forming
 pub mod Growing
 pub mod Sorting
 pub mod Heights

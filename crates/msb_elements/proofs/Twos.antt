@@ -11,7 +11,7 @@ use Rattle.msb_elements.specs.Stands.{role_of, or_else}
 use Rattle.msb_elements.specs.Checks.{Pair, is_clash, is_named, is_same, apart_as, are_apart, first_other, first_two}
 use Rattle.msb_elements.specs.declared.kind.Kind.{Kind}
 use Rattle.msb_elements.specs.declared.kind.Role.{Role}
-use Rattle.msb_elements.specs.declared.kind.Role.TheVariants.{Known, Named, Strange}
+use Rattle.msb_elements.specs.declared.kind.Role.TheVariants.{Known, Named, NotAllowed}
 
 none_of : (attributes : List Pair) (name : List ℕ) (rest : List Pair) → first_other (λ other. list_any (is_clash attributes name other) []) rest ≡ None
 none_of attributes name [] = refl
@@ -35,7 +35,7 @@ other_named kind attributes name rest named = sym (ap (λ role. first_other (apa
 
 not_named : (role : Role) (kind : Kind) (attributes : List Pair) (name : List ℕ) (rest : List Pair) → (role ≡ Named → ⊥) → first_other (apart_as role kind attributes name) rest ≡ first_other (λ other. list_any (is_clash attributes name other) (row_of kind).clashes) rest
 not_named Known kind attributes name rest other = refl
-not_named Strange kind attributes name rest other = refl
+not_named NotAllowed kind attributes name rest other = refl
 not_named Named kind attributes name rest other = absurd (other refl)
 
 -- any other may not stand beside those that its row keeps apart
@@ -67,7 +67,7 @@ later_named kind key low pairs rest pair ref before now all is low_is named note
 
 unnamed : (role : Role) → (role ≡ Named → ⊥) → is_named role ≡ false
 unnamed Known other = refl
-unnamed Strange other = refl
+unnamed NotAllowed other = refl
 unnamed Named other = absurd (other refl)
 
 -- any other attribute changes nothing

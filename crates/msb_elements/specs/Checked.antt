@@ -1,11 +1,11 @@
 -- What the readers and the checks of a project file answer.
 use Rattle.std.specs.Prelude.{◌≡◌, Option, Some, None, Result, Ok, Err}
 use Rattle.std.specs.Result.{result_err}
-use Rattle.msb_elements.specs.declared.errors.FormFault.{FormFault}
-use Rattle.msb_elements.specs.declared.errors.FormFault.TheVariants.{NotJson, NotElement, UnknownElement, Misplaced, MissingAttribute, BothAttributes, BadName, Memory}
+use Rattle.msb_elements.specs.declared.errors.ReadFault.{ReadFault}
+use Rattle.msb_elements.specs.declared.errors.ReadFault.TheVariants.{NotJson, NotElement, UnknownElement, Misplaced, MissingAttribute, BothAttributes, BadName, Memory}
 
 -- the fault that is found, or want of memory
-abbrev pub IsFault : FormFault → Option FormFault → Type 0
+abbrev pub IsFault : ReadFault → Option ReadFault → Type 0
 IsFault Memory found = Unit {0}
 IsFault NotJson found = found ≡ Some NotJson
 IsFault (NotElement place) found = found ≡ Some (NotElement place)
@@ -16,11 +16,11 @@ IsFault (BothAttributes place one other) found = found ≡ Some (BothAttributes 
 IsFault (BadName place at) found = found ≡ Some (BadName place at)
 
 -- no fault is found, or just this
-abbrev pub Checks : {X : Type 0} → Result X FormFault → Option FormFault → Type 0
+abbrev pub Checks : {X : Type 0} → Result X ReadFault → Option ReadFault → Type 0
 Checks (Ok x) found = found ≡ None
 Checks (Err fault) found = IsFault fault found
 
 -- what the definition gives, or the fault that it finds
-abbrev pub Finds : {X Y : Type 0} → (X → Y) → Result X FormFault → Result Y FormFault → Type 0
+abbrev pub Finds : {X Y : Type 0} → (X → Y) → Result X ReadFault → Result Y ReadFault → Type 0
 Finds seen (Ok x) found = found ≡ Ok (seen x)
 Finds seen (Err fault) found = IsFault fault (result_err found)

@@ -11,26 +11,26 @@ use Rattle.msb_elements.specs.Stands.{role_of, or_else}
 use Rattle.msb_elements.specs.declared.kind.Kind.{Kind}
 use Rattle.msb_elements.specs.declared.kind.Kind.TheVariants.{Choose, Otherwise, OnError}
 use Rattle.msb_elements.specs.declared.kind.Role.{Role}
-use Rattle.msb_elements.specs.declared.kind.Role.TheVariants.{Named, Strange}
+use Rattle.msb_elements.specs.declared.kind.Role.TheVariants.{Named, NotAllowed}
 use Rattle.msb_elements.specs.declared.kind.Standing.{Standing}
 use Rattle.msb_elements.specs.declared.kind.Standing.TheVariants.{Stands, Misplaced, Unknown}
-use Rattle.msb_elements.specs.declared.errors.FormFault.{FormFault}
-use Rattle.msb_elements.specs.declared.errors.FormFault.TheVariants as fault
+use Rattle.msb_elements.specs.declared.errors.ReadFault.{ReadFault}
+use Rattle.msb_elements.specs.declared.errors.ReadFault.TheVariants as fault
 
 abbrev pub Pair : Type 0
 Pair = List ℕ × List ℕ
 
-abbrev pub is_strange : Role → Bool
-is_strange Strange = true
-is_strange _ = false
+abbrev pub is_not_allowed : Role → Bool
+is_not_allowed NotAllowed = true
+is_not_allowed _ = false
 
 abbrev pub is_named : Role → Bool
 is_named Named = true
 is_named _ = false
 
 -- UnknownElement: an attribute that the row does not allow, or a text where it gives none
-abbrev pub has_strange : Kind → List Pair → List ℕ → Bool
-has_strange kind attributes text = list_any (λ pair. is_strange (role_of kind pair.0)) attributes || (not (length text == 0) && not (row_of kind).text)
+abbrev pub has_not_allowed : Kind → List Pair → List ℕ → Bool
+has_not_allowed kind attributes text = list_any (λ pair. is_not_allowed (role_of kind pair.0)) attributes || (not (length text == 0) && not (row_of kind).text)
 
 abbrev pub is_on_error : Option Kind → Bool
 is_on_error (Some OnError) = true
@@ -129,23 +129,23 @@ bad_own_name kind name = if is_some (row_of kind).tag then None else bad_place i
 abbrev pub bad_name_in : Kind → List ℕ → List Pair → Option ℕ
 bad_name_in kind name attributes = or_else (bad_own_name kind name) (first_bad kind attributes)
 
-abbrev pub fault_of_attributes : Kind → List ℕ → List ℕ → List Pair → Trees → Option FormFault
+abbrev pub fault_of_attributes : Kind → List ℕ → List ℕ → List Pair → Trees → Option ReadFault
 fault_of_attributes kind place name attributes entries =
     or_else (option_map (λ missed. fault.MissingAttribute place missed) (missing_in kind attributes entries))
     (or_else (option_map (λ two. fault.BothAttributes place two.0 two.1) (both_in kind attributes))
     (option_map (λ at. fault.BadName place at) (bad_name_in kind name attributes)))
 
 -- of the faults of an element that may stand there the least
-abbrev pub fault_of_kind : Kind → Bool → Bool → List ℕ → List ℕ → List Pair → List ℕ → Trees → Option FormFault
+abbrev pub fault_of_kind : Kind → Bool → Bool → List ℕ → List ℕ → List Pair → List ℕ → Trees → Option ReadFault
 fault_of_kind kind after last place name attributes text entries =
-    if has_strange kind attributes text then Some (fault.UnknownElement place) else
+    if has_not_allowed kind attributes text then Some (fault.UnknownElement place) else
     if is_out_of_order kind after last entries then Some (fault.Misplaced place) else
     fault_of_attributes kind place name attributes entries
 
 -- the least fault of an element with these entries below it, after an OnError or not, and as the last child or not
-abbrev pub own_fault : Standing → Bool → Bool → List ℕ → List ℕ → List Pair → List ℕ → Trees → Option FormFault
+abbrev pub own_fault : Standing → Bool → Bool → List ℕ → List ℕ → List Pair → List ℕ → Trees → Option ReadFault
 own_fault (Stands kind) after last place name attributes text entries = fault_of_kind kind after last place name attributes text entries
 own_fault (Misplaced (Some kind)) after last place name attributes text entries =
-    if has_strange kind attributes text then Some (fault.UnknownElement place) else Some (fault.Misplaced place)
+    if has_not_allowed kind attributes text then Some (fault.UnknownElement place) else Some (fault.Misplaced place)
 own_fault (Misplaced None) after last place name attributes text entries = Some (fault.Misplaced place)
 own_fault Unknown after last place name attributes text entries = Some (fault.UnknownElement place)

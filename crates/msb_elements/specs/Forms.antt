@@ -9,7 +9,6 @@ use Rattle.std.specs.Str.{bytes_eq, is_utf8}
 use Rattle.serde_json.specs.Data.{Data, null, boolean, number, string, array, object, Items, no_items, item, Members, no_members, member}
 use Rattle.serde_json.specs.Find.{get, as_str, as_object}
 use Rattle.serde_json.specs.Read.{read}
-use Rattle.msb_elements.specs.Nodes.{Node, node, Nodes, no_nodes, more}
 
 -- the JSON value that a file's bytes are, by `serde_json`, if they are one
 unfoldable pub json_in : List ℕ → Option Data
@@ -50,46 +49,3 @@ text_in d = text_at (get (codes "t") d)
 -- no member of another key, and a text does not stand beside children
 abbrev pub has_element_members : Data → Bool
 has_element_members d = option_map_or has_element_keys (as_object d) false && not (is_some (get (codes "t") d) && is_some (get (codes "c") d))
-
-abbrev pub made_of : List ℕ → Option (List ℕ) → Option (List (List ℕ × List ℕ)) → Option (List ℕ) → Option Nodes → Option Node
-made_of place (Some name) (Some attributes) (Some text) (Some children) = Some (node place name attributes text children)
-made_of place None attributes text children = None
-made_of place (Some name) None text children = None
-made_of place (Some name) (Some attributes) None children = None
-made_of place (Some name) (Some attributes) (Some text) None = None
-
--- the element of an object, given its children
-abbrev pub element_from : List ℕ → Data → Option Nodes → Option Node
-element_from place d children = if has_element_members d then made_of place (name_in d) (attributes_in d) (text_in d) children else None
-
--- the element at a place, and the place of its child i is its own with i at the end
-abbrev mutual
-  pub element_at : List ℕ → Data → Option Node
-  element_at place (object ms) = element_from place (object ms) (children_in_members place ms)
-  element_at place null = None
-  element_at place (boolean b) = None
-  element_at place (number n) = None
-  element_at place (string s) = None
-  element_at place (array ds) = None
-
-  -- the value of the member `c`
-  pub children_in_members : List ℕ → Members → Option Nodes
-  children_in_members place no_members = Some no_nodes
-  children_in_members place (member key d ms) = if bytes_eq (codes "c") key then children_at place d else children_in_members place ms
-
-  pub children_at : List ℕ → Data → Option Nodes
-  children_at place (array ds) = elements_from place 0 ds
-  children_at place null = None
-  children_at place (boolean b) = None
-  children_at place (number n) = None
-  children_at place (string s) = None
-  children_at place (object ms) = None
-
-  -- the elements from child i on
-  pub elements_from : List ℕ → ℕ → Items → Option Nodes
-  elements_from place i no_items = Some no_nodes
-  elements_from place i (item d ds) = option_and_then (λ n. option_map (more n) (elements_from place (i + 1) ds)) (element_at (place ++ i ∷ []) d)
-
--- the root element that a file's bytes are, if they are one
-unfoldable pub element_in : List ℕ → Option Node
-element_in bytes = option_and_then (element_at []) (json_in bytes)

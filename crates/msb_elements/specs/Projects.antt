@@ -12,8 +12,8 @@ use Rattle.msb_elements.specs.declared.kind.Kind.{Kind}
 use Rattle.msb_elements.specs.declared.kind.Kind.TheVariants.{ProjectExtensions}
 use Rattle.msb_elements.specs.declared.kind.Standing.{Standing}
 use Rattle.msb_elements.specs.declared.kind.Standing.TheVariants.{Stands}
-use Rattle.msb_elements.specs.declared.errors.FormFault.{FormFault}
-use Rattle.msb_elements.specs.declared.errors.FormFault.TheVariants.{NotJson, NotElement}
+use Rattle.msb_elements.specs.declared.errors.ReadFault.{ReadFault}
+use Rattle.msb_elements.specs.declared.errors.ReadFault.TheVariants.{NotJson, NotElement}
 
 abbrev pub is_looked_into : Kind → Bool
 is_looked_into ProjectExtensions = false
@@ -29,12 +29,12 @@ kind_standing (Stands kind) = Some kind
 kind_standing _ = None
 
 -- an element with these children, unless it has a fault itself or one of them has
-abbrev pub with_children : List ℕ → List ℕ → List (List ℕ × List ℕ) → List ℕ → Option FormFault → Result Nodes FormFault → Result Node FormFault
+abbrev pub with_children : List ℕ → List ℕ → List (List ℕ × List ℕ) → List ℕ → Option ReadFault → Result Nodes ReadFault → Result Node ReadFault
 with_children place name attributes text (Some fault) children = Err fault
 with_children place name attributes text None (Ok children) = Ok (node place name attributes text children)
 with_children place name attributes text None (Err fault) = Err fault
 
-abbrev pub in_front : Result Node FormFault → Result Nodes FormFault → Result Nodes FormFault
+abbrev pub in_front : Result Node ReadFault → Result Nodes ReadFault → Result Nodes ReadFault
 in_front (Err fault) rest = Err fault
 in_front (Ok n) (Ok ns) = Ok (more n ns)
 in_front (Ok n) (Err fault) = Err fault
@@ -51,26 +51,26 @@ is_on_error_below parent (element name attributes text entries) = is_on_error (c
 -- the element at a place below such a parent, after an OnError or not, and as the last child or not; and the place of
 -- its child i is its own with i at the end
 unfoldable mutual
-  pub element_or_fault : Option Kind → Bool → Bool → List ℕ → Tree → Result Node FormFault
+  pub element_or_fault : Option Kind → Bool → Bool → List ℕ → Tree → Result Node ReadFault
   element_or_fault parent after last place no_element = Err (NotElement place)
   element_or_fault parent after last place (element name attributes text entries) =
       with_children place name attributes text (own_fault (standing_of parent name) after last place name attributes text entries)
       (if looks_into (standing_of parent name) then children_or_fault (kind_standing (standing_of parent name)) false place 0 entries else Ok no_nodes)
 
   -- the elements from child i on
-  pub children_or_fault : Option Kind → Bool → List ℕ → ℕ → Trees → Result Nodes FormFault
+  pub children_or_fault : Option Kind → Bool → List ℕ → ℕ → Trees → Result Nodes ReadFault
   children_or_fault parent after place i no_trees = Ok no_nodes
   children_or_fault parent after place i (further t ts) =
       in_front (element_or_fault parent after (is_no_trees ts) (place ++ i ∷ []) t) (children_or_fault parent (after || is_on_error_below parent t) place (i + 1) ts)
 
 -- what an element has below it
-abbrev pub below_or_fault : Standing → List ℕ → Trees → Result Nodes FormFault
+abbrev pub below_or_fault : Standing → List ℕ → Trees → Result Nodes ReadFault
 below_or_fault standing place entries = if looks_into standing then children_or_fault (kind_standing standing) false place 0 entries else Ok no_nodes
 
-abbrev pub root_or_fault : Option Data → Result Node FormFault
+abbrev pub root_or_fault : Option Data → Result Node ReadFault
 root_or_fault None = Err NotJson
 root_or_fault (Some d) = element_or_fault None false true [] (tree_of d)
 
 -- the root element of a project file, or its first fault
-unfoldable pub project_in : List ℕ → Result Node FormFault
+unfoldable pub project_in : List ℕ → Result Node ReadFault
 project_in bytes = root_or_fault (json_in bytes)

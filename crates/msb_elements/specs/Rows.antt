@@ -7,7 +7,7 @@ use Rattle.msb_values.specs.Names.{is_name_byte, is_target_byte}
 use Rattle.msb_elements.specs.declared.kind.Kind.{Kind}
 use Rattle.msb_elements.specs.declared.kind.Kind.TheVariants.{Project, ProjectExtensions, PropertyGroup, Property, ItemGroup, Item, TargetItemGroup, TargetItem, ItemDefinitionGroup, Definition, Metadata, Import, ImportGroup, Choose, When, Otherwise, UsingTask, Target, Task, Output, OnError}
 use Rattle.msb_elements.specs.declared.kind.Role.{Role}
-use Rattle.msb_elements.specs.declared.kind.Role.TheVariants.{Known, Named, Strange}
+use Rattle.msb_elements.specs.declared.kind.Role.TheVariants.{Known, Named, NotAllowed}
 
 -- one of these attributes is needed, or only where another stands; the first of them is the one that is missed
 pub record Need : Type 0 where
@@ -55,11 +55,11 @@ condition = codes "Condition" ∷ []
 
 -- an element of this name with these attributes alone, without children and text
 abbrev fixed : List ℕ → List (List ℕ) → Row
-fixed tag attributes = record { tag = Some tag; attributes = attributes; others = Strange; needs = []; clashes = []; values = []; children = these []; text = false }
+fixed tag attributes = record { tag = Some tag; attributes = attributes; others = NotAllowed; needs = []; clashes = []; values = []; children = these []; text = false }
 
 -- an element that has its own name, with these attributes alone, without children and text
 abbrev free : List (List ℕ) → Row
-free attributes = record { tag = None; attributes = attributes; others = Strange; needs = []; clashes = []; values = []; children = these []; text = false }
+free attributes = record { tag = None; attributes = attributes; others = NotAllowed; needs = []; clashes = []; values = []; children = these []; text = false }
 
 abbrev pub names_items : List (List ℕ)
 names_items = codes "Include" ∷ codes "Remove" ∷ codes "Update" ∷ []

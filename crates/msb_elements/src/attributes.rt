@@ -6,7 +6,7 @@ ghost use Rattle.serde_json.specs.View.{items_view};
 ghost use Rattle.msb_elements.specs.Rows.{names_items};
 ghost use Rattle.msb_elements.specs.Trees.{no_trees, trees_of};
 ghost use Rattle.msb_elements.specs.Stands.{role_of};
-ghost use Rattle.msb_elements.specs.Checks.{is_strange, has, missing_in, bad_attribute, first_bad};
+ghost use Rattle.msb_elements.specs.Checks.{is_not_allowed, has, missing_in, bad_attribute, first_bad};
 ghost use Rattle.msb_elements.specs.declared.kind.Kind.TheVariants.{Output};
 
 use crate::element::value_of;
@@ -16,11 +16,11 @@ use msb_values::Text;
 use serde_json::Value;
 
 /// Whether there is an attribute that the element may not have.
-pub fn has_strange(kind: Kind, attributes: &[(Text, Text)]) -> bool
-    ensures { result ≡ list_any (λ pair. is_strange (role_of kind pair.0)) attributes.now }
+pub fn has_not_allowed(kind: Kind, attributes: &[(Text, Text)]) -> bool
+    ensures { result ≡ list_any (λ pair. is_not_allowed (role_of kind pair.0)) attributes.now }
 {
     for (name, _) in attributes {
-        if matches!(kind.role(name.as_str()), Role::Strange) {
+        if matches!(kind.role(name.as_str()), Role::NotAllowed) {
             return true;
         }
     }

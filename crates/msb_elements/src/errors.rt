@@ -1,48 +1,45 @@
 ghost use Rattle.std.specs.Prelude.{◌≡◌};
-ghost use Rattle.msb_elements.specs.declared.errors.ReadFault.TheVariants.{Memory};
-ghost use Rattle.msb_elements.specs.declared.errors.FormFault.TheVariants as form;
+ghost use Rattle.msb_elements.specs.declared.errors.PartFault.TheVariants.{Memory};
+ghost use Rattle.msb_elements.specs.declared.errors.ReadFault.TheVariants as form;
 
 use crate::Place;
 use msb_values::{NoMemory, Text};
 use std::alloc::{AllocError, AllocFailed};
 
-/// Why a project file is refused.
-#[derive(Clone, Copy, Debug, PartialEq, Eq)]
-pub enum ReadFault {
-    /// The bytes are no JSON text.
-    NotJson,
-    /// The JSON text is no tree of elements.
-    NotYet,
+/// Why a value is not taken as an element.
+#[derive(Clone, Copy)]
+pub enum PartFault {
+    NotElement,
     Memory,
 }
 
-impl From<NoMemory> for ReadFault {
+impl From<NoMemory> for PartFault {
     ghost from_gives = { λ _ e. e ≡ Memory };
 
     fn from(_: NoMemory) -> Self {
-        ReadFault::Memory
+        PartFault::Memory
     }
 }
 
-impl From<AllocError> for ReadFault {
+impl From<AllocError> for PartFault {
     ghost from_gives = { λ _ e. e ≡ Memory };
 
     fn from(_: AllocError) -> Self {
-        ReadFault::Memory
+        PartFault::Memory
     }
 }
 
-impl<T: Drop> From<AllocFailed<T>> for ReadFault {
+impl<T: Drop> From<AllocFailed<T>> for PartFault {
     ghost from_gives = { λ _ e. e ≡ Memory };
 
     fn from(_: AllocFailed<T>) -> Self {
-        ReadFault::Memory
+        PartFault::Memory
     }
 }
 
 /// Why a file is no project file, with the place of the element. (MSBuild project file schema reference.)
 #[derive(Drop)]
-pub enum FormFault {
+pub enum ReadFault {
     /// The bytes are no JSON text.
     NotJson,
     /// An entry that is no element: no object, one without a name, one with a member that no element has or whose value
@@ -61,26 +58,26 @@ pub enum FormFault {
     Memory,
 }
 
-impl From<NoMemory> for FormFault {
+impl From<NoMemory> for ReadFault {
     ghost from_gives = { λ _ e. e ≡ form.Memory };
 
     fn from(_: NoMemory) -> Self {
-        FormFault::Memory
+        ReadFault::Memory
     }
 }
 
-impl From<AllocError> for FormFault {
+impl From<AllocError> for ReadFault {
     ghost from_gives = { λ _ e. e ≡ form.Memory };
 
     fn from(_: AllocError) -> Self {
-        FormFault::Memory
+        ReadFault::Memory
     }
 }
 
-impl<T: Drop> From<AllocFailed<T>> for FormFault {
+impl<T: Drop> From<AllocFailed<T>> for ReadFault {
     ghost from_gives = { λ _ e. e ≡ form.Memory };
 
     fn from(_: AllocFailed<T>) -> Self {
-        FormFault::Memory
+        ReadFault::Memory
     }
 }

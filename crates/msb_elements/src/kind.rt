@@ -41,7 +41,7 @@ pub enum Role {
     /// It is a metadata or a parameter of its name.
     Named,
     /// It may not stand there.
-    Strange,
+    NotAllowed,
 }
 
 /// Whether an element may stand where it does.
@@ -167,7 +167,7 @@ impl Kind {
         match self {
             Kind::ProjectExtensions | Kind::UsingTask => Role::Known,
             Kind::Item | Kind::TargetItem | Kind::Definition | Kind::Task => Role::Named,
-            _ => Role::Strange,
+            _ => Role::NotAllowed,
         }
     }
 

@@ -7,20 +7,15 @@ mod attributes;
 mod clashes;
 mod element;
 mod errors;
-mod form;
-#[cfg(test)]
-mod form_tests;
 mod kind;
+mod members;
 mod names;
 mod own;
 mod parts;
 mod place;
 mod reading;
-#[cfg(test)]
-mod tests;
 
 pub use element::{Element, Project};
-pub use errors::{FormFault, ReadFault};
-pub use form::read_form;
+pub use errors::ReadFault;
 pub use place::Place;
 pub use reading::read_project;

@@ -8,8 +8,8 @@ ghost use Rattle.msb_elements.specs.Reads.{Gives};
 ghost use Rattle.msb_elements.specs.Trees.{element, tree_of, trees_of, entries_if, as_element, of_values};
 ghost use Rattle.msb_elements.specs.Sorted.{Sorts, with_member};
 
-use crate::ReadFault;
-use crate::reading::is_key_of_element;
+use crate::errors::PartFault;
+use crate::members::is_key_of_element;
 use msb_values::Text;
 use serde_json::{Map, Value};
 use std::alloc::Global;
@@ -23,26 +23,26 @@ pub struct Own {
     pub entries: Vec<Value>,
 }
 
-/// What a value has as an element; refused as [`ReadFault::NotYet`] exactly where it is none.
-pub fn own_of(alloc: Global, value: Value) -> Result<Own, ReadFault>
+/// What a value has as an element; refused as [`PartFault::NotElement`] exactly where it is none.
+pub fn own_of(alloc: Global, value: Value) -> Result<Own, PartFault>
     ensures { Gives (λ own. element own.name own.attributes.items own.text (trees_of (items_view own.entries.items))) result (as_element (tree_of (value_of value))) }
 {
     match value {
         Value::Object(members) => own_in(alloc, members),
-        _ => Err(ReadFault::NotYet),
+        _ => Err(PartFault::NotElement),
     }
 }
 
-fn own_in(alloc: Global, members: Map<String, Value>) -> Result<Own, ReadFault>
+fn own_in(alloc: Global, members: Map<String, Value>) -> Result<Own, PartFault>
     ensures { Gives (λ own. element own.name own.attributes.items own.text (trees_of (items_view own.entries.items))) result (as_element (tree_of (object (members_view members.entries)))) }
 {
     match sorted(members) {
         Some(values) => own_from(alloc, values),
-        None => Err(ReadFault::NotYet),
+        None => Err(PartFault::NotElement),
     }
 }
 
-fn own_from(alloc: Global, values: Values) -> Result<Own, ReadFault>
+fn own_from(alloc: Global, values: Values) -> Result<Own, PartFault>
     ensures { Gives (λ own. element own.name own.attributes.items own.text (trees_of (items_view own.entries.items))) result (of_values (option_map value_of values.name) (option_map value_of values.attributes) (option_map value_of values.text) (option_map value_of values.entries)) }
 {
     let Values {
@@ -140,54 +140,54 @@ impl Values {
     }
 }
 
-fn name_of(value: Option<Value>) -> Result<Text, ReadFault>
+fn name_of(value: Option<Value>) -> Result<Text, PartFault>
     ensures { Gives (λ t. t) result (option_and_then as_str (option_map value_of value)) }
 {
     match value {
         Some(Value::String(name)) => Ok(Text::from(name)),
-        _ => Err(ReadFault::NotYet),
+        _ => Err(PartFault::NotElement),
     }
 }
 
-fn text_of(alloc: Global, value: Option<Value>) -> Result<Text, ReadFault>
+fn text_of(alloc: Global, value: Option<Value>) -> Result<Text, PartFault>
     ensures { Gives (λ t. t) result (text_at (option_map value_of value)) }
 {
     match value {
         None => Ok(Text::of(alloc, "")?),
         Some(Value::String(text)) => Ok(Text::from(text)),
-        Some(_) => Err(ReadFault::NotYet),
+        Some(_) => Err(PartFault::NotElement),
     }
 }
 
-fn attributes_of(alloc: Global, value: Option<Value>) -> Result<Vec<(Text, Text)>, ReadFault>
+fn attributes_of(alloc: Global, value: Option<Value>) -> Result<Vec<(Text, Text)>, PartFault>
     ensures { Gives (λ v. v.items) result (texts_at (option_map value_of value)) }
 {
     match value {
         None => Ok(Vec::new(alloc)),
         Some(Value::Object(members)) => texts_in(alloc, members),
-        Some(_) => Err(ReadFault::NotYet),
+        Some(_) => Err(PartFault::NotElement),
     }
 }
 
-fn texts_in(alloc: Global, members: Map<String, Value>) -> Result<Vec<(Text, Text)>, ReadFault>
+fn texts_in(alloc: Global, members: Map<String, Value>) -> Result<Vec<(Text, Text)>, PartFault>
     ensures { Gives (λ v. v.items) result (texts_of (members_view members.entries)) }
 {
     let mut texts = Vec::with_capacity(alloc, members.len())?;
     for (key, value) in members {
         let Value::String(text) = value else {
-            return Err(ReadFault::NotYet);
+            return Err(PartFault::NotElement);
         };
         texts.push((Text::from(key), Text::from(text)))?;
     }
     Ok(texts)
 }
 
-fn entries_of(alloc: Global, value: Option<Value>) -> Result<Vec<Value>, ReadFault>
+fn entries_of(alloc: Global, value: Option<Value>) -> Result<Vec<Value>, PartFault>
     ensures { Gives (λ v. trees_of (items_view v.items)) result (entries_if (option_map value_of value)) }
 {
     match value {
         None => Ok(Vec::new(alloc)),
         Some(Value::Array(items)) => Ok(items),
-        Some(_) => Err(ReadFault::NotYet),
+        Some(_) => Err(PartFault::NotElement),
     }
 }

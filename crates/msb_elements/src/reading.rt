@@ -1,28 +1,31 @@
-ghost use Rattle.std.specs.Prelude.{◌≡◌, [], codes};
-ghost use Rattle.serde_json.specs.Find.{get};
-ghost use Rattle.serde_json.specs.View.{view as value_of, items_view, members_view};
-ghost use Rattle.msb_elements.specs.Forms.{is_element_key, has_element_keys, has_element_members, name_in, attributes_in, texts_of, text_in, element_at, elements_from};
-ghost use Rattle.msb_elements.specs.Reads.{ReadsFile, Gives, children_if};
+ghost use Rattle.std.specs.Prelude.{◌≡◌, ◌||◌, [], false, Some};
+ghost use Rattle.serde_json.specs.View.{view as value_of, items_view};
+ghost use Rattle.msb_elements.specs.Stands.{child_kind};
+ghost use Rattle.msb_elements.specs.Trees.{tree_of, trees_of};
+ghost use Rattle.msb_elements.specs.Checks.{is_on_error};
+ghost use Rattle.msb_elements.specs.Checked.{Finds};
+ghost use Rattle.msb_elements.specs.Projects.{project_in, root_or_fault, element_or_fault, children_or_fault, below_or_fault};
 ghost use Rattle.msb_elements.specs.View.{view, views};
 
+use crate::errors::PartFault;
+use crate::kind::{Kind, Standing};
+use crate::own::check_own;
+use crate::parts::{Own, own_of};
 use crate::{Element, Place, Project, ReadFault};
-use msb_values::Text;
-use serde_json::{Map, Value};
+use serde_json::Value;
 use std::alloc::Global;
 
-/// Reads a project file: a JSON text whose value is a tree of elements.
+/// Reads a project file: a JSON text whose value is a tree of elements, each of which stands where it may and has what
+/// it may have. (MSBuild project file schema reference.)
 ///
-/// An element is an object with the members `e` (a text, its name, which it must have), `a` (an object of texts, its
-/// attributes), `t` (a text) and `c` (an array of elements), and no others. A text does not stand beside children, and
-/// what is absent is empty.
-///
-/// The bytes are refused as [`ReadFault::NotJson`] exactly where `serde_json` reads no value from them, and as
-/// [`ReadFault::NotYet`] exactly where their value is no such element.
+/// The bytes are refused as [`ReadFault::NotJson`] exactly where `serde_json` reads no value from them. Else the elements
+/// are looked at in document order, parents first; below ProjectExtensions nothing is looked at and nothing is kept. The
+/// first element with a fault gives the refusal, and of its faults the first in the order of [`ReadFault`].
 pub fn read_project(alloc: Global, bytes: &[u8]) -> Result<Project, ReadFault>
-    ensures { ReadsFile bytes.now result }
+    ensures { Finds (λ project. view project.root) result (project_in bytes.now) }
 {
     match Value::from_slice(alloc, bytes) {
-        Ok(value) => root_of(alloc, &value),
+        Ok(value) => root_of(alloc, value),
         Err(error) => {
             if error.is_memory() {
                 return Err(ReadFault::Memory);
@@ -32,121 +35,105 @@ pub fn read_project(alloc: Global, bytes: &[u8]) -> Result<Project, ReadFault>
     }
 }
 
-fn root_of(alloc: Global, value: &Value) -> Result<Project, ReadFault>
-    ensures { Gives (λ project. view project.root) result (element_at [] (value_of value.now)) }
+fn root_of(alloc: Global, value: Value) -> Result<Project, ReadFault>
+    ensures { Finds (λ project. view project.root) result (root_or_fault (Some (value_of value))) }
 {
-    let root = element(alloc, Place::root(alloc), value)?;
+    let position = Position {
+        parent: None,
+        after_on_error: false,
+        is_last: true,
+    };
+    let root = element(alloc, position, Place::root(alloc), value)?;
     Ok(Project { root })
 }
 
+/// Where an element stands among its parent's children.
+#[derive(Clone, Copy)]
+pub struct Position {
+    parent: Option<Kind>,
+    /// Whether an OnError of a target stands before it.
+    pub after_on_error: bool,
+    pub is_last: bool,
+}
+
 #[cycle(element)]
-fn element(alloc: Global, place: Place, value: &Value) -> Result<Element, ReadFault>
-    ensures { Gives view result (element_at place (value_of value.now)) }
+fn element(
+    alloc: Global,
+    position: Position,
+    place: Place,
+    value: Value,
+) -> Result<Element, ReadFault>
+    ensures { Finds view result (element_or_fault position.parent position.after_on_error position.is_last place (tree_of (value_of value))) }
 {
-    if !is_element_object(value) {
-        return Err(ReadFault::NotYet);
-    }
-    let name = name(alloc, value)?;
-    let attributes = attributes(alloc, value)?;
-    let text = text(alloc, value)?;
-    let children = children(alloc, &place, value)?;
+    let own = match own_of(alloc, value) {
+        Ok(own) => own,
+        Err(PartFault::NotElement) => return Err(ReadFault::NotElement(place)),
+        Err(_) => return Err(ReadFault::Memory),
+    };
+    let standing = Standing::of(position.parent, own.name.as_str());
+    check_own(alloc, standing, position, &place, &own)?;
+    let Own {
+        name,
+        attributes,
+        text,
+        entries,
+    } = own;
+    let children = below(alloc, standing, &place, entries)?;
     Ok(Element::new(place, name, attributes, text, children))
 }
 
+/// The children of an element without a fault.
 #[cycle(element)]
-fn children(alloc: Global, place: &Place, value: &Value) -> Result<Vec<Element>, ReadFault>
-    ensures { Gives (λ v. views v.items) result (children_if place.now (get (codes "c") (value_of value.now))) }
+fn below(
+    alloc: Global,
+    standing: Standing,
+    place: &Place,
+    entries: Vec<Value>,
+) -> Result<Vec<Element>, ReadFault>
+    ensures { Finds (λ v. views v.items) result (below_or_fault standing place.now (trees_of (items_view entries.items))) }
 {
-    match value.get("c") {
-        None => Ok(Vec::new(alloc)),
-        Some(Value::Array(items)) => elements(alloc, place, items),
-        Some(_) => Err(ReadFault::NotYet),
+    match standing {
+        Standing::Stands(kind) => {
+            if !kind.is_looked_into() {
+                return Ok(Vec::new(alloc));
+            }
+            children(alloc, kind, place, entries)
+        }
+        Standing::Misplaced(_) => Ok(Vec::new(alloc)),
+        Standing::Unknown => Ok(Vec::new(alloc)),
     }
 }
 
 #[cycle(element)]
-fn elements(alloc: Global, place: &Place, items: &Vec<Value>) -> Result<Vec<Element>, ReadFault>
-    ensures { Gives (λ v. views v.items) result (elements_from place.now 0 (items_view items.now.items)) }
+fn children(
+    alloc: Global,
+    kind: Kind,
+    place: &Place,
+    entries: Vec<Value>,
+) -> Result<Vec<Element>, ReadFault>
+    ensures { Finds (λ v. views v.items) result (children_or_fault (Some kind) false place.now 0 (trees_of (items_view entries.items))) }
 {
-    let mut all = Vec::with_capacity(alloc, items.len())?;
-    for (number, item) in items.iter().enumerate() {
+    let count = entries.len();
+    let mut all = Vec::with_capacity(alloc, count)?;
+    let mut after_on_error = false;
+    for (number, entry) in entries.into_iter().enumerate() {
+        let is_last = number + 1 == count;
+        let position = Position {
+            parent: Some(kind),
+            after_on_error,
+            is_last,
+        };
         let own_place = place.child(number as u64)?;
-        all.push(element(alloc, own_place, item)?)?;
+        let child = element(alloc, position, own_place, entry)?;
+        after_on_error = is_after(after_on_error, kind, child.name());
+        all.push(child)?;
     }
     Ok(all)
 }
 
-/// Whether the value is an object that has only members of an element, and not both a text and children.
-pub fn is_element_object(value: &Value) -> bool
-    ensures { result ≡ has_element_members (value_of value.now) }
+/// Whether what follows a child of this name stands after an OnError.
+fn is_after(before: bool, kind: Kind, name: &str) -> bool
+    ensures { result ≡ (before || is_on_error (child_kind (Some kind) name.now)) }
 {
-    match value {
-        Value::Object(members) => {
-            has_only_element_keys(members)
-                && !(value.get("t").is_some() && value.get("c").is_some())
-        }
-        _ => false,
-    }
-}
-
-fn has_only_element_keys(members: &Map<String, Value>) -> bool
-    ensures { result ≡ has_element_keys (members_view members.now.entries) }
-{
-    for (key, _) in members.iter() {
-        if !is_key_of_element(key.as_str()) {
-            return false;
-        }
-    }
-    true
-}
-
-pub fn is_key_of_element(key: &str) -> bool
-    ensures { result ≡ is_element_key key.now }
-{
-    matches!(key, "e" | "a" | "t" | "c")
-}
-
-pub fn name(alloc: Global, value: &Value) -> Result<Text, ReadFault>
-    ensures { Gives (λ t. t) result (name_in (value_of value.now)) }
-{
-    match value.get("e") {
-        Some(Value::String(name)) => Ok(Text::of(alloc, name.as_str())?),
-        _ => Err(ReadFault::NotYet),
-    }
-}
-
-pub fn text(alloc: Global, value: &Value) -> Result<Text, ReadFault>
-    ensures { Gives (λ t. t) result (text_in (value_of value.now)) }
-{
-    match value.get("t") {
-        None => Ok(Text::of(alloc, "")?),
-        Some(Value::String(text)) => Ok(Text::of(alloc, text.as_str())?),
-        Some(_) => Err(ReadFault::NotYet),
-    }
-}
-
-pub fn attributes(alloc: Global, value: &Value) -> Result<Vec<(Text, Text)>, ReadFault>
-    ensures { Gives (λ v. v.items) result (attributes_in (value_of value.now)) }
-{
-    match value.get("a") {
-        None => Ok(Vec::new(alloc)),
-        Some(Value::Object(members)) => texts(alloc, members),
-        Some(_) => Err(ReadFault::NotYet),
-    }
-}
-
-fn texts(alloc: Global, members: &Map<String, Value>) -> Result<Vec<(Text, Text)>, ReadFault>
-    ensures { Gives (λ v. v.items) result (texts_of (members_view members.now.entries)) }
-{
-    let mut texts = Vec::new(alloc);
-    for (key, value) in members.iter() {
-        let Value::String(text) = value else {
-            return Err(ReadFault::NotYet);
-        };
-        texts.push((
-            Text::of(alloc, key.as_str())?,
-            Text::of(alloc, text.as_str())?,
-        ))?;
-    }
-    Ok(texts)
+    before || matches!(kind.child(name), Some(Kind::OnError))
 }
