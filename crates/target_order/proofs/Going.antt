@@ -16,7 +16,7 @@ use Rattle.target_order.specs.declared.visits.Asked.TheVariants.{Nothing, Condit
 use Rattle.target_order.specs.declared.cursor.Stop.{Stop}
 use Rattle.target_order.specs.declared.cursor.Stop.TheVariants.{Visit as AtVisit, Body as AtBody, Finished, Stopped, Circle as AtCircle, Unknown as AtUnknown}
 use Rattle.target_order.specs.declared.cursor.Stand.TheVariants.{Unknown as IsUnknown, Circle as IsCircle, Fresh as IsFresh}
-use Rattle.target_order.specs.Visit.{Name, Rest, Opened, Standing, End, finished, stopped, circle, unknown, strange, circular, fresh, standing, in_order, visit_by, after_condition, after_body, with}
+use Rattle.target_order.specs.Visit.{body, Name, Rest, Opened, Standing, End, finished, stopped, circle, unknown, strange, circular, fresh, standing, in_order, visit_by, after_condition, after_body, with}
 use Rattle.target_order.specs.Progress.{Table, Progress, hooks_at, name_at, project_of, ran_of, is_past, is_errors, opened, list_at}
 use Rattle.target_order.specs.Left.{left, visit_in, inside, resume, base_at, base_of}
 use Rattle.target_order.specs.AsksLeft.{asks_left, visit_asks, asks_in, both, resume_asks, base_asks}
@@ -146,7 +146,7 @@ visit_asks_left p places c k sound at stops =
 -- at the end of BeforeTargets comes the body
 body_tree : (p : Progress) (c : Cursor) → IsAt p c → StopsEnd p c BeforeBody →
     let v = visit_at p.visits (c.depth - 1) in
-    going p ≡ asks (Body (name_at p.table v.target))
+    going p ≡ asks (body (name_at p.table v.target))
     (λ answer. after_body (inside p.table (map (opened p.table) (inner p (c.depth - 1))) v.target) (name_at p.table v.target) (hooks_at p.table v.target)
     (resume p.table (base_at p) (inner p (c.depth - 1))) answer (with (name_at p.table v.target) (ran_of p.table p.has_run)))
 body_tree p c at stops =

@@ -17,7 +17,7 @@ use Rattle.target_order.specs.declared.visits.Asked.TheVariants.{Nothing, Condit
 use Rattle.target_order.specs.declared.visits.Step.{Step}
 use Rattle.target_order.specs.declared.visits.Step.TheVariants.{BeforeSkip, After, Errors, Depends as AtDepends}
 use Rattle.target_order.specs.declared.visits.OpenVisit.{OpenVisit}
-use Rattle.target_order.specs.Visit.{Name, Rest, Opened, End, in_order, with, step_3, after_condition, after_body}
+use Rattle.target_order.specs.Visit.{Question, depends, Name, Rest, Opened, End, in_order, with, step_3, after_condition, after_body}
 use Rattle.target_order.specs.Progress.{Table, Progress, number_of, hooks_at, name_at, flag_at, ran_of, is_past, is_errors, opened, list_at}
 use Rattle.target_order.specs.Left.{left, inside, after_list, resume, base_at, answered}
 use Rattle.target_order.specs.AsksLeft.{asks_left, asks_in, both, after_asks, resume_asks, base_asks, answered_asks}
@@ -162,7 +162,7 @@ pub truth_asks : (p : Progress) → IsProgress p → fits p.asked (Truth true) �
 truth_asks p is h =
     let asked = fits_truth p.asked h in
     let some = is.visits (ap asks_visit asked) in
-    let tree : left p (Truth true) ≡ asks (Depends (name_at p.table (top_target p)))
+    let tree : left p (Truth true) ≡ asks (depends (name_at p.table (top_target p)))
     (λ answer. step_3 (inside p.table (map (opened p.table) (outer_of p)) (top_target p)) (name_at p.table (top_target p)) (hooks_at p.table (top_target p)) (resume p.table (base_at p) (outer_of p)) answer (ran_of p.table p.has_run)) =
     left_is p (Truth true) some ∙ rw asked refl in
     subst (λ tree. Asks tree (Depends (name_at p.table (top_target p))) (for_depends p)) (sym tree) (refl, λ i answer. depends_left p answer some i)
@@ -271,7 +271,7 @@ module _ (p : Progress) (places : List ℕ) (sound : IsSound p places) (answer :
   pub answer_fewer : (r : Result OrderAsk NoMemory) (new : Progress) → OnOk r (asks_left new ≤ going_asks (taken p step names)) → length names < 2 ^ 64 → OnOk r (asks_left new < asks_left p)
   answer_fewer r new h short = lower_on_ok r (asks_left new) (going_asks (taken p step names)) (asks_left p) h (fewer_is short)
 
-pub asks_at_ok : (r : Result OrderAsk NoMemory) (tree : Asking OrderAsk OrderAnswer End) (q : OrderAsk) (new at : Progress) → IfOk r (λ ask. ask ≡ q) → OnOk r (new ≡ at) → Asks tree q at → IfOk r (λ ask. Asks tree ask new)
+pub asks_at_ok : (r : Result OrderAsk NoMemory) (tree : Asking Question OrderAnswer End) (q : OrderAsk) (new at : Progress) → IfOk r (λ ask. ask ≡ q) → OnOk r (new ≡ at) → Asks tree q at → IfOk r (λ ask. Asks tree ask new)
 asks_at_ok (Ok ask) tree q new at is walk h = subst (λ a. Asks tree a new) (sym is) (subst (λ w. Asks tree q w) (sym walk) h)
 asks_at_ok (Err e) tree q new at is walk h = tt
 

@@ -7,7 +7,7 @@ use Rattle.target_order.specs.declared.asks.OrderAnswer.{OrderAnswer}
 use Rattle.target_order.specs.declared.asks.OrderAnswer.TheVariants.{First, Truth, Names, Ok as Ran, Failed}
 use Rattle.target_order.specs.declared.visits.Asked.{Asked}
 use Rattle.target_order.specs.declared.visits.Asked.TheVariants.{Nothing, Condition as ForCondition, Depends as ForDepends, Body as ForBody, End as ForNothing}
-use Rattle.target_order.specs.Visit.{End, finished, stopped, circle, unknown}
+use Rattle.target_order.specs.Visit.{Question, condition, depends, body, End, finished, stopped, circle, unknown}
 use Rattle.target_order.specs.Progress.{Progress}
 use Rattle.target_order.specs.Left.{left}
 
@@ -28,28 +28,25 @@ abbrev pub asked_by : OrderAsk → Asked
 asked_by (Condition t) = ForCondition
 asked_by (Depends t) = ForDepends
 asked_by (Body t) = ForBody
-asked_by Done = ForNothing
-asked_by (Circle names) = ForNothing
-asked_by (Unknown t) = ForNothing
+asked_by _ = ForNothing
 
 -- whether this answer makes a request fail
 abbrev pub is_failed : OrderAnswer → Bool
-is_failed First = false
-is_failed (Truth b) = false
-is_failed (Names names) = false
-is_failed Ran = false
 is_failed (Failed names) = true
+is_failed _ = false
 
 -- whether this ask does
 abbrev pub is_refused : OrderAsk → Bool
-is_refused (Condition t) = false
-is_refused (Depends t) = false
-is_refused (Body t) = false
-is_refused Done = false
 is_refused (Circle names) = true
 is_refused (Unknown t) = true
+is_refused _ = false
 
--- how an end is told
+-- how a question is asked, and an end told
+abbrev pub as_ask : Question → OrderAsk
+as_ask (condition t) = Condition t
+as_ask (depends t) = Depends t
+as_ask (body t) = Body t
+
 abbrev pub told : End → OrderAsk
 told finished = Done
 told stopped = Done
@@ -62,7 +59,7 @@ fails stopped = true
 fails (circle names) = true
 fails (unknown t) = true
 
--- the ask is that of the tree, and the walk goes on as the tree does
-abbrev pub Asks : Asking OrderAsk OrderAnswer End → OrderAsk → Progress → Type 0
-Asks (asks q go) ask walk = (ask ≡ q) × (left walk ≡ go)
+-- the ask is the question of the tree, or tells its end, and the walk goes on as the tree does
+abbrev pub Asks : Asking Question OrderAnswer End → OrderAsk → Progress → Type 0
+Asks (asks q go) ask walk = (ask ≡ as_ask q) × (left walk ≡ go)
 Asks (gives end) ask walk = (ask ≡ told end) × (walk.failed ≡ fails end)

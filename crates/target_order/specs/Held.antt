@@ -5,7 +5,7 @@ use Rattle.target_order.specs.Search.{IsSound}
 
 abbrev pub progress : Inside → Progress
 progress w = record {
-  table = record { names = w.numbers; before = w.before.items; after = w.after.items };
+  table = w.table;
   wanted = w.wanted;
   passed = w.passed;
   visits = w.visits.items;

@@ -1,14 +1,13 @@
 -- What is left of a walk, as the tree of its further asks: its open visits are what follows, innermost first.
 use Rattle.std.specs.Prelude.{ℕ, suc, ◌-◌, Bool, true, false, List, [], ◌∷◌, map, length, drop, reverse}
 use Rattle.msb_laws.specs.Asking.{Asking, gives}
-use Rattle.target_order.specs.declared.asks.OrderAsk.{OrderAsk}
 use Rattle.target_order.specs.declared.asks.OrderAnswer.{OrderAnswer}
 use Rattle.target_order.specs.declared.visits.Asked.{Asked}
 use Rattle.target_order.specs.declared.visits.Asked.TheVariants.{Nothing, Condition, Depends as DependsOn, Body, End as TheEnd}
 use Rattle.target_order.specs.declared.visits.Step.{Step}
 use Rattle.target_order.specs.declared.visits.Step.TheVariants.{Request, Depends, BeforeBody, BeforeSkip, After, Errors}
 use Rattle.target_order.specs.declared.visits.OpenVisit.{OpenVisit}
-use Rattle.target_order.specs.Visit.{Name, End, finished, stopped, Rest, Opened, Hooks, visit, in_order, with, step_3, step_4, step_5, step_6, after_condition, after_body}
+use Rattle.target_order.specs.Visit.{Question, Name, End, finished, stopped, Rest, Opened, Hooks, visit, in_order, with, step_3, step_4, step_5, step_6, after_condition, after_body}
 use Rattle.target_order.specs.Progress.{Table, Progress, project_of, hooks_at, name_at, ran_of, is_past, opened, rest_of}
 
 -- how a target is visited inside these open visits
@@ -55,5 +54,5 @@ abbrev pub base_at : Progress → Rest
 base_at p = base_of p.table (drop p.passed p.wanted)
 
 -- the further asks of a walk, by what it is answered now
-unfoldable pub left : Progress → OrderAnswer → Asking OrderAsk OrderAnswer End
+unfoldable pub left : Progress → OrderAnswer → Asking Question OrderAnswer End
 left p answer = answered p.table (base_at p) p.asked (reverse p.visits) answer (ran_of p.table p.has_run)

@@ -7,4 +7,5 @@ pub mod AsksLeft
 pub mod Answers
 pub mod Search
 pub mod Steps
+pub mod Shared
 pub mod Held

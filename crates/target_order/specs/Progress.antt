@@ -46,21 +46,14 @@ ran_of table has_run t = flag_at has_run (number_of table.names t)
 
 -- whether a visit is past its body
 abbrev pub is_past : Step → Bool
-is_past Request = false
-is_past Depends = false
-is_past BeforeBody = false
-is_past BeforeSkip = false
 is_past After = true
 is_past Errors = true
+is_past _ = false
 
 -- whether a visit goes through the OnError targets of its failed body
 abbrev pub is_errors : Step → Bool
-is_errors Request = false
-is_errors Depends = false
-is_errors BeforeBody = false
-is_errors BeforeSkip = false
-is_errors After = false
 is_errors Errors = true
+is_errors _ = false
 
 abbrev pub opened : Table → OpenVisit → Opened
 opened table v = record { name = name_at table v.target; past = is_past v.step }

@@ -21,11 +21,7 @@ use Rattle.target_order.specs.AsksLeft.{asks_in, after_asks, resume_asks, base_a
 
 abbrev pub is_request : Step → Bool
 is_request Request = true
-is_request Depends = false
-is_request BeforeBody = false
-is_request BeforeSkip = false
-is_request After = false
-is_request Errors = false
+is_request _ = false
 
 -- the visit at this depth
 abbrev pub visit_at : List OpenVisit → ℕ → OpenVisit
@@ -70,12 +66,9 @@ asks_at p c = length (rest_list c) * asks_in p.table (length (inner p c.depth)) 
 
 -- how far a search may still go, by its lists: two for each visit at most
 abbrev pub rank : Step → ℕ
-rank Request = 0
 rank Depends = 1
-rank BeforeBody = 0
 rank BeforeSkip = 1
-rank After = 0
-rank Errors = 0
+rank _ = 0
 
 abbrev pub weight : Cursor → ℕ
 weight c = (2 * c.depth + rank c.step) * 2 ^ 64 + length (rest_list c)
@@ -150,30 +143,21 @@ pub record IsPlaced (table : Table) (places : List ℕ) (d : ℕ) (v : OpenVisit
 
 -- what was asked for the innermost visit
 abbrev pub asks_visit : Asked → Bool
-asks_visit Nothing = false
 asks_visit Condition = true
 asks_visit DependsOn = true
 asks_visit ForBody = true
-asks_visit Answered = false
-asks_visit TheEnd = false
+asks_visit _ = false
 
 -- whether the next ask is to be found
 abbrev pub is_going : Asked → Bool
 is_going Nothing = true
-is_going Condition = false
-is_going DependsOn = false
-is_going ForBody = false
 is_going Answered = true
-is_going TheEnd = false
+is_going _ = false
 
 -- whether nothing more is asked
 abbrev pub is_over : Asked → Bool
-is_over Nothing = false
-is_over Condition = false
-is_over DependsOn = false
-is_over ForBody = false
-is_over Answered = false
 is_over TheEnd = true
+is_over _ = false
 
 pub record IsTable (table : Table) : Type 0 where
   pub before_len : length table.before ≡ length table.names

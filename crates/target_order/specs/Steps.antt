@@ -14,14 +14,14 @@ use Rattle.target_order.specs.declared.cursor.Cursor.{Cursor}
 use Rattle.target_order.specs.declared.cursor.Stop.{Stop}
 use Rattle.target_order.specs.declared.cursor.Stop.TheVariants.{Visit as AtVisit, Body as AtBody, Finished, Stopped, Circle as AtCircle, Unknown as AtUnknown}
 use Rattle.target_order.specs.declared.steps.Undo.{Undo}
-use Rattle.target_order.specs.Visit.{Name, End}
+use Rattle.target_order.specs.Visit.{Question, Name, End}
 use Rattle.target_order.specs.Progress.{Progress, name_at, ran_of, is_past, is_errors}
 use Rattle.target_order.specs.Left.{resume, base_at}
 use Rattle.target_order.specs.AsksLeft.{resume_asks, base_asks}
 use Rattle.target_order.specs.Search.{visit_at, inner, is_request, errors_at, circle_at}
 
 -- what is asked from here on, where the innermost visit goes on with its list
-abbrev pub going : Progress → Asking OrderAsk OrderAnswer End
+abbrev pub going : Progress → Asking Question OrderAnswer End
 going p = resume p.table (base_at p) (reverse p.visits) (ran_of p.table p.has_run)
 
 abbrev pub going_asks : Progress → ℕ

@@ -4,14 +4,18 @@ use Rattle.std.specs.List.{filter, list_any}
 use Rattle.std.specs.Str.{bytes_eq}
 use Rattle.msb_laws.specs.Asking.{Asking, gives, asks}
 use Rattle.target_order.specs.declared.row.TargetRow.{TargetRow}
-use Rattle.target_order.specs.declared.asks.OrderAsk.{OrderAsk}
-use Rattle.target_order.specs.declared.asks.OrderAsk.TheVariants.{Condition, Depends, Body}
 use Rattle.target_order.specs.declared.asks.OrderAnswer.{OrderAnswer}
 use Rattle.target_order.specs.declared.asks.OrderAnswer.TheVariants.{Truth, Names, Failed}
 
 -- a name in lower case, in bytes
 abbrev pub Name : Type 0
 Name = List ℕ
+
+-- what is asked of a target: whether its Condition holds, what its DependsOnTargets names, and that its body be run
+pub data Question : Type 0 where
+  condition : List ℕ → Question
+  depends : List ℕ → Question
+  body : List ℕ → Question
 
 -- how the asks end: every target was visited; the OnError targets of a failed body were; a circle; a name without a target
 pub data End : Type 0 where
@@ -22,7 +26,7 @@ pub data End : Type 0 where
 
 -- what is still asked, by what has run
 abbrev pub Rest : Type 0
-Rest = (List ℕ → Bool) → Asking OrderAsk OrderAnswer End
+Rest = (List ℕ → Bool) → Asking Question OrderAnswer End
 
 -- whether a row has this name
 abbrev pub is_target : List TargetRow → Name → Bool
@@ -99,7 +103,7 @@ module _ (inside : Bool → Name → Rest → Rest) (t : Name) (hooks : Hooks) (
 
   -- step 5: the body
   abbrev pub step_5 : Rest
-  step_5 ran = asks (Body t) (λ answer. after_body answer (with t ran))
+  step_5 ran = asks (body t) (λ answer. after_body answer (with t ran))
 
   -- step 4: the targets with t in BeforeTargets; a body follows only where the Condition was true
   abbrev pub step_4 : Bool → Rest
@@ -113,12 +117,12 @@ module _ (inside : Bool → Name → Rest → Rest) (t : Name) (hooks : Hooks) (
 
   -- where the Condition is true DependsOnTargets is asked for
   abbrev pub after_condition : OrderAnswer → Rest
-  after_condition (Truth true) ran = asks (Depends t) (λ answer. step_3 answer ran)
+  after_condition (Truth true) ran = asks (depends t) (λ answer. step_3 answer ran)
   after_condition answer ran = step_4 false ran
 
   -- step 2: the Condition
   abbrev pub step_2 : Rest
-  step_2 ran = asks (Condition t) (λ answer. after_condition answer ran)
+  step_2 ran = asks (condition t) (λ answer. after_condition answer ran)
 
 -- a visit of t by how it stands, and then on
 abbrev pub visit_by : Standing → (Bool → Name → Rest → Rest) → Name → Rest → Rest
@@ -136,7 +140,7 @@ visit project (suc room) open_visits t on ran =
     (λ past. visit project room (record { name = t; past = past } ∷ open_visits)) t on ran
 
 -- the asks of a request: each of its targets is visited in order
-unfoldable pub order : List TargetRow → List Name → Asking OrderAsk OrderAnswer End
+unfoldable pub order : List TargetRow → List Name → Asking Question OrderAnswer End
 order rows targets =
     let targets_of = first_rows [] rows in
     in_order (visit (hooks_in targets_of) (suc (length targets_of)) []) targets (λ ran. gives finished) (λ n. false)

@@ -10,9 +10,9 @@ mod hooks;
 mod numbers;
 mod row;
 mod search;
+mod shared;
 mod steps;
-#[cfg(test)]
-mod tests;
+mod table;
 mod visits;
 mod walk;
 

@@ -51,8 +51,8 @@ impl OrderWalk {
     {
         match step {
             Step::Depends | Step::Errors => visit.names.as_slice(),
-            Step::BeforeBody | Step::BeforeSkip => self.before[visit.target].as_slice(),
-            Step::After => self.after[visit.target].as_slice(),
+            Step::BeforeBody | Step::BeforeSkip => self.table.before(visit.target),
+            Step::After => self.table.after(visit.target),
             Step::Request => &[],
         }
     }
@@ -105,7 +105,7 @@ impl OrderWalk {
         requires { IsCursor self.now cursor }
         ensures { Stands self.now cursor.entry name.now result }
     {
-        let Some(target) = self.numbers.find(name) else {
+        let Some(target) = self.table.find(name) else {
             return Stand::Unknown;
         };
         if self.has_run[target] {

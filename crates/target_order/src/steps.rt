@@ -6,6 +6,7 @@ ghost use Rattle.target_order.specs.Search.{visit_at, is_request, is_going, asks
 ghost use Rattle.target_order.specs.Steps.{going, going_asks, ask_of, visiting, at_body, ended, taken, restored, top_target, noted, marked_passed, came, CanCome, IsPlace};
 
 use crate::cursor::{Cursor, Stop};
+use crate::shared::SharedNames;
 use crate::visits::{Asked, OpenVisit, Step};
 use crate::{OrderAsk, OrderWalk};
 use msb_values::{Copied, List, Name, NoMemory};
@@ -23,7 +24,7 @@ pub struct Undo {
 
 impl OrderWalk {
     /// Sends the innermost visit through the list of this step.
-    pub(crate) fn take(&mut self, step: Step, names: List<Name>) -> Undo
+    pub(crate) fn take(&mut self, step: Step, names: SharedNames) -> Undo
         requires asked { asks_visit self.old.asked ≡ true }
         requires within { is_request step ≡ false }
         ensures taken { self.new ≡ taken self.old step names }
@@ -57,7 +58,7 @@ impl OrderWalk {
         &mut self,
         alloc: Global,
         step: Step,
-        names: List<Name>,
+        names: SharedNames,
     ) -> Result<OrderAsk, NoMemory>
         requires asked { asks_visit self.old.asked ≡ true }
         requires within { is_request step ≡ false }
@@ -70,7 +71,7 @@ impl OrderWalk {
         ensures short { length names < 2 ^ 64 }
     {
         let _ = &self.places;
-        let _count = names.len();
+        let _count = names.as_slice().len();
         let undo = self.take(step, names);
         match self.go_on(alloc) {
             Ok(ask) => Ok(ask),
@@ -120,14 +121,13 @@ impl OrderWalk {
             passed,
             ..
         } = cursor;
-        self.come_to(alloc, depth, step, passed, stop)?;
+        self.come_to(depth, step, passed, stop)?;
         Ok(ask)
     }
 
     /// Makes the place where a search has stopped the walk's own; where there is no memory, the walk stays.
     fn come_to(
         &mut self,
-        alloc: Global,
         depth: usize,
         step: Step,
         passed: usize,
@@ -140,7 +140,7 @@ impl OrderWalk {
         ensures err { OnErr result (self.new ≡ self.old) }
     {
         match stop {
-            Stop::Visit(target) => self.visit(alloc, depth, step, passed + 1, target)?,
+            Stop::Visit(target) => self.visit(depth, step, passed + 1, target)?,
             Stop::Body => self.wait_for_body(depth, step, passed),
             Stop::Finished | Stop::Stopped => self.end(false),
             Stop::Circle(_) | Stop::Unknown => self.end(true),
@@ -155,10 +155,10 @@ impl OrderWalk {
         ensures { IfOk result (λ ask. ask ≡ ask_of self.now cursor.entry stop) }
     {
         match stop {
-            Stop::Visit(target) => Ok(OrderAsk::Condition(self.numbers.name(target).copy()?)),
+            Stop::Visit(target) => Ok(OrderAsk::Condition(self.table.name(target).copy()?)),
             Stop::Body => {
                 let target = self.top(cursor.depth).target;
-                Ok(OrderAsk::Body(self.numbers.name(target).copy()?))
+                Ok(OrderAsk::Body(self.table.name(target).copy()?))
             }
             Stop::Finished | Stop::Stopped => Ok(OrderAsk::Done),
             Stop::Circle(place) => {
@@ -184,7 +184,7 @@ impl OrderWalk {
         let mut names = List::new(alloc);
         for at in place..depth {
             let target = self.visits[at].target;
-            names.push(self.numbers.name(target).copy()?)?;
+            names.push(self.table.name(target).copy()?)?;
         }
         names.push(back.copy()?)?;
         Ok(names)
@@ -193,7 +193,6 @@ impl OrderWalk {
     /// Opens a visit of this target inside the visits through this depth.
     fn visit(
         &mut self,
-        alloc: Global,
         depth: usize,
         step: Step,
         passed: usize,
@@ -210,7 +209,7 @@ impl OrderWalk {
             target,
             step: Step::Depends,
             passed: 0,
-            names: List::new(alloc),
+            names: SharedNames::none(),
         };
         open_at(&mut self.visits, depth, step, passed, visit)?;
         self.places[target] = depth;

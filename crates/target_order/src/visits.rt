@@ -1,7 +1,8 @@
 ghost use Rattle.std.specs.Prelude.{◌≡◌};
 ghost use Rattle.target_order.specs.Progress.{is_past, is_errors};
 
-use msb_values::{List, Name};
+use crate::shared::SharedNames;
+use msb_values::{Copied, NoMemory};
 
 /// The list that an open visit goes through.
 #[derive(Clone, Copy)]
@@ -51,7 +52,18 @@ pub struct OpenVisit {
     /// How many entries of the step's list are behind it.
     pub passed: usize,
     /// The list of the steps `Depends` and `Errors`.
-    pub names: List<Name>,
+    pub names: SharedNames,
+}
+
+impl Copied for OpenVisit {
+    fn copy(&self) -> Result<OpenVisit, NoMemory> {
+        Ok(OpenVisit {
+            target: self.target,
+            step: self.step,
+            passed: self.passed,
+            names: self.names.copy()?,
+        })
+    }
 }
 
 /// What the last ask was, so which answers fit.

@@ -9,8 +9,8 @@ ghost use Rattle.target_order.specs.declared.asks.OrderAnswer.TheVariants.{First
 ghost use Rattle.target_order.specs.declared.asks.OrderAsk.TheVariants.{Depends};
 ghost use Rattle.target_order.specs.declared.visits.Asked.TheVariants.{Condition, Depends as DependsOn};
 
-use crate::hooks::{Side, firsts_of, hooks};
-use crate::numbers::Numbers;
+use crate::shared::SharedNames;
+use crate::table::SharedTable;
 use crate::visits::{Asked, OpenVisit, Step};
 use crate::{OrderAnswer, OrderAsk, TargetRow};
 use msb_values::{Copied, List, Name, NoMemory};
@@ -20,14 +20,10 @@ use std::marker::Model;
 /// One request's way through the targets of its project.
 #[derive(Drop)]
 pub struct OrderWalk {
-    /// The targets of the project.
-    pub(crate) numbers: Numbers,
-    /// Of each target, those that name it in BeforeTargets.
-    pub(crate) before: Vec<List<Name>>,
-    /// Of each target, those that name it in AfterTargets.
-    pub(crate) after: Vec<List<Name>>,
+    /// The targets of the project, with those that hook on them.
+    pub(crate) table: SharedTable,
     /// The targets of the request.
-    pub(crate) wanted: List<Name>,
+    pub(crate) wanted: SharedNames,
     /// How many of them are behind it.
     pub(crate) passed: usize,
     /// The open visits, innermost last.
@@ -62,13 +58,11 @@ impl OrderWalk {
         ensures first { IfOk result (λ walk. Fits walk First) }
         ensures failed { IfOk result (λ walk. walk.failed ≡ false) }
     {
-        let (firsts, numbers) = firsts_of(alloc, rows.as_slice())?;
-        let count = numbers.len();
+        let table = SharedTable::of(alloc, rows.as_slice())?;
+        let count = table.count();
         Ok(OrderWalk {
-            before: hooks(alloc, &firsts, &numbers, Side::Before)?,
-            after: hooks(alloc, &firsts, &numbers, Side::After)?,
-            numbers,
-            wanted: targets.copy()?,
+            table,
+            wanted: SharedNames::of(alloc, targets)?,
             passed: 0,
             visits: Vec::new(alloc),
             places: vec![in alloc; 0; count]?,
@@ -93,10 +87,22 @@ impl OrderWalk {
         match answer {
             OrderAnswer::First => self.go_on(alloc),
             OrderAnswer::Truth(true) => self.ask_depends(),
-            OrderAnswer::Truth(false) => self.go_through(alloc, Step::BeforeSkip, List::new(alloc)),
-            OrderAnswer::Names(names) => self.go_through(alloc, Step::Depends, names.copy()?),
-            OrderAnswer::Ok => self.go_through(alloc, Step::After, List::new(alloc)),
-            OrderAnswer::Failed(names) => self.go_through(alloc, Step::Errors, names.copy()?),
+            OrderAnswer::Truth(false) => self.go_through(
+                alloc,
+                Step::BeforeSkip,
+                SharedNames::none(),
+            ),
+            OrderAnswer::Names(names) => self.go_through(
+                alloc,
+                Step::Depends,
+                SharedNames::of(alloc, names)?,
+            ),
+            OrderAnswer::Ok => self.go_through(alloc, Step::After, SharedNames::none()),
+            OrderAnswer::Failed(names) => self.go_through(
+                alloc,
+                Step::Errors,
+                SharedNames::of(alloc, names)?,
+            ),
         }
     }
 
@@ -109,7 +115,7 @@ impl OrderWalk {
     {
         let depth = self.visits.len();
         let target = self.top(depth).target;
-        let name = self.numbers.name(target).copy()?;
+        let name = self.table.name(target).copy()?;
         self.asked = Asked::Depends;
         Ok(OrderAsk::Depends(name))
     }
@@ -120,4 +126,30 @@ impl OrderWalk {
     {
         self.failed
     }
+}
+
+impl Copied for OrderWalk {
+    /// The same walk, which goes on apart from this one. The copies share the project's table and all lists of names.
+    fn copy(&self) -> Result<OrderWalk, NoMemory> {
+        Ok(OrderWalk {
+            table: self.table.copy()?,
+            wanted: self.wanted.copy()?,
+            passed: self.passed,
+            visits: copied(&self.visits)?,
+            places: self.places.clone()?,
+            has_run: self.has_run.clone()?,
+            asked: self.asked,
+            failed: self.failed,
+        })
+    }
+}
+
+fn copied(visits: &Vec<OpenVisit>) -> Result<Vec<OpenVisit>, NoMemory>
+    ensures { IfOk result (λ copies. copies.items ≡ visits.now.items) }
+{
+    let mut copies = Vec::with_capacity(*visits.allocator(), visits.len())?;
+    for visit in visits {
+        copies.push(visit.copy()?)?;
+    }
+    Ok(copies)
 }

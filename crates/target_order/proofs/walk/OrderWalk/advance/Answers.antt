@@ -48,7 +48,7 @@ returns-in-Truth-false-clause-asks c =
     let p = c.args.self.now in
     let sound = subst (λ q. IsSound q c.self.inside.places.items) c.self.view_is c.self.invariant in
     let is : c.args.answer.now ≡ Truth false = cc (c.in-Truth-false.is, c.in-Truth-false.field-0-is, c.in-Truth-false.field-0-test) in
-    answer_asks p c.self.inside.places.items sound c.args.answer.now c.requires (λ e. cc (e, is)) (λ e. cc (e, is)) BeforeSkip c.new.result (sym (ap step_after is)) (c.new.ensures ∙ sym (ap names_after is))
+    answer_asks p c.self.inside.places.items sound c.args.answer.now c.requires (λ e. cc (e, is)) (λ e. cc (e, is)) BeforeSkip c.none.result (sym (ap step_after is)) (c.none.ensures ∙ sym (ap names_after is))
     c.go_through.result c.go_through.new.self c.go_through.ensures.asks
 
 pub returns-in-Truth-false-clause-fewer : goal.returns-in-Truth-false-clause-fewer
@@ -56,23 +56,23 @@ returns-in-Truth-false-clause-fewer c =
     let p = c.args.self.now in
     let sound = subst (λ q. IsSound q c.self.inside.places.items) c.self.view_is c.self.invariant in
     let is : c.args.answer.now ≡ Truth false = cc (c.in-Truth-false.is, c.in-Truth-false.field-0-is, c.in-Truth-false.field-0-test) in
-    answer_fewer p c.self.inside.places.items sound c.args.answer.now c.requires (λ e. cc (e, is)) (λ e. cc (e, is)) BeforeSkip c.new.result (sym (ap step_after is)) (c.new.ensures ∙ sym (ap names_after is))
+    answer_fewer p c.self.inside.places.items sound c.args.answer.now c.requires (λ e. cc (e, is)) (λ e. cc (e, is)) BeforeSkip c.none.result (sym (ap step_after is)) (c.none.ensures ∙ sym (ap names_after is))
     c.go_through.result c.go_through.new.self c.go_through.ensures.fewer c.go_through.ensures.short
 
-pub returns-in_ok-copy-in-Names-clause-asks : goal.returns-in_ok-copy-in-Names-clause-asks
-returns-in_ok-copy-in-Names-clause-asks c =
+pub returns-in_ok-of-in-Names-clause-asks : goal.returns-in_ok-of-in-Names-clause-asks
+returns-in_ok-of-in-Names-clause-asks c =
     let p = c.args.self.now in
     let sound = subst (λ q. IsSound q c.self.inside.places.items) c.self.view_is c.self.invariant in
     let is = c.in-Names.is in
-    answer_asks p c.self.inside.places.items sound c.args.answer.now c.requires (λ e. cc (e, is)) (λ e. cc (e, is)) AtDepends c.in_ok-copy-in-Names.field-0 (sym (ap step_after is)) (c.in_ok-copy-in-Names.ensures ∙ sym (ap names_after is))
+    answer_asks p c.self.inside.places.items sound c.args.answer.now c.requires (λ e. cc (e, is)) (λ e. cc (e, is)) AtDepends c.in_ok-of-in-Names.field-0 (sym (ap step_after is)) (c.in_ok-of-in-Names.ensures ∙ sym (ap names_after is))
     c.go_through-in-Names.result c.go_through-in-Names.new.self c.go_through-in-Names.ensures.asks
 
-pub returns-in_ok-copy-in-Names-clause-fewer : goal.returns-in_ok-copy-in-Names-clause-fewer
-returns-in_ok-copy-in-Names-clause-fewer c =
+pub returns-in_ok-of-in-Names-clause-fewer : goal.returns-in_ok-of-in-Names-clause-fewer
+returns-in_ok-of-in-Names-clause-fewer c =
     let p = c.args.self.now in
     let sound = subst (λ q. IsSound q c.self.inside.places.items) c.self.view_is c.self.invariant in
     let is = c.in-Names.is in
-    answer_fewer p c.self.inside.places.items sound c.args.answer.now c.requires (λ e. cc (e, is)) (λ e. cc (e, is)) AtDepends c.in_ok-copy-in-Names.field-0 (sym (ap step_after is)) (c.in_ok-copy-in-Names.ensures ∙ sym (ap names_after is))
+    answer_fewer p c.self.inside.places.items sound c.args.answer.now c.requires (λ e. cc (e, is)) (λ e. cc (e, is)) AtDepends c.in_ok-of-in-Names.field-0 (sym (ap step_after is)) (c.in_ok-of-in-Names.ensures ∙ sym (ap names_after is))
     c.go_through-in-Names.result c.go_through-in-Names.new.self c.go_through-in-Names.ensures.fewer c.go_through-in-Names.ensures.short
 
 pub returns-in-Ok-clause-asks : goal.returns-in-Ok-clause-asks
@@ -80,7 +80,7 @@ returns-in-Ok-clause-asks c =
     let p = c.args.self.now in
     let sound = subst (λ q. IsSound q c.self.inside.places.items) c.self.view_is c.self.invariant in
     let is = c.in-Ok.is in
-    answer_asks p c.self.inside.places.items sound c.args.answer.now c.requires (λ e. cc (e, is)) (λ e. cc (e, is)) After c.new-in-Ok.result (sym (ap step_after is)) (c.new-in-Ok.ensures ∙ sym (ap names_after is))
+    answer_asks p c.self.inside.places.items sound c.args.answer.now c.requires (λ e. cc (e, is)) (λ e. cc (e, is)) After c.none-in-Ok.result (sym (ap step_after is)) (c.none-in-Ok.ensures ∙ sym (ap names_after is))
     c.go_through-in-Ok.result c.go_through-in-Ok.new.self c.go_through-in-Ok.ensures.asks
 
 pub returns-in-Ok-clause-fewer : goal.returns-in-Ok-clause-fewer
@@ -88,21 +88,21 @@ returns-in-Ok-clause-fewer c =
     let p = c.args.self.now in
     let sound = subst (λ q. IsSound q c.self.inside.places.items) c.self.view_is c.self.invariant in
     let is = c.in-Ok.is in
-    answer_fewer p c.self.inside.places.items sound c.args.answer.now c.requires (λ e. cc (e, is)) (λ e. cc (e, is)) After c.new-in-Ok.result (sym (ap step_after is)) (c.new-in-Ok.ensures ∙ sym (ap names_after is))
+    answer_fewer p c.self.inside.places.items sound c.args.answer.now c.requires (λ e. cc (e, is)) (λ e. cc (e, is)) After c.none-in-Ok.result (sym (ap step_after is)) (c.none-in-Ok.ensures ∙ sym (ap names_after is))
     c.go_through-in-Ok.result c.go_through-in-Ok.new.self c.go_through-in-Ok.ensures.fewer c.go_through-in-Ok.ensures.short
 
-pub returns-in_ok-copy-in-Failed-clause-asks : goal.returns-in_ok-copy-in-Failed-clause-asks
-returns-in_ok-copy-in-Failed-clause-asks c =
+pub returns-in_ok-of-in-Failed-clause-asks : goal.returns-in_ok-of-in-Failed-clause-asks
+returns-in_ok-of-in-Failed-clause-asks c =
     let p = c.args.self.now in
     let sound = subst (λ q. IsSound q c.self.inside.places.items) c.self.view_is c.self.invariant in
     let is = c.in-Failed.is in
-    answer_asks p c.self.inside.places.items sound c.args.answer.now c.requires (λ e. cc (e, is)) (λ e. cc (e, is)) Errors c.in_ok-copy-in-Failed.field-0 (sym (ap step_after is)) (c.in_ok-copy-in-Failed.ensures ∙ sym (ap names_after is))
+    answer_asks p c.self.inside.places.items sound c.args.answer.now c.requires (λ e. cc (e, is)) (λ e. cc (e, is)) Errors c.in_ok-of-in-Failed.field-0 (sym (ap step_after is)) (c.in_ok-of-in-Failed.ensures ∙ sym (ap names_after is))
     c.go_through-in-Failed.result c.go_through-in-Failed.new.self c.go_through-in-Failed.ensures.asks
 
-pub returns-in_ok-copy-in-Failed-clause-fewer : goal.returns-in_ok-copy-in-Failed-clause-fewer
-returns-in_ok-copy-in-Failed-clause-fewer c =
+pub returns-in_ok-of-in-Failed-clause-fewer : goal.returns-in_ok-of-in-Failed-clause-fewer
+returns-in_ok-of-in-Failed-clause-fewer c =
     let p = c.args.self.now in
     let sound = subst (λ q. IsSound q c.self.inside.places.items) c.self.view_is c.self.invariant in
     let is = c.in-Failed.is in
-    answer_fewer p c.self.inside.places.items sound c.args.answer.now c.requires (λ e. cc (e, is)) (λ e. cc (e, is)) Errors c.in_ok-copy-in-Failed.field-0 (sym (ap step_after is)) (c.in_ok-copy-in-Failed.ensures ∙ sym (ap names_after is))
+    answer_fewer p c.self.inside.places.items sound c.args.answer.now c.requires (λ e. cc (e, is)) (λ e. cc (e, is)) Errors c.in_ok-of-in-Failed.field-0 (sym (ap step_after is)) (c.in_ok-of-in-Failed.ensures ∙ sym (ap names_after is))
     c.go_through-in-Failed.result c.go_through-in-Failed.new.self c.go_through-in-Failed.ensures.fewer c.go_through-in-Failed.ensures.short

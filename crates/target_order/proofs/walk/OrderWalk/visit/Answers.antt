@@ -15,7 +15,7 @@ invariant_of-self-2 c =
     let place = subst (λ q. IsPlace q depth c.args.step) (sym c.self.view_is) c.requires.place in
     let known = subst (λ q. k < length q.table.names) (sym c.self.view_is) c.requires.known in
     let apart = subst (λ q. (d : ℕ) → d < depth → (visit_at q.visits d).target ≢ k) (sym c.self.view_is) c.requires.apart in
-    let visits = c.in_ok-open_at.ensures.ok ∙ ap (λ (names : List Name). noted (take depth p.visits ++ record { target = k; step = Depends; passed = 0; names = names } ∷ []) depth c.args.step c.args.passed) c.new.ensures in
+    let visits = c.in_ok-open_at.ensures.ok ∙ ap (λ (names : List Name). noted (take depth p.visits ++ record { target = k; step = Depends; passed = 0; names = names } ∷ []) depth c.args.step c.args.passed) c.none.ensures in
     subst (λ q. IsSound q (set c.self.inside.places.items k depth))
     (sym (visiting_is p depth c.args.step c.args.passed k c.open_at.new.visits.items c.request_passed-self-inside.result visits place.deep c.request_passed-self-inside.ensures))
     (visiting_sound p c.self.inside.places.items depth c.args.step c.args.passed k c.self.invariant place known apart)
@@ -26,6 +26,6 @@ returns-clause-ok c =
     let k = c.args.target in
     let depth = c.args.depth in
     let place = subst (λ q. IsPlace q depth c.args.step) (sym c.self.view_is) c.requires.place in
-    let visits = c.in_ok-open_at.ensures.ok ∙ ap (λ (names : List Name). noted (take depth p.visits ++ record { target = k; step = Depends; passed = 0; names = names } ∷ []) depth c.args.step c.args.passed) c.new.ensures in
+    let visits = c.in_ok-open_at.ensures.ok ∙ ap (λ (names : List Name). noted (take depth p.visits ++ record { target = k; step = Depends; passed = 0; names = names } ∷ []) depth c.args.step c.args.passed) c.none.ensures in
     visiting_is p depth c.args.step c.args.passed k c.open_at.new.visits.items c.request_passed-self-inside.result visits place.deep c.request_passed-self-inside.ensures
     ∙ ap (λ q. visiting q depth c.args.step c.args.passed k) c.self.view_is
