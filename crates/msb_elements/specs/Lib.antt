@@ -6,7 +6,6 @@ pub mod Trees
 pub mod Reads
 pub mod Rows
 pub mod Stands
-pub mod Follows
 pub mod Checks
 pub mod Checked
 pub mod Projects

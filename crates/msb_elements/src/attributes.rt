@@ -11,8 +11,7 @@ ghost use Rattle.msb_elements.specs.declared.kind.Kind.TheVariants.{Output};
 
 use crate::element::value_of;
 use crate::kind::{Kind, Role};
-use crate::names::{bad_name, bad_target_name};
-use msb_values::Text;
+use msb_values::{Text, bad_name, bad_target_name};
 use serde_json::Value;
 
 /// Whether there is an attribute that the element may not have.

@@ -9,7 +9,6 @@ mod element;
 mod errors;
 mod kind;
 mod members;
-mod names;
 mod own;
 mod parts;
 mod place;

@@ -9,11 +9,10 @@ use crate::attributes::{first_bad, has_not_allowed, missing};
 use crate::clashes::both;
 use crate::kind::{Kind, Standing};
 use crate::members::is_when;
-use crate::names::bad_name;
 use crate::parts::Own;
 use crate::reading::Position;
 use crate::{Place, ReadFault};
-use msb_values::{Copied, Text};
+use msb_values::{Copied, Text, bad_name};
 use serde_json::Value;
 use std::alloc::Global;
 
