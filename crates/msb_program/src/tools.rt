@@ -81,13 +81,14 @@ pub struct Counted<'a, T: Tools> {
 }
 
 impl<'a, T: Tools> Counted<'a, T> {
-    pub fn new(alloc: Global, tools: &'a T) -> Counted<'a, T>
-        ensures { result.calls ≡ [] }
+    /// These tools, of which no call is made yet.
+    pub fn new(alloc: Global, tools: &'a T) -> Result<Counted<'a, T>, NoMemory>
+        ensures { IfOk result (λ c. c.calls ≡ []) }
     {
-        Counted {
+        Ok(Counted {
             tools,
             calls: List::new(alloc),
-        }
+        })
     }
 
     /// The calls so far, oldest first.
@@ -112,6 +113,22 @@ impl<'a, T: Tools> CountedTools for Counted<'a, T> {
     ) -> Result<ToolAnswer, NoMemory> {
         self.calls.push((name.copy()?, input.copy()?))?;
         self.tools.call(alloc, name, input)
+    }
+}
+
+/// Tools that are lent count as those that lend them.
+impl<T: CountedTools> CountedTools for &mut T {
+    ghost answer = { T.answer };
+
+    ghost calls = { λ t. T.calls t.now };
+
+    fn call(
+        &mut self,
+        alloc: Global,
+        name: &Name,
+        input: &ToolInput,
+    ) -> Result<ToolAnswer, NoMemory> {
+        (**self).call(alloc, name, input)
     }
 }
 

@@ -36,7 +36,10 @@ pub fn run<R: Threads + Wait + Sync, S: Store, K: Sink, T: Tools + Sync>(
     ensures answer { Answers (map string_bytes words.now) (S.tree store.old) (S.fault_count store.old) (S.fault_count store.new) (printing (K.fault_count sink.old) (K.fault_count sink.new) (K.told sink.old) (K.told sink.new)) result }
     ensures kept { S.tree store.new ≡ S.tree store.old }
 {
-    run_alone(alloc, words, store, sink, &mut Counted::new(alloc, tools))
+    match Counted::new(alloc, tools) {
+        Ok(mut counted) => run_alone(alloc, words, store, sink, &mut counted),
+        Err(NoMemory) => 7,
+    }
 }
 
 /// The same on one node. It starts no thread and always returns.
