@@ -9,6 +9,3 @@ mod targets;
 
 pub use eval::shown_eval;
 pub use targets::shown_targets;
-
-#[cfg(test)]
-mod tests;

@@ -9,8 +9,6 @@ mod conditions;
 #[cfg(test)]
 mod expansion;
 #[cfg(test)]
-mod program;
-#[cfg(test)]
 mod random_conditions;
 #[cfg(test)]
 mod scenes;

@@ -14,6 +14,3 @@ mod targets;
 
 pub use faults::WordFault;
 pub use options::{Action, Options, read_words};
-
-#[cfg(test)]
-mod tests;

@@ -1,4 +1,4 @@
-use crate::{Options, WordFault, read_words};
+use msb_words::{Options, WordFault, read_words};
 use std::alloc::{AllocError, Global};
 use std::fmt::Write;
 use std::test::Fail;

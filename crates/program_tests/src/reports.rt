@@ -1,4 +1,4 @@
-use crate::{shown_eval, shown_targets};
+use build_report::{shown_eval, shown_targets};
 use msb_values::{Defaults, Item, List, Lists, Name, Pairs, Scope, Text, split_list};
 use std::alloc::Global;
 use std::test::Fail;
