@@ -1,11 +1,12 @@
 -- An evaluated project, line by line. (MSBuild command-line reference; MSBuild properties; MSBuild items; MSBuild item definitions.)
-use Rattle.std.specs.Prelude.{ℕ, List, ◌++◌, codes}
+use Rattle.std.specs.Prelude.{ℕ, List, [], ◌++◌, codes}
 use Rattle.std.specs.List.{flat_map}
+use Rattle.std.specs.Option.{unwrap_or}
 use Rattle.msb_values.specs.Escapes.{unescaped}
+use Rattle.msb_values.specs.Overlays.{overlaid}
 use Rattle.msb_values.specs.Pairs.{value_at}
 use Rattle.msb_values.specs.declared.item.Item.{Item}
 use Rattle.msb_values.specs.declared.scope.Scope.{Scope}
-use Rattle.msb_expand.specs.Scenes.{pairs_or_none, overlaid}
 use Rattle.build_report.specs.Line.{line}
 
 -- a name and its value, unescaped
@@ -28,7 +29,7 @@ item_lines kind defaults item = item_line kind item ++ flat_map metadata_line (o
 
 -- the items of a type
 abbrev pub list_lines : List (List ℕ × List (List ℕ × List ℕ)) → List ℕ × List Item → List ℕ
-list_lines defaults listed = flat_map (item_lines listed.0 (pairs_or_none (value_at listed.0 defaults))) listed.1
+list_lines defaults list = flat_map (item_lines list.0 (unwrap_or (value_at list.0 defaults) [])) list.1
 
 -- an import that was ignored, since its file was there already
 abbrev pub duplicate_line : List ℕ → List ℕ

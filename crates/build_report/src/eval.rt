@@ -1,12 +1,12 @@
-ghost use Rattle.std.specs.Prelude.{◌≡◌, ◌++◌, IfOk, OnOk, string_bytes, option_copied};
+ghost use Rattle.std.specs.Prelude.{◌≡◌, [], ◌++◌, IfOk, OnOk, string_bytes, option_copied};
 ghost use Rattle.std.specs.List.{flat_map};
-ghost use Rattle.msb_expand.specs.Scenes.{pairs_or_none, overlaid};
+ghost use Rattle.std.specs.Option.{unwrap_or};
+ghost use Rattle.msb_values.specs.Overlays.{overlaid};
 ghost use Rattle.build_report.specs.Line.{line};
 ghost use Rattle.build_report.specs.Eval.{eval_text, named_value, property_line, item_line, metadata_line, item_lines, list_lines, duplicate_line};
 
-use crate::overlay::overlaid;
 use msb_values::{
-    Defaults, Item, List, Lists, Name, NoMemory, Pairs, Scope, Text, Text8, unescape,
+    Defaults, Item, List, Lists, Name, NoMemory, Pairs, Scope, Text, Text8, overlaid, unescape,
 };
 use std::alloc::Global;
 
@@ -77,7 +77,7 @@ fn push_items(
     defaults: Option<&Pairs>,
     items: &[Item],
 ) -> Result<(), NoMemory>
-    ensures { OnOk result (string_bytes shown.new ≡ string_bytes shown.old ++ flat_map (item_lines kind.now (pairs_or_none (option_copied defaults.entry))) items.now) }
+    ensures { OnOk result (string_bytes shown.new ≡ string_bytes shown.old ++ flat_map (item_lines kind.now (unwrap_or (option_copied defaults.entry) [])) items.now) }
 {
     for item in items {
         push_item(alloc, shown, kind, item)?;
@@ -102,7 +102,7 @@ fn push_metadata(
     defaults: Option<&Pairs>,
     own: &Pairs,
 ) -> Result<(), NoMemory>
-    ensures { OnOk result (string_bytes shown.new ≡ string_bytes shown.old ++ flat_map metadata_line (overlaid (pairs_or_none (option_copied defaults.entry)) own.now)) }
+    ensures { OnOk result (string_bytes shown.new ≡ string_bytes shown.old ++ flat_map metadata_line (overlaid (unwrap_or (option_copied defaults.entry) []) own.now)) }
 {
     match defaults {
         None => push_pairs(alloc, shown, own),

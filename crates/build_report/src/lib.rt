@@ -4,7 +4,6 @@
 #![tactic(auto)]
 
 mod eval;
-mod overlay;
 mod targets;
 
 pub use eval::shown_eval;
