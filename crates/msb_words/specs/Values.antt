@@ -6,9 +6,9 @@ use Rattle.std.specs.Ordering.{nat_cmp}
 use Rattle.std.specs.BTreeMap.{insert_entry}
 use Rattle.std.specs.Cmp.Lexicographic.{slice_cmp}
 use Rattle.msb_laws.specs.Traverse.{traverse}
+use Rattle.msb_values.specs.Keys.{key_if, key_of}
 use Rattle.msb_values.specs.Lists.{list_of}
 use Rattle.msb_values.specs.Names.{bad_place, is_target_byte}
-use Rattle.msb_expand.specs.Keys.{key_if, key_of}
 use Rattle.msb_expand.specs.Reserved.{is_reserved}
 
 -- one or more entries
