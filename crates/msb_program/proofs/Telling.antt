@@ -1,6 +1,7 @@
 -- The answer of the program where its outcome was told to the sink.
 use Rattle.std.proofs.Common.{◌≡◌, ◌⊎◌, ℕ, List, [], true, false, Option, Some, None, Result, Ok, Err, IfSome, IsSome, inl, inr, refl, sym, ap, subst, ◌∙◌, arith}
 use Rattle.msb_laws.specs.Faults.{Rose}
+use Rattle.file_store.specs.Entries.{entries_of}
 use Rattle.file_store.specs.Files.{file_at, paths_of}
 use Rattle.file_store.specs.declared.tree.File.{File}
 use Rattle.msb_words.specs.Options.{options_in}
@@ -9,10 +10,10 @@ use Rattle.msb_words.specs.declared.options.Action.{Action}
 use Rattle.msb_words.specs.declared.options.Action.TheVariants.{Build, Eval, Targets}
 use Rattle.msb_values.specs.InstanceKeys.{key_text}
 use Rattle.msb_values.specs.declared.key.InstanceKey.{InstanceKey}
-use Rattle.msb_paths.specs.Normal.{normalized}
-use Rattle.msb_paths.specs.declared.errors.PathFault.{PathFault}
+use Rattle.msb_paths.specs.Refused.{normal_path}
+use Rattle.msb_paths.specs.declared.errors.NormalFault.{NormalFault}
 use Rattle.file_store.specs.Limits.{limit_fault}
-use Rattle.file_store.specs.Loads.{OfListing, IsLoaded, IsCaused}
+use Rattle.file_store.specs.Loads.{OfListing, IsCaused, IsOfKind}
 use Rattle.file_store.specs.declared.loading.LoadFault.{LoadFault}
 use Rattle.file_store.specs.declared.loading.LoadFault.TheVariants.{Listing, Reading, Files, Bytes, Large, BadPath, Memory}
 use Rattle.msb_program.specs.declared.request.Request.{Request}
@@ -22,7 +23,7 @@ use Rattle.build_world.specs.declared.fault.EvalFault.{EvalFault}
 use Rattle.msb_instance.specs.Evaluated.{Instance, evaluated}
 use Rattle.msb_program.specs.Projects.{project}
 use Rattle.msb_program.specs.Requests.{has_failed, request_of}
-use Rattle.msb_program.specs.Answers.{Printing, PrintedAll, PrintedFront, Printed, Answers, IsStatusOf, LoadFails, IsStoreFault}
+use Rattle.msb_program.specs.Answers.{Loading, Printing, PrintedAll, PrintedFront, Printed, Answers, AreLoaded, HasOutcome, IsOutcomeOf, IsStatusOf, LoadFails, IsStoreFault}
 
 -- what the sink's part of the work says, of a text and of the status that it is to have
 pub record Tells (p : Printing) (intended : ℕ) (text : List ℕ) (status : ℕ) : Type 0 where
@@ -44,46 +45,50 @@ widened (inr (inl e)) = inr (inl e)
 widened (inr (inr (inl e))) = inr (inr (inr (inl e)))
 widened (inr (inr (inr e))) = inr (inr (inr (inr (inr (inl e)))))
 
-over_told : (told : Option (List File)) (options : Options) (o : Outcome) (P : Outcome → Type 0) → IfSome told (λ files. o ≡ outcome_of options files) → P o → IfSome told (λ files. P (outcome_of options files))
-over_told None options o P is holds = tt
-over_told (Some files) options o P is holds = subst P is holds
+-- an outcome of loaded files is one of the told files
+told_outcome : (told : Option (List File)) (options : Options) (files : List File) (o : Outcome) (s : ℕ) → IfSome told (λ those. files ≡ those) → IsOutcomeOf options files o → s ≡ o.status
+    → IfSome told (λ those. (outcome : Outcome) × IsOutcomeOf options those outcome × (s ≡ outcome.status))
+told_outcome None options files o s same is status = tt
+told_outcome (Some those) options files o s same is status = (o, is ∙ ap (outcome_of options) same, status)
 
-same_status : (told : Option (List File)) (options : Options) (o : Outcome) (s : ℕ) → IfSome told (λ files. o ≡ outcome_of options files) → s ≡ o.status → IfSome told (λ files. s ≡ (outcome_of options files).status)
-same_status told options o s is same = over_told told options o (λ made. s ≡ made.status) is same
+-- what comes of the words over loaded files
+pub record Work (words : List (List ℕ)) (told : Option (List File)) (o : Outcome) : Type 0 where
+  pub options : Options
+  pub asked : options_in words ≡ Some options
+  pub files : List File
+  pub loaded : AreLoaded told files
+  pub is : IsOutcomeOf options files o
 
-status_told : (words : List (List ℕ)) (told : Option (List File)) (options : Options) (o : Outcome) (s : ℕ) {R : Type 0}
-    → options_in words ≡ Some options → IfSome told (λ files. o ≡ outcome_of options files) → (s ≡ o.status) ⊎ ((s ≡ 6) × R) → ¬ R
-    → (s ≡ 7) ⊎ IsStatusOf (options_in words) told s
-status_told words told options o s asked is (inl same) unfailing = inr (subst (λ asks. IsStatusOf asks told s) (sym asked) (same_status told options o s is same))
-status_told words told options o s asked is (inr failed) unfailing = absurd (unfailing failed.1)
+module _ (words : List (List ℕ)) (store : Loading) (o : Outcome) (work : Work words store.told o) where
+  having : (P : Outcome → Type 0) → P o → HasOutcome words store.told P
+  having P holds = record { options = work.options; asked = work.asked; files = work.files; loaded = work.loaded; outcome = o; is = work.is; holds = holds }
 
-pub told_answers : (words : List (List ℕ)) (told : Option (List File)) (before after : ℕ) (p : Printing) (options : Options) (o : Outcome) (s : ℕ)
-    → options_in words ≡ Some options → IfSome told (λ files. o ≡ outcome_of options files) → (o.status ≡ 0) ⊎ (o.status ≡ 1) ⊎ (o.status ≡ 3) → Tells p o.status o.text s
-    → Answers words told before after p s
-told_answers words told before after p options o s asked is either tells =
-    let some : (s ≡ 0) ⊎ (s ≡ 1) ⊎ (s ≡ 3) ⊎ (s ≡ 6) = known_of tells.whole either in
-    record {
-      known = widened some;
-      done = λ e. (options, asked, over_told told options o (λ made. (made.status ≡ 0) × PrintedAll p made.text) is (tells.done e));
-      failed = λ e. (options, asked, over_told told options o (λ made. (made.status ≡ 1) × PrintedAll p made.text) is (tells.unsuccessful e));
-      usage = λ e. absurd (grind arith);
-      refused = λ e. (options, asked, over_told told options o (λ made. (made.status ≡ 3) × Printed p made.text) is (tells.refused e));
-      store = λ e. absurd (grind arith);
-      sink = λ e.
-          let failed = tells.failed e in
-          (failed.1, (options, asked, over_told told options o (λ made. ((made.status ≡ 0) ⊎ (made.status ≡ 1)) × PrintedFront p made.text) is (failed.0, failed.2)));
-      silent = λ e. absurd (grind arith);
-      limited = λ e. absurd (grind arith);
-      unfailing = λ kept unfailing. status_told words told options o s asked is tells.whole unfailing;
-    }
+  status_told : (s : ℕ) {R : Type 0} → (s ≡ o.status) ⊎ ((s ≡ 6) × R) → ¬ R → (s ≡ 7) ⊎ IsStatusOf (options_in words) store.told s
+  status_told s (inl same) unfailing =
+      inr (subst (λ asks. IsStatusOf asks store.told s) (sym work.asked) (told_outcome store.told work.options work.files o s work.loaded.told_are work.is same))
+  status_told s (inr failed) unfailing = absurd (unfailing failed.1)
 
--- what was made of the loaded files was made of the told ones, which are within the limits
-pub over_tree : (told : Option (List File)) (options : Options) (o : Outcome) (files : List File)
-    → IfSome told (λ those. files ≡ those) → OfListing told (IsLoaded (paths_of files)) → o ≡ outcome_by options files (normalized [] options.project)
-    → IfSome told (λ those. o ≡ outcome_of options those)
-over_tree None options o files same loaded is = tt
-over_tree (Some those) options o files same loaded is =
-    is ∙ ap (λ fs. outcome_by options fs (normalized [] options.project)) same ∙ sym (ap (outcome_within options those) loaded.within)
+  pub told_answers : (p : Printing) (s : ℕ) → (o.status ≡ 0) ⊎ (o.status ≡ 1) ⊎ (o.status ≡ 3) → Tells p o.status o.text s → Answers words store p s
+  told_answers p s either tells =
+      let some : (s ≡ 0) ⊎ (s ≡ 1) ⊎ (s ≡ 3) ⊎ (s ≡ 6) = known_of tells.whole either in
+      record {
+        known = widened some;
+        done = λ e. having (λ made. (made.status ≡ 0) × PrintedAll p made.text) (tells.done e);
+        failed = λ e. having (λ made. (made.status ≡ 1) × PrintedAll p made.text) (tells.unsuccessful e);
+        usage = λ e. absurd (grind arith);
+        refused = λ e. having (λ made. (made.status ≡ 3) × Printed p made.text) (tells.refused e);
+        store = λ e. absurd (grind arith);
+        sink = λ e.
+            let failed = tells.failed e in
+            (failed.1, having (λ made. ((made.status ≡ 0) ⊎ (made.status ≡ 1)) × PrintedFront p made.text) (failed.0, failed.2));
+        silent = λ e. absurd (grind arith);
+        limited = λ e. absurd (grind arith);
+        unfailing = λ kept unfailing. status_told s tells.whole unfailing;
+      }
+
+-- what is made of files within the limits is their outcome
+pub within_limits : (options : Options) (o : Outcome) (files : List File) → limit_fault (entries_of files) ≡ None → o ≡ outcome_by options files (normal_path [] options.project) → IsOutcomeOf options files o
+within_limits options o files within is = is ∙ sym (ap (outcome_within options files) within)
 
 request_status : (path : List ℕ) (made : Request) → let o = outcome_of_request path made in (o.status ≡ 0) ⊎ (o.status ≡ 1) ⊎ (o.status ≡ 3)
 request_status path made = elim (has_failed made) as (λ failed. (status_of failed ≡ 0) ⊎ (status_of failed ≡ 1) ⊎ (status_of failed ≡ 3)) [ false ↦ inl refl | true ↦ inr (inl refl) ]
@@ -101,13 +106,13 @@ file_status : (options : Options) (key : InstanceKey) (files : List File) (file 
 file_status options key files None = inr (inr refl)
 file_status options key files (Some file) = instance_status options key (paths_of files) (evaluated files key)
 
-path_status : (options : Options) (files : List File) (path : Result (List ℕ) PathFault) → let o = outcome_by options files path in (o.status ≡ 0) ⊎ (o.status ≡ 1) ⊎ (o.status ≡ 3)
+path_status : (options : Options) (files : List File) (path : Result (List ℕ) NormalFault) → let o = outcome_by options files path in (o.status ≡ 0) ⊎ (o.status ≡ 1) ⊎ (o.status ≡ 3)
 path_status options files (Ok path) = file_status options (key_at path options) files (file_at path files)
 path_status options files (Err fault) = inr (inr refl)
 
 -- a build succeeds or fails, a project is shown, or it is refused
-pub known_status : (options : Options) (files : List File) → let o = outcome_by options files (normalized [] options.project) in (o.status ≡ 0) ⊎ (o.status ≡ 1) ⊎ (o.status ≡ 3)
-known_status options files = path_status options files (normalized [] options.project)
+pub known_status : (options : Options) (files : List File) → let o = outcome_by options files (normal_path [] options.project) in (o.status ≡ 0) ⊎ (o.status ≡ 1) ⊎ (o.status ≡ 3)
+known_status options files = path_status options files (normal_path [] options.project)
 
 -- A failed load.
 past_limit : (told : Option (List File)) (fault : LoadFault) (before after : ℕ) → fault_status fault ≡ 8 → IsCaused before after told fault → OfListing told (λ listing. limit_fault listing ≡ Some fault)
@@ -137,9 +142,10 @@ either_status (Large path) never = inr refl
 either_status (BadPath path) never = inr refl
 either_status Memory never = absurd (never refl)
 
-limited_status : (told : Option (List File)) (options : Options) (fault : LoadFault) → OfListing told (λ listing. limit_fault listing ≡ Some fault) → IfSome told (λ files. fault_status fault ≡ (outcome_of options files).status)
-limited_status None options fault past = tt
-limited_status (Some files) options fault past = sym (ap (λ limit. (outcome_within options files limit).status) past)
+limited_status : (told : Option (List File)) (options : Options) (fault : LoadFault) (s : ℕ) → s ≡ fault_status fault → OfListing told (λ listing. limit_fault listing ≡ Some fault)
+    → IfSome told (λ files. (outcome : Outcome) × IsOutcomeOf options files outcome × (s ≡ outcome.status))
+limited_status None options fault s is past = tt
+limited_status (Some files) options fault s is past = (outcome_of options files, refl, is ∙ sym (ap (λ limit. (outcome_within options files limit).status) past))
 
 store_known : {s : ℕ} → s ≡ 5 → (s ≡ 0) ⊎ (s ≡ 1) ⊎ (s ≡ 2) ⊎ (s ≡ 3) ⊎ (s ≡ 5) ⊎ (s ≡ 6) ⊎ (s ≡ 7) ⊎ (s ≡ 8)
 store_known e = inr (inr (inr (inr (inl e))))
@@ -147,15 +153,15 @@ store_known e = inr (inr (inr (inr (inl e))))
 limit_known : {s : ℕ} → s ≡ 8 → (s ≡ 0) ⊎ (s ≡ 1) ⊎ (s ≡ 2) ⊎ (s ≡ 3) ⊎ (s ≡ 5) ⊎ (s ≡ 6) ⊎ (s ≡ 7) ⊎ (s ≡ 8)
 limit_known e = inr (inr (inr (inr (inr (inr (inr e))))))
 
-module _ (words : List (List ℕ)) (told : Option (List File)) (before after : ℕ) (p : Printing) (options : Options) (fault : LoadFault) (asked : options_in words ≡ Some options)
-    (caused : IsCaused before after told fault) (printed : Printed p (line (load_fault_text fault))) where
-  fails : LoadFails before after words told p fault
-  fails = (subst IsSome (sym asked) refl, caused, printed)
+module _ (words : List (List ℕ)) (store : Loading) (p : Printing) (options : Options) (fault : LoadFault) (asked : options_in words ≡ Some options)
+    (caused : IsCaused store.faults_before store.faults_after store.told fault) (kind : IsOfKind store.before store.after fault) (printed : Printed p (line (load_fault_text fault))) where
+  fails : LoadFails words store p fault
+  fails = (subst IsSome (sym asked) refl, caused, kind, printed)
 
-  failed_answers : (s : ℕ) → s ≡ fault_status fault → (fault_status fault ≡ 5) ⊎ (fault_status fault ≡ 8) → Answers words told before after p s
+  failed_answers : (s : ℕ) → s ≡ fault_status fault → (fault_status fault ≡ 5) ⊎ (fault_status fault ≡ 8) → Answers words store p s
   failed_answers s is (inl five) =
       let e : s ≡ 5 = is ∙ five in
-      let stored = store_fault told fault before after five caused in
+      let stored = store_fault store.told fault store.faults_before store.faults_after five caused in
       record {
         known = store_known e;
         done = λ other. absurd (grind arith);
@@ -170,7 +176,7 @@ module _ (words : List (List ℕ)) (told : Option (List File)) (before after : �
       }
   failed_answers s is (inr eight) =
       let e : s ≡ 8 = is ∙ eight in
-      let past = past_limit told fault before after eight caused in
+      let past = past_limit store.told fault store.faults_before store.faults_after eight caused in
       record {
         known = limit_known e;
         done = λ other. absurd (grind arith);
@@ -181,8 +187,8 @@ module _ (words : List (List ℕ)) (told : Option (List File)) (before after : �
         sink = λ other. absurd (grind arith);
         silent = λ other. absurd (grind arith);
         limited = λ same. (fault, past, fails);
-        unfailing = λ kept others. inr (subst (λ asks. IsStatusOf asks told s) (sym asked) (subst (λ status. IfSome told (λ files. status ≡ (outcome_of options files).status)) (sym is) (limited_status told options fault past)));
+        unfailing = λ kept others. inr (subst (λ asks. IsStatusOf asks store.told s) (sym asked) (limited_status store.told options fault s is past));
       }
 
-  pub load_failed : (s : ℕ) → s ≡ fault_status fault → (fault ≡ Memory → ⊥) → Answers words told before after p s
+  pub load_failed : (s : ℕ) → s ≡ fault_status fault → (fault ≡ Memory → ⊥) → Answers words store p s
   load_failed s is never = failed_answers s is (either_status fault never)

@@ -10,8 +10,8 @@ use Rattle.file_store.specs.Limits.{limit_fault}
 use Rattle.file_store.specs.declared.tree.File.{File}
 use Rattle.file_store.specs.declared.loading.LoadFault.{LoadFault}
 use Rattle.file_store.specs.declared.loading.LoadFault.TheVariants.{Listing, Reading, Files, Bytes, Large, BadPath, Memory}
-use Rattle.msb_paths.specs.Normal.{normalized}
-use Rattle.msb_paths.specs.declared.errors.PathFault.{PathFault}
+use Rattle.msb_paths.specs.Refused.{normal_path}
+use Rattle.msb_paths.specs.declared.errors.NormalFault.{NormalFault}
 use Rattle.build_world.specs.Faults.{fault_text}
 use Rattle.build_world.specs.declared.fault.EvalFault.{EvalFault}
 use Rattle.msb_instance.specs.Evaluated.{Instance, evaluated}
@@ -69,7 +69,7 @@ abbrev pub key_at : List ℕ → Options → InstanceKey
 key_at path options = record { path = path; globals = options.globals }
 
 -- the project's file is the one at the normal path that the word gives from the root of the store
-abbrev pub outcome_by : Options → List File → Result (List ℕ) PathFault → Outcome
+abbrev pub outcome_by : Options → List File → Result (List ℕ) NormalFault → Outcome
 outcome_by options files (Ok path) = outcome_at options (key_at path options) files (file_at path files)
 outcome_by options files (Err fault) = not_found options.project
 
@@ -95,7 +95,7 @@ fault_status Memory = 7
 
 abbrev pub outcome_within : Options → List File → Option LoadFault → Outcome
 outcome_within options files (Some fault) = record { status = fault_status fault; text = line (load_fault_text fault); commit = [] }
-outcome_within options files None = outcome_by options files (normalized [] options.project)
+outcome_within options files None = outcome_by options files (normal_path [] options.project)
 
 -- what the words come to over these files
 abbrev pub outcome_of : Options → List File → Outcome

@@ -1,6 +1,6 @@
 ghost use Rattle.std.specs.Prelude.{◌≡◌, [], IfOk};
 ghost use Rattle.file_store.specs.Files.{file_at, paths_of};
-ghost use Rattle.msb_paths.specs.Normal.{normalized};
+ghost use Rattle.msb_paths.specs.Refused.{normal_path};
 ghost use Rattle.msb_values.specs.InstanceKeys.{key_text};
 ghost use Rattle.build_world.specs.Faults.{fault_text};
 ghost use Rattle.msb_instance.specs.Evaluated.{seen_instance};
@@ -14,7 +14,7 @@ use build_report::{shown_eval, shown_targets};
 use build_world::{EvalFault, Instance};
 use file_store::Tree;
 use msb_instance::evaluate;
-use msb_paths::{PathFault, normalize};
+use msb_paths::{NormalFault, normal_path};
 use msb_values::{Cause, Copied, InstanceKey, List, Name, NoMemory, Text, Text8};
 use msb_words::{Action, Options};
 use std::alloc::Global;
@@ -31,9 +31,9 @@ impl Outcome {
 
     /// What the words come to over the files of a tree that is within the limits.
     pub fn of(alloc: Global, options: &Options, tree: &Tree) -> Result<Outcome, NoMemory>
-        ensures { IfOk result (λ o. seen o ≡ outcome_by options.now tree.now.files (normalized [] options.now.project)) }
+        ensures { IfOk result (λ o. seen o ≡ outcome_by options.now tree.now.files (normal_path [] options.now.project)) }
     {
-        match normalize(alloc, "", options.project.as_str()) {
+        match normal_path(alloc, "", options.project.as_str()) {
             Ok(path) => {
                 let key = InstanceKey {
                     path: Text::of(alloc, path.as_str())?,
@@ -41,7 +41,7 @@ impl Outcome {
                 };
                 Outcome::at(alloc, options, &key, tree)
             }
-            Err(PathFault::Memory) => Err(NoMemory),
+            Err(NormalFault::Memory) => Err(NoMemory),
             Err(_) => Outcome::not_found(alloc, options.project.as_str()),
         }
     }

@@ -4,7 +4,7 @@ ghost use Rattle.msb_laws.specs.Gains.{Appends, AppendsFront, Prints};
 ghost use Rattle.file_store.specs.declared.loading.LoadFault.TheVariants.{Memory};
 ghost use Rattle.msb_program.specs.Report.{line};
 ghost use Rattle.msb_program.specs.Outcomes.{load_fault_text, fault_status};
-ghost use Rattle.msb_program.specs.Answers.{Answers, printing};
+ghost use Rattle.msb_program.specs.Answers.{Answers, loading, printing};
 
 use crate::outcome::Outcome;
 use crate::tools::{Counted, CountedTools, Tools};
@@ -33,7 +33,7 @@ pub fn run<R: Threads + Wait + Sync, S: Store, K: Sink, T: Tools + Sync>(
     sink: &mut K,
     tools: &T,
 ) -> u8
-    ensures answer { Answers (map string_bytes words.now) (S.tree store.old) (S.fault_count store.old) (S.fault_count store.new) (printing (K.fault_count sink.old) (K.fault_count sink.new) (K.told sink.old) (K.told sink.new)) result }
+    ensures answer { Answers (map string_bytes words.now) (loading (S.tree store.old) (S.fault_count store.old) (S.fault_count store.new) (S.failures store.old) (S.failures store.new)) (printing (K.fault_count sink.old) (K.fault_count sink.new) (K.told sink.old) (K.told sink.new)) result }
     ensures kept { S.tree store.new ≡ S.tree store.old }
 {
     match Counted::new(alloc, tools) {
@@ -50,7 +50,7 @@ pub fn run_alone<S: Store, K: Sink, T: CountedTools>(
     sink: &mut K,
     tools: &mut T,
 ) -> u8
-    ensures answer { Answers (map string_bytes words.now) (S.tree store.old) (S.fault_count store.old) (S.fault_count store.new) (printing (K.fault_count sink.old) (K.fault_count sink.new) (K.told sink.old) (K.told sink.new)) result }
+    ensures answer { Answers (map string_bytes words.now) (loading (S.tree store.old) (S.fault_count store.old) (S.fault_count store.new) (S.failures store.old) (S.failures store.new)) (printing (K.fault_count sink.old) (K.fault_count sink.new) (K.told sink.old) (K.told sink.new)) result }
     ensures kept { S.tree store.new ≡ S.tree store.old }
     ensures uncalled { T.calls tools.new ≡ T.calls tools.old }
 {
