@@ -1,5 +1,4 @@
 pub mod Each
-pub mod Questions
 pub mod Walking
 pub mod Telling
 pub mod Saying

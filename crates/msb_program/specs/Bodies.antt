@@ -17,7 +17,7 @@ use Rattle.msb_expand.specs.Written.{or_unread, or_cause}
 use Rattle.msb_expand.specs.declared.lens.Use.TheVariants.{Batched}
 use Rattle.build_world.specs.Elements.{At, at, fault_of}
 use Rattle.build_world.specs.Faults.{fault_text}
-use Rattle.msb_instance.specs.Evaluated.{UsedTarget}
+use Rattle.build_world.specs.Instances.{UsedTarget}
 use Rattle.msb_program.specs.Projects.{Project, scene_in}
 use Rattle.msb_program.specs.declared.body.Run.{Run}
 use Rattle.msb_program.specs.declared.message.Said.{Said}

@@ -8,7 +8,7 @@ use Rattle.msb_expand.specs.Scenes.{Scene}
 use Rattle.msb_expand.specs.declared.lens.Use.{Use}
 use Rattle.msb_expand.specs.declared.lens.Use.TheVariants.{All}
 use Rattle.msb_condition.specs.Truth.{View}
-use Rattle.msb_instance.specs.Evaluated.{Instance, UsedTarget, seen_instance}
+use Rattle.build_world.specs.Instances.{Instance, UsedTarget, seen_instance}
 use Rattle.msb_program.specs.declared.project.Project.{Project as Made}
 
 pub record Project : Type 0 where

@@ -3,9 +3,7 @@ use Rattle.std.specs.Prelude.{ℕ, List, [], ◌∷◌, ◌++◌, ◌==◌, ◌&
 use Rattle.std.specs.List.{flat_map, list_any}
 use Rattle.msb_laws.specs.Asking.{Asking, gives, asks}
 use Rattle.msb_laws.specs.Results.{map_ok}
-use Rattle.target_order.specs.Visit.{End, finished, stopped, circle, unknown, order}
-use Rattle.target_order.specs.declared.asks.OrderAsk.{OrderAsk}
-use Rattle.target_order.specs.declared.asks.OrderAsk.TheVariants.{Condition, Depends, Body, Done, Circle, Unknown}
+use Rattle.target_order.specs.Visit.{Question, condition, depends, body, End, finished, stopped, circle, unknown, order}
 use Rattle.target_order.specs.declared.asks.OrderAnswer.{OrderAnswer}
 use Rattle.target_order.specs.declared.asks.OrderAnswer.TheVariants.{Truth, Names, Ok as Ran, Failed}
 use Rattle.msb_values.specs.declared.cause.Cause.{Cause}
@@ -15,7 +13,7 @@ use Rattle.msb_expand.specs.declared.lens.Use.TheVariants.{All}
 use Rattle.msb_condition.specs.Written.{condition_holds}
 use Rattle.build_world.specs.Elements.{At, attribute_of, fault_of}
 use Rattle.build_world.specs.Faults.{fault_text}
-use Rattle.msb_instance.specs.Evaluated.{Instance, UsedTarget}
+use Rattle.build_world.specs.Instances.{Instance, UsedTarget}
 use Rattle.msb_program.specs.Projects.{Project, scene_in, view_in, target_at}
 use Rattle.msb_program.specs.Bodies.{run_of}
 use Rattle.msb_program.specs.declared.request.Request.{Request}
@@ -73,13 +71,10 @@ after_body project None ran = (Ran, ran)
 after_body project (Some target) ran = let made = run_of project target in (answer_of_run made.error, ran ++ made ∷ [])
 
 -- how the project answers what the order asks, by the targets that ran so far, or the fault that ends the request
-abbrev pub answer_in : Project → OrderAsk → List Run → Result (OrderAnswer × List Run) (List ℕ)
-answer_in project (Condition name) ran = map_ok (λ holds. (Truth holds, ran)) (holds_of project (target_at name project.instance.targets))
-answer_in project (Depends name) ran = map_ok (λ names. (Names names, ran)) (depends_of project (target_at name project.instance.targets))
-answer_in project (Body name) ran = Ok (after_body project (target_at name project.instance.targets) ran)
-answer_in project Done ran = Ok (Ran, ran)
-answer_in project (Circle names) ran = Ok (Ran, ran)
-answer_in project (Unknown name) ran = Ok (Ran, ran)
+abbrev pub answer_in : Project → Question → List Run → Result (OrderAnswer × List Run) (List ℕ)
+answer_in project (condition name) ran = map_ok (λ holds. (Truth holds, ran)) (holds_of project (target_at name project.instance.targets))
+answer_in project (depends name) ran = map_ok (λ names. (Names names, ran)) (depends_of project (target_at name project.instance.targets))
+answer_in project (body name) ran = Ok (after_body project (target_at name project.instance.targets) ran)
 
 -- the end and the last state where a machine answers, or the fault at which it gives up and the state before it
 abbrev pub until_fault : {Q A R S F : Type 0} → (Q → S → Result (A × S) F) → Asking Q A R → S → Result R F × S

@@ -1,7 +1,7 @@
 ghost use Rattle.std.specs.Prelude.{◌≡◌, ◌++◌, IfOk, map, codes};
 ghost use Rattle.msb_elements.specs.View.{view};
 ghost use Rattle.build_world.specs.Elements.{seen_placed};
-ghost use Rattle.msb_instance.specs.Evaluated.{seen_target};
+ghost use Rattle.build_world.specs.Instances.{seen_target};
 ghost use Rattle.msb_program.specs.Bodies.{run_of, said_by, all_said, has_lists};
 ghost use Rattle.msb_program.specs.Projects.{seen_project};
 

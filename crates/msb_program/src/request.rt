@@ -4,7 +4,7 @@ ghost use Rattle.target_order.specs.declared.asks.OrderAnswer.TheVariants.{Truth
 ghost use Rattle.msb_laws.specs.Results.{map_ok};
 ghost use Rattle.msb_values.specs.Caused.{GivesCause};
 ghost use Rattle.msb_expand.specs.Scenes.{scene_of};
-ghost use Rattle.msb_instance.specs.Evaluated.{seen_instance, seen_target};
+ghost use Rattle.build_world.specs.Instances.{seen_instance, seen_target};
 ghost use Rattle.msb_program.specs.Projects.{seen_project, target_at};
 ghost use Rattle.msb_program.specs.Requests.{named_or, wanted_of, answer_of_run, after_body, holds_of, target_holds, depends_of, target_depends, names_if};
 ghost use Rattle.msb_program.specs.Asked.{RepliesTo, Replies, error_of_ask};

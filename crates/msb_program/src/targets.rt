@@ -1,5 +1,5 @@
 ghost use Rattle.std.specs.Prelude.{◌≡◌, IfOk, OnOk, map, option_copied, option_map};
-ghost use Rattle.msb_instance.specs.Evaluated.{seen_target};
+ghost use Rattle.build_world.specs.Instances.{seen_target};
 ghost use Rattle.msb_program.specs.Projects.{target_at};
 ghost use Rattle.msb_program.specs.Named.{put_first};
 

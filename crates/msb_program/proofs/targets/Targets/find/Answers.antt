@@ -2,7 +2,7 @@ use Rattle.std.proofs.Common.{◌≡◌, Bool, map, ap, ◌∙◌, option_copied
 use Rattle.std.specs.List.{find}
 use Rattle.std.specs.Str.{bytes_eq}
 use Rattle.build_world.specs.declared.instance.UsedTarget.{UsedTarget}
-use Rattle.msb_instance.specs.Evaluated.{seen_target}
+use Rattle.build_world.specs.Instances.{seen_target}
 use Rattle.msb_program.specs.Projects.{target_at}
 use Rattle.msb_program.proofs.Finding.{find_seen}
 use Rattle.msb_program.proofs.targets.Targets.find.Goals as goal
