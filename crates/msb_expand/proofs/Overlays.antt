@@ -9,7 +9,7 @@ use Rattle.std.specs.declared.cmp.Ordering.TheVariants.{Less, Equal, Greater}
 use Rattle.std.proofs.lemmas.Map.Text.{is_eq-slice_cmp}
 use Rattle.std.proofs.lemmas.Slice.Eq.{bytes_eq-Decides}
 use Rattle.msb_values.specs.Pairs.{value_at}
-use Rattle.msb_expand.specs.Scenes.{put_missing, overlaid}
+use Rattle.msb_values.specs.Overlays.{put_missing, overlaid}
 
 -- what a name has where another is put
 

@@ -14,7 +14,7 @@ use Rattle.msb_expand.specs.declared.faults.ExpandFault.{ExpandFault}
 use Rattle.msb_expand.specs.declared.faults.ExpandFault.TheVariants.{UnknownFunction}
 use Rattle.msb_expand.specs.declared.functions.Function.{Function}
 use Rattle.msb_expand.specs.declared.functions.Function.TheVariants.{Count, Distinct, Reverse, HasMetadata, WithMetadataValue, AnyHaveMetadataValue, ClearMetadata}
-use Rattle.msb_expand.specs.Keys.{key_of}
+use Rattle.msb_values.specs.Keys.{key_of}
 use Rattle.msb_laws.specs.Results.{and_then, map_ok, all_ok}
 use Rattle.msb_expand.specs.Limits.{grown_by}
 use Rattle.msb_expand.specs.Scenes.{Scene}
@@ -72,16 +72,16 @@ abbrev pub is_some_text : List ℕ → Bool
 is_some_text text = not (length text == 0)
 
 -- a function's result; another name or number of arguments is refused
-abbrev pub called : List ℕ → List ℕ → Option Function → List (List ℕ) → List Item → Result (List Item) ExpandFault
-called project name (Some Count) [] items = Ok (plain_item (decimal (length items)) ∷ [])
-called project name (Some Distinct) [] items = Ok (distinct_from [] items)
-called project name (Some Reverse) [] items = Ok (reverse items)
-called project name (Some HasMetadata) (of ∷ []) items = filtered project of is_some_text items
-called project name (Some WithMetadataValue) (of ∷ value ∷ []) items = filtered project of (is_same_text value) items
-called project name (Some AnyHaveMetadataValue) (of ∷ value ∷ []) items =
+abbrev pub function_result : List ℕ → List ℕ → Option Function → List (List ℕ) → List Item → Result (List Item) ExpandFault
+function_result project name (Some Count) [] items = Ok (plain_item (decimal (length items)) ∷ [])
+function_result project name (Some Distinct) [] items = Ok (distinct_from [] items)
+function_result project name (Some Reverse) [] items = Ok (reverse items)
+function_result project name (Some HasMetadata) (of ∷ []) items = filtered project of is_some_text items
+function_result project name (Some WithMetadataValue) (of ∷ value ∷ []) items = filtered project of (is_same_text value) items
+function_result project name (Some AnyHaveMetadataValue) (of ∷ value ∷ []) items =
     map_ok (λ any. plain_item (truth_text any) ∷ []) (any_passes project of (is_same_text value) items)
-called project name (Some ClearMetadata) [] items = Ok (map without_metadata items)
-called project name function args items = Err (UnknownFunction name)
+function_result project name (Some ClearMetadata) [] items = Ok (map without_metadata items)
+function_result project name function args items = Err (UnknownFunction name)
 
 -- a part of a transform, over an item
 abbrev pub piece_value : Scene → Item → Piece → Result (List ℕ) ExpandFault
@@ -106,7 +106,7 @@ quoted_value scene pieces = flat_map (quoted_piece scene) pieces
 abbrev pub stepped : Scene → Step → List Item → Result (List Item) ExpandFault
 stepped scene (Transform pieces) items = all_ok (transformed scene pieces) items
 stepped scene (Call name args) items =
-    called scene.project name (option_and_then (λ key. value_at key functions) (key_of name)) (map (quoted_value scene) args) items
+    function_result scene.project name (option_and_then (λ key. value_at key functions) (key_of name)) (map (quoted_value scene) args) items
 
 -- one step after the other
 abbrev pub after_steps : Scene → List Step → List Item → Result (List Item) ExpandFault

@@ -3,5 +3,5 @@ use Rattle.std.specs.Prelude.{ℕ, List, ◌++◌}
 use Rattle.std.specs.List.{flat_map}
 use Rattle.msb_values.specs.declared.item.Item.{Item}
 
-abbrev pub listed : List ℕ → List Item → List ℕ
-listed separator items = flat_map (λ item. separator ++ item.ident) items
+abbrev pub each_behind : List ℕ → List Item → List ℕ
+each_behind separator items = flat_map (λ item. separator ++ item.ident) items

@@ -1,8 +1,8 @@
 -- The metadata of an item. (MSBuild well-known item metadata; MSBuild item metadata)
-use Rattle.std.specs.Prelude.{ℕ, List, [], ◌∷◌, Option, Some, None, Result, Ok, Err, codes, if◌then◌else◌}
-use Rattle.msb_paths.specs.Normal.{normalized, is_normal}
+use Rattle.std.specs.Prelude.{ℕ, List, [], ◌∷◌, Option, Some, None, Result, Ok, Err, codes}
+use Rattle.msb_paths.specs.Refused.{normal_path}
 use Rattle.msb_paths.specs.Parts.{relative_dir, filename, extension}
-use Rattle.msb_paths.specs.declared.errors.PathFault.{PathFault}
+use Rattle.msb_paths.specs.declared.errors.NormalFault.{NormalFault}
 use Rattle.msb_values.specs.Escapes.{escaped, unescaped}
 use Rattle.msb_values.specs.Pairs.{value_at}
 use Rattle.msb_values.specs.declared.item.Item.{Item}
@@ -10,7 +10,7 @@ use Rattle.msb_expand.specs.declared.faults.ExpandFault.{ExpandFault}
 use Rattle.msb_expand.specs.declared.faults.ExpandFault.TheVariants.{BadPath}
 use Rattle.msb_expand.specs.declared.well_known.WellKnown.{WellKnown}
 use Rattle.msb_expand.specs.declared.well_known.WellKnown.TheVariants.{Identity, FullPath, RootDir, Directory, RelativeDir, Filename, Extension, RecursiveDir}
-use Rattle.msb_expand.specs.Keys.{key_of}
+use Rattle.msb_values.specs.Keys.{key_of}
 use Rattle.msb_laws.specs.Results.{map_ok}
 use Rattle.msb_expand.specs.Reserved.{folder_of, from_root}
 
@@ -27,12 +27,12 @@ well_known =
     (codes "recursivedir", RecursiveDir) ∷ []
 
 -- an identity as a path of the store, on the project's folder
-abbrev pub if_normal : List ℕ → Result (List ℕ) PathFault → Result (List ℕ) ExpandFault
-if_normal ident (Ok path) = if is_normal path then Ok path else Err (BadPath ident)
-if_normal ident (Err fault) = Err (BadPath ident)
+abbrev pub or_bad_path : List ℕ → Result (List ℕ) NormalFault → Result (List ℕ) ExpandFault
+or_bad_path ident (Ok path) = Ok path
+or_bad_path ident (Err fault) = Err (BadPath ident)
 
 abbrev pub path_of : List ℕ → List ℕ → Result (List ℕ) ExpandFault
-path_of project ident = if_normal ident (normalized (folder_of project) ident)
+path_of project ident = or_bad_path ident (normal_path (folder_of project) ident)
 
 -- of an identity as it is held
 abbrev pub full_path : List ℕ → List ℕ → Result (List ℕ) ExpandFault

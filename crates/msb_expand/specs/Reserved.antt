@@ -7,7 +7,7 @@ use Rattle.msb_values.specs.Escapes.{escaped}
 use Rattle.msb_values.specs.Pairs.{value_at}
 use Rattle.msb_expand.specs.declared.reserved.Reserved.{Reserved}
 use Rattle.msb_expand.specs.declared.reserved.Reserved.TheVariants.{ProjectDirectory, ProjectFile, ProjectName, ProjectExtension, ProjectFullPath, ThisFile, ThisFileName, ThisFileFullPath, ThisFileDirectory}
-use Rattle.msb_expand.specs.Keys.{key_of}
+use Rattle.msb_values.specs.Keys.{key_of}
 use Rattle.msb_expand.specs.Scenes.{Scene}
 
 -- the folder of a file, which is empty at the root of the store

@@ -1,9 +1,7 @@
 -- What an expression sees, and where it stands.
 use Rattle.std.specs.Prelude.{ℕ, List, [], ◌∷◌, Option, Some, None, option_map, option_copied}
 use Rattle.std.specs.Prelude.{map}
-use Rattle.std.specs.BTreeMap.{insert_entry}
-use Rattle.std.specs.Ordering.{nat_cmp}
-use Rattle.std.specs.Cmp.Lexicographic.{slice_cmp}
+use Rattle.msb_values.specs.Overlays.{overlaid}
 use Rattle.msb_values.specs.Pairs.{value_at}
 use Rattle.msb_values.specs.declared.item.Item.{Item}
 use Rattle.msb_values.specs.declared.scope.Scope.{Scope}
@@ -23,6 +21,18 @@ pub record Scene : Type 0 where
 abbrev pub scene_of : Lens → Scene
 scene_of lens = record { scope = lens.scope.now; project = lens.project.now; file = lens.file.now; usage = lens.usage; own = option_map (λ p. (p.0.now, p.1.now)) lens.own; bucket = option_copied lens.bucket }
 
+-- in a file of a project, where no item is at hand and nothing is batched
+abbrev pub scene_at : Scope → List ℕ → List ℕ → Use → Scene
+scene_at scope project file usage = record { scope = scope; project = project; file = file; usage = usage; own = None; bucket = None }
+
+-- with an item of a type at hand
+abbrev pub with_own : Scene → List ℕ → Item → Scene
+with_own scene kind item = record { scope = scene.scope; project = scene.project; file = scene.file; usage = scene.usage; own = Some (kind, item); bucket = scene.bucket }
+
+-- in a bucket of an element (MSBuild batching)
+abbrev pub with_bucket : Scene → Bucket → Scene
+with_bucket scene bucket = record { scope = scene.scope; project = scene.project; file = scene.file; usage = scene.usage; own = scene.own; bucket = Some bucket }
+
 -- the metadata that a type's items have by default
 abbrev pub pairs_or_none : Option (List (List ℕ × List ℕ)) → List (List ℕ × List ℕ)
 pairs_or_none (Some pairs) = pairs
@@ -30,16 +40,6 @@ pairs_or_none None = []
 
 abbrev pub defaults_at : Scene → List ℕ → List (List ℕ × List ℕ)
 defaults_at scene kind = pairs_or_none (value_at kind scene.scope.defaults)
-
--- a metadata, where the item does not have it itself
-abbrev pub put_missing : Option (List ℕ) → List (List ℕ × List ℕ) → List ℕ → List ℕ → List (List ℕ × List ℕ)
-put_missing (Some text) own name default = own
-put_missing None own name default = insert_entry (slice_cmp nat_cmp) own name default
-
--- the item's own, and the defaults that it does not have itself (MSBuild item definitions)
-abbrev pub overlaid : List (List ℕ × List ℕ) → List (List ℕ × List ℕ) → List (List ℕ × List ℕ)
-overlaid [] own = own
-overlaid (pair ∷ defaults) own = overlaid defaults (put_missing (value_at pair.0 own) own pair.0 pair.1)
 
 -- an item with the defaults of its type
 abbrev pub with_defaults : List (List ℕ × List ℕ) → Item → Item

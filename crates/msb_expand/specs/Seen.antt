@@ -2,7 +2,8 @@
 use Rattle.std.specs.Prelude.{option_copied}
 use Rattle.msb_values.specs.declared.item.Item.{Item}
 use Rattle.msb_expand.specs.declared.seen.Seen.{Seen}
-use Rattle.msb_expand.specs.Scenes.{overlaid, pairs_or_none}
+use Rattle.msb_values.specs.Overlays.{overlaid}
+use Rattle.msb_expand.specs.Scenes.{pairs_or_none}
 use Rattle.msb_expand.specs.Held.{held_text}
 
 abbrev pub seen_item : Seen → Item

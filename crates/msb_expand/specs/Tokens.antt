@@ -19,7 +19,7 @@ use Rattle.msb_expand.specs.declared.faults.ExpandFault.TheVariants.{ItemsHere, 
 use Rattle.msb_expand.specs.declared.lens.Use.{Use}
 use Rattle.msb_expand.specs.declared.lens.Use.TheVariants.{Properties, Definition, Metadata, All, Batched}
 use Rattle.msb_expand.specs.declared.lens.Bucket.{Bucket}
-use Rattle.msb_expand.specs.Keys.{key_of}
+use Rattle.msb_values.specs.Keys.{key_of}
 use Rattle.msb_expand.specs.Scenes.{Scene, defaults_at, with_defaults}
 use Rattle.msb_expand.specs.Reserved.{property_of}
 use Rattle.msb_expand.specs.Metadata.{metadata_of, text_or_none}
@@ -95,18 +95,18 @@ own_token scene (Some own) qualifier name =
     unless (is_foreign own.0 qualifier)
     (token_of (metadata_of scene.project (with_defaults (defaults_at scene own.0) own.1) name))
 
--- a bucket's value of a reference
+-- a bucket's value of a reference, where it holds one
 abbrev pub is_qualifier : Option (List ℕ) → Option (List ℕ) → Bool
 is_qualifier None None = true
 is_qualifier (Some a) (Some b) = bytes_eq a b
 is_qualifier None (Some b) = false
 is_qualifier (Some a) None = false
 
-abbrev pub value_in : Option (List ℕ) → List ℕ → List (Option (List ℕ) × List ℕ × List ℕ) → List ℕ
-value_in qualifier name [] = []
+abbrev pub value_in : Option (List ℕ) → List ℕ → List (Option (List ℕ) × List ℕ × List ℕ) → Option (List ℕ)
+value_in qualifier name [] = None
 value_in qualifier name (v ∷ values) =
     elim (is_qualifier v.0 qualifier) [
-      | true ↦ elim (bytes_eq v.1 name) [ true ↦ v.2 | false ↦ value_in qualifier name values ]
+      | true ↦ elim (bytes_eq v.1 name) [ true ↦ Some v.2 | false ↦ value_in qualifier name values ]
       | false ↦ value_in qualifier name values
     ]
 
@@ -115,20 +115,25 @@ abbrev pub reference_key : Option (List ℕ) → List ℕ → Option (Option (Li
 reference_key None name = option_map (λ key. (None, key)) (key_of name)
 reference_key (Some qualifier) name = option_and_then (λ kind. option_map (λ key. (Some kind, key)) (key_of name)) (key_of qualifier)
 
-abbrev pub value_by : Option (Option (List ℕ) × List ℕ) → List (Option (List ℕ) × List ℕ × List ℕ) → List ℕ
+abbrev pub value_by : Option (Option (List ℕ) × List ℕ) → List (Option (List ℕ) × List ℕ × List ℕ) → Option (List ℕ)
 value_by (Some reference) values = value_in reference.0 reference.1 values
-value_by None values = []
+value_by None values = None
 
-abbrev pub bucket_value : Option Bucket → Option (List ℕ) → List ℕ → List ℕ
-bucket_value None qualifier name = []
+abbrev pub bucket_value : Option Bucket → Option (List ℕ) → List ℕ → Option (List ℕ)
+bucket_value None qualifier name = None
 bucket_value (Some bucket) qualifier name = value_by (reference_key qualifier name) bucket.values
+
+-- a reference that the bucket does not hold is refused
+abbrev pub token_if : Option (List ℕ) → Token
+token_if (Some text) = written text
+token_if None = faulty MetadataHere
 
 abbrev pub metadata_token : Use → Scene → Option (List ℕ) → List ℕ → Token
 metadata_token Properties scene qualifier name = written (part_text (Meta qualifier name))
 metadata_token Definition scene qualifier name = default_token scene scene.own qualifier name
 metadata_token Metadata scene qualifier name = own_token scene scene.own qualifier name
 metadata_token All scene qualifier name = faulty MetadataHere
-metadata_token Batched scene qualifier name = written (bucket_value scene.bucket qualifier name)
+metadata_token Batched scene qualifier name = token_if (bucket_value scene.bucket qualifier name)
 
 abbrev pub part_tokens : Scene → Part → List Token
 part_tokens scene (Plain text) = written text ∷ []

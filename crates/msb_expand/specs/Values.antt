@@ -10,7 +10,7 @@ use Rattle.msb_expression.specs.declared.expression.Part.{Part}
 use Rattle.msb_expand.specs.declared.entry.Entry.{Entry}
 use Rattle.msb_expand.specs.declared.faults.ExpandFault.{ExpandFault}
 use Rattle.msb_expand.specs.declared.faults.ExpandFault.TheVariants.{TooLong, MixedList}
-use Rattle.msb_expand.specs.Keys.{key_of}
+use Rattle.msb_values.specs.Keys.{key_of}
 use Rattle.msb_laws.specs.Results.{and_then, map_ok}
 use Rattle.msb_expand.specs.Limits.{limit, grown_by}
 use Rattle.msb_expand.specs.Scenes.{Scene, items_at}

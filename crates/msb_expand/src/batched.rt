@@ -1,9 +1,8 @@
 ghost use Rattle.std.specs.Prelude.{◌≡◌, [], ◌∷◌, IfOk, option_copied};
 ghost use Rattle.msb_expand.specs.Scenes.{scene_of};
 ghost use Rattle.msb_expand.specs.Taken.{Takes};
-ghost use Rattle.msb_expand.specs.Tokens.{written, bucket_value, reference_key, value_by, value_in, is_qualifier};
+ghost use Rattle.msb_expand.specs.Tokens.{token_if, bucket_value, reference_key, value_by, value_in, is_qualifier};
 
-use crate::keys::key_of;
 use crate::properties::Held;
 use crate::tokens::Token;
 use crate::{Bucket, ExpandFault, Lens};
@@ -11,39 +10,40 @@ use msb_expression::Word;
 use msb_values::{Name, NoMemory, Text};
 use std::alloc::Global;
 
-/// The bucket's value of a metadata reference. (MSBuild batching.)
+/// The bucket's value of a metadata reference, which is refused where the bucket holds none. (MSBuild batching.)
 pub(crate) fn bucket_token<'a, 'e>(
     alloc: Global,
     lens: &Lens<'a>,
     qualifier: &'e Option<Word>,
     name: &'e str,
 ) -> Result<Token<'a, 'e>, ExpandFault>
-    ensures { Takes result (written (bucket_value (scene_of lens.now).bucket qualifier.now name.now) ∷ []) }
+    ensures { Takes result (token_if (bucket_value (scene_of lens.now).bucket qualifier.now name.now) ∷ []) }
 {
     match lens.bucket {
-        None => Ok(Token::Value(Held::Scope(""))),
-        Some(bucket) => Ok(Token::Value(Held::Scope(bucket_value(
-            alloc, bucket, qualifier, name,
-        )?))),
+        None => Err(ExpandFault::MetadataHere),
+        Some(bucket) => match value_held(alloc, bucket, qualifier, name)? {
+            Some(value) => Ok(Token::Value(Held::Scope(value))),
+            None => Err(ExpandFault::MetadataHere),
+        },
     }
 }
 
-fn bucket_value<'a>(
+fn value_held<'a>(
     alloc: Global,
     bucket: &'a Bucket,
     qualifier: &Option<Word>,
     name: &str,
-) -> Result<&'a str, NoMemory>
-    ensures { IfOk result (λ text. text.now ≡ value_by (reference_key qualifier.now name.now) bucket.now.values) }
+) -> Result<Option<&'a str>, NoMemory>
+    ensures { IfOk result (λ value. option_copied value ≡ value_by (reference_key qualifier.now name.now) bucket.now.values) }
 {
-    let Some(name) = key_of(alloc, name)? else {
-        return Ok("");
+    let Some(name) = Name::written(alloc, name)? else {
+        return Ok(None);
     };
     match qualifier {
         None => Ok(value_in(bucket.values.as_slice(), None, &name)),
-        Some(qualifier) => match key_of(alloc, qualifier.as_str())? {
+        Some(qualifier) => match Name::written(alloc, qualifier.as_str())? {
             Some(kind) => Ok(value_in(bucket.values.as_slice(), Some(&kind), &name)),
-            None => Ok(""),
+            None => Ok(None),
         },
     }
 }
@@ -52,15 +52,15 @@ fn value_in<'a>(
     values: &'a [(Option<Name>, Name, Text)],
     qualifier: Option<&Name>,
     name: &Name,
-) -> &'a str
-    ensures { result.now ≡ value_in (option_copied qualifier.entry) name.now values.now }
+) -> Option<&'a str>
+    ensures { option_copied result ≡ value_in (option_copied qualifier.entry) name.now values.now }
 {
     for (kind, key, value) in values {
         if is_qualifier(kind, qualifier) && key == name {
-            return value.as_str();
+            return Some(value.as_str());
         }
     }
-    ""
+    None
 }
 
 fn is_qualifier(kind: &Option<Name>, qualifier: Option<&Name>) -> bool

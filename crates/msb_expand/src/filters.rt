@@ -1,7 +1,7 @@
 ghost use Rattle.std.specs.Prelude.{◌≡◌, ℕ, List, IfOk, map};
 ghost use Rattle.msb_values.specs.Same.{is_same_text};
 ghost use Rattle.msb_expand.specs.Answers.{Gives, GivesAs};
-ghost use Rattle.msb_expand.specs.Keys.{key_of};
+ghost use Rattle.msb_values.specs.Keys.{key_of};
 ghost use Rattle.msb_expand.specs.Metadata.{metadata_if};
 ghost use Rattle.msb_laws.specs.Results.{map_ok};
 ghost use Rattle.msb_expand.specs.Functions.{filtered, any_passes, is_some_text};
@@ -10,7 +10,6 @@ ghost use Rattle.msb_expand.specs.Wanted.{passes};
 
 use crate::ExpandFault;
 use crate::kept::keep_if;
-use crate::keys::key_of;
 use crate::seen::Seen;
 use msb_values::{Folded, Name, NoMemory};
 use std::alloc::Global;
@@ -92,7 +91,7 @@ fn filtered<'a>(
 ) -> Result<Vec<Seen<'a>>, ExpandFault>
     ensures { GivesAs (λ seen. map seen_item seen.items) result (filtered project.now of.now (passes wanted.now) (map seen_item items.entry.items)) }
 {
-    let key = key_of(alloc, of)?;
+    let key = Name::written(alloc, of)?;
     let mut kept = Vec::new(alloc);
     for item in items {
         let passes = item_passes(alloc, project, &key, wanted, &item)?;
@@ -111,7 +110,7 @@ fn any_passes(
 ) -> Result<bool, ExpandFault>
     ensures { Gives result (any_passes project.now of.now (passes wanted.now) (map seen_item items.now)) }
 {
-    let key = key_of(alloc, of)?;
+    let key = Name::written(alloc, of)?;
     for item in items {
         if item_passes(alloc, project, &key, wanted, item)? {
             return Ok(true);

@@ -4,17 +4,16 @@ ghost use Rattle.msb_values.specs.Pairs.{value_at};
 ghost use Rattle.msb_values.specs.Same.{is_same_text};
 ghost use Rattle.msb_expand.specs.declared.faults.ExpandFault.TheVariants.{UnknownFunction};
 ghost use Rattle.msb_expand.specs.Answers.{GivesAs};
-ghost use Rattle.msb_expand.specs.Keys.{key_of};
+ghost use Rattle.msb_values.specs.Keys.{key_of};
 ghost use Rattle.msb_laws.specs.Results.{map_ok};
-ghost use Rattle.msb_expand.specs.Functions.{functions, called, any_passes, plain_item, truth_text};
+ghost use Rattle.msb_expand.specs.Functions.{functions, function_result, any_passes, plain_item, truth_text};
 ghost use Rattle.msb_expand.specs.Seen.{seen_item};
 
 use crate::ExpandFault;
 use crate::filters::{any_with_value, with_some, with_value};
 use crate::kept::{distinct, reversed, without_metadata};
-use crate::keys::key_of;
 use crate::seen::Seen;
-use msb_values::{NoMemory, Text};
+use msb_values::{Name, NoMemory, Text};
 use std::alloc::Global;
 
 /// What is done to the items of a reference. (MSBuild item functions.)
@@ -34,7 +33,7 @@ impl Function {
     fn named(alloc: Global, name: &str) -> Result<Option<Function>, NoMemory>
         ensures { IfOk result (λ function. function ≡ option_and_then (λ key. value_at key functions) (key_of name.now)) }
     {
-        match key_of(alloc, name)? {
+        match Name::written(alloc, name)? {
             Some(key) => Ok(Function::of_key(key.key())),
             None => Ok(None),
         }
@@ -64,7 +63,7 @@ pub(crate) fn call<'a>(
     args: &[Text],
     items: Vec<Seen<'a>>,
 ) -> Result<Vec<Seen<'a>>, ExpandFault>
-    ensures { GivesAs (λ seen. map seen_item seen.items) result (called project.now name.now (option_and_then (λ key. value_at key functions) (key_of name.now)) args.now (map seen_item items.entry.items)) }
+    ensures { GivesAs (λ seen. map seen_item seen.items) result (function_result project.now name.now (option_and_then (λ key. value_at key functions) (key_of name.now)) args.now (map seen_item items.entry.items)) }
 {
     let function = Function::named(alloc, name)?;
     match args {
@@ -82,7 +81,7 @@ fn call_plain<'a>(
     function: Option<Function>,
     items: Vec<Seen<'a>>,
 ) -> Result<Vec<Seen<'a>>, ExpandFault>
-    ensures { GivesAs (λ seen. map seen_item seen.items) result (called project.now name.now function [] (map seen_item items.entry.items)) }
+    ensures { GivesAs (λ seen. map seen_item seen.items) result (function_result project.now name.now function [] (map seen_item items.entry.items)) }
 {
     match function {
         Some(Function::Count) => Ok(count(alloc, items.len())?),
@@ -101,7 +100,7 @@ fn call_of<'a>(
     of: &Text,
     items: Vec<Seen<'a>>,
 ) -> Result<Vec<Seen<'a>>, ExpandFault>
-    ensures { GivesAs (λ seen. map seen_item seen.items) result (called project.now name.now function (of.now ∷ []) (map seen_item items.entry.items)) }
+    ensures { GivesAs (λ seen. map seen_item seen.items) result (function_result project.now name.now function (of.now ∷ []) (map seen_item items.entry.items)) }
 {
     match function {
         Some(Function::HasMetadata) => with_some(alloc, project, of.as_str(), items),
@@ -118,7 +117,7 @@ fn call_with<'a>(
     value: &Text,
     items: Vec<Seen<'a>>,
 ) -> Result<Vec<Seen<'a>>, ExpandFault>
-    ensures { GivesAs (λ seen. map seen_item seen.items) result (called project.now name.now function (of.now ∷ value.now ∷ []) (map seen_item items.entry.items)) }
+    ensures { GivesAs (λ seen. map seen_item seen.items) result (function_result project.now name.now function (of.now ∷ value.now ∷ []) (map seen_item items.entry.items)) }
 {
     match function {
         Some(Function::WithMetadataValue) => with_value(

@@ -3,10 +3,10 @@ ghost use Rattle.msb_paths.specs.Parts as part;
 ghost use Rattle.msb_values.specs.Escapes.{escaped, unescaped};
 ghost use Rattle.msb_expand.specs.declared.faults.ExpandFault.TheVariants.{BadPath};
 ghost use Rattle.msb_expand.specs.Answers.{Gives};
-ghost use Rattle.msb_expand.specs.Metadata.{if_normal, path_of, full_path, directory};
+ghost use Rattle.msb_expand.specs.Metadata.{path_of, full_path, directory};
 
 use crate::{ExpandFault, parts};
-use msb_paths::{PathFault, Word, is_normal, normalize};
+use msb_paths::{NormalFault, Word, normal_path};
 use msb_values::{NoMemory, Text, escape, unescape};
 use std::alloc::Global;
 
@@ -66,20 +66,12 @@ pub(crate) fn directory(alloc: Global, project: &str, ident: &str) -> Result<Tex
 fn path_of(alloc: Global, project: &str, ident: &str) -> Result<Word, ExpandFault>
     ensures { Gives result (path_of project.now ident.now) }
 {
-    match normalize(alloc, parts::folder_of(project), ident) {
-        Ok(path) => if_normal(alloc, ident, path),
-        Err(PathFault::Memory) => Err(ExpandFault::Memory),
-        Err(_) => Err(bad_path(alloc, ident)?),
-    }
-}
-
-fn if_normal(alloc: Global, ident: &str, path: Word) -> Result<Word, ExpandFault>
-    ensures { Gives result (if_normal ident.now (Ok path)) }
-{
-    if is_normal(path.as_str()) {
-        Ok(path)
-    } else {
-        Err(bad_path(alloc, ident)?)
+    match normal_path(alloc, parts::folder_of(project), ident) {
+        Ok(path) => Ok(path),
+        Err(NormalFault::AboveRoot | NormalFault::Empty | NormalFault::ControlCharacter) => {
+            Err(bad_path(alloc, ident)?)
+        }
+        Err(NormalFault::Memory) => Err(ExpandFault::Memory),
     }
 }
 

@@ -1,6 +1,6 @@
 ghost use Rattle.std.specs.Prelude.{◌++◌, map};
 ghost use Rattle.msb_expand.specs.Answers.{GivesAs};
-ghost use Rattle.msb_expand.specs.Joins.{listed};
+ghost use Rattle.msb_expand.specs.Joins.{each_behind};
 ghost use Rattle.msb_expand.specs.Limits.{if_short};
 ghost use Rattle.msb_expand.specs.Seen.{seen_item};
 ghost use Rattle.msb_expand.specs.Values.{joined};
@@ -23,14 +23,14 @@ pub(crate) fn push_joined(
         [] => grow(text, ""),
         [first, others @ ..] => {
             grow(text, first.ident.as_str())?;
-            push_listed(text, others, separator)
+            push_each(text, others, separator)
         }
     }
 }
 
 /// Puts identities behind a text, each behind a separator.
-fn push_listed(text: &mut Text, items: &[Seen<'_>], separator: &str) -> Result<(), ExpandFault>
-    ensures { GivesAs (λ _. text.new) result (if_short (text.old ++ listed separator.now (map seen_item items.now))) }
+fn push_each(text: &mut Text, items: &[Seen<'_>], separator: &str) -> Result<(), ExpandFault>
+    ensures { GivesAs (λ _. text.new) result (if_short (text.old ++ each_behind separator.now (map seen_item items.now))) }
 {
     for item in items {
         grow(text, separator)?;

@@ -1,6 +1,8 @@
 ghost use Rattle.std.specs.Prelude.{◌≡◌, option_copied};
-ghost use Rattle.msb_expand.specs.Scenes.{list_in, list_or};
+ghost use Rattle.msb_expand.specs.Scenes.{scene_of, scene_at, with_own, with_bucket, list_in, list_or};
+ghost use Rattle.msb_expand.specs.Reserved.{folder_of};
 
+use crate::parts::folder_of;
 use msb_values::{Item, List, Lists, Name, Scope, Text};
 
 /// Where an expression stands, which says what its references are.
@@ -45,6 +47,44 @@ pub struct Lens<'a> {
 }
 
 impl<'a> Lens<'a> {
+    /// In a file of a project, where no item is at hand and nothing is batched. Exists starts from the project's folder.
+    pub fn new(scope: &'a Scope, project: &'a str, file: &'a str, usage: Use) -> Lens<'a>
+        ensures scene { scene_of result ≡ scene_at scope.entry.now project.entry.now file.entry.now usage }
+        ensures folder { result.dir.now ≡ folder_of project.entry.now }
+    {
+        Lens {
+            scope,
+            dir: folder_of(project),
+            project,
+            file,
+            usage,
+            own: None,
+            bucket: None,
+        }
+    }
+
+    /// The same with an item of this type at hand.
+    pub fn with_own(self, kind: &'a Name, item: &'a Item) -> Lens<'a>
+        ensures scene { scene_of result ≡ with_own (scene_of self.entry) kind.entry.now item.entry.now }
+        ensures folder { result.dir.now ≡ self.entry.dir.now }
+    {
+        Lens {
+            own: Some((kind, item)),
+            ..self
+        }
+    }
+
+    /// The same in a bucket of an element. (MSBuild batching.)
+    pub fn with_bucket(self, bucket: &'a Bucket) -> Lens<'a>
+        ensures scene { scene_of result ≡ with_bucket (scene_of self.entry) bucket.entry.now }
+        ensures folder { result.dir.now ≡ self.entry.dir.now }
+    {
+        Lens {
+            bucket: Some(bucket),
+            ..self
+        }
+    }
+
     /// The items of a type, as they stand in the scope: the bucket's, where it holds this list, else all.
     pub fn items(&self, kind: &Name) -> &'a [Item]
         ensures { result.now ≡ list_in (option_copied self.now.bucket) self.now.scope.now.items kind.now }

@@ -8,10 +8,9 @@ ghost use Rattle.msb_expand.specs.Values.{given, entry_with, is_open, given_item
 
 use crate::references::{quoted_value, referred_items};
 use crate::seen::Seen;
-use crate::spaces::is_blank;
 use crate::{ExpandFault, Lens};
 use msb_expression::{Pieces, Steps};
-use msb_values::Text;
+use msb_values::{Text, is_blank};
 use std::alloc::Global;
 
 /// An entry of a list, as far as it is read.

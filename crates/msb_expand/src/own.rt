@@ -1,6 +1,6 @@
 ghost use Rattle.std.specs.Prelude.{◌≡◌, [], ◌∷◌, IfOk, option_and_then};
 ghost use Rattle.msb_values.specs.Pairs.{value_at};
-ghost use Rattle.msb_expand.specs.Keys.{key_of};
+ghost use Rattle.msb_values.specs.Keys.{key_of};
 ghost use Rattle.msb_expand.specs.Answers.{GivesAs};
 ghost use Rattle.msb_expand.specs.Held.{held_text};
 ghost use Rattle.msb_expand.specs.Metadata.{metadata_of, text_or_none};
@@ -8,7 +8,6 @@ ghost use Rattle.msb_expand.specs.Scenes.{scene_of, defaults_at, with_defaults};
 ghost use Rattle.msb_expand.specs.Taken.{Takes};
 ghost use Rattle.msb_expand.specs.Tokens.{is_foreign, default_token, own_token};
 
-use crate::keys::key_of;
 use crate::properties::{Held, text_or_empty};
 use crate::seen::Seen;
 use crate::tokens::Token;
@@ -55,7 +54,7 @@ fn is_foreign(alloc: Global, kind: &Name, qualifier: &Option<Word>) -> Result<bo
 {
     match qualifier {
         None => Ok(false),
-        Some(qualifier) => match key_of(alloc, qualifier.as_str())? {
+        Some(qualifier) => match Name::written(alloc, qualifier.as_str())? {
             Some(key) => Ok(key != *kind),
             None => Ok(true),
         },
@@ -70,7 +69,7 @@ fn default_value<'a>(
 ) -> Result<&'a str, NoMemory>
     ensures { IfOk result (λ text. text.now ≡ text_or_none (option_and_then (λ key. value_at key (defaults_at (scene_of lens.now) kind.now)) (key_of name.now))) }
 {
-    match (lens.scope.defaults.get(kind), key_of(alloc, name)?) {
+    match (lens.scope.defaults.get(kind), Name::written(alloc, name)?) {
         (Some(defaults), Some(key)) => Ok(text_or_empty(defaults.get(&key))),
         _ => Ok(""),
     }

@@ -5,9 +5,8 @@ ghost use Rattle.msb_expand.specs.Metadata.{text_or_none};
 ghost use Rattle.msb_expand.specs.Held.{held_text};
 
 use crate::Lens;
-use crate::keys::key_of;
 use crate::reserved::Reserved;
-use msb_values::{NoMemory, Text};
+use msb_values::{Name, NoMemory, Text};
 use std::alloc::Global;
 
 /// A text that the scope holds, or one that was made.
@@ -42,7 +41,7 @@ impl<'a> Held<'a> {
 pub(crate) fn property<'a>(alloc: Global, lens: &Lens<'a>, name: &str) -> Result<Held<'a>, NoMemory>
     ensures { IfOk result (λ held. held_text held ≡ property_of (scene_of lens.now) name.now) }
 {
-    let Some(key) = key_of(alloc, name)? else {
+    let Some(key) = Name::written(alloc, name)? else {
         return Ok(Held::Scope(""));
     };
     match Reserved::named(key.key()) {

@@ -1,18 +1,17 @@
 ghost use Rattle.msb_expand.specs.Answers.{GivesAs};
-ghost use Rattle.msb_expand.specs.Keys.{key_of};
+ghost use Rattle.msb_values.specs.Keys.{key_of};
 ghost use Rattle.msb_expand.specs.Scenes.{scene_of, pairs_or_none, with_defaults};
 ghost use Rattle.msb_expand.specs.Functions.{quoted_piece, quoted_value};
 ghost use Rattle.msb_expand.specs.Values.{named_items, referred_items};
 ghost use Rattle.msb_expand.specs.Seen.{seen_item};
 ghost use Rattle.std.specs.Prelude.{◌≡◌, ◌++◌, IfOk, OnOk, map, option_copied};
 
-use crate::keys::key_of;
 use crate::properties::property;
 use crate::seen::Seen;
 use crate::steps::after_steps;
 use crate::{ExpandFault, Lens};
 use msb_expression::{Piece, Pieces, Steps};
-use msb_values::{Item, NoMemory, Pairs, Text};
+use msb_values::{Item, Name, NoMemory, Pairs, Text};
 use std::alloc::Global;
 
 /// The items of a reference, after its steps. (MSBuild transforms; Item functions.)
@@ -32,7 +31,7 @@ pub(crate) fn referred_items<'a>(
 fn named_items<'a>(alloc: Global, lens: &Lens<'a>, kind: &str) -> Result<Vec<Seen<'a>>, NoMemory>
     ensures { IfOk result (λ seen. map seen_item seen.items ≡ named_items (scene_of lens.now) (key_of kind.now)) }
 {
-    match key_of(alloc, kind)? {
+    match Name::written(alloc, kind)? {
         Some(kind) => all_seen(alloc, lens.items(&kind), lens.scope.defaults.get(&kind)),
         None => Ok(Vec::new(alloc)),
     }

@@ -1,16 +1,16 @@
-ghost use Rattle.std.specs.Prelude.{◌≡◌, IfOk, OnOk, option_copied};
+ghost use Rattle.std.specs.Prelude.{◌≡◌, IfOk, option_copied};
 ghost use Rattle.msb_values.specs.Pairs.{value_at};
-ghost use Rattle.msb_expand.specs.Scenes.{pairs_or_none, put_missing, overlaid, with_defaults};
+ghost use Rattle.msb_expand.specs.Scenes.{pairs_or_none, with_defaults};
+ghost use Rattle.msb_values.specs.Overlays.{overlaid};
 ghost use Rattle.msb_expand.specs.Answers.{GivesAs};
 ghost use Rattle.msb_expand.specs.Functions.{plain_item, without_metadata};
 ghost use Rattle.msb_expand.specs.Held.{held_text};
 ghost use Rattle.msb_expand.specs.Metadata.{metadata_at, metadata_if, metadata_of, text_or_none};
 ghost use Rattle.msb_expand.specs.Seen.{seen_item};
 
-use crate::keys::key_of;
 use crate::properties::{Held, text_or_empty};
 use crate::{ExpandFault, WellKnown};
-use msb_values::{Copied, Item, Name, NoMemory, Pairs, Text};
+use msb_values::{Copied, Item, Name, NoMemory, Pairs, Text, put_all_missing};
 use std::alloc::Global;
 
 /// An item of a reference, as the steps hand it on: nothing of the scope is copied before it has to be.
@@ -97,7 +97,7 @@ impl<'a> Seen<'a> {
     ) -> Result<Held<'a>, ExpandFault>
         ensures { GivesAs held_text result (metadata_of project.now (seen_item self.now) name.now) }
     {
-        let key = key_of(alloc, name)?;
+        let key = Name::written(alloc, name)?;
         self.metadata_if(alloc, project, &key)
     }
 
@@ -153,23 +153,5 @@ fn copied(alloc: Global, pairs: Option<&Pairs>) -> Result<Pairs, NoMemory>
     match pairs {
         Some(pairs) => pairs.copy(),
         None => Ok(Pairs::new(alloc)),
-    }
-}
-
-fn put_all_missing(meta: &mut Pairs, defaults: &Pairs) -> Result<(), NoMemory>
-    ensures { OnOk result (meta.new ≡ overlaid defaults.now meta.old) }
-{
-    for (name, default) in defaults.iter() {
-        put_missing(meta, name, default)?;
-    }
-    Ok(())
-}
-
-fn put_missing(meta: &mut Pairs, name: &Name, default: &Text) -> Result<(), NoMemory>
-    ensures { OnOk result (meta.new ≡ put_missing (value_at name.now meta.old) meta.old name.now default.now) }
-{
-    match meta.get(name) {
-        Some(_) => Ok(()),
-        None => meta.insert(name.copy()?, default.copy()?),
     }
 }

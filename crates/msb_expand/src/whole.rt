@@ -11,9 +11,8 @@ use crate::joins::push_joined;
 use crate::limits::LIMIT;
 use crate::open_entry::OpenEntry;
 use crate::seen::Seen;
-use crate::spaces::trim;
 use crate::{Entry, ExpandFault};
-use msb_values::{Item, NoMemory, Pairs, Text};
+use msb_values::{Item, NoMemory, Pairs, Text, trim};
 use std::alloc::Global;
 use std::marker::Model;
 

@@ -1,6 +1,6 @@
 use Rattle.std.proofs.Common.{◌≡◌, map, drop}
 use Rattle.msb_expand.specs.Functions.{any_passes}
-use Rattle.msb_expand.specs.Keys.{key_of}
+use Rattle.msb_values.specs.Keys.{key_of}
 use Rattle.msb_expand.specs.Seen.{seen_item}
 use Rattle.msb_expand.specs.Wanted.{passes}
 use Rattle.msb_expand.proofs.filters.any_passes.Given as goal

@@ -1,7 +1,7 @@
 use Rattle.std.proofs.Common.{◌≡◌, ◌++◌, map}
 use Rattle.std.specs.Vec.Iter.{into_iter_items}
 use Rattle.msb_expand.specs.Functions.{filtered}
-use Rattle.msb_expand.specs.Keys.{key_of}
+use Rattle.msb_values.specs.Keys.{key_of}
 use Rattle.msb_laws.specs.Results.{map_ok}
 use Rattle.msb_expand.specs.Seen.{seen_item}
 use Rattle.msb_expand.specs.Wanted.{passes}

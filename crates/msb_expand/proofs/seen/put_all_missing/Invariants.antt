@@ -1,6 +1,0 @@
-use Rattle.std.proofs.Common.{◌≡◌}
-use Rattle.msb_expand.specs.Scenes.{overlaid}
-use Rattle.msb_expand.proofs.seen.put_all_missing.Given as goal
-
-abbrev pub invariant-loop-name : goal.invariant-loop-name
-invariant-loop-name l = overlaid l.name-iterator l.meta ≡ overlaid l.defaults l.initial.meta
