@@ -56,15 +56,6 @@ fn items(alloc: Global, size: u32, keys: u32) -> Result<List<Item>, NoMemory> {
     Ok(list)
 }
 
-fn texts(alloc: Global) -> Result<List<Expr>, NoMemory> {
-    let mut texts = List::new(alloc);
-    match parse(alloc, "%(K) %(X.M) @(X)") {
-        Ok(text) => texts.push(text)?,
-        Err(_) => return Err(NoMemory),
-    }
-    Ok(texts)
-}
-
 fn scope(alloc: Global, size: u32, keys: u32) -> Result<Scope, NoMemory> {
     let mut lists = Lists::new(alloc);
     lists.insert(name(alloc, "X")?, items(alloc, size, keys)?)?;
@@ -77,17 +68,9 @@ fn scope(alloc: Global, size: u32, keys: u32) -> Result<Scope, NoMemory> {
 }
 
 // How many buckets there are; none where there is no memory.
-fn count(alloc: Global, scope: &Scope, texts: &List<Expr>) -> Option<usize> {
-    let lens = Lens {
-        scope,
-        dir: "",
-        project: "a.proj",
-        file: "a.proj",
-        usage: Use::Batched,
-        own: None,
-        bucket: None,
-    };
-    match buckets(alloc, &lens, texts, None) {
+fn count(alloc: Global, scope: &Scope, text: &Expr) -> Option<usize> {
+    let lens = Lens::new(scope, "a.proj", "a.proj", Use::Batched);
+    match buckets(alloc, &lens, &[text], None) {
         Ok(buckets) => Some(buckets.len()),
         Err(_) => None,
     }
@@ -98,11 +81,11 @@ fn time(rt: &HostRuntime, size: u32, keys: u32) -> io::Result<()> {
     let Ok(scope) = scope(alloc, size, keys) else {
         return println!(rt; "no memory");
     };
-    let Ok(texts) = texts(alloc) else {
+    let Ok(text) = parse(alloc, "%(K) %(X.M) @(X)") else {
         return println!(rt; "no memory");
     };
     let start = Instant::now(rt)?;
-    let made = count(alloc, &scope, &texts);
+    let made = count(alloc, &scope, &text);
     let micros = start.elapsed(rt)?.as_micros();
     match made {
         Some(made) => println!(rt; "{size} items, {made} buckets: {micros} us"),

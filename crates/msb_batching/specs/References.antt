@@ -5,7 +5,7 @@ use Rattle.std.specs.Str.{bytes_eq}
 use Rattle.msb_expression.specs.declared.expression.Expr.{Expr}
 use Rattle.msb_expression.specs.declared.expression.Part.{Part}
 use Rattle.msb_expression.specs.declared.expression.Part.TheVariants.{Plain, Prop, Meta, Items}
-use Rattle.msb_expand.specs.Keys.{key_of}
+use Rattle.msb_values.specs.Keys.{key_of}
 use Rattle.msb_expand.specs.Tokens.{reference_key, is_qualifier}
 use Rattle.msb_batching.specs.declared.reference.Reference.{Reference}
 use Rattle.msb_batching.specs.Distinct.{distinct}

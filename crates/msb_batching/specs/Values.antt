@@ -12,31 +12,31 @@ use Rattle.msb_batching.specs.declared.faults.BatchFault.TheVariants.{NoValue, E
 use Rattle.msb_batching.specs.declared.reference.Reference.{Reference}
 use Rattle.msb_batching.specs.References.{Spoken, has, batched}
 
-abbrev pub expanded : {X : Type 0} → Result X ExpandFault → Result X BatchFault
-expanded (Ok x) = Ok x
-expanded (Err fault) = Err (Expand fault)
+abbrev pub or_batch_fault : {X : Type 0} → Result X ExpandFault → Result X BatchFault
+or_batch_fault (Ok x) = Ok x
+or_batch_fault (Err fault) = Err (Expand fault)
 
 -- the metadata of an item of this type, or empty
-abbrev pub held : Scene → List ℕ → Item → List ℕ → Result (List ℕ) BatchFault
-held scene kind item name = expanded (metadata_at scene.project (with_defaults (defaults_at scene kind) item) name)
+abbrev pub metadata_for : Scene → List ℕ → Item → List ℕ → Result (List ℕ) BatchFault
+metadata_for scene kind item name = or_batch_fault (metadata_at scene.project (with_defaults (defaults_at scene kind) item) name)
 
 -- whether the item has it: well-known, its own or its type's default
 abbrev pub has_metadata : Scene → List ℕ → Item → List ℕ → Bool
 has_metadata scene kind item name = is_some (value_at name well_known) || (is_some (value_at name item.meta) || is_some (value_at name (defaults_at scene kind)))
 
-abbrev pub held_if : Bool → Scene → List ℕ → Item → List ℕ → Result (List ℕ) BatchFault
-held_if true scene kind item name = held scene kind item name
-held_if false scene kind item name = Ok []
+abbrev pub metadata_if : Bool → Scene → List ℕ → Item → List ℕ → Result (List ℕ) BatchFault
+metadata_if true scene kind item name = metadata_for scene kind item name
+metadata_if false scene kind item name = Ok []
 
-abbrev pub held_unless : Bool → Scene → List ℕ → Item → List ℕ → Result (List ℕ) BatchFault
-held_unless true scene kind item name = Err (NoValue kind item.ident name)
-held_unless false scene kind item name = held scene kind item name
+abbrev pub metadata_unless : Bool → Scene → List ℕ → Item → List ℕ → Result (List ℕ) BatchFault
+metadata_unless true scene kind item name = Err (NoValue kind item.ident name)
+metadata_unless false scene kind item name = metadata_for scene kind item name
 
 -- A reference that another type qualifies has the empty value. An item of a list that is named must have the metadata
 -- of each reference that no type qualifies.
 abbrev pub value_for : Scene → Bool → List ℕ → Item → Option (List ℕ) → List ℕ → Result (List ℕ) BatchFault
-value_for scene is_named kind item (Some qualifier) name = held_if (bytes_eq qualifier kind) scene kind item name
-value_for scene is_named kind item None name = held_unless (is_named && not (has_metadata scene kind item name)) scene kind item name
+value_for scene is_named kind item (Some qualifier) name = metadata_if (bytes_eq qualifier kind) scene kind item name
+value_for scene is_named kind item None name = metadata_unless (is_named && not (has_metadata scene kind item name)) scene kind item name
 
 -- an item's values at the references
 abbrev pub tuple_of : Scene → Bool → List ℕ → List Reference → Item → Result (List (List ℕ)) BatchFault

@@ -28,10 +28,10 @@ use std::alloc::Global;
 pub fn buckets(
     alloc: Global,
     lens: &Lens<'_>,
-    texts: &List<Expr>,
+    texts: &[&Expr],
     own: Option<&Name>,
 ) -> Result<List<Bucket>, BatchFault>
-    ensures { Gives result (buckets_value (scene_of lens.now) texts.now (option_copied own.entry)) }
+    ensures { Gives result (buckets_value (scene_of lens.now) (map (λ text. text.now) texts.now) (option_copied own.entry)) }
 {
     let mentions = Mentions::of(alloc, texts, own)?;
     if let Some(name) = mentions.listless() {

@@ -2,7 +2,7 @@ ghost use Rattle.std.specs.Prelude.{◌≡◌};
 ghost use Rattle.msb_batching.specs.declared.faults.BatchFault.TheVariants.{Memory};
 
 use msb_expand::ExpandFault;
-use msb_values::{Name, NoMemory, Text};
+use msb_values::{Cause, Name, NoMemory, Text};
 use std::alloc::AllocFailed;
 
 /// Why an element has no buckets. (MSBuild batching.)
@@ -42,6 +42,23 @@ impl From<ExpandFault> for BatchFault {
         match fault {
             ExpandFault::Memory => BatchFault::Memory,
             fault => BatchFault::Expand(fault),
+        }
+    }
+}
+
+impl From<BatchFault> for Cause {
+    ghost use Rattle.msb_batching.specs.Causes.{cause_of};
+
+    ghost from_gives = { λ e c. c ≡ cause_of e };
+
+    fn from(fault: BatchFault) -> Self {
+        match fault {
+            BatchFault::NoList(name) => Cause::NoList(Text::from(name)),
+            BatchFault::NoValue(kind, ident, name) => {
+                Cause::NoValue(Text::from(kind), ident, Text::from(name))
+            }
+            BatchFault::Expand(fault) => Cause::from(fault),
+            BatchFault::Memory => Cause::Memory,
         }
     }
 }

@@ -3,10 +3,10 @@ ghost use Rattle.std.specs.List.{list_any};
 ghost use Rattle.msb_batching.specs.References.{spoken, has, is_unqualified, batched, unqualified, listless};
 ghost use Rattle.msb_batching.specs.Growing.{spoken_of, nothing, with_named, with_qualifiers, with_references, with_part, with_parts, with_texts};
 
-use crate::reference::{Reference, read_key, read_reference};
+use crate::reference::{Reference, read_reference};
 use indexmap::IndexSet;
 use msb_expression::{Expr, Part};
-use msb_values::{Copied, List, Name, NoMemory};
+use msb_values::{Copied, Name, NoMemory};
 use std::alloc::Global;
 
 /// What the texts of an element speak of, each once and in order.
@@ -26,10 +26,10 @@ impl Mentions {
     /// What these texts speak of, and last an item element's own type, which counts as named.
     pub(crate) fn of(
         alloc: Global,
-        texts: &List<Expr>,
+        texts: &[&Expr],
         own: Option<&Name>,
     ) -> Result<Mentions, NoMemory>
-        ensures { IfOk result (λ m. spoken_of m ≡ spoken texts.now (option_copied own.entry)) }
+        ensures { IfOk result (λ m. spoken_of m ≡ spoken (map (λ text. text.now) texts.now) (option_copied own.entry)) }
     {
         let mut mentions = Mentions::new(alloc);
         mentions.read_texts(alloc, texts)?;
@@ -88,10 +88,10 @@ impl Mentions {
         }
     }
 
-    fn read_texts(&mut self, alloc: Global, texts: &List<Expr>) -> Result<(), NoMemory>
-        ensures { OnOk result (spoken_of self.new ≡ with_texts (spoken_of self.old) texts.now) }
+    fn read_texts(&mut self, alloc: Global, texts: &[&Expr]) -> Result<(), NoMemory>
+        ensures { OnOk result (spoken_of self.new ≡ with_texts (spoken_of self.old) (map (λ text. text.now) texts.now)) }
     {
-        for text in texts.as_slice() {
+        for text in texts {
             self.read_parts(alloc, text.parts.as_slice())?;
         }
         Ok(())
@@ -116,7 +116,7 @@ impl Mentions {
                 Some(reference) => self.add_reference(reference),
                 None => Ok(()),
             },
-            Part::Items(kind, _, _) => match read_key(alloc, kind)? {
+            Part::Items(kind, _, _) => match Name::written(alloc, kind.as_str())? {
                 Some(kind) => self.add_named(kind),
                 None => Ok(()),
             },

@@ -1,10 +1,9 @@
 ghost use Rattle.std.specs.Prelude.{◌≡◌, IfOk, None, Some, option_map, option_and_then, option_to_list};
-ghost use Rattle.msb_expand.specs.Keys.{key_of};
 ghost use Rattle.msb_expand.specs.Tokens.{reference_key};
 ghost use Rattle.msb_batching.specs.References.{keyed};
 
 use msb_expression::Word;
-use msb_values::{Name, NameFault, NoMemory};
+use msb_values::{Name, NoMemory};
 use std::alloc::Global;
 
 /// A reference to metadata: `%(Name)` or `%(Type.Name)`. (MSBuild batching.)
@@ -12,17 +11,6 @@ use std::alloc::Global;
 pub(crate) struct Reference {
     pub(crate) kind: Option<Name>,
     pub(crate) name: Name,
-}
-
-/// The key of a name; a text that is no name has none.
-pub(crate) fn read_key(alloc: Global, name: &Word) -> Result<Option<Name>, NoMemory>
-    ensures { IfOk result (λ key. key ≡ key_of name.now) }
-{
-    match Name::read(alloc, name.as_str()) {
-        Ok(key) => Ok(Some(key)),
-        Err(NameFault::BadName(_)) => Ok(None),
-        Err(NameFault::Memory) => Err(NoMemory),
-    }
 }
 
 /// The reference, where its texts are names.
@@ -34,8 +22,11 @@ pub(crate) fn read_reference(
     ensures { IfOk result (λ reference. option_to_list reference ≡ keyed (reference_key qualifier.now name.now)) }
 {
     match qualifier {
-        None => Ok(unqualified(read_key(alloc, name)?)),
-        Some(qualifier) => Ok(qualified(read_key(alloc, qualifier)?, read_key(alloc, name)?)),
+        None => Ok(unqualified(Name::written(alloc, name.as_str())?)),
+        Some(qualifier) => Ok(qualified(
+            Name::written(alloc, qualifier.as_str())?,
+            Name::written(alloc, name.as_str())?,
+        )),
     }
 }
 

@@ -3,7 +3,7 @@ ghost use Rattle.msb_values.specs.Pairs.{value_at};
 ghost use Rattle.msb_expand.specs.Scenes.{scene_of, defaults_at};
 ghost use Rattle.msb_batching.specs.declared.faults.BatchFault.TheVariants.{NoValue};
 ghost use Rattle.msb_batching.specs.Answers.{Gives, GivesAs};
-ghost use Rattle.msb_batching.specs.Values.{held, has_metadata, value_for, tuple_of, rows_of, batch_of, batches_of};
+ghost use Rattle.msb_batching.specs.Values.{metadata_for, has_metadata, value_for, tuple_of, rows_of, batch_of, batches_of};
 ghost use Rattle.msb_batching.specs.Growing.{spoken_of};
 ghost use Rattle.msb_batching.specs.Rows.{row_of, pairs_of};
 
@@ -108,12 +108,12 @@ impl<'l, 'a> BatchedList<'l, 'a> {
             None if self.is_named && !self.has_metadata(item, &reference.name) => {
                 Err(self.no_value(item, &reference.name)?)
             }
-            _ => self.held(alloc, item, &reference.name),
+            _ => self.metadata_for(alloc, item, &reference.name),
         }
     }
 
-    fn held(&self, alloc: Global, item: &Item, name: &Name) -> Result<Text, BatchFault>
-        ensures { Gives result (held (scene_of self.now.lens.now) self.now.kind.now item.now name.now) }
+    fn metadata_for(&self, alloc: Global, item: &Item, name: &Name) -> Result<Text, BatchFault>
+        ensures { Gives result (metadata_for (scene_of self.now.lens.now) self.now.kind.now item.now name.now) }
     {
         Ok(metadata(alloc, self.lens, self.kind, item, name)?)
     }
