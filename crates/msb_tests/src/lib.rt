@@ -12,5 +12,3 @@ mod expansion;
 mod random_conditions;
 #[cfg(test)]
 mod scenes;
-#[cfg(test)]
-mod values;
