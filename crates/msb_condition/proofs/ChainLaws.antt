@@ -1,5 +1,5 @@
 -- The machine over what stands behind an `And` and an `Or`.
-use Rattle.std.proofs.Common.{◌≡◌, ℕ, Bool, true, false, cond, List, [], ◌∷◌, ◌++◌, map, length, refl, sym, ap, ◌∙◌}
+use Rattle.std.proofs.Common.{◌≡◌, ℕ, true, false, List, [], ◌∷◌, ◌++◌, map, length, refl, sym, ap, ◌∙◌}
 use Rattle.std.specs.Prelude.{codes}
 use Rattle.std.specs.List.{fold}
 use Rattle.std.specs.Str.{bytes_eq, str_to_ascii_lowercase}
@@ -7,7 +7,7 @@ use Rattle.std.proofs.lemmas.Slice.Eq.{bytes_eq-Decides}
 use Rattle.msb_condition.specs.declared.tokens.Kind.{Kind}
 use Rattle.msb_condition.specs.declared.tokens.Kind.TheVariants.{Close, Word}
 use Rattle.msb_condition.specs.Leads.{run_at, step_at, takes_or, is_word, starts_and, IsOrAt, IsAndAt}
-use Rattle.msb_condition.specs.Machine.{Refusal, Frame, or_of, and_of, not_of, group_of, comparison_of, call_of, State, done, wants, Next, on, run, end_or, finished, tree_step, unary_step, wants_operand}
+use Rattle.msb_condition.specs.Machine.{Frame, or_of, and_of, not_of, group_of, comparison_of, call_of, done, wants, on, run, end_or, finished, tree_step, unary_step, wants_operand}
 use Rattle.msb_condition.specs.Places.{tokens_at}
 use Rattle.msb_condition.specs.Tokens.{Token, is_and, is_or}
 use Rattle.msb_condition.specs.Trees.{Tree, either}

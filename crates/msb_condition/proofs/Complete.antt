@@ -1,27 +1,25 @@
 -- What has a reading is read so.
-use Rattle.std.proofs.Common.{◌≡◌, ℕ, suc, ◌+◌, ◌<◌, Bool, true, false, List, [], ◌∷◌, ◌++◌, length, Option, Some, None, Result, Ok, Err, refl, sym, ap, ◌∙◌, subst, append_assoc, append-nil, arith}
+use Rattle.std.proofs.Common.{◌≡◌, ℕ, suc, ◌+◌, Bool, true, false, List, [], ◌∷◌, ◌++◌, length, Option, Some, None, Result, Ok, Err, refl, sym, ap, ◌∙◌, subst, append_assoc, append-nil, arith}
 use Rattle.std.specs.Prelude.{◌||◌, codes, MatchResult}
 use Rattle.std.specs.Str.{bytes_eq, str_eq_ignore_ascii_case, str_to_ascii_lowercase}
 use Rattle.std.proofs.lemmas.Bool.{lt-ltb}
-use Rattle.msb_expression.specs.declared.expression.Part.{Part}
 use Rattle.msb_expression.specs.declared.expression.Part.TheVariants.{Plain}
 use Rattle.msb_expression.specs.Reading.{reading}
 use Rattle.msb_condition.specs.declared.condition.Comparison.{Comparison}
 use Rattle.msb_condition.specs.declared.condition.Function.{Function}
 use Rattle.msb_condition.specs.declared.tokens.Kind.{Kind}
-use Rattle.msb_condition.specs.declared.tokens.Kind.TheVariants.{Bang, Equals, Compare, Open, Close, Word, Quoted, Unended, Reference, Sign, Other}
-use Rattle.msb_condition.specs.Grammar.{function_of, of_parts, inner_of, IsPlainWord, IsOperand, a_word, a_quoted, a_reference, a_call, IsOr, one_and, more_or, IsAnd, one_unary, more_and, IsUnary, a_not, a_group, a_truth, a_comparison, IsCondition, no_condition, a_condition}
+use Rattle.msb_condition.specs.declared.tokens.Kind.TheVariants.{Bang, Equals, Compare, Open, Close, Word, Quoted, Reference}
+use Rattle.msb_condition.specs.Grammar.{function_of, of_parts, inner_of, IsOperand, a_word, a_quoted, a_reference, a_call, IsOr, one_and, more_or, IsAnd, one_unary, more_and, IsUnary, a_not, a_group, a_truth, a_comparison, IsCondition, no_condition, a_condition}
 use Rattle.msb_condition.specs.Leads.{HasRoom, is_open, starts_open, starts_and, is_word, takes_or, takes_and}
-use Rattle.msb_condition.specs.Machine.{Refusal, Frame, or_of, and_of, not_of, group_of, comparison_of, call_of, State, operand, done, wants, named, Next, go, on, run, depth, has_room, nested, end_unary, end_operand, end_text, end_word, word_step, operand_step, unary_step, wants_step, wants_operand, named_step, behind_step, tree_step, comparable_step}
+use Rattle.msb_condition.specs.Machine.{Frame, or_of, and_of, not_of, group_of, comparison_of, call_of, operand, done, wants, Next, go, on, run, depth, has_room, nested, end_unary, end_operand, end_text, end_word, word_step, unary_step, wants_step, wants_operand, named_step, behind_step, tree_step, comparable_step}
 use Rattle.msb_condition.specs.Reading.{IsRead, IsRefused, condition_of, read_tokens}
 use Rattle.msb_condition.specs.View.{tree_of}
 use Rattle.msb_condition.specs.declared.condition.Cond.{Cond}
 use Rattle.msb_condition.specs.declared.faults.CondFault.{CondFault}
 use Rattle.msb_condition.specs.declared.faults.CondFault.TheVariants.{Syntax, NotBoolean, NotNumbers, Expand, Memory}
-use Rattle.msb_expand.specs.declared.faults.ExpandFault.{ExpandFault}
 use Rattle.msb_expand.specs.declared.faults.ExpandFault.TheVariants.{Expr}
 use Rattle.msb_condition.specs.Tokens.{Token, is_and, is_or, tokens_of}
-use Rattle.msb_condition.specs.Trees.{Operand, call, Tree, empty, either, both, negated, compared, truth}
+use Rattle.msb_condition.specs.Trees.{Operand, Tree, truth}
 use Rattle.msb_condition.proofs.MachineLaws.{named_word, behind_comparable, truth_step, truth_ends}
 use Rattle.msb_condition.proofs.ChainLaws.{or_not_and, same_bytes, settle, end_or_outer}
 

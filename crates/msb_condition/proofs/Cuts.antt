@@ -8,16 +8,14 @@ use Rattle.std.proofs.lemmas.List.Sums.{prefix_len_passes}
 use Rattle.std.proofs.lemmas.Str.{IsCharBoundary-before_ascii, IsCharBoundary-after_ascii, IsCharBoundary-end}
 use Rattle.std.proofs.lemmas.Bool.{eqb-true}
 use Rattle.std.proofs.lemmas.Bool.Decides.{nat_tests}
-use Rattle.msb_condition.specs.declared.condition.Comparison.{Comparison}
-use Rattle.msb_condition.specs.declared.condition.Comparison.TheVariants.{Equal, NotEqual, Less, Greater, LessOrEqual, GreaterOrEqual}
 use Rattle.msb_condition.specs.declared.extents.Inside.{Inside}
 use Rattle.msb_condition.specs.declared.extents.Inside.TheVariants.{Text, AtSign, Reference as Referring, Quotes}
 use Rattle.msb_condition.specs.declared.tokens.Kind.{Kind}
 use Rattle.msb_condition.specs.declared.tokens.Kind.TheVariants.{Bang, Equals, Compare, Open, Close, Word, Quoted, Unended, Reference, Sign, Other}
-use Rattle.msb_condition.specs.Extents.{behind, behind_reference, closed, ends_text, text_len, is_text, reference_len}
-use Rattle.msb_condition.specs.Tokens.{is_word_byte, kind_of, more_of}
+use Rattle.msb_condition.specs.Extents.{behind, closed, ends_text, text_len, is_text, reference_len}
+use Rattle.msb_condition.specs.Tokens.{is_word_byte, more_of}
 use Rattle.msb_condition.specs.Places.{IsCutBy}
-use Rattle.msb_condition.proofs.TokenLaws.{KindIs, kind_is}
+use Rattle.msb_condition.proofs.TokenLaws.{KindIs}
 
 word_small : (b : ℕ) → is_word_byte b ≡ true → b < 128
 word_small b e = grind (arith, nat_tests)

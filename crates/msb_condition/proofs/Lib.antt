@@ -8,4 +8,5 @@ pub mod Scans
 pub mod Sound
 pub mod TokenLaws
 pub mod TreeLaws
+pub mod TextLaws
 pub mod TruthLaws

@@ -6,7 +6,7 @@ use Rattle.msb_expression.specs.declared.expression.Part.TheVariants.{Plain}
 use Rattle.msb_condition.specs.declared.condition.Comparison.{Comparison}
 use Rattle.msb_condition.specs.declared.condition.Function.{Function}
 use Rattle.msb_condition.specs.declared.tokens.Kind.{Kind}
-use Rattle.msb_condition.specs.declared.tokens.Kind.TheVariants.{Bang, Equals, Compare, Open, Close, Word, Quoted, Unended, Reference, Sign, Other}
+use Rattle.msb_condition.specs.declared.tokens.Kind.TheVariants.{Bang, Equals, Compare, Open, Quoted, Unended}
 use Rattle.msb_condition.specs.Grammar.{of_parts, inner_of}
 use Rattle.msb_condition.specs.declared.condition.Operand as code
 use Rattle.msb_condition.specs.declared.faults.CondFault.{CondFault}
@@ -16,7 +16,7 @@ use Rattle.msb_condition.specs.Places.{IsCutBy, tokens_at}
 use Rattle.msb_condition.specs.Reading.{IsRefused}
 use Rattle.msb_condition.specs.View.{operand_of}
 use Rattle.msb_expression.specs.Reading.{reading}
-use Rattle.msb_condition.specs.Machine.{Refusal, Frame, or_of, and_of, not_of, group_of, comparison_of, call_of, State, operand, done, named, Next, go, stop, on, run, end_unary, end_operand, named_step, on_operand, finish, finish_operand, finish_left, finish_tree, operand_step, end_text, end_unended, wants_operand, comparable_step, behind_step, on_tree}
+use Rattle.msb_condition.specs.Machine.{Frame, or_of, and_of, not_of, group_of, comparison_of, call_of, operand, done, named, Next, go, on, run, end_unary, end_operand, named_step, on_operand, finish_operand, finish_left, finish_tree, operand_step, end_text, end_unended, wants_operand, comparable_step, behind_step, on_tree}
 use Rattle.msb_condition.specs.Tokens.{Token}
 use Rattle.msb_condition.specs.Trees.{Operand, Tree, negated, compared, truth}
 

@@ -1,7 +1,7 @@
 -- A whole condition from its first token on.
-use Rattle.std.proofs.Common.{◌≡◌, ℕ, true, false, List, [], ◌∷◌, length, Result, Ok, Err, refl, sym, ap, ◌∙◌}
-use Rattle.msb_condition.specs.Leads.{run_at, step_at, is_word, starts_and, starts_or}
-use Rattle.msb_condition.specs.Machine.{Refusal, done, wants, tree_step, run}
+use Rattle.std.proofs.Common.{◌≡◌, ℕ, List, [], ◌∷◌, length, Ok, sym, ap, ◌∙◌}
+use Rattle.msb_condition.specs.Leads.{run_at, step_at}
+use Rattle.msb_condition.specs.Machine.{done, wants, tree_step, run}
 use Rattle.msb_condition.specs.Places.{tokens_at}
 use Rattle.msb_condition.specs.Reading.{condition_of, read_tokens}
 use Rattle.msb_condition.specs.Tokens.{Token}

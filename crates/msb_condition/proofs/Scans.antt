@@ -1,10 +1,8 @@
 -- What ends a reference and a quoted text.
-use Rattle.std.proofs.Common.{◌≡◌, ℕ, suc, ◌+◌, ◌-◌, ◌<◌, ◌≤◌, Bool, true, false, List, [], ◌∷◌, length, drop, get_or, refl, sym, ap, ◌∙◌, arith, ◌⊎◌, inl, inr}
+use Rattle.std.proofs.Common.{◌≡◌, ℕ, ◌+◌, ◌<◌, true, List, ◌∷◌, length, drop, get_or, refl, ap, ◌∙◌, arith}
 use Rattle.std.proofs.lemmas.List.{drop_more}
-use Rattle.std.proofs.lemmas.Bool.{eqb-true}
 use Rattle.msb_condition.specs.declared.extents.Inside.{Inside}
-use Rattle.msb_condition.specs.declared.extents.Inside.TheVariants.{Text, AtSign, Reference, Quotes}
-use Rattle.msb_condition.specs.Extents.{behind, ends_text, text_len, is_text, reference_len}
+use Rattle.msb_condition.specs.Extents.{is_text, reference_len}
 
 reference_off : (s : Inside) (i n b : ℕ) (bs : List ℕ) → n ≡ i + reference_len s (b ∷ bs) → is_text s ≡ true → i ≡ n
 reference_off s i n b bs e t = let f : reference_len s (b ∷ bs) ≡ 0 = rw (t, reference_len) refl in omega arith

@@ -1,6 +1,6 @@
 -- What is read is a reading.
-use Rattle.std.proofs.Common.{◌≡◌, ℕ, suc, zero, ◌+◌, ◌<◌, Bool, true, false, cond, List, [], ◌∷◌, ◌++◌, length, Option, Some, None, Result, Ok, Err, refl, sym, ap, ◌∙◌, subst, append_assoc, append-nil, arith, ◌⊎◌, inl, inr}
-use Rattle.std.specs.Prelude.{◌||◌, IfOk}
+use Rattle.std.proofs.Common.{◌≡◌, ℕ, suc, zero, ◌+◌, Bool, true, false, cond, List, [], ◌∷◌, ◌++◌, length, Option, Some, None, Result, Ok, Err, refl, sym, ap, ◌∙◌, subst, append_assoc, append-nil, arith, ◌⊎◌, inl, inr}
+use Rattle.std.specs.Prelude.{IfOk}
 use Rattle.std.proofs.lemmas.Bool.{ltb-true}
 use Rattle.msb_expression.specs.declared.expression.Part.{Part}
 use Rattle.msb_expression.specs.declared.expression.Part.TheVariants.{Plain}
@@ -19,7 +19,7 @@ use Rattle.msb_condition.specs.Machine as machine
 use Rattle.msb_condition.specs.Machine.{Refusal, Frame, or_of, and_of, not_of, group_of, comparison_of, call_of, State, operand, done, wants, named, Next, go, stop, on, run, depth, has_room, nested, end_unary, end_operand, end_text, end_unended, end_word, word_step, operand_step, unary_step, wants_step, wants_operand, named_step, behind_step, comparable_step, call_step, tree_step, step_of, end_or, end_group, on_tree, on_operand, finish, finish_left, finish_tree, finish_operand, finished}
 use Rattle.msb_condition.specs.Reading.{IsRead, condition_of, read_tokens}
 use Rattle.msb_condition.specs.Tokens.{Token, is_and, is_or, keyword_len, tokens_of}
-use Rattle.msb_condition.specs.Trees.{Operand, call, Tree, empty, either, both, negated, compared, truth}
+use Rattle.msb_condition.specs.Trees.{Operand, call, Tree, empty, negated, compared, truth}
 use Rattle.msb_condition.specs.View.{tree_of}
 use Rattle.msb_condition.proofs.MachineLaws.{IsDone, end_unary_done, IsOperand as GoesOn, end_operand_goes}
 

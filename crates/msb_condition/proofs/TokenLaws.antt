@@ -1,22 +1,16 @@
 -- The tokens of a text from a place on.
-use Rattle.std.proofs.Common.{◌≡◌, ℕ, suc, zero, ◌+◌, ◌-◌, ◌<◌, ◌≤◌, Bool, true, false, cond, List, [], ◌∷◌, length, take, drop, get_or, Option, Some, None, refl, sym, ap, ◌∙◌, subst, arith, ◌⊎◌, inl, inr, length-drop}
+use Rattle.std.proofs.Common.{◌≡◌, ℕ, suc, zero, ◌+◌, ◌-◌, ◌<◌, Bool, true, false, cond, List, [], ◌∷◌, length, take, drop, get_or, Some, refl, sym, ap, ◌∙◌, subst, arith}
 use Rattle.std.specs.Prelude.{◌==◌, ◌||◌, nat_lt}
-use Rattle.std.specs.List.{prefix_len}
-use Rattle.std.specs.Str.{IsUtf8, IsCharBoundary}
-use Rattle.std.proofs.lemmas.List.{drop_more, drop_all, drop-drop, get_or-drop}
-use Rattle.std.proofs.lemmas.Str.{IsCharBoundary-before_ascii, IsCharBoundary-after_ascii, IsCharBoundary-end}
+use Rattle.std.proofs.lemmas.List.{drop_more, drop-drop}
 use Rattle.std.proofs.lemmas.Bool.{eqb-true, ltb-true}
 use Rattle.std.proofs.lemmas.Bool.Decides.{nat_tests}
-use Rattle.msb_condition.specs.declared.condition.Comparison.{Comparison}
 use Rattle.msb_condition.specs.declared.condition.Comparison.TheVariants.{Equal, NotEqual, Less, Greater, LessOrEqual, GreaterOrEqual}
-use Rattle.msb_condition.specs.declared.extents.Inside.{Inside}
 use Rattle.msb_condition.specs.declared.extents.Inside.TheVariants as inside
 use Rattle.msb_condition.specs.declared.tokens.Kind.{Kind}
 use Rattle.msb_condition.specs.declared.tokens.Kind.TheVariants.{Bang, Equals, Compare, Open, Close, Word, Quoted, Unended, Reference, Sign, Other}
-use Rattle.msb_condition.specs.declared.tokens.Token as code
-use Rattle.msb_condition.specs.Extents.{text_len, reference_len}
-use Rattle.msb_condition.specs.Tokens.{Token, is_space, is_word_byte, begins_with, joined, quoted_kind, kind_of, more_of, size_of, token_of, tokens_from}
-use Rattle.msb_condition.specs.Places.{token_in, tokens_at, IsNext, Fits, IsCutBy, IsCut}
+use Rattle.msb_condition.specs.Extents.{text_len}
+use Rattle.msb_condition.specs.Tokens.{is_space, is_word_byte, joined, quoted_kind, kind_of, more_of, size_of, token_of, tokens_from}
+use Rattle.msb_condition.specs.Places.{tokens_at, IsNext, Fits}
 
 -- what is behind the bytes of the token before
 pub skips : (place n : ℕ) (bs : List ℕ) → tokens_from place n bs ≡ tokens_from (place + n) 0 (drop n bs)

@@ -1,6 +1,5 @@
 -- The trees of conditions.
 use Rattle.std.proofs.Common.{◌≡◌, sym, ap, ◌∙◌}
-use Rattle.msb_condition.specs.declared.condition.Cond.{Cond}
 use Rattle.msb_condition.specs.declared.condition.Cond.TheFolds.{fold-roll-Cond}
 use Rattle.msb_condition.specs.declared.condition.Cond.TheOpen as open_cond
 use Rattle.msb_condition.specs.declared.condition.Cond.TheVariants.{Truth, rolls-Truth}

@@ -9,6 +9,7 @@ pub mod Reading
 pub mod Leads
 pub mod Numbers
 pub mod Truth
+pub mod Texts
 pub mod Answers
 pub mod Causes
 pub mod Written

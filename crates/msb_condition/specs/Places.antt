@@ -1,5 +1,5 @@
 -- The tokens of a text from a place on, as the code finds them.
-use Rattle.std.specs.Prelude.{◌≡◌, ℕ, ◌+◌, ◌-◌, ◌<◌, ◌≤◌, List, [], ◌∷◌, length, take, drop, Option, Some, None}
+use Rattle.std.specs.Prelude.{◌≡◌, ℕ, ◌+◌, ◌-◌, ◌<◌, List, [], ◌∷◌, length, take, drop, Option, Some, None}
 use Rattle.std.specs.Str.{IsCharBoundary}
 use Rattle.msb_condition.specs.declared.condition.Comparison.TheVariants.{Less, Greater}
 use Rattle.msb_condition.specs.declared.extents.Inside.TheVariants as inside

@@ -1,12 +1,12 @@
 -- Whether a condition is true, from the left, or its first fault. (MSBuild conditions.)
-use Rattle.std.specs.Prelude.{ℕ, Bool, true, false, not, ◌&&◌, ◌==◌, List, [], ◌∷◌, length, codes, slice_index, Option, Some, None, Result, Ok, Err, if◌then◌else◌}
-use Rattle.std.specs.List.{list_any}
-use Rattle.msb_paths.specs.Normal.{normalized, is_normal}
+use Rattle.std.specs.Prelude.{ℕ, Bool, true, false, not, ◌&&◌, ◌==◌, List, [], ◌∷◌, length, codes, slice_index, Option, Some, None, Result, Ok, Err}
 use Rattle.msb_paths.specs.Presence.{is_there}
+use Rattle.msb_paths.specs.Refused.{normal_path}
 use Rattle.msb_paths.specs.Segments.{is_separator}
-use Rattle.msb_paths.specs.declared.errors.PathFault.{PathFault}
+use Rattle.msb_paths.specs.declared.errors.NormalFault.{NormalFault}
 use Rattle.msb_values.specs.Escapes.{unescaped}
 use Rattle.msb_values.specs.Same.{is_same_text}
+use Rattle.msb_values.specs.Truths.{truth_of as boolean_of}
 use Rattle.msb_expand.specs.declared.faults.ExpandFault.{ExpandFault}
 use Rattle.msb_expand.specs.Scenes.{Scene}
 use Rattle.msb_expand.specs.Values.{text_value}
@@ -28,47 +28,34 @@ pub record View : Type 0 where
   pub files : List (List ℕ)
 
 -- a path of a file, or of a folder that a file lies below
-abbrev pub is_found : List (List ℕ) → Result (List ℕ) PathFault → Bool
-is_found files (Ok path) = is_normal path && is_there files path
+abbrev pub is_found : List (List ℕ) → Result (List ℕ) NormalFault → Bool
+is_found files (Ok path) = is_there files path
 is_found files (Err fault) = false
 
 abbrev pub exists_in : (folder : List ℕ) (files : List (List ℕ)) → List ℕ → Bool
-exists_in folder files path = not (length path == 0) && is_found files (normalized folder path)
+exists_in folder files path = not (length path == 0) && is_found files (normal_path folder path)
 
 -- `/` or `\`
 abbrev pub has_trailing_slash : List ℕ → Bool
 has_trailing_slash [] = false
 has_trailing_slash (b ∷ bs) = is_separator (slice_index (b ∷ bs) (length bs))
 
-abbrev pub called : View → Function → List ℕ → Bool
-called view Exists path = exists_in view.folder view.files path
-called view HasTrailingSlash path = has_trailing_slash path
+abbrev pub function_result : View → Function → List ℕ → Bool
+function_result view Exists path = exists_in view.folder view.files path
+function_result view HasTrailingSlash path = has_trailing_slash path
 
 abbrev pub shown : Bool → List ℕ
 shown true = codes "true"
 shown false = codes "false"
 
-abbrev pub expanded : Result (List ℕ) ExpandFault → Result (List ℕ) CondFault
-expanded (Ok value) = Ok (unescaped value)
-expanded (Err fault) = Err (Expand fault)
+abbrev pub unescaped_text : Result (List ℕ) ExpandFault → Result (List ℕ) CondFault
+unescaped_text (Ok value) = Ok (unescaped value)
+unescaped_text (Err fault) = Err (Expand fault)
 
 -- an operand as a text, without its escapes
 abbrev pub operand_text : View → Operand → Result (List ℕ) CondFault
-operand_text view (text expr) = expanded (text_value view.scene expr.parts)
-operand_text view (call function inner) = map_ok (λ value. shown (called view function value)) (operand_text view inner)
-
-abbrev pub is_one_of : List (List ℕ) → List ℕ → Bool
-is_one_of words value = list_any (λ word. is_same_text value word) words
-
-abbrev pub true_words : List (List ℕ)
-true_words = codes "true" ∷ codes "on" ∷ codes "yes" ∷ codes "!false" ∷ codes "!off" ∷ codes "!no" ∷ []
-
-abbrev pub false_words : List (List ℕ)
-false_words = codes "false" ∷ codes "off" ∷ codes "no" ∷ codes "!true" ∷ codes "!on" ∷ codes "!yes" ∷ []
-
--- the truth value that a text is, without case
-abbrev pub boolean_of : List ℕ → Option Bool
-boolean_of value = if is_one_of true_words value then Some true else if is_one_of false_words value then Some false else None
+operand_text view (text expr) = unescaped_text (text_value view.scene expr.parts)
+operand_text view (call function inner) = map_ok (λ value. shown (function_result view function value)) (operand_text view inner)
 
 abbrev pub boolean_or_fault : List ℕ → Option Bool → Result Bool CondFault
 boolean_or_fault value (Some b) = Ok b

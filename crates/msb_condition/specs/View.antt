@@ -1,5 +1,4 @@
 -- The tree that a condition of the code shows.
-use Rattle.std.specs.Prelude.{List, map}
 use Rattle.std.specs.List.{fold}
 use Rattle.msb_condition.specs.Trees.{Tree, empty, either, both, negated, compared, truth, text, call}
 use Rattle.msb_condition.specs.Trees as trees

@@ -1,12 +1,12 @@
 ghost use Rattle.std.specs.Prelude.{◌≡◌};
 ghost use Rattle.msb_condition.specs.Numbers as numbers;
+ghost use Rattle.msb_values.specs.Truths.{truth_of};
 ghost use Rattle.msb_condition.specs.Answers.{Gives};
-ghost use Rattle.msb_condition.specs.Truth.{same_values, boolean_of, equal, in_order, ordered, compare};
+ghost use Rattle.msb_condition.specs.Truth.{same_values, equal, in_order, ordered, compare};
 
-use crate::booleans::boolean_of;
 use crate::numbers::{Number, number_of};
 use crate::{Comparison, CondFault};
-use msb_values::{Text, same_text};
+use msb_values::{Text, same_text, truth_of};
 
 /// Whether a comparison of two texts holds: an order needs two numbers. (MSBuild conditions.)
 pub(crate) fn compare(comparison: Comparison, left: Text, right: Text) -> Result<bool, CondFault>
@@ -60,10 +60,10 @@ fn equal(left: &str, right: &str) -> bool
 
 /// Whether two texts are equal, as truth values if both are, and else without case.
 fn same_values(left: &str, right: &str) -> bool
-    ensures { result ≡ same_values left.now right.now (boolean_of left.now) (boolean_of right.now) }
+    ensures { result ≡ same_values left.now right.now (truth_of left.now) (truth_of right.now) }
 {
-    match boolean_of(left) {
-        Some(a) => match boolean_of(right) {
+    match truth_of(left) {
+        Some(a) => match truth_of(right) {
             Some(b) => a == b,
             None => same_text(left, right),
         },

@@ -1,7 +1,7 @@
 ghost use Rattle.std.specs.Prelude.{◌≡◌, IfOk};
 ghost use Rattle.msb_condition.specs.Truth.{exists_in, has_trailing_slash};
 
-use msb_paths::{PathFault, Present, is_normal, normalize};
+use msb_paths::{NormalFault, Present, normal_path};
 use msb_values::NoMemory;
 use std::alloc::Global;
 
@@ -17,10 +17,12 @@ pub(crate) fn exists<F: Present>(
     if path.is_empty() {
         return Ok(false);
     }
-    match normalize(alloc, folder, path) {
-        Ok(path) => Ok(is_normal(path.as_str()) && files.there(path.as_str())),
-        Err(PathFault::AboveRoot | PathFault::Empty) => Ok(false),
-        Err(PathFault::Memory) => Err(NoMemory),
+    match normal_path(alloc, folder, path) {
+        Ok(path) => Ok(files.there(path.as_str())),
+        Err(NormalFault::AboveRoot | NormalFault::Empty | NormalFault::ControlCharacter) => {
+            Ok(false)
+        }
+        Err(NormalFault::Memory) => Err(NoMemory),
     }
 }
 

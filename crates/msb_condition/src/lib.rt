@@ -3,7 +3,6 @@
 //! `parse` reads a condition, and `holds` says whether it is true in a scope and a view of files.
 #![tactic(auto)]
 
-mod booleans;
 mod comparing;
 mod condition;
 mod extents;
@@ -13,6 +12,7 @@ mod groups;
 mod numbers;
 mod operands;
 mod parsing;
+mod texts;
 mod tokens;
 mod truth;
 mod values;

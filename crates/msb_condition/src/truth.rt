@@ -4,12 +4,12 @@ ghost use Rattle.msb_condition.specs.Truth.{truth_of, any_truth, every_truth, op
 ghost use Rattle.msb_condition.specs.View.{tree_of, operand_of};
 ghost use Rattle.msb_laws.specs.Results.{and_then};
 
-use crate::booleans::boolean_of;
 use crate::comparing::compare;
 use crate::values::operand_text;
 use crate::{Cond, CondFault, Operand};
 use msb_expand::Lens;
 use msb_paths::Present;
+use msb_values::truth_of;
 use std::alloc::Global;
 
 /// Whether a condition is true in a scope and a view of files, or its first fault from the left. What comes behind the
@@ -95,7 +95,7 @@ fn is_true<F: Present>(
     ensures { Gives result (and_then (text_of (view_of lens.now (F.files files.now)) (operand_of operand.now)) truth_value) }
 {
     let value = operand_text(alloc, lens, files, operand)?;
-    match boolean_of(value.as_str()) {
+    match truth_of(value.as_str()) {
         Some(answer) => Ok(answer),
         None => Err(CondFault::NotBoolean(value)),
     }

@@ -1,6 +1,6 @@
 ghost use Rattle.std.specs.Prelude.{◌≡◌, IfOk};
 ghost use Rattle.msb_condition.specs.Answers.{Gives, view_of};
-ghost use Rattle.msb_condition.specs.Truth.{operand_text, called, expanded, shown};
+ghost use Rattle.msb_condition.specs.Truth.{operand_text, function_result, unescaped_text, shown};
 ghost use Rattle.msb_condition.specs.View.{operand_of};
 ghost use Rattle.msb_expand.specs.Scenes.{scene_of};
 ghost use Rattle.msb_expand.specs.Values.{text_value};
@@ -23,17 +23,17 @@ pub(crate) fn operand_text<F: Present>(
     ensures { Gives result (operand_text (view_of lens.now (F.files files.now)) (operand_of operand.now)) }
 {
     match operand {
-        Operand::Text(expr) => expanded(alloc, lens, expr),
+        Operand::Text(expr) => unescaped_text(alloc, lens, expr),
         Operand::Call(function, inner) => {
             let path = operand_text(alloc, lens, files, inner)?;
-            let answer = called(alloc, lens, files, *function, path.as_str())?;
+            let answer = function_result(alloc, lens, files, *function, path.as_str())?;
             Ok(Text::of(alloc, shown(answer))?)
         }
     }
 }
 
-fn expanded(alloc: Global, lens: &Lens<'_>, expr: &Expr) -> Result<Text, CondFault>
-    ensures { Gives result (expanded (text_value (scene_of lens.now) expr.now.parts)) }
+fn unescaped_text(alloc: Global, lens: &Lens<'_>, expr: &Expr) -> Result<Text, CondFault>
+    ensures { Gives result (unescaped_text (text_value (scene_of lens.now) expr.now.parts)) }
 {
     match text(alloc, lens, expr) {
         Ok(value) => Ok(unescape(alloc, value.as_str())?),
@@ -41,14 +41,14 @@ fn expanded(alloc: Global, lens: &Lens<'_>, expr: &Expr) -> Result<Text, CondFau
     }
 }
 
-fn called<F: Present>(
+fn function_result<F: Present>(
     alloc: Global,
     lens: &Lens<'_>,
     files: &F,
     function: Function,
     path: &str,
 ) -> Result<bool, NoMemory>
-    ensures { IfOk result (λ b. b ≡ called (view_of lens.now (F.files files.now)) function path.now) }
+    ensures { IfOk result (λ b. b ≡ function_result (view_of lens.now (F.files files.now)) function path.now) }
 {
     match function {
         Function::Exists => exists(alloc, lens.dir, files, path),

@@ -1,4 +1,4 @@
-use Rattle.std.proofs.Common.{◌≡◌, ◌+◌, ◌*◌, ◌-◌, ◌≤◌, ℕ, List, length, map, true, false}
+use Rattle.std.proofs.Common.{◌≡◌, ◌+◌, ◌*◌, ◌-◌, ◌≤◌, List, length, map, true, false}
 use Rattle.std.specs.List.{fold}
 use Rattle.msb_condition.specs.Leads.{HasRoom, run_at, takes_or, takes_and, starts_and}
 use Rattle.msb_condition.specs.Machine.{Frame, done}

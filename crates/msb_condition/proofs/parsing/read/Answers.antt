@@ -1,6 +1,6 @@
 use Rattle.std.proofs.Common.{[], Err, refl, sym, ap, ◌∙◌, subst}
 use Rattle.std.proofs.lemmas.Result.{err_from_is_err_and}
-use Rattle.msb_condition.specs.Leads.{starts_and, starts_or, bytes_in}
+use Rattle.msb_condition.specs.Leads.{starts_and, starts_or}
 use Rattle.msb_condition.specs.Places.{tokens_at, token_in}
 use Rattle.msb_condition.specs.Reading.{IsRead, IsRefused, condition_of}
 use Rattle.msb_condition.specs.View.{tree_of}

@@ -1,9 +1,9 @@
-use Rattle.std.proofs.Common.{◌≡◌, true, false, map, Ok, Err, sym, ap, ◌∙◌, subst}
+use Rattle.std.proofs.Common.{◌≡◌, map, Ok, Err, sym, ap, ◌∙◌, subst}
 use Rattle.std.specs.List.{fold}
 use Rattle.std.proofs.lemmas.Result.{err_from_is_err_and}
 use Rattle.msb_condition.specs.Answers.{Gives, view_of}
 use Rattle.msb_condition.specs.Trees.{Tree, either, both}
-use Rattle.msb_condition.specs.Truth.{View, truth_of, any_truth, every_truth, or_else, and_also}
+use Rattle.msb_condition.specs.Truth.{truth_of, any_truth, every_truth, or_else, and_also}
 use Rattle.msb_condition.specs.View.{tree_of, view_step}
 use Rattle.msb_condition.specs.declared.condition.Cond.TheFolds.{fold-roll-Cond}
 use Rattle.msb_condition.specs.declared.condition.Cond.TheOpen as open_cond
