@@ -1,5 +1,5 @@
 -- What an expression sees, and where it stands.
-use Rattle.std.specs.Prelude.{ℕ, List, [], ◌∷◌, Option, Some, None, option_map, option_copied}
+use Rattle.std.specs.Prelude.{ℕ, List, [], Option, Some, None, option_map, option_copied}
 use Rattle.std.specs.Prelude.{map}
 use Rattle.msb_values.specs.Overlays.{overlaid}
 use Rattle.msb_values.specs.Pairs.{value_at}
