@@ -11,8 +11,8 @@ use Rattle.build_world.specs.declared.fault.EvalFault.{EvalFault}
 use Rattle.build_world.specs.Elements.{At}
 use Rattle.msb_properties.specs.Passed.{LaidOut, passed}
 use Rattle.msb_properties.specs.Settings.{setting}
-use Rattle.msb_items.specs.Defined.{all_defined}
-use Rattle.msb_items.specs.Itemed.{all_itemed}
+use Rattle.msb_items.specs.Definitions.{all_defined}
+use Rattle.msb_items.specs.Items.{all_itemed}
 pub use Rattle.build_world.specs.Instances.{Instance, UsedTarget, seen_instance, seen_target}
 use Rattle.msb_instance.specs.Targets.{Target, targets_of, rows_of, file_has_returns, default_or_first}
 

@@ -1,68 +1,101 @@
--- What the code holds of an entry names just the items that the entry names.
-use Rattle.std.proofs.Common.{◌≡◌, ℕ, ◌+◌, ◌<◌, Bool, true, false, not, ◌&&◌, ◌||◌, cond, List, [], ◌∷◌, ◌++◌, length, get_or, drop, map, filter, Some, None, Result, Ok, Err, refl, sym, ap, ap₂, ◌∙◌, add-one, drop-cons, append_assoc, if◌then◌else◌}
+-- What the code holds of the entries of an attribute names just the items that the entries name.
+use Rattle.std.proofs.Common.{◌≡◌, ℕ, Bool, true, false, not, ◌||◌, List, [], ◌∷◌, map, filter, Some, None, Result, Ok, Err, refl, sym, ap, ap₂, ◌∙◌}
+use Rattle.std.specs.List.{list_any}
+use Rattle.std.specs.BTreeMap.{is_at}
+use Rattle.std.specs.BTreeSet.{insert_key}
+use Rattle.std.specs.Ordering.{nat_cmp, is_eq, match_ordering}
+use Rattle.std.specs.declared.cmp.Ordering.{Ordering}
+use Rattle.std.specs.declared.cmp.Ordering.TheVariants.{Less, Equal, Greater}
+use Rattle.std.specs.Cmp.Lexicographic.{slice_cmp}
+use Rattle.std.specs.Str.{bytes_eq}
+use Rattle.std.proofs.lemmas.Map.Lookups.{exact_bytes}
+use Rattle.std.proofs.lemmas.Map.Text.{is_eq-slice_cmp}
 use Rattle.msb_laws.specs.Results.{and_then, map_ok}
-use Rattle.msb_paths.specs.Normal.{normalized, is_normal}
-use Rattle.msb_paths.specs.declared.errors.PathFault.{PathFault}
+use Rattle.msb_paths.specs.declared.errors.NormalFault.{NormalFault}
 use Rattle.msb_values.proofs.Folding.{folds_as_compared}
-use Rattle.msb_values.specs.Escapes.{unescaped}
 use Rattle.msb_values.specs.declared.item.Item.{Item}
-use Rattle.msb_expand.specs.Reserved.{folder_of}
-use Rattle.msb_glob.specs.Match.{fits_path}
 use Rattle.msb_glob.specs.Parsed.{Reading, with_slashes}
-use Rattle.msb_items.specs.declared.namings.Naming as code
-use Rattle.msb_items.specs.Naming.{Naming, of_pattern, of_text, fits_normal, is_named_by, is_named}
-use Rattle.msb_items.specs.Held.{held, if_normal, path_of, fits_some, fits_held, folded_ident, is_held, unheld, if_unheld}
-use Rattle.msb_items.specs.Itemed.{unnamed}
+use Rattle.msb_items.specs.ItemNames.{ItemNames, fits, full_path, is_named, is_same_ident}
+use Rattle.msb_items.specs.Held.{fits_any, folded_ident, has_ident, held, is_held, path_or_none, unheld, with_idents}
+use Rattle.msb_items.specs.Items.{unnamed}
 
-where_normal : (pattern : Reading) (b : Bool) (path : List ℕ) → fits_some pattern (if b then Some path else None) ≡ (b && fits_path pattern.parts path)
-where_normal pattern true path = refl
-where_normal pattern false path = refl
+-- what is in a set with one more key
+swapped : (a b c : Bool) → (a || (b || c)) ≡ (b || (a || c))
+swapped true true c = refl
+swapped true false c = refl
+swapped false b c = refl
 
-fits_same : (pattern : Reading) (r : Result (List ℕ) PathFault) → fits_some pattern (if_normal r) ≡ fits_normal pattern r
-fits_same pattern (Ok path) = where_normal pattern (is_normal path) path
-fits_same pattern (Err fault) = refl
+doubled : (a c : Bool) → (a || c) ≡ (a || (a || c))
+doubled true c = refl
+doubled false c = refl
 
-held_by : (project : List ℕ) (item : Item) (naming : Naming) → fits_held (path_of project item.ident) (folded_ident item.ident) (held naming) ≡ is_named_by project item naming
-held_by project item (of_pattern pattern) = fits_same pattern (normalized (folder_of project) (unescaped item.ident))
-held_by project item (of_text text) = folds_as_compared (with_slashes item.ident) (with_slashes text)
+with_key : (q k : List ℕ) (keys : List (List ℕ))
+    → list_any (is_at (slice_cmp nat_cmp q)) (insert_key (slice_cmp nat_cmp) keys k) ≡ (is_eq (slice_cmp nat_cmp q k) || list_any (is_at (slice_cmp nat_cmp q)) keys)
+with_key q k [] = refl
+with_key q k (x ∷ xs) = go (with_key q k xs) (slice_cmp nat_cmp k x) refl
+  where
+    go : list_any (is_at (slice_cmp nat_cmp q)) (insert_key (slice_cmp nat_cmp) xs k) ≡ (is_eq (slice_cmp nat_cmp q k) || list_any (is_at (slice_cmp nat_cmp q)) xs)
+        → (o : Ordering) → slice_cmp nat_cmp k x ≡ o
+        → list_any (is_at (slice_cmp nat_cmp q)) (match_ordering o (k ∷ x ∷ xs) (x ∷ xs) (x ∷ insert_key (slice_cmp nat_cmp) xs k))
+        ≡ (is_eq (slice_cmp nat_cmp q k) || (is_eq (slice_cmp nat_cmp q x) || list_any (is_at (slice_cmp nat_cmp q)) xs))
+    go later Less is = refl
+    go later Equal is =
+        let same : k ≡ x = exact_bytes k x is in
+        doubled (is_eq (slice_cmp nat_cmp q x)) (list_any (is_at (slice_cmp nat_cmp q)) xs)
+        ∙ ap (λ y. is_eq (slice_cmp nat_cmp q y) || (is_eq (slice_cmp nat_cmp q x) || list_any (is_at (slice_cmp nat_cmp q)) xs)) (sym same)
+    go later Greater is =
+        ap (λ b. is_eq (slice_cmp nat_cmp q x) || b) later
+        ∙ swapped (is_eq (slice_cmp nat_cmp q x)) (is_eq (slice_cmp nat_cmp q k)) (list_any (is_at (slice_cmp nat_cmp q)) xs)
 
-pub held_same : (project : List ℕ) (item : Item) (namings : List Naming) → is_held project (map held namings) item ≡ is_named project namings item
-held_same project item [] = refl
-held_same project item (naming ∷ namings) = ap₂ ◌||◌ (held_by project item naming) (held_same project item namings)
+-- what is in a set of identities
+found : (ident text : List ℕ) → is_eq (slice_cmp nat_cmp (folded_ident ident) (folded_ident text)) ≡ is_same_ident ident text
+found ident text = is_eq-slice_cmp (folded_ident ident) (folded_ident text) ∙ folds_as_compared (with_slashes ident) (with_slashes text)
+
+held_idents : (ident : List ℕ) (keys idents : List (List ℕ)) → has_ident (with_idents keys idents) ident ≡ (list_any (is_same_ident ident) idents || has_ident keys ident)
+held_idents ident keys [] = refl
+held_idents ident keys (text ∷ texts) =
+    held_idents ident (insert_key (slice_cmp nat_cmp) keys (folded_ident text)) texts
+    ∙ ap (λ b. list_any (is_same_ident ident) texts || b) (with_key (folded_ident ident) (folded_ident text) keys ∙ ap (λ b. b || has_ident keys ident) (found ident text))
+    ∙ moved (list_any (is_same_ident ident) texts) (is_same_ident ident text) (has_ident keys ident)
+  where
+    moved : (a b c : Bool) → (a || (b || c)) ≡ ((b || a) || c)
+    moved true true c = refl
+    moved true false c = refl
+    moved false true c = refl
+    moved false false c = refl
+
+-- a pattern matches no path that is none
+never : {X : Type 0} (xs : List X) → false ≡ list_any (λ x. false) xs
+never [] = refl
+never (x ∷ xs) = never xs
+
+fits_same : (r : Result (List ℕ) NormalFault) (patterns : List Reading) → fits_any (path_or_none r) patterns ≡ list_any (fits r) patterns
+fits_same (Ok path) patterns = refl
+fits_same (Err fault) patterns = never patterns
+
+shortened : (a : Bool) → (a || false) ≡ a
+shortened true = refl
+shortened false = refl
+
+pub held_same : (project : List ℕ) (names : ItemNames) (item : Item) → is_held project (held names) item ≡ is_named project names item
+held_same project names item =
+    ap₂ ◌||◌ (held_idents item.ident [] names.idents ∙ shortened (list_any (is_same_ident item.ident) names.idents)) (fits_same (full_path project item.ident) names.patterns)
 
 -- what goes on by which items are named
-pub chosen : {X E : Type 0} (project : List ℕ) (next : (Item → Bool) → Result X E) (r : Result (List Naming) E) (namings : List code.Naming) → map_ok (map held) r ≡ Ok namings
-    → and_then r (λ found. next (is_named project found)) ≡ next (is_held project namings)
-chosen project next (Err e) namings is = cc
-chosen project next (Ok found) namings is =
-    let same : map held found ≡ namings = cc in
-    let named : is_named project found ≡ is_held project (map held found) = λ i item. sym (held_same project item found) i in
+pub chosen : {X E : Type 0} (project : List ℕ) (next : (Item → Bool) → Result X E) (r : Result ItemNames E) (names : List (List ℕ) × List Reading) → map_ok held r ≡ Ok names
+    → and_then r (λ found. next (is_named project found)) ≡ next (is_held project names)
+chosen project next (Err e) names is = cc
+chosen project next (Ok found) names is =
+    let same : held found ≡ names = cc in
+    let named : is_named project found ≡ is_held project (held found) = λ i item. sym (held_same project found item) i in
     ap next named ∙ ap (λ ns. next (is_held project ns)) same
 
 as_next : {X Y E : Type 0} (f : X → Y) (r : Result X E) → map_ok f r ≡ and_then r (λ x. Ok (f x))
 as_next f (Ok x) = refl
 as_next f (Err e) = refl
 
-pub unnamed_same : {E : Type 0} (project : List ℕ) (items : List Item) (r : Result (List Naming) E) (namings : List code.Naming) → map_ok (map held) r ≡ Ok namings
-    → map_ok (unnamed project items) r ≡ Ok (unheld project namings items)
-unnamed_same {E} project items r namings is =
-    let next : (Item → Bool) → Result (List Item) E = λ test. Ok (filter (λ item. not (test item)) items) in
-    as_next (unnamed project items) r ∙ chosen project next r namings is
-
--- nothing is named where there are no entries
-pub unnamed_none : (project : List ℕ) (items : List Item) → unnamed project items [] ≡ items
-unnamed_none project [] = refl
-unnamed_none project (item ∷ items) = ap (λ rest. item ∷ rest) (unnamed_none project items)
-
--- an item more
-kept_one : (b : Bool) (item : Item) (rest : List Item) → if_unheld b item ++ rest ≡ cond (not b) (item ∷ rest) rest
-kept_one true item rest = refl
-kept_one false item rest = refl
-
-pub unheld_turn : (project : List ℕ) (namings : List code.Naming) (items : List Item) (i : ℕ) (item : Item) (kept next : List Item) (named : Bool) → i < length items → item ≡ get_or items i item
-    → named ≡ is_held project namings item → next ≡ kept ++ if_unheld named item → next ++ unheld project namings (drop (i + 1) items) ≡ kept ++ unheld project namings (drop i items)
-unheld_turn project namings items i item kept next named within is asked grown =
-    let rest = unheld project namings (drop (i + 1) items) in
-    let turn : drop i items ≡ item ∷ drop (i + 1) items = rw (add-one, drop-cons items i item, ← is) refl in
-    ap (λ list. list ++ rest) grown ∙ append_assoc kept (if_unheld named item) rest ∙ ap (λ b. kept ++ (if_unheld b item ++ rest)) asked
-    ∙ ap (λ list. kept ++ list) (kept_one (is_held project namings item) item rest) ∙ ap (λ list. kept ++ unheld project namings list) (sym turn)
+pub left_same : {X E : Type 0} (f : List Item → X) (project : List ℕ) (items : List Item) (r : Result ItemNames E) (names : List (List ℕ) × List Reading) → map_ok held r ≡ Ok names
+    → map_ok (λ found. f (unnamed project items found)) r ≡ Ok (f (unheld project names items))
+left_same {X} {E} f project items r names is =
+    let next : (Item → Bool) → Result X E = λ test. Ok (f (filter (λ item. not (test item)) items)) in
+    as_next (λ found. f (unnamed project items found)) r ∙ chosen project next r names is

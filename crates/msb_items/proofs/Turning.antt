@@ -1,5 +1,5 @@
 -- Loops over lists of which each entry is seen as something else, or gives a part of the whole.
-use Rattle.std.proofs.Common.{◌≡◌, ℕ, List, [], ◌∷◌, ◌++◌, map, Result, Ok, Err, refl, sym, ap, ◌∙◌, append_assoc, append-nil}
+use Rattle.std.proofs.Common.{◌≡◌, ℕ, Bool, true, false, cond, List, [], ◌∷◌, ◌++◌, map, filter, Result, Ok, Err, refl, sym, ap, ◌∙◌, append_assoc, append-nil}
 use Rattle.std.specs.List.{flat_map}
 use Rattle.msb_laws.specs.Results.{and_then, map_ok, all_ok, fold_ok}
 use Rattle.msb_elements.specs.Nodes.{Node}
@@ -84,3 +84,26 @@ taken_stop f rest more x front all e left is fails = left.is ∙ fold-same f fro
 pub taken_step : {X Y E : Type 0} (f : X → Result Y E) (rest more : List X) (x : X) (front next : List Y) (all : Result (List Y) E) → IsTaken f rest front all → rest ≡ x ∷ more
     → map_ok (λ y. front ++ y ∷ []) (f x) ≡ Ok next → IsTaken f more next all
 taken_step f rest more x front next all left is gives = record { is = left.is ∙ fold-same f front rest ∙ rw (is, gives) (sym (fold-same f next more)) }
+
+-- over the entries that pass a test
+joined_one : {Y E : Type 0} (s : List Y) (r rest : Result (List Y) E) (next : List Y → Result (List Y) E) → ((s : List Y) → map_ok (λ ys. s ++ ys) rest ≡ next s)
+    → map_ok (λ ys. s ++ ys) (and_then r (λ front. map_ok (λ ys. front ++ ys) rest)) ≡ and_then (map_ok (λ ys. s ++ ys) r) next
+joined_one s (Ok front) (Ok ys) next later = ap Ok (sym (append_assoc s front ys)) ∙ later (s ++ front)
+joined_one s (Ok front) (Err e) next later = later (s ++ front)
+joined_one s (Err e) rest next later = refl
+
+first_apart : {X Y E : Type 0} (f : X → Result Y E) (test : X → Bool) (x : X) (xs : List X) (b : Bool)
+    → all_ok f (cond b (x ∷ filter test xs) (filter test xs)) ≡ and_then (all_ok f (cond b (x ∷ []) [])) (λ front. map_ok (λ ys. front ++ ys) (all_ok f (filter test xs)))
+first_apart f test x xs true = go (f x) (all_ok f (filter test xs))
+  where
+    go : {Y E : Type 0} (r : Result Y E) (rest : Result (List Y) E) → and_then r (λ y. map_ok (λ ys. y ∷ ys) rest) ≡ and_then (and_then r (λ y. Ok (y ∷ []))) (λ front. map_ok (λ ys. front ++ ys) rest)
+    go (Ok y) rest = refl
+    go (Err e) rest = refl
+first_apart f test x xs false = sym (from_nothing (all_ok f (filter test xs)))
+
+pub fold-filtered : {X Y E : Type 0} (f : X → Result Y E) (test : X → Bool) (s : List Y) (xs : List X)
+    → map_ok (λ more. s ++ more) (all_ok f (filter test xs)) ≡ fold_ok (λ s x. map_ok (λ more. s ++ more) (all_ok f (filter test (x ∷ [])))) s xs
+fold-filtered f test s [] = ap Ok (append-nil s)
+fold-filtered f test s (x ∷ xs) =
+    ap (map_ok (λ more. s ++ more)) (first_apart f test x xs (test x))
+    ∙ joined_one s (all_ok f (filter test (x ∷ []))) (all_ok f (filter test xs)) _ (λ next. fold-filtered f test next xs)

@@ -1,48 +1,53 @@
--- What an entry of Exclude, Remove or Update names, as the code holds it: a text with `/` and folded once.
-use Rattle.std.specs.Prelude.{ℕ, List, [], ◌∷◌, Bool, true, false, not, filter, Option, Some, None, Result, Ok, Err, if◌then◌else◌}
+-- What the entries of an Exclude, a Remove or an Update name, as the code holds it: identities with `/` and folded in a set.
+use Rattle.std.specs.Prelude.{ℕ, List, [], ◌∷◌, Bool, true, false, ◌||◌, not, filter, Option, Some, None, Result, Ok, Err}
 use Rattle.std.specs.List.{list_any}
-use Rattle.std.specs.Str.{bytes_eq}
-use Rattle.msb_paths.specs.Normal.{normalized, is_normal}
-use Rattle.msb_paths.specs.declared.errors.PathFault.{PathFault}
-use Rattle.msb_values.specs.Escapes.{unescaped}
+use Rattle.std.specs.BTreeMap.{is_at}
+use Rattle.std.specs.BTreeSet.{insert_key}
+use Rattle.std.specs.Ordering.{nat_cmp}
+use Rattle.std.specs.Cmp.Lexicographic.{slice_cmp}
+use Rattle.msb_paths.specs.declared.errors.NormalFault.{NormalFault}
 use Rattle.msb_values.specs.Folded.{folded_bytes}
 use Rattle.msb_values.specs.declared.item.Item.{Item}
-use Rattle.msb_expand.specs.Reserved.{folder_of}
 use Rattle.msb_glob.specs.Match.{fits_path}
 use Rattle.msb_glob.specs.Parsed.{Reading, with_slashes}
-use Rattle.msb_items.specs.declared.namings.Naming as code
-use Rattle.msb_items.specs.declared.namings.Naming.TheVariants.{Pattern, Text}
-use Rattle.msb_items.specs.Naming.{Naming, of_pattern, of_text}
+use Rattle.msb_items.specs.declared.item_names.ItemNames as code
+use Rattle.msb_items.specs.ItemNames.{ItemNames, full_path}
 
 abbrev pub folded_ident : List ℕ → List ℕ
 folded_ident text = folded_bytes (with_slashes text)
 
-abbrev pub held : Naming → code.Naming
-held (of_pattern pattern) = Pattern pattern
-held (of_text text) = Text (folded_ident text)
+-- a set with these too
+abbrev pub with_idents : List (List ℕ) → List (List ℕ) → List (List ℕ)
+with_idents keys [] = keys
+with_idents keys (ident ∷ idents) = with_idents (insert_key (slice_cmp nat_cmp) keys (folded_ident ident)) idents
+
+abbrev pub held : ItemNames → List (List ℕ) × List Reading
+held names = (with_idents [] names.idents, names.patterns)
+
+abbrev pub held_in : code.ItemNames → List (List ℕ) × List Reading
+held_in names = (names.idents.keys, names.patterns)
 
 -- the path of an identity, where it can be made normal
-abbrev pub if_normal : Result (List ℕ) PathFault → Option (List ℕ)
-if_normal (Ok path) = if is_normal path then Some path else None
-if_normal (Err fault) = None
+abbrev pub path_or_none : Result (List ℕ) NormalFault → Option (List ℕ)
+path_or_none (Ok path) = Some path
+path_or_none (Err fault) = None
 
 abbrev pub path_of : List ℕ → List ℕ → Option (List ℕ)
-path_of project ident = if_normal (normalized (folder_of project) (unescaped ident))
+path_of project ident = path_or_none (full_path project ident)
 
-abbrev pub fits_some : Reading → Option (List ℕ) → Bool
-fits_some pattern (Some path) = fits_path pattern.parts path
-fits_some pattern None = false
+abbrev pub fits_any : Option (List ℕ) → List Reading → Bool
+fits_any (Some path) patterns = list_any (λ pattern. fits_path pattern.parts path) patterns
+fits_any None patterns = false
 
-abbrev pub fits_held : Option (List ℕ) → List ℕ → code.Naming → Bool
-fits_held path folded (Pattern pattern) = fits_some pattern path
-fits_held path folded (Text text) = bytes_eq folded text
+abbrev pub has_ident : List (List ℕ) → List ℕ → Bool
+has_ident keys ident = list_any (is_at (slice_cmp nat_cmp (folded_ident ident))) keys
 
-abbrev pub is_held : List ℕ → List code.Naming → Item → Bool
-is_held project namings item = list_any (fits_held (path_of project item.ident) (folded_ident item.ident)) namings
+abbrev pub is_held : List ℕ → List (List ℕ) × List Reading → Item → Bool
+is_held project names item = has_ident names.0 item.ident || fits_any (path_of project item.ident) names.1
 
 -- the items that none of these names
-abbrev pub unheld : List ℕ → List code.Naming → List Item → List Item
-unheld project namings items = filter (λ item. not (is_held project namings item)) items
+abbrev pub unheld : List ℕ → List (List ℕ) × List Reading → List Item → List Item
+unheld project names items = filter (λ item. not (is_held project names item)) items
 
 abbrev pub if_unheld : Bool → Item → List Item
 if_unheld true item = []

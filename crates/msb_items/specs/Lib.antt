@@ -1,9 +1,9 @@
 pub mod Places
 pub mod Metadata
-pub mod Defined
-pub mod Naming
-pub mod Itemed
+pub mod Definitions
+pub mod Patterns
+pub mod ItemNames
+pub mod Items
 pub mod Held
 pub mod Seen
-pub mod Reserving
 pub mod Answers

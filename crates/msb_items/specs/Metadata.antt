@@ -1,4 +1,4 @@
--- The metadata that an element gives: its attributes that are not reserved there, and then its children.
+-- The metadata that are written on an element: its attributes that are not reserved there, and then its children.
 -- (Item element; ItemMetadata element; MSBuild well-known item metadata)
 use Rattle.std.specs.Prelude.{ℕ, List, [], ◌∷◌, ◌++◌, map, filter, not, Bool, true, false, Option, Some, None, Result, Ok, Err, codes, is_some}
 use Rattle.std.specs.List.{list_any}
@@ -14,23 +14,30 @@ use Rattle.build_world.specs.Elements.{At, children_of, attribute_of, fault_of}
 use Rattle.msb_items.specs.Places.{Place, holds_at, text_at}
 
 -- a name and a value as written, the Condition if there is one, and the element at which a fault is told
-pub record Given : Type 0 where
+pub record WrittenMetadata : Type 0 where
   pub name : List ℕ
   pub text : List ℕ
   pub condition : Option (List ℕ)
   pub element : At
 
-abbrev pub given_attribute : At → List ℕ × List ℕ → Given
-given_attribute e pair = record { name = pair.0; text = pair.1; condition = None; element = e }
+abbrev pub attribute_metadata : At → List ℕ × List ℕ → WrittenMetadata
+attribute_metadata e pair = record { name = pair.0; text = pair.1; condition = None; element = e }
 
-abbrev pub given_child : At → Given
-given_child child = record { name = name_of child.node; text = inner_text child.node; condition = attribute_of (codes "Condition") child; element = child }
+abbrev pub child_metadata : At → WrittenMetadata
+child_metadata child = record { name = name_of child.node; text = inner_text child.node; condition = attribute_of (codes "Condition") child; element = child }
 
 abbrev pub is_one_of : List (List ℕ) → List ℕ → Bool
 is_one_of names name = list_any (bytes_eq name) names
 
-abbrev pub given_by : List (List ℕ) → At → List Given
-given_by reserved e = map (given_attribute e) (filter (λ pair. not (is_one_of reserved pair.0)) (attributes_of e.node)) ++ map given_child (children_of e)
+abbrev pub metadata_on : List (List ℕ) → At → List WrittenMetadata
+metadata_on reserved e = map (attribute_metadata e) (filter (λ pair. not (is_one_of reserved pair.0)) (attributes_of e.node)) ++ map child_metadata (children_of e)
+
+-- the attributes of a definition and of an item that are no metadata
+abbrev pub definition_attributes : List (List ℕ)
+definition_attributes = codes "Condition" ∷ codes "Label" ∷ []
+
+abbrev pub item_attributes : List (List ℕ)
+item_attributes = codes "Include" ∷ codes "Exclude" ∷ codes "Remove" ∷ codes "Update" ∷ codes "Condition" ∷ codes "Label" ∷ []
 
 -- well-known metadata are computed, and these are as well in other builds
 abbrev pub left_out : List (List ℕ)
@@ -40,19 +47,19 @@ left_out = codes "modifiedtime" ∷ codes "createdtime" ∷ codes "accessedtime"
 abbrev pub is_computed : List ℕ → Bool
 is_computed name = elim (is_some (value_at name well_known)) [ true ↦ true | false ↦ is_one_of left_out name ]
 
-abbrev pub value_unless : Bool → Place → Given → List ℕ → Result (Option (List ℕ × List ℕ)) EvalFault
-value_unless true p given name = Err (fault_of given.element (Reserved name))
-value_unless false p given name = map_ok (λ text. Some (name, text)) (text_at p given.element given.text)
+abbrev pub value_unless : Bool → Place → WrittenMetadata → List ℕ → Result (Option (List ℕ × List ℕ)) EvalFault
+value_unless true p metadata name = Err (fault_of metadata.element (Reserved name))
+value_unless false p metadata name = map_ok (λ text. Some (name, text)) (text_at p metadata.element metadata.text)
 
 -- a name that is none names nothing
-abbrev pub value_named : Option (List ℕ) → Place → Given → Result (Option (List ℕ × List ℕ)) EvalFault
-value_named None p given = Ok None
-value_named (Some name) p given = value_unless (is_computed name) p given name
+abbrev pub value_named : Option (List ℕ) → Place → WrittenMetadata → Result (Option (List ℕ × List ℕ)) EvalFault
+value_named None p metadata = Ok None
+value_named (Some name) p metadata = value_unless (is_computed name) p metadata name
 
-abbrev pub value_if : Bool → Place → Given → Result (Option (List ℕ × List ℕ)) EvalFault
-value_if true p given = value_named (key_of given.name) p given
-value_if false p given = Ok None
+abbrev pub value_if : Bool → Place → WrittenMetadata → Result (Option (List ℕ × List ℕ)) EvalFault
+value_if true p metadata = value_named (key_of metadata.name) p metadata
+value_if false p metadata = Ok None
 
--- the name and the value that are given, if the Condition holds; a name that is computed is refused
-abbrev pub value_given : Place → Given → Result (Option (List ℕ × List ℕ)) EvalFault
-value_given p given = and_then (holds_at p given.element given.condition) (λ holds. value_if holds p given)
+-- the name and the value, if the Condition holds; a name that is computed is refused
+abbrev pub metadata_value : Place → WrittenMetadata → Result (Option (List ℕ × List ℕ)) EvalFault
+metadata_value p metadata = and_then (holds_at p metadata.element metadata.condition) (λ holds. value_if holds p metadata)

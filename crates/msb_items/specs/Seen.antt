@@ -1,23 +1,36 @@
--- What the code holds of a place, of an element and of what it gives.
+-- What the code holds of a place and of the metadata that are written on an element.
 use Rattle.std.specs.Prelude.{ℕ, List, option_map, option_copied}
-use Rattle.file_store.specs.Files.{paths_of}
-use Rattle.msb_elements.specs.View.{view}
-use Rattle.build_world.specs.Elements.{At, at}
-use Rattle.msb_items.specs.declared.spots.Spot.{Spot}
-use Rattle.msb_items.specs.declared.sights.Sight.{Sight}
-use Rattle.msb_items.specs.declared.sites.Site.{Site}
-use Rattle.msb_items.specs.declared.givens.Given as code
-use Rattle.msb_items.specs.Places.{Place}
-use Rattle.msb_items.specs.Metadata.{Given}
+use Rattle.msb_values.specs.declared.scope.Scope.{Scope}
+use Rattle.build_world.specs.Elements.{seen_element}
+use Rattle.msb_items.specs.declared.place.Place as code
+use Rattle.msb_items.specs.declared.source.Source.{Source}
+use Rattle.msb_items.specs.declared.metadata.Kind.{Kind}
+use Rattle.msb_items.specs.declared.metadata.Kind.TheVariants.{Definition, Item}
+use Rattle.msb_items.specs.declared.metadata.WrittenMetadata as written
+use Rattle.msb_items.specs.Places.{Place, definition_place, item_place}
+use Rattle.msb_items.specs.Metadata.{WrittenMetadata, definition_attributes, item_attributes}
 
-abbrev pub at_of : Spot → At
-at_of spot = at spot.file.now (view spot.element.now)
+-- by what files a view of them has
+abbrev pub place_of : {F : Type 0} → (F → List (List ℕ)) → code.Place F → Place
+place_of files p = record {
+  files = files p.files.now;
+  project = p.project.now;
+  scope = p.scope.now;
+  usage = p.usage;
+  own = option_map (λ own. (own.0.now, own.1.now)) p.own;
+  bucket = option_copied p.bucket;
+}
 
-abbrev pub files_of : Site → List (List ℕ)
-files_of site = paths_of site.tree.now.files
+abbrev pub definitions_in : {F : Type 0} → (F → List (List ℕ)) → Source F → Scope → Place
+definitions_in files source scope = definition_place (files source.files.now) source.project.now scope
 
-abbrev pub place_of : Sight → Place
-place_of sight = record { files = paths_of sight.tree.now.files; project = sight.project.now; scope = sight.scope.now; usage = sight.usage; own = option_map (λ p. (p.0.now, p.1.now)) sight.own }
+abbrev pub items_in : {F : Type 0} → (F → List (List ℕ)) → Source F → Scope → Place
+items_in files source scope = item_place (files source.files.now) source.project.now scope
 
-abbrev pub given_of : code.Given → Given
-given_of given = record { name = given.name.now; text = given.text.now; condition = option_copied given.condition; element = at_of given.spot }
+abbrev pub metadata_of : written.WrittenMetadata → WrittenMetadata
+metadata_of metadata = record { name = metadata.name.now; text = metadata.text.now; condition = option_copied metadata.condition; element = seen_element metadata.element }
+
+-- the attributes of an element that are no metadata
+abbrev pub reserved_of : Kind → List (List ℕ)
+reserved_of Definition = definition_attributes
+reserved_of Item = item_attributes

@@ -1,130 +1,129 @@
-ghost use Rattle.std.specs.Prelude.{◌≡◌, Some};
-ghost use Rattle.msb_laws.specs.Results.{map_ok};
+ghost use Rattle.std.specs.Prelude.{◌≡◌, option_copied};
+ghost use Rattle.msb_laws.specs.Results.{and_then, map_ok};
 ghost use Rattle.build_world.specs.Answers.{GivesFault};
-ghost use Rattle.msb_items.specs.Itemed.{entered, items_dressed, items_left, less_excluded, list_of, named_in, new_items, unnamed};
-ghost use Rattle.msb_items.specs.Seen.{at_of, files_of};
+ghost use Rattle.build_world.specs.Elements.{seen_element};
+ghost use Rattle.msb_items.specs.Held.{held, held_in};
+ghost use Rattle.msb_items.specs.Items.{items_at, less_excluded, list_of, names_at, new_items, unnamed, updated_items};
+ghost use Rattle.msb_items.specs.Metadata.{item_attributes, metadata_on};
+ghost use Rattle.msb_items.specs.Seen.{place_of};
 
-use crate::choosing::{copies_of_unnamed, named_in, unnamed};
-use crate::dressing::{dress_all, dress_named};
 use crate::entries::all_items;
-use crate::givens::{Bearer, given_by};
-use crate::sights::{Sight, list_at};
-use crate::sites::{Site, Stock};
-use crate::spots::{Spot, fault_at};
-use build_world::EvalFault;
+use crate::item_names::ItemNames;
+use crate::metadata::{Kind, metadata_on};
+use crate::place::Place;
+use crate::unnamed::unnamed;
+use crate::updates::{updated_items, with_metadata};
+use build_world::{EvalFault, PlacedElement};
+use msb_glob::SortedPaths;
+use msb_paths::Present;
 use msb_values::{Item, Name, Scope};
 use std::alloc::Global;
 
-/// The items that an Include adds, less those that Exclude names, with the metadata that the element gives.
+/// The items that an Include adds, less those that Exclude names, with the metadata that are written on the element.
 /// (MSBuild items.)
-pub(crate) fn new_items(
+pub(crate) fn new_items<F: Present>(
     alloc: Global,
-    stock: &Stock<'_>,
-    scope: &Scope,
+    place: &Place<'_, F>,
+    paths: &SortedPaths<'_>,
     kind: &Name,
-    spot: &Spot<'_>,
-    written: &str,
+    element: &PlacedElement<'_>,
+    include: &str,
 ) -> Result<Vec<Item>, EvalFault>
-    ensures { GivesFault (λ items. items.items) result (new_items (files_of stock.now.site) stock.now.site.project.now scope.now kind.now (at_of spot.now) written.now) }
+    requires { paths.now ≡ F.files place.now.files.now }
+    ensures { GivesFault (λ items. items.items) result (new_items (place_of F.files place.now) kind.now (seen_element element.now) include.now) }
 {
-    let items = less_excluded(alloc, stock, scope, spot, written)?;
-    let Ok(givens) = given_by(alloc, Bearer::Item, spot) else {
+    let items = items_at(alloc, place, paths, element, include)?;
+    let exclude = element.element.attribute("Exclude");
+    let items = less_excluded(alloc, place, element, exclude, items)?;
+    let Ok(written) = metadata_on(alloc, Kind::Item, element) else {
         return Err(EvalFault::memory(alloc));
     };
-    dress_all(alloc, &stock.site, scope, kind, &givens, items)
-}
-
-fn less_excluded(
-    alloc: Global,
-    stock: &Stock<'_>,
-    scope: &Scope,
-    spot: &Spot<'_>,
-    written: &str,
-) -> Result<Vec<Item>, EvalFault>
-    ensures { GivesFault (λ items. items.items) result (less_excluded (files_of stock.now.site) stock.now.site.project.now scope.now (at_of spot.now) written.now) }
-{
-    let items = entered(alloc, stock, scope, spot, written)?;
-    match spot.element.attribute("Exclude") {
-        None => Ok(items),
-        Some(excluded) => exclude(alloc, &stock.site, scope, spot, excluded, items),
-    }
+    with_metadata(alloc, place, kind, &written, items)
 }
 
 /// The items of the entries of an Include.
-fn entered(
+fn items_at<F: Present>(
     alloc: Global,
-    stock: &Stock<'_>,
-    scope: &Scope,
-    spot: &Spot<'_>,
-    written: &str,
+    place: &Place<'_, F>,
+    paths: &SortedPaths<'_>,
+    element: &PlacedElement<'_>,
+    include: &str,
 ) -> Result<Vec<Item>, EvalFault>
-    ensures { GivesFault (λ items. items.items) result (entered (files_of stock.now.site) stock.now.site.project.now scope.now (at_of spot.now) written.now) }
+    requires { paths.now ≡ F.files place.now.files.now }
+    ensures { GivesFault (λ items. items.items) result (items_at (place_of F.files place.now) (seen_element element.now) include.now) }
 {
-    let site = stock.site;
-    let entries = list_at(
-        alloc,
-        &Sight::of_item(site.tree, site.project, scope),
-        spot,
-        written,
-    )?;
-    match all_items(alloc, &stock.paths, site.project, entries.as_slice()) {
+    let entries = place.entries(alloc, element, include)?;
+    match all_items(alloc, paths, place.project, entries.as_slice()) {
         Ok(items) => Ok(items),
-        Err(cause) => Err(fault_at(alloc, spot, cause)),
+        Err(cause) => Err(element.fault(alloc, cause)),
     }
 }
 
-fn exclude(
+fn less_excluded<F: Present>(
     alloc: Global,
-    site: &Site<'_>,
-    scope: &Scope,
-    spot: &Spot<'_>,
-    excluded: &str,
+    place: &Place<'_, F>,
+    element: &PlacedElement<'_>,
+    exclude: Option<&str>,
     items: Vec<Item>,
 ) -> Result<Vec<Item>, EvalFault>
-    ensures { GivesFault (λ items. items.items) result (map_ok (unnamed site.now.project.now items.items) (named_in (files_of site.now) site.now.project.now scope.now (at_of spot.now) (Some excluded.now))) }
+    ensures { GivesFault (λ items. items.items) result (less_excluded (place_of F.files place.now) (seen_element element.now) (option_copied exclude.entry) items.items) }
 {
-    let namings = named_in(alloc, site, scope, spot, Some(excluded))?;
-    match unnamed(alloc, site.project, &namings, items) {
+    match exclude {
+        None => Ok(items),
+        Some(exclude) => excluded(alloc, place, element, exclude, items),
+    }
+}
+
+/// The items that the entries of an Exclude do not name.
+fn excluded<F: Present>(
+    alloc: Global,
+    place: &Place<'_, F>,
+    element: &PlacedElement<'_>,
+    exclude: &str,
+    items: Vec<Item>,
+) -> Result<Vec<Item>, EvalFault>
+    ensures { GivesFault (λ items. items.items) result (map_ok (unnamed place.now.project.now items.items) (names_at (place_of F.files place.now) (seen_element element.now) exclude.now)) }
+{
+    let names = names_at(alloc, place, element, exclude)?;
+    match unnamed(alloc, place.project, &names, items) {
         Ok(kept) => Ok(kept),
         Err(_) => Err(EvalFault::memory(alloc)),
     }
 }
 
-/// The items that a Remove leaves. (MSBuild items.)
-pub(crate) fn items_left(
+/// What the entries of an attribute name.
+pub(crate) fn names_at<F: Present>(
     alloc: Global,
-    site: &Site<'_>,
-    scope: &Scope,
-    kind: &Name,
-    spot: &Spot<'_>,
+    place: &Place<'_, F>,
+    element: &PlacedElement<'_>,
     written: &str,
-) -> Result<Vec<Item>, EvalFault>
-    ensures { GivesFault (λ items. items.items) result (items_left (files_of site.now) site.now.project.now scope.now kind.now (at_of spot.now) written.now) }
+) -> Result<ItemNames, EvalFault>
+    ensures { GivesFault held_in result (map_ok held (names_at (place_of F.files place.now) (seen_element element.now) written.now)) }
 {
-    let namings = named_in(alloc, site, scope, spot, Some(written))?;
-    match copies_of_unnamed(alloc, site.project, &namings, list_of(scope, kind)) {
-        Ok(kept) => Ok(kept),
-        Err(_) => Err(EvalFault::memory(alloc)),
+    let entries = place.entries(alloc, element, written)?;
+    match ItemNames::of(alloc, place.project, entries.as_slice()) {
+        Ok(names) => Ok(names),
+        Err(cause) => Err(element.fault(alloc, cause)),
     }
 }
 
-/// The items of a type, of which those that an Update names get the metadata that the element gives. (MSBuild items.)
-pub(crate) fn items_dressed(
+/// The items of a type, of which those that an Update names get the metadata that are written on the element.
+/// (MSBuild items.)
+pub(crate) fn items_updated<F: Present>(
     alloc: Global,
-    site: &Site<'_>,
-    scope: &Scope,
+    place: &Place<'_, F>,
     kind: &Name,
-    spot: &Spot<'_>,
-    written: &str,
+    element: &PlacedElement<'_>,
+    update: &str,
 ) -> Result<Vec<Item>, EvalFault>
-    ensures { GivesFault (λ items. items.items) result (items_dressed (files_of site.now) site.now.project.now scope.now kind.now (at_of spot.now) written.now) }
+    ensures { GivesFault (λ items. items.items) result (and_then (names_at (place_of F.files place.now) (seen_element element.now) update.now) (λ names. updated_items (place_of F.files place.now) kind.now (metadata_on item_attributes (seen_element element.now)) names (list_of place.now.scope.now kind.now))) }
 {
-    let namings = named_in(alloc, site, scope, spot, Some(written))?;
-    let Ok(givens) = given_by(alloc, Bearer::Item, spot) else {
+    let names = names_at(alloc, place, element, update)?;
+    let Ok(written) = metadata_on(alloc, Kind::Item, element) else {
         return Err(EvalFault::memory(alloc));
     };
-    let items = list_of(scope, kind);
-    dress_named(alloc, site, scope, kind, &namings, &givens, items)
+    let items = list_of(place.scope, kind);
+    updated_items(alloc, place, kind, &names, &written, items)
 }
 
 fn list_of<'a>(scope: &'a Scope, kind: &Name) -> &'a [Item]

@@ -1,17 +1,17 @@
 ghost use Rattle.std.specs.Prelude.{◌≡◌, map, true, Some, OnOk};
 ghost use Rattle.file_store.specs.Files.{paths_of};
-ghost use Rattle.msb_laws.specs.Results.{fold_ok};
-ghost use Rattle.build_world.specs.Elements.{children_of, seen_placed};
+ghost use Rattle.build_world.specs.Elements.{children_of, seen_element, seen_placed};
 ghost use Rattle.msb_items.specs.Answers.{Changes};
-ghost use Rattle.msb_items.specs.Defined.{all_defined, defined, defined_by, definition_if, no_item, with_default, with_definition, with_definitions};
-ghost use Rattle.msb_items.specs.Seen.{at_of, files_of, given_of};
+ghost use Rattle.msb_items.specs.Definitions.{all_defined, defined_by, definition_if, no_item, with_default, with_default_written, with_defaults_written, with_definition, with_definitions};
+ghost use Rattle.msb_items.specs.Places.{after_each};
+ghost use Rattle.msb_items.specs.Seen.{definitions_in, metadata_of};
 
-use crate::givens::{Bearer, Given, given_by, key_of, value_given};
-use crate::sights::{Sight, element_holds};
-use crate::sites::{Site, project_path};
-use crate::spots::Spot;
-use build_world::{EvalFault, LaidOut, Placed};
+use crate::metadata::{Kind, WrittenMetadata, key_of, metadata_on};
+use crate::place::Place;
+use crate::source::{Source, project_path};
+use build_world::{EvalFault, LaidOut, Placed, PlacedElement};
 use file_store::Tree;
+use msb_paths::Present;
 use msb_values::{Copied, Item, Name, NoMemory, Pairs, Scope, Text};
 use std::alloc::Global;
 
@@ -26,103 +26,98 @@ pub fn definition_pass(
     ensures { Changes result scope.new (all_defined (paths_of tree.now.files) scope.old (map seen_placed laid.now.elements.items)) }
 {
     let elements = laid.elements.as_slice();
-    let project = project_path(elements);
-    define_all(alloc, &Site { tree, project }, elements, scope)
+    let source = Source {
+        files: tree,
+        project: project_path(elements),
+    };
+    define_all(alloc, &source, elements, scope)
 }
 
-fn define_all(
+fn define_all<F: Present>(
     alloc: Global,
-    site: &Site<'_>,
+    source: &Source<'_, F>,
     elements: &[Placed],
     scope: &mut Scope,
 ) -> Result<(), EvalFault>
-    ensures { Changes result scope.new (fold_ok (defined_by (files_of site.now) site.now.project.now) scope.old (map seen_placed elements.now)) }
+    ensures { Changes result scope.new (after_each defined_by (definitions_in F.files source.now scope.old) (map seen_placed elements.now)) }
 {
     for placed in elements {
-        define_by(alloc, site, &Spot::of(placed), scope)?;
+        define_by(alloc, source, &PlacedElement::of(placed), scope)?;
     }
     Ok(())
 }
 
 /// What an element of a project defines: a group's definitions, and nothing else.
-fn define_by(
+fn define_by<F: Present>(
     alloc: Global,
-    site: &Site<'_>,
-    spot: &Spot<'_>,
+    source: &Source<'_, F>,
+    element: &PlacedElement<'_>,
     scope: &mut Scope,
 ) -> Result<(), EvalFault>
-    ensures { Changes result scope.new (defined_by (files_of site.now) site.now.project.now scope.old (at_of spot.now)) }
+    ensures { Changes result scope.new (defined_by (definitions_in F.files source.now scope.old) (seen_element element.now)) }
 {
-    if spot.element.name() == "ItemDefinitionGroup" {
-        return define_group(alloc, site, spot, scope);
+    if element.element.name() == "ItemDefinitionGroup" {
+        return define_group(alloc, source, element, scope);
     }
     Ok(())
 }
 
 /// The definitions of an ItemDefinitionGroup. (ItemDefinitionGroup element.)
-fn define_group(
+fn define_group<F: Present>(
     alloc: Global,
-    site: &Site<'_>,
-    spot: &Spot<'_>,
+    source: &Source<'_, F>,
+    element: &PlacedElement<'_>,
     scope: &mut Scope,
 ) -> Result<(), EvalFault>
-    ensures { Changes result scope.new (with_definitions (files_of site.now) site.now.project.now scope.old (at_of spot.now)) }
+    ensures { Changes result scope.new (with_definitions (definitions_in F.files source.now scope.old) (seen_element element.now)) }
 {
-    if element_holds(
-        alloc,
-        &Sight::of_definition(site.tree, site.project, scope),
-        spot,
-    )? {
-        return define_children(alloc, site, spot, scope);
+    if Place::of_definitions(source.files, source.project, scope).element_holds(alloc, element)? {
+        return define_children(alloc, source, element, scope);
     }
     Ok(())
 }
 
-fn define_children(
+fn define_children<F: Present>(
     alloc: Global,
-    site: &Site<'_>,
-    spot: &Spot<'_>,
+    source: &Source<'_, F>,
+    element: &PlacedElement<'_>,
     scope: &mut Scope,
 ) -> Result<(), EvalFault>
-    ensures { Changes result scope.new (fold_ok (with_definition (files_of site.now) site.now.project.now) scope.old (children_of (at_of spot.now))) }
+    ensures { Changes result scope.new (after_each with_definition (definitions_in F.files source.now scope.old) (children_of (seen_element element.now))) }
 {
-    for child in spot.element.children() {
-        define(alloc, site, &spot.child(child), scope)?;
+    for child in element.element.children() {
+        define(alloc, source, &element.child(child), scope)?;
     }
     Ok(())
 }
 
 /// A definition element. (Item definitions.)
-fn define(
+fn define<F: Present>(
     alloc: Global,
-    site: &Site<'_>,
-    spot: &Spot<'_>,
+    source: &Source<'_, F>,
+    element: &PlacedElement<'_>,
     scope: &mut Scope,
 ) -> Result<(), EvalFault>
-    ensures { Changes result scope.new (with_definition (files_of site.now) site.now.project.now scope.old (at_of spot.now)) }
+    ensures { Changes result scope.new (with_definition (definitions_in F.files source.now scope.old) (seen_element element.now)) }
 {
-    if element_holds(
-        alloc,
-        &Sight::of_definition(site.tree, site.project, scope),
-        spot,
-    )? {
-        return define_kind(alloc, site, spot, scope);
+    if Place::of_definitions(source.files, source.project, scope).element_holds(alloc, element)? {
+        return define_kind(alloc, source, element, scope);
     }
     Ok(())
 }
 
-fn define_kind(
+fn define_kind<F: Present>(
     alloc: Global,
-    site: &Site<'_>,
-    spot: &Spot<'_>,
+    source: &Source<'_, F>,
+    element: &PlacedElement<'_>,
     scope: &mut Scope,
 ) -> Result<(), EvalFault>
-    ensures { Changes result scope.new (definition_if true (files_of site.now) site.now.project.now scope.old (at_of spot.now)) }
+    ensures { Changes result scope.new (definition_if true (definitions_in F.files source.now scope.old) (seen_element element.now)) }
 {
-    let Some(kind) = key_of(alloc, spot.element.name())? else {
+    let Some(kind) = key_of(alloc, element.element.name())? else {
         return Ok(());
     };
-    let Ok(givens) = given_by(alloc, Bearer::Type, spot) else {
+    let Ok(written) = metadata_on(alloc, Kind::Definition, element) else {
         return Err(EvalFault::memory(alloc));
     };
     let nothing = Item {
@@ -130,43 +125,40 @@ fn define_kind(
         recursive: Text::from(String::new(alloc)),
         meta: Pairs::new(alloc),
     };
-    set_defaults(alloc, site, &kind, &nothing, &givens, scope)
+    set_defaults(alloc, source, &kind, &nothing, &written, scope)
 }
 
 /// Sets the defaults of a type, each of which sees those ahead of it.
-fn set_defaults(
+fn set_defaults<F: Present>(
     alloc: Global,
-    site: &Site<'_>,
+    source: &Source<'_, F>,
     kind: &Name,
     nothing: &Item,
-    givens: &[Given<'_>],
+    written: &[WrittenMetadata<'_>],
     scope: &mut Scope,
 ) -> Result<(), EvalFault>
     requires { nothing.now ≡ no_item }
-    ensures { Changes result scope.new (fold_ok (defined (files_of site.now) site.now.project.now kind.now) scope.old (map given_of givens.now)) }
+    ensures { Changes result scope.new (with_defaults_written kind.now (definitions_in F.files source.now scope.old) (map metadata_of written.now)) }
 {
-    for given in givens {
-        set_given(alloc, site, kind, nothing, given, scope)?;
+    for metadata in written {
+        set_default_written(alloc, source, kind, nothing, metadata, scope)?;
     }
     Ok(())
 }
 
-fn set_given(
+fn set_default_written<'k, F: Present>(
     alloc: Global,
-    site: &Site<'_>,
-    kind: &Name,
-    nothing: &Item,
-    given: &Given<'_>,
+    source: &Source<'_, F>,
+    kind: &'k Name,
+    nothing: &'k Item,
+    metadata: &WrittenMetadata<'_>,
     scope: &mut Scope,
 ) -> Result<(), EvalFault>
     requires { nothing.now ≡ no_item }
-    ensures { Changes result scope.new (defined (files_of site.now) site.now.project.now kind.now scope.old (given_of given.now)) }
+    ensures { Changes result scope.new (with_default_written kind.now (definitions_in F.files source.now scope.old) (metadata_of metadata.now)) }
 {
-    let value = value_given(
-        alloc,
-        &Sight::of_default(site.tree, site.project, scope, kind, nothing),
-        given,
-    )?;
+    let place = Place::of_definitions(source.files, source.project, scope);
+    let value = metadata.value(alloc, &place.of_metadata(kind, nothing))?;
     let Some((name, text)) = value else {
         return Ok(());
     };

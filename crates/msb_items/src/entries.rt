@@ -1,20 +1,52 @@
 ghost use Rattle.std.specs.Prelude.{◌≡◌, [], ◌∷◌, ◌++◌, map, IfOk, OnOk};
 ghost use Rattle.msb_laws.specs.Results.{map_ok};
+ghost use Rattle.msb_values.specs.Caused.{GivesCause, UnlessMemory};
 ghost use Rattle.msb_items.specs.Answers.{GivesCauseAs};
-ghost use Rattle.msb_items.specs.Itemed.{all_items, item_of, items_of, matched};
-ghost use Rattle.msb_items.specs.Naming.{pattern_of};
+ghost use Rattle.msb_items.specs.Items.{all_items, item_of, items_of, matched};
+ghost use Rattle.msb_items.specs.Patterns.{is_pattern_entry, pattern_cause, pattern_of};
 
-use crate::namings::{is_pattern, pattern_of};
-use msb_glob::{Match, Pattern, SortedPaths, expand_in};
+use msb_expand::{Entry, folder_of};
+use msb_glob::{GlobFault, Match, Pattern, SortedPaths, expand_in, is_pattern};
 use msb_values::{Cause, Copied, Item, NoMemory, Pairs, Text};
 use std::alloc::Global;
+
+/// Whether an entry is a pattern; one that a reference gives is none.
+pub(crate) fn is_pattern_entry(entry: &Entry) -> bool
+    ensures { result ≡ is_pattern_entry entry.now }
+{
+    entry.written && is_pattern(entry.item.ident.as_str())
+}
+
+/// Reads an entry as a pattern of the project at a path.
+pub(crate) fn pattern_of(alloc: Global, project: &str, entry: &Entry) -> Result<Pattern, Cause>
+    ensures { GivesCause result (pattern_of project.now entry.now) }
+{
+    let text = entry.item.ident.as_str();
+    match Pattern::parse(alloc, folder_of(project), text) {
+        Ok(pattern) => Ok(pattern),
+        Err(fault) => Err(pattern_cause(alloc, text, fault)),
+    }
+}
+
+fn pattern_cause(alloc: Global, text: &str, fault: GlobFault) -> Cause
+    ensures { UnlessMemory result (result ≡ pattern_cause text.now fault) }
+{
+    match fault {
+        GlobFault::StarsInSegment => Cause::StarsInSegment,
+        GlobFault::Path(_) => match Text::of(alloc, text) {
+            Ok(text) => Cause::BadPath(text),
+            Err(_) => Cause::Memory,
+        },
+        GlobFault::Memory => Cause::Memory,
+    }
+}
 
 /// The items of the entries of an Include, one entry after another. (MSBuild items, wildcards to specify items.)
 pub(crate) fn all_items(
     alloc: Global,
     paths: &SortedPaths<'_>,
     project: &str,
-    entries: &[Item],
+    entries: &[Entry],
 ) -> Result<Vec<Item>, Cause>
     ensures { GivesCauseAs (λ items. items.items) result (all_items paths.now project.now entries.now) }
 {
@@ -28,7 +60,7 @@ fn push_items(
     items: &mut Vec<Item>,
     paths: &SortedPaths<'_>,
     project: &str,
-    entries: &[Item],
+    entries: &[Entry],
 ) -> Result<(), Cause>
     ensures { GivesCauseAs (λ _. items.new.items) result (map_ok (λ more. items.old.items ++ more) (all_items paths.now project.now entries.now)) }
 {
@@ -44,14 +76,14 @@ fn push_items_of(
     items: &mut Vec<Item>,
     paths: &SortedPaths<'_>,
     project: &str,
-    entry: &Item,
+    entry: &Entry,
 ) -> Result<(), Cause>
     ensures { GivesCauseAs (λ _. items.new.items) result (map_ok (λ more. items.old.items ++ more) (items_of paths.now project.now entry.now)) }
 {
-    if is_pattern(entry.ident.as_str()) {
-        return push_pattern(alloc, items, paths, project, entry.ident.as_str());
+    if is_pattern_entry(entry) {
+        return push_pattern(alloc, items, paths, project, entry);
     }
-    match push_copy(items, entry) {
+    match push_copy(items, &entry.item) {
         Ok(()) => Ok(()),
         Err(_) => Err(Cause::Memory),
     }
@@ -62,21 +94,21 @@ fn push_pattern(
     items: &mut Vec<Item>,
     paths: &SortedPaths<'_>,
     project: &str,
-    text: &str,
+    entry: &Entry,
 ) -> Result<(), Cause>
-    ensures { GivesCauseAs (λ _. items.new.items) result (map_ok (λ more. items.old.items ++ more) (map_ok (matched paths.now) (pattern_of project.now text.now))) }
+    ensures { GivesCauseAs (λ _. items.new.items) result (map_ok (λ more. items.old.items ++ more) (map_ok (matched paths.now) (pattern_of project.now entry.now))) }
 {
-    let pattern = pattern_of(alloc, project, text)?;
+    let pattern = pattern_of(alloc, project, entry)?;
     match push_matches(alloc, items, paths, &pattern) {
         Ok(()) => Ok(()),
         Err(_) => Err(Cause::Memory),
     }
 }
 
-fn push_copy(items: &mut Vec<Item>, entry: &Item) -> Result<(), NoMemory>
-    ensures { OnOk result (items.new.items ≡ items.old.items ++ entry.now ∷ []) }
+fn push_copy(items: &mut Vec<Item>, item: &Item) -> Result<(), NoMemory>
+    ensures { OnOk result (items.new.items ≡ items.old.items ++ item.now ∷ []) }
 {
-    let item = entry.copy()?;
+    let item = item.copy()?;
     Ok(items.push(item)?)
 }
 

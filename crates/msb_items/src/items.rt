@@ -1,18 +1,22 @@
 ghost use Rattle.std.specs.Prelude.{◌≡◌, ◌++◌, map, true, Some, OnOk};
 ghost use Rattle.file_store.specs.Files.{paths_of};
-ghost use Rattle.msb_laws.specs.Results.{fold_ok};
-ghost use Rattle.build_world.specs.Elements.{children_of, seen_placed};
+ghost use Rattle.build_world.specs.Answers.{GivesFault};
+ghost use Rattle.build_world.specs.Elements.{children_of, seen_element, seen_placed};
 ghost use Rattle.msb_items.specs.Answers.{Changes};
-ghost use Rattle.msb_items.specs.Itemed.{all_itemed, included, item_if, itemed_by, kind_changed, list_of, removed, updated, with_group, with_item, with_list};
-ghost use Rattle.msb_items.specs.Seen.{at_of, files_of};
+ghost use Rattle.msb_items.specs.Items.{all_itemed, included, item_if, item_named, itemed_by, list_of, removed, updated, with_item, with_items, with_list};
+ghost use Rattle.msb_items.specs.Held.{held_in, unheld};
+ghost use Rattle.msb_items.specs.Places.{after_each, element_holds};
+ghost use Rattle.msb_items.specs.Seen.{items_in};
 
-use crate::changes::{items_dressed, items_left, new_items};
-use crate::givens::key_of;
-use crate::sights::{Sight, element_holds};
-use crate::sites::{Site, Stock, project_path, sorted_paths};
-use crate::spots::Spot;
-use build_world::{EvalFault, LaidOut, Placed};
+use crate::changes::{items_updated, names_at, new_items};
+use crate::item_names::ItemNames;
+use crate::metadata::key_of;
+use crate::place::Place;
+use crate::source::{ItemSource, Source, project_path, sorted_paths};
+use crate::unnamed::unnamed;
+use build_world::{EvalFault, LaidOut, Placed, PlacedElement};
 use file_store::Tree;
+use msb_paths::Present;
 use msb_values::{Copied, Item, List, Name, NoMemory, Scope};
 use std::alloc::Global;
 
@@ -30,170 +34,199 @@ pub fn item_pass(
         return Err(EvalFault::memory(alloc));
     };
     let elements = laid.elements.as_slice();
-    let project = project_path(elements);
-    let stock = Stock {
-        site: Site { tree, project },
+    let source = ItemSource {
+        source: Source {
+            files: tree,
+            project: project_path(elements),
+        },
         paths,
     };
-    take_all(alloc, &stock, elements, scope)
+    take_all(alloc, &source, elements, scope)
 }
 
-fn take_all(
+fn take_all<F: Present>(
     alloc: Global,
-    stock: &Stock<'_>,
+    source: &ItemSource<'_, F>,
     elements: &[Placed],
     scope: &mut Scope,
 ) -> Result<(), EvalFault>
-    ensures { Changes result scope.new (fold_ok (itemed_by (files_of stock.now.site) stock.now.site.project.now) scope.old (map seen_placed elements.now)) }
+    ensures { Changes result scope.new (after_each itemed_by (items_in F.files source.now.source scope.old) (map seen_placed elements.now)) }
 {
     for placed in elements {
-        take(alloc, stock, &Spot::of(placed), scope)?;
+        take(alloc, source, &PlacedElement::of(placed), scope)?;
     }
     Ok(())
 }
 
 /// What an element of a project does to the items: a group's elements, and nothing else.
-fn take(
+fn take<F: Present>(
     alloc: Global,
-    stock: &Stock<'_>,
-    spot: &Spot<'_>,
+    source: &ItemSource<'_, F>,
+    element: &PlacedElement<'_>,
     scope: &mut Scope,
 ) -> Result<(), EvalFault>
-    ensures { Changes result scope.new (itemed_by (files_of stock.now.site) stock.now.site.project.now scope.old (at_of spot.now)) }
+    ensures { Changes result scope.new (itemed_by (items_in F.files source.now.source scope.old) (seen_element element.now)) }
 {
-    if spot.element.name() == "ItemGroup" {
-        return take_group(alloc, stock, spot, scope);
+    if element.element.name() == "ItemGroup" {
+        return take_group(alloc, source, element, scope);
     }
     Ok(())
 }
 
 /// The elements of an ItemGroup. (ItemGroup element.)
-fn take_group(
+fn take_group<F: Present>(
     alloc: Global,
-    stock: &Stock<'_>,
-    spot: &Spot<'_>,
+    source: &ItemSource<'_, F>,
+    element: &PlacedElement<'_>,
     scope: &mut Scope,
 ) -> Result<(), EvalFault>
-    ensures { Changes result scope.new (with_group (files_of stock.now.site) stock.now.site.project.now scope.old (at_of spot.now)) }
+    ensures { Changes result scope.new (with_items (items_in F.files source.now.source scope.old) (seen_element element.now)) }
 {
-    let site = stock.site;
-    if element_holds(alloc, &Sight::of_item(site.tree, site.project, scope), spot)? {
-        return take_children(alloc, stock, spot, scope);
+    if holds(alloc, &source.source, element, scope)? {
+        return take_children(alloc, source, element, scope);
     }
     Ok(())
 }
 
-fn take_children(
+/// Whether the Condition of an element holds.
+fn holds<F: Present>(
     alloc: Global,
-    stock: &Stock<'_>,
-    spot: &Spot<'_>,
+    source: &Source<'_, F>,
+    element: &PlacedElement<'_>,
+    scope: &Scope,
+) -> Result<bool, EvalFault>
+    ensures { GivesFault (λ holds. holds) result (element_holds (items_in F.files source.now scope.now) (seen_element element.now)) }
+{
+    Place::of_items(source.files, source.project, scope).element_holds(alloc, element)
+}
+
+fn take_children<F: Present>(
+    alloc: Global,
+    source: &ItemSource<'_, F>,
+    element: &PlacedElement<'_>,
     scope: &mut Scope,
 ) -> Result<(), EvalFault>
-    ensures { Changes result scope.new (fold_ok (with_item (files_of stock.now.site) stock.now.site.project.now) scope.old (children_of (at_of spot.now))) }
+    ensures { Changes result scope.new (after_each with_item (items_in F.files source.now.source scope.old) (children_of (seen_element element.now))) }
 {
-    for child in spot.element.children() {
-        take_item(alloc, stock, &spot.child(child), scope)?;
+    for child in element.element.children() {
+        take_item(alloc, source, &element.child(child), scope)?;
     }
     Ok(())
 }
 
 /// An item element. (Item element.)
-fn take_item(
+fn take_item<F: Present>(
     alloc: Global,
-    stock: &Stock<'_>,
-    spot: &Spot<'_>,
+    source: &ItemSource<'_, F>,
+    element: &PlacedElement<'_>,
     scope: &mut Scope,
 ) -> Result<(), EvalFault>
-    ensures { Changes result scope.new (with_item (files_of stock.now.site) stock.now.site.project.now scope.old (at_of spot.now)) }
+    ensures { Changes result scope.new (with_item (items_in F.files source.now.source scope.old) (seen_element element.now)) }
 {
-    let site = stock.site;
-    if element_holds(alloc, &Sight::of_item(site.tree, site.project, scope), spot)? {
-        return take_kind(alloc, stock, spot, scope);
+    if holds(alloc, &source.source, element, scope)? {
+        return take_kind(alloc, source, element, scope);
     }
     Ok(())
 }
 
-fn take_kind(
+fn take_kind<F: Present>(
     alloc: Global,
-    stock: &Stock<'_>,
-    spot: &Spot<'_>,
+    source: &ItemSource<'_, F>,
+    element: &PlacedElement<'_>,
     scope: &mut Scope,
 ) -> Result<(), EvalFault>
-    ensures { Changes result scope.new (item_if true (files_of stock.now.site) stock.now.site.project.now scope.old (at_of spot.now)) }
+    ensures { Changes result scope.new (item_if true (items_in F.files source.now.source scope.old) (seen_element element.now)) }
 {
-    match key_of(alloc, spot.element.name())? {
-        Some(kind) => change(alloc, stock, spot, &kind, scope),
+    match key_of(alloc, element.element.name())? {
+        Some(kind) => change(alloc, source, element, &kind, scope),
         None => Ok(()),
     }
 }
 
-fn change(
+fn change<F: Present>(
     alloc: Global,
-    stock: &Stock<'_>,
-    spot: &Spot<'_>,
+    source: &ItemSource<'_, F>,
+    element: &PlacedElement<'_>,
     kind: &Name,
     scope: &mut Scope,
 ) -> Result<(), EvalFault>
-    ensures { Changes result scope.new (kind_changed (Some kind.now) (files_of stock.now.site) stock.now.site.project.now scope.old (at_of spot.now)) }
+    ensures { Changes result scope.new (item_named (Some kind.now) (items_in F.files source.now.source scope.old) (seen_element element.now)) }
 {
-    let element = spot.element;
-    if let Some(written) = element.attribute("Include") {
-        return include(alloc, stock, spot, kind, written, scope);
+    if let Some(written) = element.element.attribute("Include") {
+        return include(alloc, source, element, kind, written, scope);
     }
-    if let Some(written) = element.attribute("Remove") {
-        return remove(alloc, &stock.site, spot, kind, written, scope);
+    if let Some(written) = element.element.attribute("Remove") {
+        return remove(alloc, &source.source, element, kind, written, scope);
     }
-    match element.attribute("Update") {
-        Some(written) => update(alloc, &stock.site, spot, kind, written, scope),
+    match element.element.attribute("Update") {
+        Some(written) => update(alloc, &source.source, element, kind, written, scope),
         None => Ok(()),
     }
 }
 
-fn include(
+fn include<F: Present>(
     alloc: Global,
-    stock: &Stock<'_>,
-    spot: &Spot<'_>,
+    source: &ItemSource<'_, F>,
+    element: &PlacedElement<'_>,
     kind: &Name,
     written: &str,
     scope: &mut Scope,
 ) -> Result<(), EvalFault>
-    ensures { Changes result scope.new (included (files_of stock.now.site) stock.now.site.project.now scope.old kind.now (at_of spot.now) written.now) }
+    ensures { Changes result scope.new (included (items_in F.files source.now.source scope.old) kind.now (seen_element element.now) written.now) }
 {
-    let items = new_items(alloc, stock, scope, kind, spot, written)?;
+    let place = Place::of_items(source.source.files, source.source.project, scope);
+    let items = new_items(alloc, &place, &source.paths, kind, element, written)?;
     match append(alloc, scope, kind, items) {
         Ok(()) => Ok(()),
         Err(_) => Err(EvalFault::memory(alloc)),
     }
 }
 
-fn remove(
+fn remove<F: Present>(
     alloc: Global,
-    site: &Site<'_>,
-    spot: &Spot<'_>,
+    source: &Source<'_, F>,
+    element: &PlacedElement<'_>,
     kind: &Name,
     written: &str,
     scope: &mut Scope,
 ) -> Result<(), EvalFault>
-    ensures { Changes result scope.new (removed (files_of site.now) site.now.project.now scope.old kind.now (at_of spot.now) written.now) }
+    ensures { Changes result scope.new (removed (items_in F.files source.now scope.old) kind.now (seen_element element.now) written.now) }
 {
-    let items = items_left(alloc, site, scope, kind, spot, written)?;
-    match set_list(scope, kind, items) {
+    let place = Place::of_items(source.files, source.project, scope);
+    let names = names_at(alloc, &place, element, written)?;
+    match remove_named(alloc, source.project, &names, kind, scope) {
         Ok(()) => Ok(()),
         Err(_) => Err(EvalFault::memory(alloc)),
     }
 }
 
-fn update(
+/// Takes the named items away from those of their type; the others move.
+fn remove_named(
     alloc: Global,
-    site: &Site<'_>,
-    spot: &Spot<'_>,
+    project: &str,
+    names: &ItemNames,
+    kind: &Name,
+    scope: &mut Scope,
+) -> Result<(), NoMemory>
+    ensures { OnOk result (scope.new ≡ with_list scope.old kind.now (unheld project.now (held_in names.now) (list_of scope.old kind.now))) }
+{
+    let list = scope.items.replace(kind, List::new(alloc));
+    let kept = unnamed(alloc, project, names, list.into_vec())?;
+    scope.items.insert(kind.copy()?, List::from(kept))
+}
+
+fn update<F: Present>(
+    alloc: Global,
+    source: &Source<'_, F>,
+    element: &PlacedElement<'_>,
     kind: &Name,
     written: &str,
     scope: &mut Scope,
 ) -> Result<(), EvalFault>
-    ensures { Changes result scope.new (updated (files_of site.now) site.now.project.now scope.old kind.now (at_of spot.now) written.now) }
+    ensures { Changes result scope.new (updated (items_in F.files source.now scope.old) kind.now (seen_element element.now) written.now) }
 {
-    let items = items_dressed(alloc, site, scope, kind, spot, written)?;
+    let place = Place::of_items(source.files, source.project, scope);
+    let items = items_updated(alloc, &place, kind, element, written)?;
     match set_list(scope, kind, items) {
         Ok(()) => Ok(()),
         Err(_) => Err(EvalFault::memory(alloc)),

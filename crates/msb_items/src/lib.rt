@@ -3,17 +3,15 @@
 #![tactic(auto)]
 
 mod changes;
-mod choosing;
 mod definitions;
-mod dressing;
 mod entries;
-mod givens;
+mod item_names;
 mod items;
-mod namings;
-mod sights;
-mod sites;
-mod slashes;
-mod spots;
+mod metadata;
+mod place;
+mod source;
+mod unnamed;
+mod updates;
 
 pub use definitions::definition_pass;
 pub use items::item_pass;

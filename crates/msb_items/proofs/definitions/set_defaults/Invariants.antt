@@ -1,11 +1,11 @@
 use Rattle.std.proofs.Common.{map}
 use Rattle.msb_laws.proofs.Collecting.{IsFolded}
-use Rattle.msb_laws.specs.Results.{fold_ok}
-use Rattle.msb_items.specs.Defined.{defined}
-use Rattle.msb_items.specs.Seen.{files_of, given_of}
+use Rattle.msb_items.specs.Definitions.{with_default_written, with_defaults_written}
+use Rattle.msb_items.specs.Places.{with_scope}
+use Rattle.msb_items.specs.Seen.{definitions_in, metadata_of}
 use Rattle.msb_items.proofs.definitions.set_defaults.Given as goal
 
-abbrev pub invariant-loop-given : goal.invariant-loop-given
-invariant-loop-given l =
-    IsFolded (λ s given. defined (files_of l.site) l.site.project.now l.kind s (given_of given)) l.givens l.given-index l.scope
-    (fold_ok (defined (files_of l.site) l.site.project.now l.kind) l.initial.scope (map given_of l.givens))
+abbrev pub invariant-loop-metadata : goal.invariant-loop-metadata
+invariant-loop-metadata g l =
+    let place = definitions_in g.F.Present.files l.source l.initial.scope in
+    IsFolded (λ s metadata. with_default_written l.kind (with_scope place s) (metadata_of metadata)) l.written l.metadata-index l.scope (with_defaults_written l.kind place (map metadata_of l.written))

@@ -1,5 +1,5 @@
 use Rattle.std.proofs.Common.{◌≡◌, ◌++◌, map, drop}
-use Rattle.msb_items.specs.Itemed.{item_of}
+use Rattle.msb_items.specs.Items.{item_of}
 use Rattle.msb_items.proofs.entries.push_each.Given as goal
 
 abbrev pub invariant-loop-found : goal.invariant-loop-found

@@ -1,7 +1,7 @@
 use Rattle.std.proofs.Common.{◌++◌}
 use Rattle.msb_laws.proofs.Collecting.{IsFolded}
 use Rattle.msb_laws.specs.Results.{map_ok}
-use Rattle.msb_items.specs.Itemed.{all_items, items_of}
+use Rattle.msb_items.specs.Items.{all_items, items_of}
 use Rattle.msb_items.proofs.entries.push_items.Given as goal
 
 abbrev pub invariant-loop-entry : goal.invariant-loop-entry

@@ -1,12 +1,12 @@
 use Rattle.msb_laws.proofs.Collecting.{IsFolded}
-use Rattle.msb_laws.specs.Results.{fold_ok}
 use Rattle.msb_elements.specs.View.{view}
-use Rattle.build_world.specs.Elements.{at, children_of}
-use Rattle.msb_items.specs.Itemed.{with_item}
-use Rattle.msb_items.specs.Seen.{at_of, files_of}
+use Rattle.build_world.specs.Elements.{at, children_of, seen_element}
+use Rattle.msb_items.specs.Items.{with_item}
+use Rattle.msb_items.specs.Places.{after_each, with_scope}
+use Rattle.msb_items.specs.Seen.{items_in}
 use Rattle.msb_items.proofs.items.take_children.Given as goal
 
 abbrev pub invariant-loop-child : goal.invariant-loop-child
-invariant-loop-child l =
-    IsFolded (λ s child. with_item (files_of l.stock.site) l.stock.site.project.now s (at l.spot.file.now (view child))) l.child-items l.child-index l.scope
-    (fold_ok (with_item (files_of l.stock.site) l.stock.site.project.now) l.initial.scope (children_of (at_of l.spot)))
+invariant-loop-child g l =
+    let place = items_in g.F.Present.files l.source.source l.initial.scope in
+    IsFolded (λ s child. with_item (with_scope place s) (at l.element.file.now (view child))) l.child-items l.child-index l.scope (after_each with_item place (children_of (seen_element l.element)))

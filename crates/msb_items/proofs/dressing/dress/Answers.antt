@@ -1,8 +1,0 @@
-use Rattle.msb_items.specs.Itemed.{given_to}
-use Rattle.msb_items.specs.Seen.{files_of, given_of}
-use Rattle.msb_items.proofs.Turning.{fold-map}
-use Rattle.msb_items.proofs.dressing.dress.Goals as goal
-
-pub loop-given-init : goal.loop-given-init
-loop-given-init c =
-    record { is = fold-map (given_to (files_of c.args.site.now) c.args.site.now.project.now c.args.scope.now c.args.kind.now) given_of c.args.item.now c.args.givens.now }

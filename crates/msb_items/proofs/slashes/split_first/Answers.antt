@@ -1,9 +1,0 @@
-use Rattle.std.proofs.Common.{arith}
-use Rattle.msb_glob.proofs.Segments.{parts_of_split, shorter_behind_split}
-use Rattle.msb_items.proofs.slashes.split_first.Goals as goal
-
-pub returns-clause-parts : goal.returns-clause-parts
-returns-clause-parts c = parts_of_split 92 c.args.text.now c.split_once.result (omega arith) c.split_once.ensures.cases
-
-pub returns-clause-shorter : goal.returns-clause-shorter
-returns-clause-shorter c = shorter_behind_split 92 c.args.text.now c.split_once.result (omega arith) c.split_once.ensures.cases

@@ -1,0 +1,181 @@
+ghost use Rattle.std.specs.Prelude.{◌≡◌, ◌++◌, map, filter, not, Ok, IfOk, OnOk};
+ghost use Rattle.msb_elements.specs.Nodes.{attributes_of};
+ghost use Rattle.msb_elements.specs.View.{view};
+ghost use Rattle.build_world.specs.Answers.{GivesFault};
+ghost use Rattle.build_world.specs.Elements.{children_of, fault_of, seen_element};
+ghost use Rattle.msb_values.specs.Caused.{UnlessMemory};
+ghost use Rattle.msb_values.specs.declared.cause.Cause.TheVariants.{Reserved};
+ghost use Rattle.msb_expand.specs.Keys.{key_of};
+ghost use Rattle.msb_items.specs.Metadata.{attribute_metadata, child_metadata, is_computed, is_one_of, left_out, metadata_on, metadata_value, value_unless};
+ghost use Rattle.msb_items.specs.Seen.{metadata_of, place_of, reserved_of};
+
+use crate::place::Place;
+use build_world::{EvalFault, PlacedElement};
+use msb_expand::is_well_known;
+use msb_paths::Present;
+use msb_values::{Cause, Name, NameFault, NoMemory, Text};
+use std::alloc::Global;
+
+/// What kind of element metadata are written on.
+#[derive(Clone, Copy)]
+pub(crate) enum Kind {
+    Definition,
+    Item,
+}
+
+/// A metadata that is written on an element: its name and its value, its Condition if there is one, and the element at
+/// which a fault is told.
+#[derive(Drop)]
+pub(crate) struct WrittenMetadata<'a> {
+    name: &'a str,
+    text: &'a str,
+    condition: Option<&'a str>,
+    element: PlacedElement<'a>,
+}
+
+/// The metadata that are written on an element: its attributes that are not reserved there, in byte order of their
+/// names, and then its children. (Item element; ItemMetadata element.)
+pub(crate) fn metadata_on<'a>(
+    alloc: Global,
+    kind: Kind,
+    element: &PlacedElement<'a>,
+) -> Result<Vec<WrittenMetadata<'a>>, NoMemory>
+    ensures { IfOk result (λ written. map metadata_of written.items ≡ metadata_on (reserved_of kind) (seen_element element.now)) }
+{
+    let mut written = Vec::new(alloc);
+    push_attributes(&mut written, kind, element)?;
+    push_children(&mut written, element)?;
+    Ok(written)
+}
+
+fn push_attributes<'a>(
+    written: &mut Vec<WrittenMetadata<'a>>,
+    kind: Kind,
+    element: &PlacedElement<'a>,
+) -> Result<(), NoMemory>
+    ensures { OnOk result (map metadata_of written.new.items ≡ map metadata_of written.old.items ++ map (attribute_metadata (seen_element element.now)) (filter (λ pair. not (is_one_of (reserved_of kind) pair.0)) (attributes_of (view element.now.element.now)))) }
+{
+    for (name, text) in element.element.attributes() {
+        if !is_reserved(kind, name.as_str()) {
+            written.push(WrittenMetadata {
+                name: name.as_str(),
+                text: text.as_str(),
+                condition: None,
+                element: *element,
+            })?;
+        }
+    }
+    Ok(())
+}
+
+fn is_reserved(kind: Kind, name: &str) -> bool
+    ensures { result ≡ is_one_of (reserved_of kind) name.now }
+{
+    match kind {
+        Kind::Definition => matches!(name, "Condition" | "Label"),
+        Kind::Item => matches!(
+            name,
+            "Include" | "Exclude" | "Remove" | "Update" | "Condition" | "Label"
+        ),
+    }
+}
+
+fn push_children<'a>(
+    written: &mut Vec<WrittenMetadata<'a>>,
+    element: &PlacedElement<'a>,
+) -> Result<(), NoMemory>
+    ensures { OnOk result (map metadata_of written.new.items ≡ map metadata_of written.old.items ++ map child_metadata (children_of (seen_element element.now))) }
+{
+    for child in element.element.children() {
+        written.push(child_metadata(element.child(child)))?;
+    }
+    Ok(())
+}
+
+fn child_metadata(child: PlacedElement<'_>) -> WrittenMetadata<'_>
+    ensures { metadata_of result ≡ child_metadata (seen_element child.entry) }
+{
+    WrittenMetadata {
+        name: child.element.name(),
+        text: child.element.text(),
+        condition: child.element.attribute("Condition"),
+        element: child,
+    }
+}
+
+impl WrittenMetadata<'_> {
+    /// The name and the value at a place, if the Condition holds; a name that is computed is refused.
+    pub(crate) fn value<F: Present>(
+        &self,
+        alloc: Global,
+        place: &Place<'_, F>,
+    ) -> Result<Option<(Name, Text)>, EvalFault>
+        ensures { GivesFault (λ pair. pair) result (metadata_value (place_of F.files place.now) (metadata_of self.now)) }
+    {
+        if !place.holds(alloc, &self.element, self.condition)? {
+            return Ok(None);
+        }
+        match key_of(alloc, self.name)? {
+            Some(name) => self.value_of(alloc, place, name),
+            None => Ok(None),
+        }
+    }
+
+    fn value_of<F: Present>(
+        &self,
+        alloc: Global,
+        place: &Place<'_, F>,
+        name: Name,
+    ) -> Result<Option<(Name, Text)>, EvalFault>
+        ensures { GivesFault (λ pair. pair) result (value_unless (is_computed name) (place_of F.files place.now) (metadata_of self.now) name) }
+    {
+        if is_computed(&name) {
+            return Err(refused(alloc, &self.element, &name));
+        }
+        let text = place.text(alloc, &self.element, self.text)?;
+        Ok(Some((name, text)))
+    }
+}
+
+/// The name that a text is, as it is looked up; a text that is none names nothing.
+pub(crate) fn key_of(alloc: Global, text: &str) -> Result<Option<Name>, EvalFault>
+    ensures { GivesFault (λ key. key) result (Ok (key_of text.now)) }
+{
+    match Name::read(alloc, text) {
+        Ok(name) => Ok(Some(name)),
+        Err(NameFault::BadName(_)) => Ok(None),
+        Err(NameFault::Memory) => Err(EvalFault::memory(alloc)),
+    }
+}
+
+fn refused(alloc: Global, element: &PlacedElement<'_>, name: &Name) -> EvalFault
+    ensures { UnlessMemory result.cause (result ≡ fault_of (seen_element element.now) (Reserved name.now)) }
+{
+    match Text::of(alloc, name.key()) {
+        Ok(text) => element.fault(alloc, Cause::Reserved(text)),
+        Err(_) => EvalFault::memory(alloc),
+    }
+}
+
+/// Whether a metadata of this name, which is in lower case, is computed. (MSBuild well-known item metadata.)
+fn is_computed(name: &Name) -> bool
+    ensures { result ≡ is_computed name.now }
+{
+    is_well_known(name) || is_left_out(name.key())
+}
+
+/// Whether a metadata of this name is computed in other builds, and not here.
+fn is_left_out(name: &str) -> bool
+    ensures { result ≡ is_one_of left_out name.now }
+{
+    matches!(
+        name,
+        "modifiedtime"
+            | "createdtime"
+            | "accessedtime"
+            | "definingprojectfullpath"
+            | "definingprojectdirectory"
+            | "definingprojectname"
+            | "definingprojectextension"
+    )
+}

@@ -1,0 +1,32 @@
+ghost use Rattle.std.specs.Prelude.{◌≡◌, ◌++◌, IfOk, OnOk};
+ghost use Rattle.msb_items.specs.Held.{held_in, if_unheld, unheld};
+
+use crate::item_names::ItemNames;
+use msb_values::{Item, NoMemory};
+use std::alloc::Global;
+
+/// The items that are not named.
+pub(crate) fn unnamed(
+    alloc: Global,
+    project: &str,
+    names: &ItemNames,
+    items: Vec<Item>,
+) -> Result<Vec<Item>, NoMemory>
+    ensures { IfOk result (λ kept. kept.items ≡ unheld project.now (held_in names.now) items.items) }
+{
+    let mut kept = Vec::new(alloc);
+    for item in items {
+        let named = names.names(alloc, project, &item)?;
+        keep_unless(&mut kept, named, item)?;
+    }
+    Ok(kept)
+}
+
+fn keep_unless(kept: &mut Vec<Item>, named: bool, item: Item) -> Result<(), NoMemory>
+    ensures { OnOk result (kept.new.items ≡ kept.old.items ++ if_unheld named item) }
+{
+    if named {
+        return Ok(());
+    }
+    Ok(kept.push(item)?)
+}
