@@ -1,5 +1,6 @@
 #!/usr/bin/env python3
-"""Times the evaluation of projects of growing size: properties, item elements, patterns over many files, and imports.
+"""Times the evaluation of projects of growing size: properties, item elements, patterns over many files, entries of
+Exclude, Remove and Update that name as many items, and imports.
 
     bench/evaluation.py [PROGRAM]
 
@@ -45,6 +46,29 @@ def patterns(size):
     return {"a.proj": project(element("ItemGroup", children=include)), **files}
 
 
+def names(front, size):
+    return ";".join(f"{front}{i}.c" for i in range(size))
+
+
+def excluded(size):
+    """One element adds the items, and as many more that its Exclude names in capitals."""
+    both = names("kept", size) + ";" + names("out", size)
+    return {"a.proj": project(element("ItemGroup", children=[element("C", {"Include": both, "Exclude": names("OUT", size)})]))}
+
+
+def removed(size):
+    """One element adds the items and as many more, and one takes these away."""
+    both = names("kept", size) + ";" + names("out", size)
+    children = [element("C", {"Include": both}), element("C", {"Remove": names("OUT", size)})]
+    return {"a.proj": project(element("ItemGroup", children=children))}
+
+
+def updated(size):
+    """One element adds the items, and one names each of them and gives it a metadata."""
+    children = [element("C", {"Include": names("a", size)}), element("C", {"Update": names("A", size), "K": "v"})]
+    return {"a.proj": project(element("ItemGroup", children=children))}
+
+
 def imports(size):
     """Each import brings in one file with one property."""
     brought = {f"{i}.props": project(element("PropertyGroup", children=[element(f"P{i}", text="x")])) for i in range(size)}
@@ -72,7 +96,7 @@ def least_time(files, size):
         return min(times)
 
 
-for shape in (properties, items, patterns, imports):
+for shape in (properties, items, patterns, excluded, removed, updated, imports):
     for size in (1000, 4000, 16000):
         seconds = least_time(shape(size), size)
         print(f"{shape.__name__} {size}: {seconds * 1e3:.1f} ms, {seconds / size * 1e6:.1f} us a part")
