@@ -28,6 +28,6 @@ returns-in_err-names g c =
     let written = c.args.written.now in
     let stops : (fault : EvalFault) → map_ok held (names_at place e written) ≡ Err fault → removed (items_in g.F.Present.files c.args.source.now c.args.scope.now) kind e written ≡ Err fault =
     λ fault is.
-        ap (λ seen. removed seen kind e written) (sym c.of_items-place.ensures)
-        ∙ remapped held (λ names. with_list place.scope kind (unnamed place.project (list_of place.scope kind) names)) (names_at place e written) fault is in
+    ap (λ seen. removed seen kind e written) (sym c.of_items-place.ensures)
+    ∙ remapped held (λ names. with_list place.scope kind (unnamed place.project (list_of place.scope kind) names)) (names_at place e written) fault is in
     rw (p.1, p.2) (unless _ (stops _) c.in_err-names.ensures)
