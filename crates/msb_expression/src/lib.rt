@@ -21,6 +21,3 @@ pub use faults::{ExprFault, NoRoom};
 pub use list::List;
 pub use parsing::parse;
 pub use word::Word;
-
-#[cfg(test)]
-mod tests;

@@ -1,6 +1,69 @@
-use crate::{ExprFault, parse};
+use crate::scenes::cut;
+use msb_expression::{ExprFault, parse};
 use std::alloc::{AllocError, Global};
 use std::test::Fail;
+
+/// A text, and its parts, each with a `|` behind it, or its refusal: a text that ends in each part of a reference; a byte
+/// that can't stand in a name, or right behind one, or elsewhere in an item reference; and an item reference in a transform.
+const FORMS: &str = " => 
+a b => a b|
+$$(P)%25( => $|$(P)|%25(|
+$ (P) @ (X) => $ (P) @ (X)|
+a$( aB-1 )é => a|$(aB-1)|é|
+%( M )%( T . M ) => %(M)|%(T.M)|
+@(X)@( X- ) => @(X)|@(X-)|
+@(X->'s')@(X-->'s') => @(X->'s')|@(X-->'s')|
+@( X -> 'a%(M)$( P )' -> F ( ) , ';' ) => @(X->'a%(M)$(P)'->F(),';')|
+@(X->F('a' , '$(P)%(Q)@(Y)'),'') => @(X->F('a','$(P)%(Q)@(Y)'),'')|
+@(X->'a')it's => @(X->'a')|it's|
+$( => Unclosed(2)
+$( P  => Unclosed(5)
+%(T. => Unclosed(4)
+@( => Unclosed(2)
+@(X- => Unclosed(4)
+@(X - => Unclosed(5)
+@(X-> => Unclosed(5)
+@(X->F => Unclosed(6)
+@(X->F( => Unclosed(7)
+@(X->F('a' => Unclosed(10)
+@(X->F('a', => Unclosed(11)
+@(X->'a => Unclosed(7)
+@(X->'$(P => Unclosed(9)
+@(X, => Unclosed(4)
+@(X,' => Unclosed(5)
+@(X,';' => Unclosed(7)
+$() => BadName(2)
+$(1) => BadName(2)
+$(A B) => BadName(4)
+$(A.B) => BadName(3)
+%(A.B.C) => BadName(5)
+%(A.) => BadName(4)
+@(1) => BadName(2)
+@( ) => BadName(3)
+@(X Y) => BadName(4)
+@(X- > => BadName(5)
+@(X->'$(1)') => BadName(8)
+@(X,'$(P Q)') => BadName(9)
+@(X->'%(.)') => BadName(8)
+@(X - a => BadTransform(5)
+@(X -a => BadTransform(5)
+@(X->A-> => BadTransform(7)
+@(X->A> => BadTransform(6)
+@(X->) => BadTransform(5)
+@(X->Foo) => BadTransform(8)
+@(X->'a' b) => BadTransform(9)
+@(X->F('a' 'b')) => BadTransform(11)
+@(X->F('a',)) => BadTransform(11)
+@(X,) => BadTransform(4)
+@(X,';';) => BadTransform(7)
+@(X->'%(A.B)') => BadTransform(9)
+@(X->'%( A . => BadTransform(11)
+@(X->'@(Y)') => NestedTransform(7)
+@(X->'ab@( => NestedTransform(9)
+@( X -> 'a' -> '@(Y)') => NestedTransform(17)
+@(X->'@@( => NestedTransform(8)
+a@(X->'$(P)@(Y => NestedTransform(12)
+@(X->F('@(')->'@(') => NestedTransform(16)";
 
 /// The texts of a text's parts, each with a `|` behind it, or its refusal.
 fn shown(alloc: Global, text: &str) -> Result<String, Fail> {
@@ -19,78 +82,8 @@ fn shown(alloc: Global, text: &str) -> Result<String, Fail> {
 
 #[test]
 fn texts_are_read_or_refused(rt: HostRuntime) -> Result<(), Fail> {
-    let rows = [
-        ("", ""),
-        ("a b", "a b|"),
-        ("$$(P)%25(", "$|$(P)|%25(|"),
-        ("$ (P) @ (X)", "$ (P) @ (X)|"),
-        ("a$( aB-1 )é", "a|$(aB-1)|é|"),
-        ("%( M )%( T . M )", "%(M)|%(T.M)|"),
-        ("@(X)@( X- )", "@(X)|@(X-)|"),
-        ("@(X->'s')@(X-->'s')", "@(X->'s')|@(X-->'s')|"),
-        (
-            "@( X -> 'a%(M)$( P )' -> F ( ) , ';' )",
-            "@(X->'a%(M)$(P)'->F(),';')|",
-        ),
-        (
-            "@(X->F('a' , '$(P)%(Q)@(Y)'),'')",
-            "@(X->F('a','$(P)%(Q)@(Y)'),'')|",
-        ),
-        ("@(X->'a')it's", "@(X->'a')|it's|"),
-        // A text that ends in each part of a reference.
-        ("$(", "Unclosed(2)"),
-        ("$( P ", "Unclosed(5)"),
-        ("%(T.", "Unclosed(4)"),
-        ("@(", "Unclosed(2)"),
-        ("@(X-", "Unclosed(4)"),
-        ("@(X -", "Unclosed(5)"),
-        ("@(X->", "Unclosed(5)"),
-        ("@(X->F", "Unclosed(6)"),
-        ("@(X->F(", "Unclosed(7)"),
-        ("@(X->F('a'", "Unclosed(10)"),
-        ("@(X->F('a',", "Unclosed(11)"),
-        ("@(X->'a", "Unclosed(7)"),
-        ("@(X->'$(P", "Unclosed(9)"),
-        ("@(X,", "Unclosed(4)"),
-        ("@(X,'", "Unclosed(5)"),
-        ("@(X,';'", "Unclosed(7)"),
-        // A byte that can't stand in a name, or right behind one.
-        ("$()", "BadName(2)"),
-        ("$(1)", "BadName(2)"),
-        ("$(A B)", "BadName(4)"),
-        ("$(A.B)", "BadName(3)"),
-        ("%(A.B.C)", "BadName(5)"),
-        ("%(A.)", "BadName(4)"),
-        ("@(1)", "BadName(2)"),
-        ("@( )", "BadName(3)"),
-        ("@(X Y)", "BadName(4)"),
-        ("@(X- >", "BadName(5)"),
-        ("@(X->'$(1)')", "BadName(8)"),
-        ("@(X,'$(P Q)')", "BadName(9)"),
-        ("@(X->'%(.)')", "BadName(8)"),
-        // A byte that can't stand elsewhere in an item reference.
-        ("@(X - a", "BadTransform(5)"),
-        ("@(X -a", "BadTransform(5)"),
-        ("@(X->A->", "BadTransform(7)"),
-        ("@(X->A>", "BadTransform(6)"),
-        ("@(X->)", "BadTransform(5)"),
-        ("@(X->Foo)", "BadTransform(8)"),
-        ("@(X->'a' b)", "BadTransform(9)"),
-        ("@(X->F('a' 'b'))", "BadTransform(11)"),
-        ("@(X->F('a',))", "BadTransform(11)"),
-        ("@(X,)", "BadTransform(4)"),
-        ("@(X,';';)", "BadTransform(7)"),
-        ("@(X->'%(A.B)')", "BadTransform(9)"),
-        ("@(X->'%( A .", "BadTransform(11)"),
-        // An item reference in a transform.
-        ("@(X->'@(Y)')", "NestedTransform(7)"),
-        ("@(X->'ab@(", "NestedTransform(9)"),
-        ("@( X -> 'a' -> '@(Y)')", "NestedTransform(17)"),
-        ("@(X->'@@(", "NestedTransform(8)"),
-        ("a@(X->'$(P)@(Y", "NestedTransform(12)"),
-        ("@(X->F('@(')->'@(')", "NestedTransform(16)"),
-    ];
-    for (text, wanted) in rows {
+    for row in FORMS.lines() {
+        let (text, wanted) = cut(row, " => ");
         let found = shown(rt.alloc(), text)?;
         assert_eq!(rt; found.as_str(), wanted);
     }

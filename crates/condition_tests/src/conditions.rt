@@ -1,8 +1,7 @@
-use crate::scenes::{cut, lens, scope};
-use file_store::Tree;
 use msb_condition::{Comparison, Cond, CondFault, Function, Operand, condition_holds, parse};
-use msb_expand::Use;
-use msb_values::{Cause, List, Scope, Text};
+use msb_expand::{Lens, Use};
+use msb_paths::Present;
+use msb_values::{Cause, Defaults, Lists, Name, Pairs, Scope, Text};
 use std::alloc::Global;
 use std::test::Fail;
 
@@ -112,6 +111,48 @@ HasTrailingSlash('a\\') => true
 HasTrailingSlash('/a') => false
 Exists('') == HasTrailingSlash('') => true";
 
+/// A condition that is read, and its texts, each with a `|` behind it.
+const TEXTS: &str = " => 
+x => x|
+'a$(P)' == b or !exists(%(M)) and (@(X->'t') < 2) or false => a$(P)|b|%(M)|@(X->'t')|2|false|";
+
+/// What stands before and behind the first of these texts.
+fn cut<'a>(text: &'a str, at: &str) -> (&'a str, &'a str) {
+    match text.split_once(at) {
+        Some(parts) => parts,
+        None => (text, ""),
+    }
+}
+
+/// A view without files.
+#[derive(Drop)]
+struct NoFiles;
+
+impl Present for NoFiles {
+    ghost use Rattle.std.specs.Prelude.{[]};
+
+    ghost files = { λ n. [] };
+
+    fn there(&self, _path: &str) -> bool {
+        false
+    }
+}
+
+/// A scope of these properties, in each line one with its value.
+fn scope(alloc: Global, rows: &str) -> Result<Scope, Fail> {
+    let mut props = Pairs::new(alloc);
+    for row in rows.lines() {
+        let (name, value) = cut(row, "=");
+        props.insert(Name::read(alloc, name)?, Text::of(alloc, value)?)?;
+    }
+    Ok(Scope {
+        globals: Pairs::new(alloc),
+        props,
+        items: Lists::new(alloc),
+        defaults: Defaults::new(alloc),
+    })
+}
+
 fn push_operand(alloc: Global, shown: &mut Text, operand: &Operand) -> Result<(), Fail> {
     match operand {
         Operand::Text(expr) => {
@@ -205,6 +246,30 @@ fn conditions_are_read_or_refused(rt: HostRuntime) -> Result<(), Fail> {
     Ok(())
 }
 
+fn texts_of(alloc: Global, text: &str) -> Result<Text, Fail> {
+    let mut shown = Text::of(alloc, "")?;
+    let Ok(cond) = parse(alloc, text) else {
+        return Ok(shown);
+    };
+    let mut texts = Vec::new(alloc);
+    cond.push_texts(&mut texts)?;
+    for text in &texts {
+        shown.push_str(text.text(alloc)?.as_str())?;
+        shown.push_str("|")?;
+    }
+    Ok(shown)
+}
+
+#[test]
+fn the_texts_of_conditions_stand_from_the_left(rt: HostRuntime) -> Result<(), Fail> {
+    for row in TEXTS.lines() {
+        let (text, wanted) = cut(row, " => ");
+        let found = texts_of(rt.alloc(), text)?;
+        assert_eq!(rt; found.as_str(), wanted, "{text}");
+    }
+    Ok(())
+}
+
 fn nested(alloc: Global, opening: &str, closing: &str, times: usize) -> Result<String, Fail> {
     let front = opening.repeat(alloc, times)?;
     let back = closing.repeat(alloc, times)?;
@@ -228,8 +293,9 @@ fn conditions_nest_to_64(rt: HostRuntime) -> Result<(), Fail> {
     Ok(())
 }
 
-fn truth_of(alloc: Global, scope: &Scope, files: &Tree, text: Option<&str>) -> Result<Text, Fail> {
-    match condition_holds(alloc, &lens(scope, Use::All), files, text) {
+fn truth_of(alloc: Global, scope: &Scope, text: Option<&str>) -> Result<Text, Fail> {
+    let lens = Lens::new(scope, "a.proj", "a.proj", Use::All);
+    match condition_holds(alloc, &lens, &NoFiles, text) {
         Ok(true) => Ok(Text::of(alloc, "true")?),
         Ok(false) => Ok(Text::of(alloc, "false")?),
         Err(cause) => Ok(cause.shown(alloc)?),
@@ -240,12 +306,11 @@ fn truth_of(alloc: Global, scope: &Scope, files: &Tree, text: Option<&str>) -> R
 fn conditions_hold_or_not(rt: HostRuntime) -> Result<(), Fail> {
     let alloc = rt.alloc();
     let scope = scope(alloc, PROPS)?;
-    let files = Tree::of(List::new(alloc)).ok_or("no path is in order")?;
-    let absent = truth_of(alloc, &scope, &files, None)?;
+    let absent = truth_of(alloc, &scope, None)?;
     assert_eq!(rt; absent.as_str(), "true");
     for row in TRUTHS.lines() {
         let (text, wanted) = cut(row, " => ");
-        let found = truth_of(alloc, &scope, &files, Some(text))?;
+        let found = truth_of(alloc, &scope, Some(text))?;
         assert_eq!(rt; found.as_str(), wanted, "{text}");
     }
     Ok(())

@@ -1,5 +1,8 @@
-use crate::scenes::{cut, item, lens, name, pairs, put, scope};
-use msb_expand::{Bucket, Lens, Use, expand_list, expand_names, expand_text, metadata};
+use crate::scenes::{cut, item, name, pairs, put, scope};
+use msb_expand::{
+    Bucket, Entry, Lens, Use, expand_entries, expand_list, expand_names, expand_text, metadata,
+    with_defaults,
+};
 use msb_values::{Cause, Copied, Item, List, Lists, Name, Pairs, Scope, Text};
 use std::alloc::Global;
 use std::test::Fail;
@@ -9,15 +12,17 @@ List= a ; b ;;
 Esc=a%3Bb
 Ref=x@(C)
 Deep=$( P )%(M)
-Bad=@(";
+Bad=@(
+Star=*.h
+Given=@(G->'y*')";
 
 const FILES: &str = "src/a.c  K=red,src/x/b%3Bc.c x/ K=BLUE";
 
 const WORDS: &str = "STRASSE,straße,İ,i̇,ΣΑΣ,σας,ﬁ,FI";
 
 /// Where an expression stands, the expression, and the text that it denotes. Behind `list` it is the list: each
-/// identity with a `|` behind it, and the metadata of the last item. `names` are those of targets, and `metadata` is
-/// that of the item at hand.
+/// identity with a `|` behind it, and the metadata of the last item. Behind `entries` each identity that a reference
+/// gave stands in parentheses. `names` are those of targets, and `metadata` is that of the item at hand.
 const VALUES: &str =
     "property: $(P)@( C -> '%( K )$(P)' , ';' )%( C . K ) => v@(C->'%(K)v',';')%(C.K)
 property: $(Ref)$(missing) => x@(C)
@@ -29,7 +34,10 @@ definition: %(X.K) => 12 MetadataHere
 definition: %(K)@(C) => 11 ItemsHere
 own: %(M)%(c.K)%(Filename)[%(None)] => ownnoneo[]
 own: @(C->Count())%(X.M) => 12 MetadataHere
-target: %(K)[%(C.K)][%(D.K)]@(C)@(W->Count()) => kb[k;c][]src/a.c8
+target: %(K)[%(C.K)]@(C)@(W->Count()) => kb[k;c]src/a.c8
+target: %(K)[%(D.K)] => 12 MetadataHere
+target: a%(M) => 12 MetadataHere
+unbatched: %(K) => 12 MetadataHere
 items: %(M)@(C->Foo()) => 12 MetadataHere
 items: @(C->Foo())%(M) => 13 UnknownFunction Foo
 items: $(Ref)$(Deep) => xsrc/a.c;src/x/b%3Bc.c$(P)%(M)
@@ -82,6 +90,13 @@ list target: %(C.K)%(K);@(C) => k|ckb|src/a.c|{d=def}{k=none}
 items: @(C => 8 Unclosed 3
 items: @(X->Count()) @(X) => 2 a%3Bb;c
 list items: a;@(X => 8 Unclosed 5
+entries items: x*;@(G->'x**') => x*|(x**)|{g=src/*.c}
+entries items: @(G->'%(G)') => (src/*.c)|{g=src/*.c}
+entries items: x.c;y.h;@(G->'*.c') => x.c|y.h|(*.c)|{g=src/*.c}
+entries items: @(X,'*') => (a%3Bb*c)|
+entries items: $(Star) ; @(G);$(Given) => *.h|(a)|(y*)|{g=src/*.c}
+entries target: %(K)* => kb*|
+entries items: @(X)* => 15 MixedList
 names: a;B.c:D;@(X->'t') => a|b.c:d|t|t|
 names: a@(X) => 15 MixedList
 names: a;1b => 7 BadName 0
@@ -105,6 +120,7 @@ impl Scene {
         put(alloc, &mut scope.items, "C", FILES)?;
         put(alloc, &mut scope.items, "W", WORDS)?;
         put(alloc, &mut scope.items, "Up", "../../x")?;
+        put(alloc, &mut scope.items, "G", "a  G=src/*.c")?;
         let included = included(alloc, &scope)?;
         scope.items.insert(name(alloc, "X")?, included)?;
         let defaults = pairs(alloc, "K=none\nD=def")?;
@@ -118,16 +134,17 @@ impl Scene {
     }
 
     fn at(&self, place: &str) -> Lens<'_> {
-        let mut lens = lens(&self.scope, usage(place));
-        lens.dir = "app";
-        lens.project = "app/app.proj";
-        lens.file = "build/common.props";
+        let lens = Lens::new(
+            &self.scope,
+            "app/app.proj",
+            "build/common.props",
+            usage(place),
+        );
         match place {
-            "definition" | "own" => lens.own = Some((&self.kind, &self.own)),
-            "target" => lens.bucket = Some(&self.bucket),
-            _ => {}
+            "definition" | "own" => lens.with_own(&self.kind, &self.own),
+            "target" => lens.with_bucket(&self.bucket),
+            _ => lens,
         }
-        lens
     }
 }
 
@@ -143,7 +160,8 @@ fn usage(place: &str) -> Use {
 
 /// The list of an Include, of which an escaped semicolon cuts nothing.
 fn included(alloc: Global, scope: &Scope) -> Result<List<Item>, Fail> {
-    match expand_list(alloc, &lens(scope, Use::All), "a%3Bb;c") {
+    let lens = Lens::new(scope, "a.proj", "a.proj", Use::All);
+    match expand_list(alloc, &lens, "a%3Bb;c") {
         Ok(items) => Ok(items),
         Err(_) => Err(Fail::new("no list")),
     }
@@ -167,6 +185,24 @@ fn shown_items(alloc: Global, items: &[Item]) -> Result<Text, Fail> {
     }
     if let Some(item) = items.last() {
         push_pairs(&mut shown, &item.meta)?;
+    }
+    Ok(shown)
+}
+
+fn shown_entries(alloc: Global, entries: &[Entry]) -> Result<Text, Fail> {
+    let mut shown = Text::of(alloc, "")?;
+    for entry in entries {
+        let (before, behind) = if entry.written {
+            ("", "|")
+        } else {
+            ("(", ")|")
+        };
+        shown.push_str(before)?;
+        shown.push_str(entry.item.ident.as_str())?;
+        shown.push_str(behind)?;
+    }
+    if let Some(entry) = entries.last() {
+        push_pairs(&mut shown, &entry.item.meta)?;
     }
     Ok(shown)
 }
@@ -205,6 +241,13 @@ fn list_of(alloc: Global, lens: &Lens<'_>, source: &str) -> Result<Text, Fail> {
     }
 }
 
+fn entries_of(alloc: Global, lens: &Lens<'_>, source: &str) -> Result<Text, Fail> {
+    match expand_entries(alloc, lens, source) {
+        Ok(entries) => shown_entries(alloc, entries.as_slice()),
+        Err(cause) => Ok(cause.shown(alloc)?),
+    }
+}
+
 fn names_of(alloc: Global, lens: &Lens<'_>, source: &str) -> Result<Text, Fail> {
     match expand_names(alloc, lens, source) {
         Ok(names) => shown_names(alloc, names.as_slice()),
@@ -224,6 +267,7 @@ fn outcome(alloc: Global, scene: &Scene, place: &str, source: &str) -> Result<Te
     let (kind, rest) = cut(place, " ");
     match kind {
         "list" => list_of(alloc, &scene.at(rest), source),
+        "entries" => entries_of(alloc, &scene.at(rest), source),
         "names" => names_of(alloc, &scene.at("items"), source),
         "metadata" => metadata_of(alloc, scene, source),
         _ => text_of(alloc, &scene.at(kind), source),
@@ -239,6 +283,16 @@ fn expressions_have_their_values(rt: HostRuntime) -> Result<(), Fail> {
         let found = outcome(rt.alloc(), &scene, place, source)?;
         assert_eq!(rt; found.as_str(), wanted, "{source}");
     }
+    Ok(())
+}
+
+#[test]
+fn an_item_has_the_defaults_of_its_type(rt: HostRuntime) -> Result<(), Fail> {
+    let alloc = rt.alloc();
+    let scene = Scene::of(alloc)?;
+    let item = with_defaults(alloc, &scene.at("own"), &scene.kind, &scene.own)?;
+    let found = shown_items(alloc, &[item])?;
+    assert_eq!(rt; found.as_str(), "src/o.c|{d=def}{k=none}{m=own}");
     Ok(())
 }
 

@@ -1,6 +1,5 @@
-//! What tests are set in: names, items and scopes from tables, and a place in a scope.
+//! What tests are set in: names, items and scopes from tables.
 
-use msb_expand::{Lens, Use};
 use msb_values::{Defaults, Item, List, Lists, Name, Pairs, Scope, Text};
 use std::alloc::Global;
 use std::test::Fail;
@@ -58,17 +57,4 @@ pub fn scope(alloc: Global, props: &str) -> Result<Scope, Fail> {
         items: Lists::new(alloc),
         defaults: Defaults::new(alloc),
     })
-}
-
-/// In the project at the top of the folder.
-pub fn lens(scope: &Scope, usage: Use) -> Lens<'_> {
-    Lens {
-        scope,
-        dir: "",
-        project: "a.proj",
-        file: "a.proj",
-        usage,
-        own: None,
-        bucket: None,
-    }
 }
