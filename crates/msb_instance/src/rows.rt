@@ -1,13 +1,12 @@
-ghost use Rattle.std.specs.Prelude.{◌≡◌, map};
-ghost use Rattle.msb_values.specs.Caused.{UnlessMemory};
+ghost use Rattle.std.specs.Prelude.{map};
 ghost use Rattle.build_world.specs.Answers.{GivesFault};
-ghost use Rattle.build_world.specs.Elements.{attribute_of, fault_of, seen_placed};
+ghost use Rattle.build_world.specs.Elements.{attribute_of, seen_placed};
 ghost use Rattle.msb_instance.specs.Targets.{names_if, row_of, rows_of};
 ghost use Rattle.msb_instance.specs.Made.{target_seen};
 
-use build_world::{EvalFault, Placed, UsedTarget};
+use build_world::{EvalFault, Placed, PlacedElement, UsedTarget};
 use msb_expand::{Lens, Use, expand_names, folder_of};
-use msb_values::{Cause, Copied, List, Name, Scope};
+use msb_values::{Copied, List, Name, Scope};
 use std::alloc::Global;
 use target_order::TargetRow;
 
@@ -75,16 +74,6 @@ fn named<'a>(
     };
     match expand_names(alloc, &lens, written) {
         Ok(names) => Ok(names),
-        Err(cause) => Err(fault_of(alloc, placed, cause)),
-    }
-}
-
-/// A fault of an element; want of memory for its file or place is want of memory.
-fn fault_of(alloc: Global, placed: &Placed, cause: Cause) -> EvalFault
-    ensures { UnlessMemory result.cause (result ≡ fault_of (seen_placed placed.now) cause) }
-{
-    match (placed.file.copy(), placed.element.place().copy()) {
-        (Ok(file), Ok(place)) => EvalFault { file, place, cause },
-        _ => EvalFault::memory(alloc),
+        Err(cause) => Err(PlacedElement::of(placed).fault(alloc, cause)),
     }
 }
