@@ -6,7 +6,7 @@ use Rattle.result_cache.specs.declared.request.RequestKey.{RequestKey}
 use Rattle.result_cache.specs.declared.request.RequestResult.{RequestResult}
 use Rattle.result_cache.specs.declared.record.Record.{Record}
 use Rattle.result_cache.specs.Same.{same_run}
-use Rattle.result_cache.proofs.Exact.{keys-exact}
+use Rattle.result_cache.specs.Exact.{keys-exact}
 use Rattle.build_meaning.specs.declared.event.Event.{Event}
 use Rattle.build_meaning.specs.declared.event.Event.TheVariants.{Claim, Request, Result, Done}
 use Rattle.build_meaning.specs.declared.event.ClaimKind.{ClaimKind}

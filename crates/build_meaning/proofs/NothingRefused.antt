@@ -7,7 +7,7 @@ use Rattle.result_cache.specs.declared.run.RunId.{RunId}
 use Rattle.result_cache.specs.declared.request.RequestKey.{RequestKey}
 use Rattle.result_cache.specs.declared.request.RequestResult.{RequestResult}
 use Rattle.result_cache.specs.Same.{same_instance}
-use Rattle.result_cache.proofs.Exact.{instance-exact}
+use Rattle.result_cache.specs.Exact.{instance-exact}
 use Rattle.build_meaning.specs.declared.event.Event.{Event}
 use Rattle.result_cache.specs.Lists.{In}
 use Rattle.build_meaning.specs.Lists.{at, Paired}

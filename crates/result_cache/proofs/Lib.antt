@@ -1,5 +1,5 @@
 pub mod Closed
-pub mod Exact
 pub mod JournalEntries
 pub mod ReplayRelation
 pub mod RunTests
+pub mod SlotEntries

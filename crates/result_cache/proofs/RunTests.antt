@@ -4,7 +4,7 @@ use Rattle.std.proofs.lemmas.Bool.{eqb-true, eq-eqb}
 use Rattle.msb_laws.specs.Asking.{and_then}
 use Rattle.result_cache.specs.declared.run.RunId.{RunId}
 use Rattle.result_cache.specs.Same.{same_run, is_in}
-use Rattle.result_cache.proofs.Exact.{run-exact}
+use Rattle.result_cache.specs.Exact.{run-exact}
 use Rattle.result_cache.specs.Lists.{In}
 use Rattle.result_cache.specs.Journal.{Mark, write_of, end_of, same_mark}
 

@@ -1,6 +1,7 @@
 -- Which instances, runs and requests are the same. Texts and names are compared by their bytes.
-use Rattle.std.specs.Prelude.{Bool, true, false, ◌||◌, ◌&&◌, List, [], ◌∷◌}
+use Rattle.std.specs.Prelude.{◌≡◌, Bool, true, false, ◌||◌, ◌&&◌, List, [], ◌∷◌, ◌++◌}
 use Rattle.std.specs.Cmp.Lexicographic.{pointwise}
+use Rattle.std.specs.Hash.{HashWrites, str, slice}
 use Rattle.std.specs.Str.{bytes_eq}
 use Rattle.msb_values.specs.Equal.{same_pairs}
 use Rattle.msb_values.specs.declared.key.InstanceKey.{InstanceKey}
@@ -15,10 +16,19 @@ same_instance a b = bytes_eq a.path b.path && same_pairs a.globals b.globals
 unfoldable pub same_run : RunId → RunId → Bool
 same_run a b = same_instance a.instance b.instance && bytes_eq a.target b.target
 
+-- what a hash is fed of a run
+abbrev pub run_writes : RunId → HashWrites
+run_writes run = (str run.instance.path ++ slice (λ p. str p.0 ++ str p.1) run.instance.globals) ++ str run.target
+
 -- the run is one of these
 abbrev pub is_in : RunId → List RunId → Bool
 is_in run [] = false
 is_in run (other ∷ runs) = same_run other run || is_in run runs
+
+-- no run is there twice
+abbrev pub AreDistinct : List RunId → Type 0
+AreDistinct [] = Unit {0}
+AreDistinct (run ∷ runs) = (is_in run runs ≡ false) × AreDistinct runs
 
 -- both hold, or neither
 abbrev pub same_truth : Bool → Bool → Bool

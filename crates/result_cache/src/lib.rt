@@ -18,12 +18,16 @@ ghost use Rattle.result_cache.specs.Table.{Records};
 ghost use Rattle.result_cache.specs.Replay.{HasAll, effects_of, IsClosed, replay};
 
 mod record;
+mod record_ref;
 mod request;
 mod run;
+mod table;
 
 pub use record::{Decision, Record, Segment};
+pub use record_ref::RecordRef;
 pub use request::{RequestKey, RequestResult, Returned};
 pub use run::RunId;
+pub use table::{Found, Table};
 
 /// The tests that tell instances, runs and lists of requests apart hold exactly of equal ones.
 pub fn tests_are_exact()
