@@ -1,4 +1,6 @@
 pub mod Closed
+pub mod EachOnce
+pub mod FinishedRuns
 pub mod JournalEntries
 pub mod ReplayRelation
 pub mod RunTests

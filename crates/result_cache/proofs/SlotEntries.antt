@@ -74,7 +74,7 @@ request-there : (k run : RunId) (s : Slot) (xs : List BegunRun) → same_run k r
 request-there k run (Begun by) xs h = request-behind xs (record { run = k; by = by }) run h
 request-there k run (Done made) xs h = refl
 
-absent-behind : (run : RunId) (e : RunId × Slot) (es : List (RunId × Slot)) → IsDistinct same_run (keys_of (e ∷ es)) → same_run run e.0 ≡ true → lookup (same_run run) es ≡ None
+pub absent-behind : (run : RunId) (e : RunId × Slot) (es : List (RunId × Slot)) → IsDistinct same_run (keys_of (e ∷ es)) → same_run run e.0 ≡ true → lookup (same_run run) es ≡ None
 absent-behind run e es d h = lookup-none (same_run run) es (none_past_head run_laws run e es d h)
 
 pub told-record : (run : RunId) (es : List (RunId × Slot)) → IsDistinct same_run (keys_of es) → found (records_in es) run ≡ record_if (lookup (same_run run) es)
@@ -96,13 +96,17 @@ told-request run (e ∷ es) d = by (same_run run e.0) refl (told-request run es 
     by false h rest = request-there e.0 run e.1 (begun_in es) (run_laws.symm e.0 run ∙ h) ∙ rest
 
 -- a run that is neither begun nor finished is in no entry
-pub absent-from : (o : Option Slot) → record_if o ≡ None → request_if o ≡ None → o ≡ None
+absent-from : (o : Option Slot) → record_if o ≡ None → request_if o ≡ None → o ≡ None
 absent-from None r q = refl
 absent-from (Some (Begun by)) r q = absurd (cc)
 absent-from (Some (Done made)) r q = absurd (cc)
 
+pub absent-lookup : (run : RunId) (es : List (RunId × Slot)) → IsDistinct same_run (keys_of es) → found (records_in es) run ≡ None → request_of (begun_in es) run ≡ None
+    → lookup (same_run run) es ≡ None
+absent-lookup run es d r q = absent-from (lookup (same_run run) es) (sym (told-record run es d) ∙ r) (sym (told-request run es d) ∙ q)
+
 -- a run is begun where a request has begun it
-or-some : {X : Type 0} (b : Bool) (o : Option X) (x : X) → (b || is_some o) ≡ is_some (this_or b o x)
+pub or-some : {X : Type 0} (b : Bool) (o : Option X) (x : X) → (b || is_some o) ≡ is_some (this_or b o x)
 or-some true o x = refl
 or-some false o x = refl
 
@@ -135,29 +139,17 @@ first-push (e ∷ es) run by h =
 
 -- ---- after a run is finished
 
-push-some : {X : Type 0} (xs : List X) (x : X) → xs ++ x ∷ [] ≡ [] → ⊥
+pub push-some : {X : Type 0} (xs : List X) (x : X) → xs ++ x ∷ [] ≡ [] → ⊥
 push-some [] x h = cc
 push-some (y ∷ xs) x h = cc
 
-none-behind : (k : RunId) (s : Slot) (xs : Records) → with_record k s xs ≡ [] → xs ≡ []
+pub none-behind : (k : RunId) (s : Slot) (xs : Records) → with_record k s xs ≡ [] → xs ≡ []
 none-behind k (Begun by) xs h = h
 none-behind k (Done made) xs h = absurd (push-some xs (record { run = k; made = made }) h)
 
-none-removed : (es : List (RunId × Slot)) (i : ℕ) → records_in es ≡ [] → records_in (remove es i) ≡ []
-none-removed [] zero h = refl
-none-removed [] (suc i) h = refl
-none-removed (e ∷ es) zero h = none-behind e.0 e.1 (records_in es) h
-none-removed (e ∷ es) (suc i) h =
-    let n = none-behind e.0 e.1 (records_in es) h in
-    ap (with_record e.0 e.1) (none-removed es i n ∙ sym n) ∙ h
-
-none-leads : (k : RunId) (s : Slot) (es : List (RunId × Slot)) (P : Type 0) → (records_in es ≡ [] → P) → with_record k s (records_in es) ≡ [] → LeadsFinished s es P
+pub none-leads : (k : RunId) (s : Slot) (es : List (RunId × Slot)) (P : Type 0) → (records_in es ≡ [] → P) → with_record k s (records_in es) ≡ [] → LeadsFinished s es P
 none-leads k (Begun by) es P f h = h
 none-leads k (Done made) es P f h = absurd (push-some (records_in es) (record { run = k; made = made }) h)
-
-first-none : (es : List (RunId × Slot)) → records_in es ≡ [] → FinishedFirst es
-first-none [] h = tt
-first-none (e ∷ es) h = none-leads e.0 e.1 es (FinishedFirst es) (first-none es) h
 
 without-last : (k : RunId) (xs : List BegunRun) (b : BegunRun) → same_run b.run k ≡ true → without k (xs ++ b ∷ []) ≡ without k xs
 without-last k [] b h = ap (λ t. begun_unless t b []) h
@@ -209,3 +201,8 @@ begun-inserted k made [] zero = refl
 begun-inserted k made [] (suc n) = refl
 begun-inserted k made (e ∷ es) zero = refl
 begun-inserted k made (e ∷ es) (suc n) = ap (with_begun e.0 e.1) (begun-inserted k made es n)
+
+-- the slot of a begun run
+pub slot-begun : (s : Slot) → is_some (request_if (Some s)) ≡ true → (by : ℕ) × (s ≡ Begun by)
+slot-begun (Begun by) h = (by, refl)
+slot-begun (Done made) h = absurd (clash false h refl)

@@ -1,4 +1,5 @@
-ghost use Rattle.std.specs.Prelude.{◌≡◌, [], ◌∷◌, true, None, Some, length, reverse, slice_get, OnErr, OnOk};
+ghost use Rattle.std.specs.Prelude.{◌≡◌, ◌<◌, [], ◌∷◌, true, None, Some, length, reverse, slice_get, OnErr, OnOk};
+ghost use Rattle.indexmap.specs.IndexMap.{index_map_len};
 ghost use Rattle.indexmap.specs.Layout.{set_value_at};
 ghost use Rattle.result_cache.specs.declared.table.Slot.TheVariants.{Done};
 ghost use Rattle.std.specs.Option.{option_map};
@@ -83,6 +84,8 @@ impl Table {
         ensures finished { self.new.finished ≡ record { run = run.now; made = made } ∷ self.old.finished }
         ensures begun { self.new.begun ≡ without run.now self.old.begun }
     {
+        // The length is what says that one more can be counted.
+        let _len = self.slots.len();
         if let Some((at, _, _)) = self.slots.get_full(run) {
             put_record(&mut self.slots, at, made);
             self.slots.move_index(at, self.done);
@@ -114,7 +117,8 @@ impl Table {
     {
         match self.slots.get_index(at) {
             Some((run, Slot::Done(made))) => Some((run, made)),
-            _ => None,
+            Some((_, Slot::Begun(_))) => None,
+            None => None,
         }
     }
 
@@ -128,9 +132,9 @@ impl Table {
 
 /// Writes a record into the entry at this place.
 fn put_record(slots: &mut IndexMap<RunId, Slot>, at: usize, made: RecordRef)
+    requires { at < index_map_len slots.old }
     ensures { slots.new.entries ≡ set_value_at slots.old.entries at (Done made) }
 {
-    if let Some(slot) = slots.get_index_mut(at) {
-        *slot = Slot::Done(made);
-    }
+    let (_, slot) = slots.pair_mut(at);
+    *slot = Slot::Done(made);
 }
