@@ -15,7 +15,6 @@ use Rattle.result_cache.specs.Slots.{with_record, records_in, with_begun, begun_
 use Rattle.result_cache.proofs.RunTests.{clash, or_neither}
 use Rattle.result_cache.proofs.SlotEntries.{run_laws, or-some, begun-some, told-record, told-request, record_if, request_if, absent-behind, slot-begun}
 
-
 is_in-found : (run : RunId) (xs : Records) → is_in run (map (λ (f : FinishedRun). f.run) xs) ≡ is_some (found xs run)
 is_in-found run [] = refl
 is_in-found run (f ∷ xs) = ap (λ t. same_run f.run run || t) (is_in-found run xs) ∙ or-some (same_run f.run run) (found xs run) f.made
@@ -72,5 +71,5 @@ each-once es d = record {
   finished_once = finished-once es d;
   begun_once = begun-once es d;
   apart = λ run begun.
-    told-record run es d ∙ not-both (lookup (same_run run) es) (ap is_some (sym (told-request run es d)) ∙ (sym (begun-some run (begun_in es)) ∙ begun));
+      told-record run es d ∙ not-both (lookup (same_run run) es) (ap is_some (sym (told-request run es d)) ∙ (sym (begun-some run (begun_in es)) ∙ begun));
 }

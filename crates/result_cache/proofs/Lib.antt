@@ -5,3 +5,4 @@ pub mod JournalEntries
 pub mod ReplayRelation
 pub mod RunTests
 pub mod SlotEntries
+pub mod Truths

@@ -1,8 +1,10 @@
 pub mod Exact
+pub mod ExactRecords
 pub mod Found
 pub mod Journal
 pub mod Lists
 pub mod Replay
 pub mod Same
+pub mod SameRecords
 pub mod Slots
 pub mod Table

@@ -1,7 +1,9 @@
 -- Which instances, runs and requests are the same. Texts and names are compared by their bytes.
-use Rattle.std.specs.Prelude.{◌≡◌, Bool, true, false, ◌||◌, ◌&&◌, List, [], ◌∷◌, ◌++◌}
-use Rattle.std.specs.Cmp.Lexicographic.{pointwise}
+use Rattle.std.specs.Prelude.{◌≡◌, ℕ, Bool, true, false, ◌||◌, ◌&&◌, List, [], ◌∷◌, ◌++◌}
+use Rattle.std.specs.Cmp.Lexicographic.{pointwise, slice_cmp}
 use Rattle.std.specs.Hash.{HashWrites, str, slice}
+use Rattle.std.specs.declared.cmp.Ordering.{Ordering}
+use Rattle.std.specs.Ordering.{nat_cmp, ordering_then}
 use Rattle.std.specs.Str.{bytes_eq}
 use Rattle.msb_values.specs.Equal.{same_pairs}
 use Rattle.msb_values.specs.declared.key.InstanceKey.{InstanceKey}
@@ -15,6 +17,16 @@ same_instance a b = bytes_eq a.path b.path && same_pairs a.globals b.globals
 -- one target of one instance
 unfoldable pub same_run : RunId → RunId → Bool
 same_run a b = same_instance a.instance b.instance && bytes_eq a.target b.target
+
+-- the order of names with values, of instances and of runs, by bytes from the first difference on
+abbrev pub pair_order : List ℕ × List ℕ → List ℕ × List ℕ → Ordering
+pair_order p q = ordering_then (slice_cmp nat_cmp p.0 q.0) (slice_cmp nat_cmp p.1 q.1)
+
+abbrev pub instance_order : InstanceKey → InstanceKey → Ordering
+instance_order a b = ordering_then (slice_cmp nat_cmp a.path b.path) (slice_cmp pair_order a.globals b.globals)
+
+abbrev pub run_order : RunId → RunId → Ordering
+run_order a b = ordering_then (instance_order a.instance b.instance) (slice_cmp nat_cmp a.target b.target)
 
 -- what a hash is fed of a run
 abbrev pub run_writes : RunId → HashWrites

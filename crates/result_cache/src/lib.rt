@@ -1,8 +1,8 @@
-//! What a build keeps of its requests and runs, as plain data: which run it is, what a request asked and got, and the
-//! record of a run. (MSBuild task; MSBuild targets.)
+//! What a build keeps of its requests and runs: which run it is, what a request asked and got, the record of a run, and
+//! the table of the runs that are begun and of the records of those that are finished. (MSBuild task; MSBuild targets.)
 //!
-//! `specs/` says what a journal is, what a table of records holds, and how a record is replayed in a journal that has
-//! not made it. The functions here are laws of these definitions: they run no code, and their contracts are what is proved.
+//! `specs/` says besides what a journal is, and how a record is replayed in a journal that has not made it. The functions
+//! here are laws of these definitions: they run no code, and their contracts are what is proved.
 #![tactic(auto)]
 
 ghost use Rattle.std.specs.Prelude.{◌≡◌, ℕ, [], List, Some};
@@ -13,10 +13,12 @@ ghost use Rattle.result_cache.specs.declared.run.RunId.{RunId};
 ghost use Rattle.result_cache.specs.declared.request.RequestKey.{RequestKey};
 ghost use Rattle.result_cache.specs.declared.record.Record.{Record};
 ghost use Rattle.result_cache.specs.Same.{same_run, same_instance, same_keys};
+ghost use Rattle.result_cache.specs.SameRecords.{same_record};
 ghost use Rattle.result_cache.specs.Journal.{Journal, wrote, ended, add, merge};
 ghost use Rattle.result_cache.specs.Table.{Records};
 ghost use Rattle.result_cache.specs.Replay.{HasAll, effects_of, IsClosed, replay};
 
+mod compared;
 mod record;
 mod record_ref;
 mod request;
@@ -29,11 +31,12 @@ pub use request::{RequestKey, RequestResult, Returned};
 pub use run::RunId;
 pub use table::{Found, Table};
 
-/// The tests that tell instances, runs and lists of requests apart hold exactly of equal ones.
+/// The tests that tell instances, runs, lists of requests and records apart hold exactly of equal ones.
 pub fn tests_are_exact()
     ensures instances { (a b : InstanceKey) → Decides (same_instance a b) (a ≡ b) }
     ensures runs { (a b : RunId) → Decides (same_run a b) (a ≡ b) }
     ensures requests { (a b : List RequestKey) → Decides (same_keys a b) (a ≡ b) }
+    ensures records { (a b : Record) → Decides (same_record a b) (a ≡ b) }
 {}
 
 /// A closed journal stays closed: when a file is written, when a run ends of whose record it has everything, when another

@@ -1,4 +1,4 @@
-use Rattle.std.proofs.Common.{◌≡◌, None, Some, ◌∙◌, ap, sym, rules}
+use Rattle.std.proofs.Common.{◌≡◌, None, Some, ◌∙◌, ap, sym}
 use Rattle.std.specs.Map.{lookup}
 use Rattle.result_cache.specs.declared.table.Slot.TheVariants.{Begun, Done}
 use Rattle.result_cache.specs.Same.{same_run}
