@@ -1,0 +1,153 @@
+ghost use Rattle.std.specs.Prelude.{◌≡◌, ◌++◌, IfOk, OnOk, map, option_copied};
+ghost use Rattle.msb_paths.specs.Presence.{is_there};
+ghost use Rattle.result_cache.specs.Journal.{content, has};
+ghost use Rattle.msb_files.specs.Seen.{mark_shown};
+ghost use Rattle.msb_files.specs.Views.{puts_of, with_paths};
+
+use crate::entry::Entry;
+use crate::mark::Mark;
+use crate::shared::PutRef;
+use crate::sorted::{by_mark, by_path, first_of, has_below, has_mark};
+use msb_values::{Copied, NoMemory, Text};
+use std::alloc::Global;
+use std::collections::BTreeSet;
+use std::marker::Model;
+use std::sync::Arc;
+
+/// Entries that stand together in a journal, with an index by path and one by mark.
+#[derive(Drop)]
+pub(crate) struct Layer {
+    /// The newest first.
+    entries: Vec<Entry>,
+    /// The files that are written, in byte order of their paths, of one path the newest first.
+    by_path: Vec<PutRef>,
+    by_mark: Vec<Entry>,
+}
+
+impl Model for Layer {
+    ghost use Rattle.result_cache.specs.Journal.{Journal};
+    ghost use Rattle.msb_files.specs.Views.{puts_of};
+    ghost use Rattle.msb_files.specs.Indices.{IsIndexed};
+
+    ghost Value = { Journal };
+
+    ghost view = { λ l. l.entries.items };
+
+    ghost invariant = { λ l. IsIndexed l.entries.items l.by_path.items l.by_mark.items };
+}
+
+impl Layer {
+    /// These entries, which stand newest first.
+    pub(crate) fn of(alloc: Global, entries: Vec<Entry>) -> Result<Layer, NoMemory>
+        ensures { IfOk result (λ l. l ≡ entries.items) }
+    {
+        let by_path = by_path(alloc, &entries)?;
+        let by_mark = by_mark(alloc, &entries)?;
+        Ok(Layer {
+            entries,
+            by_path,
+            by_mark,
+        })
+    }
+
+    /// The entries of two layers, of which the other is older.
+    pub(crate) fn over(&self, alloc: Global, older: &Layer) -> Result<Layer, NoMemory>
+        ensures { IfOk result (λ l. l ≡ self.now ++ older.now) }
+    {
+        let mut entries = Vec::with_capacity(alloc, self.entries.len())?;
+        push_copies(&mut entries, &self.entries)?;
+        push_copies(&mut entries, &older.entries)?;
+        Layer::of(alloc, entries)
+    }
+
+    pub(crate) fn entries(&self) -> &[Entry]
+        ensures { result.now ≡ self.now }
+    {
+        &self.entries
+    }
+
+    /// The bytes of a path as it was last written here.
+    pub(crate) fn content(&self, path: &str) -> Option<&[u8]>
+        ensures { option_copied result ≡ content self.now path.now }
+    {
+        match first_of(&self.by_path, path) {
+            Some(put) => Some(put.bytes.as_bytes()),
+            None => None,
+        }
+    }
+
+    pub(crate) fn has(&self, mark: Mark<'_>) -> bool
+        ensures { result ≡ has (mark_shown mark.entry) self.now }
+    {
+        has_mark(&self.by_mark, mark)
+    }
+
+    /// Whether a file is written here at a path or below it.
+    pub(crate) fn there(&self, path: &str) -> bool
+        ensures { result ≡ is_there (map (λ put. put.path) (puts_of self.now)) path.now }
+    {
+        first_of(&self.by_path, path).is_some() || has_below(&self.by_path, path)
+    }
+}
+
+impl Layer {
+    /// Puts the paths that are written here among others, in byte order.
+    pub(crate) fn add_paths(&self, all: &mut BTreeSet<Text>) -> Result<(), NoMemory>
+        ensures { OnOk result (all.new.keys ≡ with_paths (map (λ put. put.path) (puts_of self.now)) all.old.keys) }
+    {
+        for entry in self.entries.iter().rev() {
+            if let Some(put) = entry.put() {
+                all.insert(put.get().path.copy()?)?;
+            }
+        }
+        Ok(())
+    }
+}
+
+fn push_copies(entries: &mut Vec<Entry>, more: &[Entry]) -> Result<(), NoMemory>
+    ensures { OnOk result (entries.new.items ≡ entries.old.items ++ more.now) }
+{
+    for entry in more {
+        entries.push(entry.copy()?)?;
+    }
+    Ok(())
+}
+
+/// A layer that all journals share that have it.
+#[derive(Drop)]
+pub(crate) struct LayerRef {
+    shared: Arc<Layer>,
+}
+
+impl Model for LayerRef {
+    ghost use Rattle.std.specs.Arc.{arc_value};
+    ghost use Rattle.result_cache.specs.Journal.{Journal};
+
+    ghost Value = { Journal };
+
+    ghost view = { λ l. arc_value l.shared };
+}
+
+impl LayerRef {
+    pub(crate) fn new(alloc: Global, layer: Layer) -> Result<LayerRef, NoMemory>
+        ensures { IfOk result (λ l. l ≡ layer) }
+    {
+        Ok(LayerRef {
+            shared: Arc::new(alloc, layer)?,
+        })
+    }
+
+    pub(crate) fn get(&self) -> &Layer
+        ensures { result.now ≡ self.now }
+    {
+        &self.shared
+    }
+}
+
+impl Copied for LayerRef {
+    fn copy(&self) -> Result<LayerRef, NoMemory> {
+        Ok(LayerRef {
+            shared: Arc::try_clone(&self.shared)?,
+        })
+    }
+}

@@ -1,0 +1,19 @@
+//! Journals of what runs have written and of the runs that have ended, and files as a run sees them: those of the tree,
+//! with what its journal has written over them. (MSBuild targets; MSBuild task; Incremental builds.)
+//!
+//! A contract sees a [`Journal`] as the plain list of its entries, the newest first, and a [`FileView`] as the files of
+//! its tree and that list.
+#![tactic(auto)]
+
+mod entry;
+mod journal;
+mod layer;
+mod layers;
+mod mark;
+mod shared;
+mod sorted;
+mod view;
+
+pub use entry::JView;
+pub use journal::Journal;
+pub use view::FileView;

@@ -1,0 +1,106 @@
+ghost use Rattle.std.specs.Prelude.{◌≡◌, IfOk, OnOk, option_copied};
+ghost use Rattle.file_store.specs.Files.{paths_of};
+ghost use Rattle.msb_files.specs.Views.{content, written, stamp, paths, with_paths};
+
+use crate::Journal;
+use file_store::{File, Tree};
+use msb_paths::Present;
+use msb_values::{Copied, List, NoMemory, Text};
+use std::alloc::Global;
+use std::collections::BTreeSet;
+use std::marker::Model;
+
+/// Files as a run sees them: those of the tree, with what its request's journal has written over them. (MSBuild targets;
+/// Incremental builds.)
+#[derive(Drop)]
+pub struct FileView<'a> {
+    tree: &'a Tree,
+    journal: &'a Journal,
+}
+
+impl<'a> Model for FileView<'a> {
+    ghost use Rattle.msb_files.specs.Views.{View};
+
+    ghost Value = { View };
+
+    ghost view = { λ v. record { files = v.tree.now.files; journal = v.journal.now } };
+}
+
+impl<'a> FileView<'a> {
+    pub fn of(tree: &'a Tree, journal: &'a Journal) -> FileView<'a>
+        ensures { result ≡ record { files = tree.now.files; journal = journal.now } }
+    {
+        FileView { tree, journal }
+    }
+
+    /// The bytes of the file at a path: as it was last written, else as the tree has it. Takes no memory.
+    pub fn content(&self, path: &str) -> Option<&[u8]>
+        ensures { option_copied result ≡ content self.now path.now }
+    {
+        match self.journal.content(path) {
+            Some(bytes) => Some(bytes),
+            None => match self.tree.find(path) {
+                Some(file) => Some(file.bytes.as_bytes()),
+                None => None,
+            },
+        }
+    }
+
+    /// Whether a run has written the path. Takes no memory.
+    pub fn written(&self, path: &str) -> bool
+        ensures { result ≡ written self.now path.now }
+    {
+        self.journal.content(path).is_some()
+    }
+
+    /// The stamp of the path in the tree, whether a run has written it or not. Takes no memory.
+    pub fn stamp(&self, path: &str) -> Option<u64>
+        ensures { result ≡ stamp self.now path.now }
+    {
+        match self.tree.find(path) {
+            Some(file) => Some(file.stamp),
+            None => None,
+        }
+    }
+}
+
+impl<'a> FileView<'a> {
+    /// The paths of all files that there are, in byte order, each once.
+    pub fn paths(&self, alloc: Global) -> Result<List<Text>, NoMemory>
+        ensures { IfOk result (λ all. all ≡ paths self.now) }
+    {
+        let mut all = BTreeSet::new(alloc);
+        add_tree(&mut all, self.tree.files.as_slice())?;
+        self.journal.add_paths(&mut all)?;
+        listed(alloc, all)
+    }
+}
+
+impl<'a> Present for FileView<'a> {
+    ghost use Rattle.msb_files.specs.Views.{paths};
+
+    ghost files = { paths };
+
+    fn there(&self, path: &str) -> bool {
+        self.tree.there(path) || self.journal.there(path)
+    }
+}
+
+fn add_tree(all: &mut BTreeSet<Text>, files: &[File]) -> Result<(), NoMemory>
+    ensures { OnOk result (all.new.keys ≡ with_paths (paths_of files.now) all.old.keys) }
+{
+    for file in files.iter().rev() {
+        all.insert(file.path.copy()?)?;
+    }
+    Ok(())
+}
+
+fn listed(alloc: Global, all: BTreeSet<Text>) -> Result<List<Text>, NoMemory>
+    ensures { IfOk result (λ l. l ≡ all.keys) }
+{
+    let mut list = List::new(alloc);
+    for path in all {
+        list.push(path)?;
+    }
+    Ok(list)
+}
