@@ -1,1 +1,6 @@
 pub mod Contents
+pub mod Indexed
+pub mod LayerSteps
+pub mod MarkOrder
+pub mod Paths
+pub mod Searches

@@ -33,11 +33,11 @@ puts_of [] = []
 puts_of (wrote run place put ∷ journal) = put ∷ puts_of journal
 puts_of (ended run made ∷ journal) = puts_of journal
 
--- paths in byte order, and these among them, each once
+-- these paths put among others in byte order, each once
 abbrev pub with_paths : List (List ℕ) → List (List ℕ) → List (List ℕ)
 with_paths [] others = others
-with_paths (path ∷ paths) others = insert_key (slice_cmp nat_cmp) (with_paths paths others) path
+with_paths (path ∷ paths) others = with_paths paths (insert_key (slice_cmp nat_cmp) others path)
 
 -- the paths of all files that there are, in byte order, each once
 abbrev pub paths : View → List (List ℕ)
-paths view = with_paths (map (λ put. put.path) (puts_of view.journal)) (with_paths (paths_of view.files) [])
+paths view = with_paths (paths_of view.files) (with_paths (map (λ put. put.path) (puts_of view.journal)) [])

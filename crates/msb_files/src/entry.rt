@@ -38,7 +38,12 @@ impl Model for Entry {
 }
 
 impl Entry {
-    pub(crate) fn wrote(alloc: Global, run: &RunId, number: u64, put: Put) -> Result<Entry, NoMemory>
+    pub(crate) fn wrote(
+        alloc: Global,
+        run: &RunId,
+        number: u64,
+        put: Put,
+    ) -> Result<Entry, NoMemory>
         ensures { IfOk result (λ e. e ≡ wrote run.now number put) }
     {
         let run = RunRef::new(alloc, run)?;

@@ -6,7 +6,7 @@ ghost use Rattle.msb_files.specs.Views.{puts_of, with_paths};
 
 use crate::entry::{Entry, JView};
 use crate::layer::{Layer, LayerRef};
-use crate::layers::{content_of, has_mark, is_there, with_new};
+use crate::layers::{add_paths, content_of, has_mark, is_there, with_new};
 use crate::mark::Mark;
 use msb_values::{Copied, List, NoMemory, Put, Text};
 use result_cache::{RecordRef, RunId};
@@ -111,10 +111,7 @@ impl Journal {
     pub(crate) fn add_paths(&self, all: &mut BTreeSet<Text>) -> Result<(), NoMemory>
         ensures { OnOk result (all.new.keys ≡ with_paths (map (λ put. put.path) (puts_of self.now)) all.old.keys) }
     {
-        for layer in self.layers.as_slice().iter().rev() {
-            layer.get().add_paths(all)?;
-        }
-        Ok(())
+        add_paths(all, self.layers.as_slice())
     }
 
     // Whether there is an entry with this mark.

@@ -90,18 +90,16 @@ impl Layer {
     }
 }
 
-impl Layer {
-    /// Puts the paths that are written here among others, in byte order.
-    pub(crate) fn add_paths(&self, all: &mut BTreeSet<Text>) -> Result<(), NoMemory>
-        ensures { OnOk result (all.new.keys ≡ with_paths (map (λ put. put.path) (puts_of self.now)) all.old.keys) }
-    {
-        for entry in self.entries.iter().rev() {
-            if let Some(put) = entry.put() {
-                all.insert(put.get().path.copy()?)?;
-            }
+/// Puts the paths of the files that are written among others in byte order.
+pub(crate) fn add_paths(all: &mut BTreeSet<Text>, entries: &[Entry]) -> Result<(), NoMemory>
+    ensures { OnOk result (all.new.keys ≡ with_paths (map (λ put. put.path) (puts_of entries.now)) all.old.keys) }
+{
+    for entry in entries {
+        if let Some(put) = entry.put() {
+            all.insert(put.get().path.copy()?)?;
         }
-        Ok(())
     }
+    Ok(())
 }
 
 fn push_copies(entries: &mut Vec<Entry>, more: &[Entry]) -> Result<(), NoMemory>

@@ -1,16 +1,17 @@
 //! The layers of a journal, the newest first.
 
-ghost use Rattle.std.specs.Prelude.{◌≡◌, ◌++◌, IfOk, map, option_copied};
+ghost use Rattle.std.specs.Prelude.{◌≡◌, ◌++◌, IfOk, OnOk, map, option_copied};
 ghost use Rattle.msb_paths.specs.Presence.{is_there};
 ghost use Rattle.result_cache.specs.Journal.{content, has};
 ghost use Rattle.msb_files.specs.Layers.{all_of};
 ghost use Rattle.msb_files.specs.Seen.{mark_shown};
-ghost use Rattle.msb_files.specs.Views.{puts_of};
+ghost use Rattle.msb_files.specs.Views.{puts_of, with_paths};
 
-use crate::layer::{Layer, LayerRef};
+use crate::layer::{self, Layer, LayerRef};
 use crate::mark::Mark;
-use msb_values::{Copied, List, NoMemory};
+use msb_values::{Copied, List, NoMemory, Text};
 use std::alloc::Global;
+use std::collections::BTreeSet;
 
 /// The layers with a new one over them, which takes in those that are no larger than itself: so each layer is larger
 /// than the one over it, and there are no more of them than the logarithm of the number of entries.
@@ -71,4 +72,14 @@ pub(crate) fn has_mark(layers: &[LayerRef], mark: Mark<'_>) -> bool
         }
     }
     false
+}
+
+/// Puts the paths of the files that are written among others in byte order.
+pub(crate) fn add_paths(all: &mut BTreeSet<Text>, layers: &[LayerRef]) -> Result<(), NoMemory>
+    ensures { OnOk result (all.new.keys ≡ with_paths (map (λ put. put.path) (puts_of (all_of layers.now))) all.old.keys) }
+{
+    for layer in layers {
+        layer::add_paths(all, layer.get().entries())?;
+    }
+    Ok(())
 }

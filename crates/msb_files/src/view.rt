@@ -70,8 +70,8 @@ impl<'a> FileView<'a> {
         ensures { IfOk result (λ all. all ≡ paths self.now) }
     {
         let mut all = BTreeSet::new(alloc);
-        add_tree(&mut all, self.tree.files.as_slice())?;
         self.journal.add_paths(&mut all)?;
+        add_files(&mut all, self.tree.files.as_slice())?;
         listed(alloc, all)
     }
 }
@@ -86,10 +86,10 @@ impl<'a> Present for FileView<'a> {
     }
 }
 
-fn add_tree(all: &mut BTreeSet<Text>, files: &[File]) -> Result<(), NoMemory>
+fn add_files(all: &mut BTreeSet<Text>, files: &[File]) -> Result<(), NoMemory>
     ensures { OnOk result (all.new.keys ≡ with_paths (paths_of files.now) all.old.keys) }
 {
-    for file in files.iter().rev() {
+    for file in files {
         all.insert(file.path.copy()?)?;
     }
     Ok(())
@@ -98,9 +98,6 @@ fn add_tree(all: &mut BTreeSet<Text>, files: &[File]) -> Result<(), NoMemory>
 fn listed(alloc: Global, all: BTreeSet<Text>) -> Result<List<Text>, NoMemory>
     ensures { IfOk result (λ l. l ≡ all.keys) }
 {
-    let mut list = List::new(alloc);
-    for path in all {
-        list.push(path)?;
-    }
-    Ok(list)
+    let paths: Vec<Text> = all.into_iter().collect(alloc)?;
+    Ok(List::from(paths))
 }
