@@ -2,11 +2,12 @@
 #![tactic(auto)]
 
 use file_store::{DirStore, OutSink};
-use msb_program::{NoTools, run};
+use msb_program::run;
 use std::alloc::Global;
 use std::process::ExitCode;
 use std::rt::Env;
 use std::{env, io};
+use task_trait::NoTools;
 
 /// The status where the words of the command line can't be got.
 const NO_WORDS: u8 = 11;

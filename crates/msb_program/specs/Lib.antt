@@ -7,4 +7,3 @@ pub mod Asked
 pub mod Outcomes
 pub mod Seen
 pub mod Answers
-pub mod Tools

@@ -13,10 +13,6 @@ mod project;
 mod report;
 mod request;
 mod targets;
-mod tools;
 mod top;
 
-pub use tools::{
-    Counted, CountedTools, FileIn, NoTools, Param, TaskOutput, ToolAnswer, ToolInput, Tools,
-};
 pub use top::{run, run_alone};

@@ -7,13 +7,13 @@ ghost use Rattle.msb_program.specs.Outcomes.{load_fault_text, fault_status};
 ghost use Rattle.msb_program.specs.Answers.{Answers, loading, printing};
 
 use crate::outcome::Outcome;
-use crate::tools::{Counted, CountedTools, Tools};
 use file_store::{LoadFault, Sink, Store, load};
 use msb_values::{NoMemory, Text};
 use msb_words::{WordFault, read_words};
 use std::alloc::Global;
 use std::sync::Wait;
 use std::thread::Threads;
+use task_trait::{Counted, CountedTools, Tools};
 
 const USAGE: &str =
     "usage: msb ACTION PROJECT [--target LIST] [--property LIST] [--nodes N] [--clean] [--show low] [--size N]\n";

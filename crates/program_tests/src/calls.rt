@@ -1,7 +1,8 @@
 use crate::runs::{store, words};
 use file_store::MemSink;
-use msb_program::{NoTools, run};
+use msb_program::run;
 use std::test::Fail;
+use task_trait::NoTools;
 
 const SMALLEST: &str = r#"{"e":"Project","c":[
 {"e":"Target","a":{"Name":"Build"},"c":[{"e":"Message","a":{"Text":"hi"}}]}]}"#;

@@ -1,9 +1,10 @@
 use file_store::{File, MemSink, MemStore, Tree};
-use msb_program::{Counted, NoTools, run_alone};
+use msb_program::run_alone;
 use msb_values::{List, Text, Text8};
 use std::alloc::Global;
 use std::process::Abort;
 use std::test::Fail;
+use task_trait::{Counted, NoTools};
 
 /// The paths of some sources, in byte order.
 const SOURCES: [&str; 4] = ["src/a.c", "src/n.h", "src/x/b.c", "src/x/skip.c"];

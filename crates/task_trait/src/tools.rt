@@ -1,8 +1,8 @@
 ghost use Rattle.std.specs.Prelude.{◌≡◌, ℕ, List, [], ◌∷◌, ◌++◌, IfOk, OnOk, OnErr};
-ghost use Rattle.msb_program.specs.Tools.{BeginsWith};
-ghost use Rattle.msb_program.specs.declared.tools.ToolAnswer.{ToolAnswer as Answer};
-ghost use Rattle.msb_program.specs.declared.tools.ToolAnswer.TheVariants.{Unknown};
-ghost use Rattle.msb_program.specs.declared.tools.ToolInput.{ToolInput as Input};
+ghost use Rattle.task_trait.specs.Tools.{BeginsWith};
+ghost use Rattle.task_trait.specs.declared.tools.ToolAnswer.{ToolAnswer as Answer};
+ghost use Rattle.task_trait.specs.declared.tools.ToolAnswer.TheVariants.{Unknown};
+ghost use Rattle.task_trait.specs.declared.tools.ToolInput.{ToolInput as Input};
 
 use msb_values::{Copied, Item, List, Name, NoMemory, Note, Put, Text, Text8};
 use std::alloc::Global;
@@ -51,6 +51,7 @@ pub enum ToolAnswer {
 pub trait Tools {
     ghost answer: { List ℕ → Input → Answer };
 
+    /// The answer of the function to a task's name and input.
     fn call(&self, alloc: Global, name: &Name, input: &ToolInput) -> Result<ToolAnswer, NoMemory>
         ensures { IfOk result (λ a. a ≡ answer name.now input.now) };
 }
@@ -62,6 +63,8 @@ pub trait CountedTools {
     /// The calls so far, oldest first.
     ghost calls: { Self → List (List ℕ × Input) };
 
+    /// The answer of the function to a task's name and input, which is added to the calls. After want of memory the
+    /// calls begin with those of before, and no more is said of them.
     fn call(
         &mut self,
         alloc: Global,

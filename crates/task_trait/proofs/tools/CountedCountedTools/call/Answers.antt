@@ -1,5 +1,5 @@
 use Rattle.std.proofs.Common.{Result, Ok, Err, OnErr}
-use Rattle.msb_program.proofs.tools.CountedCountedTools.call.Goals as goal
+use Rattle.task_trait.proofs.tools.CountedCountedTools.call.Goals as goal
 
 whatever : {T E : Type 0} (r : Result T E) (P : Type 0) → P → OnErr r P
 whatever (Ok x) P p = tt
