@@ -1,1 +1,5 @@
 pub mod Tools
+pub mod Failures
+pub mod Answers
+pub mod Params
+pub mod Escaping

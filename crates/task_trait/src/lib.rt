@@ -4,8 +4,16 @@
 //! [`CountedTools`] see the list of the calls that were made besides.
 #![tactic(auto)]
 
+mod escaping;
+mod failures;
+mod params;
 mod tools;
 
+pub use escaping::{handed, handed_items, taken_items};
+pub use failures::Failure;
+pub use params::{
+    bad, check_known, items_of, needed_items, needed_text, pair_of, text_of, truth_at,
+};
 pub use tools::{
     Counted, CountedTools, FileIn, NoTools, Param, TaskOutput, ToolAnswer, ToolInput, Tools,
 };
