@@ -1,5 +1,6 @@
 ghost use Rattle.std.specs.Prelude.{◌≡◌, ◌++◌, IfOk, codes, string_bytes};
 ghost use Rattle.std.specs.Fmt.{decimal};
+ghost use Rattle.msb_values.specs.declared.note.Note.TheVariants.{Fail};
 ghost use Rattle.task_trait.specs.declared.failures.Failure.TheVariants.{Memory};
 
 use crate::TaskOutput;
@@ -38,12 +39,14 @@ pub enum Failure {
 impl Failure {
     ghost use Rattle.task_trait.specs.Failures.{failed, failure_text, told_of};
 
-    /// The output of the task of this name, where it fails a check: nothing but the failure's note.
+    /// The output of the task of this name, where it fails a check: nothing but the failure's note. Want of memory has none.
     pub fn output(&self, alloc: Global, task: &str) -> Result<TaskOutput, NoMemory>
-        ensures { IfOk result (λ output. output ≡ failed task.now self.now) }
+        ensures output { IfOk result (λ output. output ≡ failed task.now self.now) }
+        ensures told { IfOk result (λ _. self.now ≡ Memory → ⊥) }
     {
+        let note = self.note(alloc, task)?;
         let mut notes = List::new(alloc);
-        notes.push(Note::Fail(self.text(alloc, task)?))?;
+        notes.push(note)?;
         Ok(TaskOutput {
             ok: false,
             outputs: List::new(alloc),
@@ -52,8 +55,18 @@ impl Failure {
         })
     }
 
-    /// The text of the failure's note, of the task of this name, which is in lower case.
-    pub fn text(&self, alloc: Global, task: &str) -> Result<Text, NoMemory>
+    /// The note of the failure, of the task of this name, which is in lower case. Want of memory has none.
+    pub fn note(&self, alloc: Global, task: &str) -> Result<Note, NoMemory>
+        ensures note { IfOk result (λ note. note ≡ Fail (failure_text task.now self.now)) }
+        ensures told { IfOk result (λ _. self.now ≡ Memory → ⊥) }
+    {
+        match self {
+            Failure::Memory => Err(NoMemory),
+            _ => Ok(Note::Fail(self.text(alloc, task)?)),
+        }
+    }
+
+    fn text(&self, alloc: Global, task: &str) -> Result<Text, NoMemory>
         ensures { IfOk result (λ text. text ≡ failure_text task.now self.now) }
     {
         match self {
