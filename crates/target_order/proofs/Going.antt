@@ -1,10 +1,9 @@
 -- The next ask is that of the tree, and the walk goes on as the tree does.
-use Rattle.std.proofs.Common.{◌≡◌, ◌≢◌, ℕ, zero, suc, ◌+◌, ◌-◌, ◌*◌, ◌^◌, ◌<◌, ◌≤◌, Bool, true, false, ◌||◌, List, [], ◌∷◌, ◌++◌, length, get_or, take, drop, map, refl, sym, ap, ◌∙◌, subst, arith, rules, add-one, drop-cons}
+use Rattle.std.proofs.Common.{◌≡◌, ℕ, zero, suc, ◌+◌, ◌-◌, ◌*◌, ◌^◌, ◌<◌, ◌≤◌, Bool, true, false, ◌||◌, List, [], ◌∷◌, length, get_or, drop, map, refl, sym, ap, ◌∙◌, subst, arith, add-one, drop-cons}
 use Rattle.std.specs.Prelude.{reverse}
 use Rattle.std.specs.List.{list_any}
 use Rattle.std.proofs.lemmas.List.{length-reverse}
-use Rattle.msb_laws.specs.Asking.{Asking, gives, asks}
-use Rattle.target_order.specs.declared.asks.OrderAsk.{OrderAsk}
+use Rattle.msb_laws.specs.Asking.{gives, asks}
 use Rattle.target_order.specs.declared.asks.OrderAsk.TheVariants.{Condition, Body, Done, Circle, Unknown}
 use Rattle.target_order.specs.declared.asks.OrderAnswer.{OrderAnswer}
 use Rattle.target_order.specs.declared.visits.Step.{Step}
@@ -16,13 +15,13 @@ use Rattle.target_order.specs.declared.visits.Asked.TheVariants.{Nothing, Condit
 use Rattle.target_order.specs.declared.cursor.Stop.{Stop}
 use Rattle.target_order.specs.declared.cursor.Stop.TheVariants.{Visit as AtVisit, Body as AtBody, Finished, Stopped, Circle as AtCircle, Unknown as AtUnknown}
 use Rattle.target_order.specs.declared.cursor.Stand.TheVariants.{Unknown as IsUnknown, Circle as IsCircle, Fresh as IsFresh}
-use Rattle.target_order.specs.Visit.{body, Name, Rest, Opened, Standing, End, finished, stopped, circle, unknown, strange, circular, fresh, standing, in_order, visit_by, after_condition, after_body, with}
-use Rattle.target_order.specs.Progress.{Table, Progress, hooks_at, name_at, project_of, ran_of, is_past, is_errors, opened, list_at}
+use Rattle.target_order.specs.Visit.{body, Name, Rest, Standing, finished, stopped, strange, circular, fresh, standing, in_order, visit_by, after_condition, after_body, with}
+use Rattle.target_order.specs.Progress.{Table, Progress, hooks_at, name_at, project_of, ran_of, is_errors, opened}
 use Rattle.target_order.specs.Left.{left, visit_in, inside, resume, base_at, base_of}
 use Rattle.target_order.specs.AsksLeft.{asks_left, visit_asks, asks_in, both, resume_asks, base_asks}
 use Rattle.target_order.specs.Answers.{Asks}
-use Rattle.target_order.specs.Search.{visit_at, inner, is_request, open_at, then_at, then_asks, errors_at, rest_list, rest_at, asks_at, circle_at, IsBelow, IsCursor, IsList, GoesOn, IsNew, is_going, is_over, HasStopped, StopsAt, StopsEnd, IsSound}
-use Rattle.target_order.specs.Steps.{going, going_asks, visiting, at_body, ended, marked_visits, marked_passed, noted_visit, new_visit, ask_of, came, CanCome, IsPlace}
+use Rattle.target_order.specs.Search.{visit_at, inner, is_request, open_at, then_at, then_asks, errors_at, rest_list, rest_at, asks_at, circle_at, IsBelow, IsCursor, IsList, GoesOn, is_going, is_over, HasStopped, StopsAt, StopsEnd, IsSound}
+use Rattle.target_order.specs.Steps.{going, going_asks, visiting, at_body, ended, marked_visits, marked_passed, new_visit, ask_of, came, CanCome}
 use Rattle.target_order.proofs.Names.{number_name, number_below}
 use Rattle.target_order.proofs.Stack.{inner_all, inner_suc, inner_length, few_visits}
 use Rattle.target_order.proofs.Rest.{visit_once, room_at, below_rest, below_asks, below_errors, below_list, inner_within, is_deep, top_of}

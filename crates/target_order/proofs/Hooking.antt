@@ -1,6 +1,6 @@
 -- The index that a walk starts with.
-use Rattle.std.proofs.Common.{◌≡◌, ◌≢◌, ◌⊎◌, ℕ, zero, suc, ◌+◌, ◌-◌, ◌<◌, ◌≤◌, Bool, true, false, cond, ◌||◌, eqb, List, [], ◌∷◌, ◌++◌, length, get_or, take, drop, set, map, Option, Some, None, option_map, refl, sym, ap, ◌∙◌, subst, inl, inr, arith, rules, append-nil, append_assoc}
-use Rattle.std.specs.List.{list_any, filter}
+use Rattle.std.proofs.Common.{◌≡◌, ◌≢◌, ◌⊎◌, ℕ, ◌+◌, ◌<◌, ◌≤◌, Bool, true, false, cond, ◌||◌, eqb, List, [], ◌∷◌, ◌++◌, length, get_or, take, set, map, Some, None, refl, sym, ap, ◌∙◌, inl, inr, arith, append-nil}
+use Rattle.std.specs.List.{filter}
 use Rattle.std.specs.Str.{bytes_eq}
 use Rattle.std.proofs.Math.ListN.{length-set}
 use Rattle.std.proofs.lemmas.List.{get_or-set_same, get_or-set_other, take_more}
@@ -9,10 +9,10 @@ use Rattle.std.proofs.lemmas.Bool.{false_from_ne_true, cases_eq, eqb-false}
 use Rattle.std.proofs.lemmas.Bool.Decides.{nat_tests}
 use Rattle.target_order.specs.declared.row.TargetRow.{TargetRow}
 use Rattle.target_order.specs.declared.hooks.Side.{Side}
-use Rattle.target_order.specs.Visit.{Name, is_target, keep, first_rows, naming}
+use Rattle.target_order.specs.Visit.{Name, naming}
 use Rattle.target_order.specs.Progress.{number_of}
-use Rattle.target_order.specs.Table.{side_of, names_in, AreDistinct, is_among, AreHooks, AreHooked}
-use Rattle.target_order.proofs.Names.{same_name, own_name, number_name, number_push}
+use Rattle.target_order.specs.Table.{side_of, AreDistinct, is_among, AreHooks, AreHooked}
+use Rattle.target_order.proofs.Names.{same_name, own_name, number_name}
 
 -- a name that isn't that of this number differs from it
 pub differs : (names : List Name) → AreDistinct names → (t : Name) (k : ℕ) → k < length names → number_of names t ≢ Some k → bytes_eq t (get_or names k []) ≡ false

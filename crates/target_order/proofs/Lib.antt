@@ -8,3 +8,4 @@ pub mod Going
 pub mod Taking
 pub mod Hooking
 pub mod Starting
+pub mod Chunks

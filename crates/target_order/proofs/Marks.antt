@@ -1,16 +1,14 @@
 -- The stack of open visits after its end is taken away and one place is noted.
-use Rattle.std.proofs.Common.{◌≡◌, ◌≢◌, ◌⊎◌, ℕ, zero, suc, ◌+◌, ◌-◌, ◌<◌, ◌≤◌, Bool, true, false, ◌||◌, List, [], ◌∷◌, ◌++◌, length, get_or, take, drop, set, map, refl, sym, ap, ◌∙◌, subst, inl, inr, arith, rules, append_assoc, append-nil, length-append}
+use Rattle.std.proofs.Common.{◌≡◌, ◌⊎◌, ℕ, zero, suc, ◌-◌, ◌<◌, ◌≤◌, List, [], ◌∷◌, ◌++◌, length, take, set, refl, sym, ap, ◌∙◌, subst, inl, inr, arith, append_assoc, append-nil, length-append}
 use Rattle.std.specs.Prelude.{reverse}
 use Rattle.std.specs.List.{list_any}
 use Rattle.std.proofs.Math.Seq.{take-suc, get_or-append_seam}
-use Rattle.std.proofs.Math.ListN.{length-set}
 use Rattle.std.proofs.Math.Nat.{eq-or-lt_of_le}
-use Rattle.std.proofs.lemmas.List.{reverse-append, length-take-le, take_all, get_or_append_left, get_or-take, get_or-set_same, get_or-set_other}
+use Rattle.std.proofs.lemmas.List.{reverse-append, length-take-le, take_all, get_or_append_left, get_or-take}
 use Rattle.target_order.specs.declared.visits.Step.{Step}
 use Rattle.target_order.specs.declared.visits.OpenVisit.{OpenVisit}
-use Rattle.target_order.specs.Visit.{Name, Opened}
-use Rattle.target_order.specs.Progress.{Table, Progress, opened, is_errors}
-use Rattle.target_order.specs.Search.{visit_at, inner, open_at, errors_at, IsPlaced}
+use Rattle.target_order.specs.Progress.{Progress, is_errors}
+use Rattle.target_order.specs.Search.{visit_at, errors_at, IsPlaced}
 use Rattle.target_order.specs.Steps.{noted, noted_visit, marked_visits, IsPlace}
 use Rattle.target_order.proofs.Stack.{inner_suc}
 

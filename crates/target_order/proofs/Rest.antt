@@ -1,18 +1,16 @@
 -- What is left at a cursor, from one turn of a search to the next.
-use Rattle.std.proofs.Common.{◌≡◌, ◌≢◌, ℕ, zero, suc, ◌+◌, ◌-◌, ◌*◌, ◌^◌, ◌<◌, ◌≤◌, Bool, true, false, ◌||◌, List, [], ◌∷◌, length, get_or, take, drop, map, refl, inl, inr, sym, ap, ◌∙◌, subst, arith, rules, add-one, drop-cons}
-use Rattle.std.specs.Prelude.{reverse}
+use Rattle.std.proofs.Common.{◌≡◌, ℕ, zero, suc, ◌+◌, ◌-◌, ◌*◌, ◌^◌, ◌<◌, ◌≤◌, Bool, false, List, [], ◌∷◌, length, get_or, refl, inl, inr, sym, ap, ◌∙◌, subst, arith, add-one, drop-cons}
 use Rattle.std.specs.List.{list_any}
-use Rattle.std.specs.Borrow.{Bor}
 use Rattle.std.proofs.lemmas.List.{length-map, length-drop}
 use Rattle.target_order.specs.declared.visits.Step.{Step}
 use Rattle.target_order.specs.declared.visits.Step.TheVariants.{Request, Depends, BeforeBody, BeforeSkip, After, Errors}
 use Rattle.target_order.specs.declared.visits.OpenVisit.{OpenVisit}
 use Rattle.target_order.specs.declared.cursor.Cursor.{Cursor}
 use Rattle.target_order.specs.Visit.{Name, Rest, Opened, Standing, settled, standing, visit, visit_by, in_order}
-use Rattle.target_order.specs.Progress.{Table, Progress, project_of, hooks_at, name_at, ran_of, opened, list_at, is_errors}
+use Rattle.target_order.specs.Progress.{Table, Progress, project_of, hooks_at, ran_of, opened, list_at, is_errors}
 use Rattle.target_order.specs.Left.{visit_in, resume, base_at}
-use Rattle.target_order.specs.AsksLeft.{asks_in, both, resume_asks, base_asks}
-use Rattle.target_order.specs.Search.{visit_at, inner, is_request, open_at, then_at, then_asks, errors_at, rest_list, rest_at, asks_at, rank, weight, standing_at, IsBelow, IsCursor, GoesOn, IsList, IsTable, IsSound, IsHookStep}
+use Rattle.target_order.specs.AsksLeft.{asks_in, resume_asks, base_asks}
+use Rattle.target_order.specs.Search.{visit_at, inner, is_request, open_at, then_at, then_asks, errors_at, rest_list, rank, weight, standing_at, IsBelow, IsCursor, GoesOn, IsList, IsTable, IsSound, IsHookStep}
 use Rattle.target_order.proofs.Stack.{few_visits, inner_suc, inner_length}
 
 -- a visit has room, and the visits inside it have room for one less

@@ -1,5 +1,5 @@
 -- The steps of a walk keep what its fields keep.
-use Rattle.std.proofs.Common.{◌≡◌, ◌≢◌, ◌⊎◌, ℕ, zero, suc, ◌+◌, ◌-◌, ◌<◌, ◌≤◌, Bool, true, false, cond, ◌||◌, List, [], ◌∷◌, ◌++◌, length, get_or, take, drop, set, map, refl, sym, ap, ◌∙◌, subst, inl, inr, arith, rules, append-nil, length-append}
+use Rattle.std.proofs.Common.{◌≡◌, ◌≢◌, ◌⊎◌, ℕ, suc, ◌-◌, ◌<◌, ◌≤◌, Bool, true, false, cond, ◌||◌, List, [], ◌∷◌, ◌++◌, length, get_or, take, set, refl, sym, ap, ◌∙◌, subst, inl, inr, arith, append-nil, length-append}
 use Rattle.std.specs.Prelude.{reverse}
 use Rattle.std.specs.List.{list_any}
 use Rattle.std.proofs.lemmas.Bool.{cases_eq}
@@ -11,8 +11,8 @@ use Rattle.target_order.specs.declared.visits.OpenVisit.{OpenVisit}
 use Rattle.target_order.specs.declared.visits.Asked.{Asked}
 use Rattle.target_order.specs.declared.visits.Asked.TheVariants.{Nothing, Condition, Depends as DependsOn, Body, Answered, End as TheEnd}
 use Rattle.target_order.specs.Progress.{Table, Progress, is_past, is_errors}
-use Rattle.target_order.specs.Search.{visit_at, is_request, is_going, asks_visit, is_over, IsPlaced, IsProgress, IsSound}
-use Rattle.target_order.specs.Steps.{noted, noted_visit, marked_visits, marked_passed, visiting, at_body, new_visit, taken, restored, top_target, IsPlace}
+use Rattle.target_order.specs.Search.{visit_at, is_request, asks_visit, is_over, IsPlaced, IsProgress, IsSound}
+use Rattle.target_order.specs.Steps.{noted, marked_visits, marked_passed, visiting, at_body, new_visit, taken, restored, top_target, IsPlace}
 use Rattle.target_order.specs.declared.steps.Undo.{Undo}
 use Rattle.target_order.specs.Visit.{Name}
 use Rattle.target_order.proofs.Marks.{noted_marked, marked_placed, marked_errors, marked_length, marked_top, marked_target, at_end_of, one_more, reverse_last, set_inner}
@@ -34,7 +34,7 @@ body_sound p places depth step passed sound place positive calm =
       placed = λ d lt. subst (λ vs. IsPlaced p.table places d (visit_at vs d)) (append-nil marked) (marked_placed p places depth step place sound.placed passed [] d (omega arith));
     }
 
-new_place : (p : Progress) (places : List ℕ) (depth k : ℕ) (marked : List OpenVisit) → length marked ≡ depth → length places ≡ length p.table.names → k < length p.table.names →
+new_place : (p : Progress) (places : List ℕ) (depth k : ℕ) (marked : List OpenVisit) → length marked ≡ depth → length p.table.names ≤ length places → k < length p.table.names →
     ((e : ℕ) → e < depth → IsPlaced p.table places e (visit_at (marked ++ new_visit k ∷ []) e)) → ((e : ℕ) → e < depth → (visit_at (marked ++ new_visit k ∷ []) e).target ≢ k) →
     (e : ℕ) → (e ≡ depth) ⊎ (e < depth) → IsPlaced p.table (set places k depth) e (visit_at (marked ++ new_visit k ∷ []) e)
 new_place p places depth k marked len places_len known old apart e (inl here) =
@@ -61,7 +61,7 @@ visiting_sound p places depth step passed k sound place known apart =
         failed = λ e. rw (one_more marked (new_visit k)) (marked_errors p depth step passed place);
         calm = λ e. ap (λ n. is_errors (visit_at (marked ++ new_visit k ∷ []) n).step) last ∙ ap (λ (v : OpenVisit). is_errors v.step) (at_end_of marked (new_visit k) depth len);
       };
-      places_len = length-set places k depth ∙ sound.places_len;
+      places_len = let l = length-set places k depth in let h = sound.places_len in omega arith;
       placed = λ d lt. new_place p places depth k marked len sound.places_len known
           (λ e h. marked_placed p places depth step place sound.placed passed (new_visit k ∷ []) e h)
           (λ e h same. apart e h (sym (marked_target p.visits depth step passed (new_visit k ∷ []) e place.deep h) ∙ same))
@@ -109,7 +109,7 @@ taken_sound p places step names sound asked open_still within =
     record {
       progress = record {
         table = sound.progress.table;
-        run_len = flags_length (is_past step) p.has_run (top_target p) ∙ sound.progress.run_len;
+        run_len = let l = flags_length (is_past step) p.has_run (top_target p) in let h = sound.progress.run_len in omega arith;
         visits = λ e. absurd (cc);
         begins = λ e. absurd (cc);
         failed = λ e. rw (set_inner p.visits v some) (errors_taken p.failed _ (is_errors step) before);

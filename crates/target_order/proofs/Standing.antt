@@ -1,5 +1,5 @@
 -- How a wanted target stands among the open visits.
-use Rattle.std.proofs.Common.{◌≡◌, ◌≢◌, ◌⊎◌, ℕ, zero, suc, ◌+◌, ◌-◌, option_map, ◌<◌, ◌≤◌, Bool, true, false, cond, List, [], ◌∷◌, ◌++◌, length, get_or, take, drop, map, Option, Some, None, refl, sym, ap, ◌∙◌, subst, inl, inr, arith, rules, append_assoc}
+use Rattle.std.proofs.Common.{◌≡◌, ◌≢◌, ◌⊎◌, ℕ, zero, suc, ◌+◌, ◌-◌, option_map, ◌<◌, ◌≤◌, Bool, true, false, cond, List, [], ◌∷◌, ◌++◌, length, get_or, take, drop, map, Some, refl, sym, ap, ◌∙◌, subst, inl, inr, arith, append_assoc}
 use Rattle.std.specs.Prelude.{reverse}
 use Rattle.std.specs.Str.{bytes_eq}
 use Rattle.std.proofs.Math.Seq.{take-suc, drop-append_seam}
@@ -8,8 +8,8 @@ use Rattle.std.proofs.lemmas.Bool.{false_from_ne_true, cases_eq}
 use Rattle.target_order.specs.declared.visits.Step.{Step}
 use Rattle.target_order.specs.declared.visits.OpenVisit.{OpenVisit}
 use Rattle.target_order.specs.declared.cursor.Cursor.{Cursor}
-use Rattle.target_order.specs.Visit.{Name, Hooks, Opened, Standing, settled, circular, fresh, standing, among_open}
-use Rattle.target_order.specs.Progress.{Table, Progress, number_of, hooks_at, name_at, project_of, ran_of, flag_at, is_past, opened}
+use Rattle.target_order.specs.Visit.{Name, Hooks, Opened, settled, circular, fresh, standing, among_open}
+use Rattle.target_order.specs.Progress.{Table, Progress, number_of, hooks_at, name_at, ran_of, flag_at, is_past, opened}
 use Rattle.target_order.specs.Search.{visit_at, inner, open_at, standing_at, circle_at, IsTable, IsPlaced, IsSound, IsNew}
 use Rattle.target_order.proofs.Names.{same_name, own_name, number_name}
 use Rattle.target_order.proofs.Stack.{inner_suc}

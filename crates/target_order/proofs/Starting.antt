@@ -1,26 +1,25 @@
 -- A walk starts with the whole tree of its request.
-use Rattle.std.proofs.Common.{◌≡◌, ◌≢◌, ◌⊎◌, ℕ, zero, suc, ◌+◌, ◌-◌, ◌<◌, ◌≤◌, Bool, true, false, cond, ◌||◌, List, [], ◌∷◌, ◌++◌, length, get_or, take, drop, map, Option, Some, None, option_map, refl, sym, ap, ◌∙◌, subst, inl, inr, arith, rules, length-append}
-use Rattle.std.specs.Prelude.{is_some, replicate, reverse}
+use Rattle.std.proofs.Common.{◌≡◌, ◌⊎◌, ℕ, zero, suc, ◌-◌, ◌<◌, ◌≤◌, Bool, true, false, cond, ◌||◌, List, [], ◌∷◌, ◌++◌, length, get_or, Option, Some, None, option_map, refl, sym, ap, ◌∙◌, inl, inr, arith, length-append}
+use Rattle.std.specs.Prelude.{is_some, replicate}
 use Rattle.std.specs.List.{list_any, filter}
 use Rattle.std.specs.Str.{bytes_eq}
 use Rattle.std.proofs.Math.Nat.{eq-or-lt_of_le}
 use Rattle.std.proofs.Math.ListN.{get_or-append}
 use Rattle.std.proofs.Math.Seq.{get_or-append_seam}
-use Rattle.std.proofs.lemmas.List.{length-map, length-replicate, get_or_past}
+use Rattle.std.proofs.lemmas.List.{length-map, get_or_past}
 use Rattle.std.proofs.lemmas.Bool.{cases_lt}
 use Rattle.target_order.specs.declared.row.TargetRow.{TargetRow}
 use Rattle.target_order.specs.declared.hooks.Side.TheVariants.{Before, After}
 use Rattle.target_order.specs.declared.visits.Asked.TheVariants.{Nothing}
 use Rattle.target_order.specs.declared.visits.OpenVisit.{OpenVisit}
 use Rattle.target_order.specs.declared.asks.OrderAnswer.TheVariants.{First}
-use Rattle.target_order.specs.Visit.{Name, Hooks, Rest, is_target, keep, first_rows, naming, hooks_in, visit, in_order, finished, order}
-use Rattle.target_order.specs.Progress.{Table, Progress, number_of, hooks_at, name_at, project_of, flag_at, ran_of}
+use Rattle.target_order.specs.Visit.{Name, is_target, keep, first_rows, naming, hooks_in, order}
+use Rattle.target_order.specs.Progress.{Table, number_of, hooks_at, project_of, flag_at, ran_of}
 use Rattle.target_order.specs.Left.{left}
 use Rattle.target_order.specs.Table.{side_of, names_in, AreDistinct, AreHooks}
-use Rattle.target_order.specs.Search.{IsTable, IsProgress, IsSound}
+use Rattle.target_order.specs.Search.{IsTable, IsSound}
 use Rattle.target_order.proofs.Names.{own_name, number_name, number_below, number_push}
 use Rattle.target_order.proofs.Hooking.{differs}
-use Rattle.msb_laws.specs.Asking.{gives}
 
 known_by : (b : Bool) (o : Option ℕ) → is_some (cond b (Some 0) (option_map suc o)) ≡ (b || is_some o)
 known_by true o = refl
@@ -129,18 +128,18 @@ module _ (rows : List TargetRow) (table : Table) (names : table.names ≡ names_
       rw (← firsts, same, unset, project_is, ran_is n, c, room) refl
 
 -- and with nothing open
-pub start_sound : (table : Table) (wanted : List Name) (visits : List OpenVisit) (flags : List Bool) (places : List ℕ) (n : ℕ) → IsTable table → visits ≡ [] → flags ≡ replicate n false → places ≡ replicate n 0 → n ≡ length table.names →
+pub start_sound : (table : Table) (wanted : List Name) (visits : List OpenVisit) (flags : List Bool) (places : List ℕ) → IsTable table → visits ≡ [] → length table.names ≤ length flags → length table.names ≤ length places →
     IsSound (record { table = table; wanted = wanted; passed = 0; visits = visits; has_run = flags; asked = Nothing; failed = false }) places
-start_sound table wanted visits flags places n is none unset nowhere count = record {
+start_sound table wanted visits flags places is none run_len places_len = record {
   progress = record {
     table = is;
-    run_len = ap length unset ∙ (length-replicate n false ∙ count);
+    run_len = run_len;
     visits = λ e. absurd (cc);
     begins = λ e. none;
     failed = λ e. rw none refl;
     calm = λ e. absurd (cc);
   };
-  places_len = ap length nowhere ∙ (length-replicate n 0 ∙ count);
+  places_len = places_len;
   placed = λ d lt. absurd (let l = ap length none in omega arith);
 }
 

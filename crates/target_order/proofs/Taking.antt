@@ -1,5 +1,5 @@
 -- What is left of a walk that is answered, and where it is put back.
-use Rattle.std.proofs.Common.{◌≡◌, ◌≢◌, ◌⊎◌, ℕ, zero, suc, ◌+◌, ◌-◌, ◌*◌, ◌^◌, ◌<◌, ◌≤◌, Bool, true, false, cond, ◌||◌, List, [], ◌∷◌, ◌++◌, length, get_or, take, drop, set, map, Option, Some, None, refl, sym, ap, ◌∙◌, subst, inl, inr, arith, rules}
+use Rattle.std.proofs.Common.{◌≡◌, ◌≢◌, ◌⊎◌, ℕ, zero, suc, ◌+◌, ◌-◌, ◌*◌, ◌^◌, ◌<◌, ◌≤◌, Bool, true, false, cond, ◌||◌, List, [], ◌∷◌, length, get_or, take, set, map, Option, Some, None, refl, sym, ap, ◌∙◌, subst, inl, inr, arith}
 use Rattle.std.specs.Prelude.{reverse}
 use Rattle.std.specs.Str.{bytes_eq}
 use Rattle.std.specs.Prelude.{Result, Ok, Err, OnOk, IfOk}
@@ -7,7 +7,7 @@ use Rattle.msb_values.specs.declared.errors.NoMemory.{NoMemory}
 use Rattle.std.proofs.Math.ListN.{length-set}
 use Rattle.std.proofs.lemmas.List.{get_or-set_same, get_or-set_other, set-get_or}
 use Rattle.std.proofs.lemmas.Bool.{false_from_ne_true, cases_eq}
-use Rattle.msb_laws.specs.Asking.{Asking, gives, asks}
+use Rattle.msb_laws.specs.Asking.{Asking, asks}
 use Rattle.target_order.specs.declared.asks.OrderAsk.{OrderAsk}
 use Rattle.target_order.specs.declared.asks.OrderAsk.TheVariants.{Depends}
 use Rattle.target_order.specs.declared.asks.OrderAnswer.{OrderAnswer}
@@ -17,19 +17,19 @@ use Rattle.target_order.specs.declared.visits.Asked.TheVariants.{Nothing, Condit
 use Rattle.target_order.specs.declared.visits.Step.{Step}
 use Rattle.target_order.specs.declared.visits.Step.TheVariants.{BeforeSkip, After, Errors, Depends as AtDepends}
 use Rattle.target_order.specs.declared.visits.OpenVisit.{OpenVisit}
-use Rattle.target_order.specs.Visit.{Question, depends, Name, Rest, Opened, End, in_order, with, step_3, after_condition, after_body}
-use Rattle.target_order.specs.Progress.{Table, Progress, number_of, hooks_at, name_at, flag_at, ran_of, is_past, is_errors, opened, list_at}
+use Rattle.target_order.specs.Visit.{Question, depends, Name, End, in_order, with, step_3}
+use Rattle.target_order.specs.Progress.{Table, Progress, number_of, hooks_at, name_at, flag_at, ran_of, is_past, opened, list_at}
 use Rattle.target_order.specs.Left.{left, inside, after_list, resume, base_at, answered}
-use Rattle.target_order.specs.AsksLeft.{asks_left, asks_in, both, after_asks, resume_asks, base_asks, answered_asks}
-use Rattle.target_order.specs.Answers.{Asks, fits, is_failed}
-use Rattle.target_order.specs.Search.{visit_at, is_request, is_going, asks_visit, IsTable, IsProgress, IsSound}
-use Rattle.target_order.specs.Steps.{going, going_asks, taken, restored, top_target, step_after, names_after}
+use Rattle.target_order.specs.AsksLeft.{asks_left, asks_in, after_asks, resume_asks, base_asks, answered_asks}
+use Rattle.target_order.specs.Answers.{Asks, fits}
+use Rattle.target_order.specs.Search.{visit_at, is_going, asks_visit, IsTable, IsProgress, IsSound}
+use Rattle.target_order.specs.Steps.{going, going_asks, taken, undo_of, restored, top_target, step_after, names_after}
 use Rattle.target_order.specs.declared.steps.Undo.{Undo}
 use Rattle.target_order.proofs.Names.{same_name, own_name, number_name}
 use Rattle.target_order.proofs.Marks.{reverse_last, set_inner}
 
 -- what has run, with one target more
-run_by : (table : Table) (is : IsTable table) (flags : List Bool) (t : ℕ) → length flags ≡ length table.names → t < length table.names → (n : Name) (o : Option ℕ) → number_of table.names n ≡ o →
+run_by : (table : Table) (is : IsTable table) (flags : List Bool) (t : ℕ) → length table.names ≤ length flags → t < length table.names → (n : Name) (o : Option ℕ) → number_of table.names n ≡ o →
     flag_at (set flags t true) o ≡ (bytes_eq n (name_at table t) || flag_at flags o)
 run_by table is flags t len lt n None number =
     let other : bytes_eq n (name_at table t) ≡ false = false_from_ne_true _ (λ e. let own = is.distinct t lt in let same = ap (number_of table.names) (same_name n (name_at table t) e) in absurd (cc)) in
@@ -44,7 +44,7 @@ run_by table is flags t len lt n (Some j) number = by_case (cases_eq j t)
         let other : bytes_eq n (name_at table t) ≡ false = false_from_ne_true _ (λ e. let own = is.distinct t lt in let same = ap (number_of table.names) (same_name n (name_at table t) e) in ne cc) in
         rw other (get_or-set_other flags t j true false ne)
 
-pub run_with : (table : Table) → IsTable table → (flags : List Bool) (t : ℕ) → length flags ≡ length table.names → t < length table.names → ran_of table (set flags t true) ≡ with (name_at table t) (ran_of table flags)
+pub run_with : (table : Table) → IsTable table → (flags : List Bool) (t : ℕ) → length table.names ≤ length flags → t < length table.names → ran_of table (set flags t true) ≡ with (name_at table t) (ran_of table flags)
 run_with table is flags t len lt = λ i n. run_by table is flags t len lt n (number_of table.names n) refl i
 
 -- the visits outside the innermost one, innermost first
@@ -235,17 +235,11 @@ set_back visits v old is =
     ap (λ n. set (set visits (length visits - 1) v) (n - 1) old) (length-set visits (length visits - 1) v)
     ∙ (set_twice visits (length visits - 1) v old ∙ (ap (set visits (length visits - 1)) is ∙ set-get_or visits (length visits - 1) _))
 
-flag_back : (b : Bool) (flags : List Bool) (t u : ℕ) (had : Bool) → u ≡ t → had ≡ get_or flags t false → set (cond b (set flags t true) flags) u had ≡ flags
-flag_back true flags t u had same is = rw (same, is) (set_twice flags t true (get_or flags t false) ∙ set-get_or flags t false)
-flag_back false flags t u had same is = rw (same, is) (set-get_or flags t false)
-
 -- a walk that is put back is as it was
-pub put_back_is : (p : Progress) (step : Step) (names : List Name) (undo : Undo) → undo.visit ≡ visit_at p.visits (length p.visits - 1) → undo.has_run ≡ get_or p.has_run (top_target p) false → undo.asked ≡ p.asked → undo.failed ≡ p.failed →
-    restored (taken p step names) undo ≡ p
-put_back_is p step names undo visit has_run asked failed =
-    let visits = set_back p.visits (record { target = top_target p; step = step; passed = 0; names = names }) undo.visit visit in
-    let flags = flag_back (is_past step) p.has_run (top_target p) undo.visit.target undo.has_run (ap (λ (v : OpenVisit). v.target) visit) has_run in
-    rw (visits, flags, asked, failed) refl
+pub put_back_is : (p : Progress) (step : Step) (names : List Name) (undo : Undo) → undo ≡ undo_of p → restored (taken p step names) undo ≡ p
+put_back_is p step names undo is =
+    let visits = set_back p.visits (record { target = top_target p; step = step; passed = 0; names = names }) (undo_of p).visit refl in
+    ap (restored (taken p step names)) is ∙ rw visits refl
 
 pub lower_on_ok : {T E : Type 0} (r : Result T E) (a b c : ℕ) → OnOk r (a ≤ b) → b < c → OnOk r (a < c)
 lower_on_ok (Ok x) a b c h lt = omega arith

@@ -1,5 +1,5 @@
 -- What a walk may be answered, and what it asks then.
-use Rattle.std.specs.Prelude.{◌≡◌, ℕ, Bool, true, false, ◌||◌}
+use Rattle.std.specs.Prelude.{◌≡◌, Bool, true, false}
 use Rattle.msb_laws.specs.Asking.{Asking, gives, asks}
 use Rattle.target_order.specs.declared.asks.OrderAsk.{OrderAsk}
 use Rattle.target_order.specs.declared.asks.OrderAsk.TheVariants.{Condition, Depends, Body, Done, Circle, Unknown}

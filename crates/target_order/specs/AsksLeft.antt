@@ -5,7 +5,6 @@ use Rattle.target_order.specs.declared.visits.Asked.TheVariants.{Nothing, Condit
 use Rattle.target_order.specs.declared.visits.Step.{Step}
 use Rattle.target_order.specs.declared.visits.Step.TheVariants.{Request, Depends, BeforeBody, BeforeSkip, After, Errors}
 use Rattle.target_order.specs.declared.visits.OpenVisit.{OpenVisit}
-use Rattle.target_order.specs.Visit.{Name}
 use Rattle.target_order.specs.Progress.{Table, Progress, rest_of}
 
 -- the asks of a visit with this room: its Condition, its DependsOnTargets and its body, and twice a list of names and

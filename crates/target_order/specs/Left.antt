@@ -1,13 +1,13 @@
 -- What is left of a walk, as the tree of its further asks: its open visits are what follows, innermost first.
-use Rattle.std.specs.Prelude.{ℕ, suc, ◌-◌, Bool, true, false, List, [], ◌∷◌, map, length, drop, reverse}
+use Rattle.std.specs.Prelude.{ℕ, suc, ◌-◌, Bool, true, List, [], ◌∷◌, map, length, drop, reverse}
 use Rattle.msb_laws.specs.Asking.{Asking, gives}
 use Rattle.target_order.specs.declared.asks.OrderAnswer.{OrderAnswer}
 use Rattle.target_order.specs.declared.visits.Asked.{Asked}
-use Rattle.target_order.specs.declared.visits.Asked.TheVariants.{Nothing, Condition, Depends as DependsOn, Body, End as TheEnd}
+use Rattle.target_order.specs.declared.visits.Asked.TheVariants.{Nothing, Condition, Depends as DependsOn, Body}
 use Rattle.target_order.specs.declared.visits.Step.{Step}
 use Rattle.target_order.specs.declared.visits.Step.TheVariants.{Request, Depends, BeforeBody, BeforeSkip, After, Errors}
 use Rattle.target_order.specs.declared.visits.OpenVisit.{OpenVisit}
-use Rattle.target_order.specs.Visit.{Question, Name, End, finished, stopped, Rest, Opened, Hooks, visit, in_order, with, step_3, step_4, step_5, step_6, after_condition, after_body}
+use Rattle.target_order.specs.Visit.{Question, Name, End, finished, stopped, Rest, Opened, visit, in_order, with, step_3, step_4, step_5, step_6, after_condition, after_body}
 use Rattle.target_order.specs.Progress.{Table, Progress, project_of, hooks_at, name_at, ran_of, is_past, opened, rest_of}
 
 -- how a target is visited inside these open visits

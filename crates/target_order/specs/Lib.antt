@@ -8,4 +8,5 @@ pub mod Answers
 pub mod Search
 pub mod Steps
 pub mod Shared
-pub mod Held
+pub mod Fields
+pub mod Chunks

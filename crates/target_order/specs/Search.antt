@@ -1,5 +1,5 @@
 -- What a search for the next ask keeps, at a cursor: in the list of the innermost of so many visits, or of the request.
-use Rattle.std.specs.Prelude.{◌≡◌, ◌≢◌, ◌⊎◌, ℕ, suc, ◌+◌, ◌-◌, ◌*◌, ◌^◌, ◌<◌, ◌≤◌, Bool, true, false, ◌||◌, List, [], ◌∷◌, ◌++◌, map, length, drop, take, reverse, slice_index_or, Option, None, Some}
+use Rattle.std.specs.Prelude.{◌≡◌, ◌≢◌, ◌⊎◌, ℕ, suc, ◌+◌, ◌-◌, ◌*◌, ◌^◌, ◌<◌, ◌≤◌, Bool, true, false, ◌||◌, List, [], ◌∷◌, ◌++◌, map, length, drop, take, reverse, slice_index_or, Some}
 use Rattle.std.specs.List.{list_any}
 use Rattle.msb_laws.specs.Asking.{gives}
 use Rattle.target_order.specs.declared.visits.Asked.{Asked}
@@ -169,7 +169,7 @@ pub record IsTable (table : Table) : Type 0 where
 -- what a walk keeps of its progress
 pub record IsProgress (p : Progress) : Type 0 where
   pub table : IsTable p.table
-  pub run_len : length p.has_run ≡ length p.table.names
+  pub run_len : length p.table.names ≤ length p.has_run
   pub visits : asks_visit p.asked ≡ true → 0 < length p.visits
   pub begins : p.asked ≡ Nothing → p.visits ≡ []
   pub failed : is_over p.asked ≡ false → p.failed ≡ list_any (λ v. is_errors v.step) (reverse p.visits)
@@ -177,5 +177,5 @@ pub record IsProgress (p : Progress) : Type 0 where
 
 pub record IsSound (p : Progress) (places : List ℕ) : Type 0 where
   pub progress : IsProgress p
-  pub places_len : length places ≡ length p.table.names
+  pub places_len : length p.table.names ≤ length places
   pub placed : (d : ℕ) → d < length p.visits → IsPlaced p.table places d (visit_at p.visits d)

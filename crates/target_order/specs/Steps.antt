@@ -5,7 +5,6 @@ use Rattle.target_order.specs.declared.asks.OrderAsk.{OrderAsk}
 use Rattle.target_order.specs.declared.asks.OrderAsk.TheVariants.{Condition, Body, Done, Circle, Unknown}
 use Rattle.target_order.specs.declared.asks.OrderAnswer.{OrderAnswer}
 use Rattle.target_order.specs.declared.asks.OrderAnswer.TheVariants.{First, Truth, Names, Ok as Ran, Failed}
-use Rattle.target_order.specs.declared.visits.Asked.{Asked}
 use Rattle.target_order.specs.declared.visits.Asked.TheVariants.{Condition as ForCondition, Body as ForBody, Answered, End as TheEnd}
 use Rattle.target_order.specs.declared.visits.Step.{Step}
 use Rattle.target_order.specs.declared.visits.Step.TheVariants.{Depends, BeforeSkip, After, Errors}
@@ -124,11 +123,15 @@ taken p step names = record p {
   failed = p.failed || is_errors step;
 }
 
+-- what it was before
+abbrev pub undo_of : Progress → Undo
+undo_of p = record { visit = visit_at p.visits (length p.visits - 1); has_run = p.has_run; asked = p.asked; failed = p.failed }
+
 -- and is put back where it was
 abbrev pub restored : Progress → Undo → Progress
 restored p undo = record p {
   visits = slice_set p.visits (length p.visits - 1) undo.visit;
-  has_run = slice_set p.has_run undo.visit.target undo.has_run;
+  has_run = undo.has_run;
   asked = undo.asked;
   failed = undo.failed;
 }

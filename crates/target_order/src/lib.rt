@@ -4,6 +4,7 @@
 //! the definition `order` in `specs/Visit.antt`, along every list of answers.
 #![tactic(auto)]
 
+mod array;
 mod asks;
 mod cursor;
 mod hooks;

@@ -108,7 +108,7 @@ impl OrderWalk {
         let Some(target) = self.table.find(name) else {
             return Stand::Unknown;
         };
-        if self.has_run[target] {
+        if self.has_run.get(target) {
             return Stand::Settled;
         }
         match self.open_place(cursor.depth, target) {
@@ -125,7 +125,7 @@ impl OrderWalk {
         ensures found { IfSome result (λ place. (place < depth) × ((visit_at self.now.visits place).target ≡ target)) }
         ensures absent { IfNone result ((d : ℕ) → d < depth → (visit_at self.now.visits d).target ≢ target) }
     {
-        let place = self.places[target];
+        let place = self.places.get(target);
         if place < depth && self.visits[place].target == target {
             Some(place)
         } else {

@@ -3,8 +3,9 @@ ghost use Rattle.target_order.specs.Progress.{name_at, is_errors, is_past};
 ghost use Rattle.target_order.specs.AsksLeft.{asks_left};
 ghost use Rattle.target_order.specs.Answers.{Asks, asked_by, is_refused};
 ghost use Rattle.target_order.specs.Search.{visit_at, is_request, is_going, asks_visit, IsCursor, IsProgress, HasStopped, circle_at};
-ghost use Rattle.target_order.specs.Steps.{going, going_asks, ask_of, visiting, at_body, ended, taken, restored, top_target, noted, marked_passed, came, CanCome, IsPlace};
+ghost use Rattle.target_order.specs.Steps.{going, going_asks, ask_of, visiting, at_body, ended, taken, undo_of, restored, top_target, noted, marked_passed, came, CanCome, IsPlace};
 
+use crate::array::SharedArray;
 use crate::cursor::{Cursor, Stop};
 use crate::shared::SharedNames;
 use crate::visits::{Asked, OpenVisit, Step};
@@ -17,21 +18,24 @@ use std::mem;
 #[derive(Drop)]
 pub struct Undo {
     pub visit: OpenVisit,
-    pub has_run: bool,
+    pub has_run: SharedArray<bool>,
     pub asked: Asked,
     pub failed: bool,
 }
 
 impl OrderWalk {
-    /// Sends the innermost visit through the list of this step.
-    pub(crate) fn take(&mut self, step: Step, names: SharedNames) -> Undo
+    /// Sends the innermost visit through the list of this step; where there is no memory, the walk stays.
+    pub(crate) fn take(
+        &mut self,
+        alloc: Global,
+        step: Step,
+        names: SharedNames,
+    ) -> Result<Undo, NoMemory>
         requires asked { asks_visit self.old.asked ≡ true }
         requires within { is_request step ≡ false }
-        ensures taken { self.new ≡ taken self.old step names }
-        ensures visit { result.visit ≡ visit_at self.old.visits (length self.old.visits - 1) }
-        ensures has_run { result.has_run ≡ slice_index_or self.old.has_run (top_target self.old) false }
-        ensures asked { result.asked ≡ self.old.asked }
-        ensures failed { result.failed ≡ self.old.failed }
+        ensures taken { OnOk result (self.new ≡ taken self.old step names) }
+        ensures undo { IfOk result (λ undo. undo ≡ undo_of self.old) }
+        ensures kept { OnErr result (self.new ≡ self.old) }
     {
         let top = self.visits.len() - 1;
         let target = self.visits[top].target;
@@ -41,16 +45,16 @@ impl OrderWalk {
             passed: 0,
             names,
         };
+        let has_run = with_run(alloc, &self.has_run, target, step)?;
         let undo = Undo {
             visit: mem::replace(&mut self.visits[top], visit),
-            has_run: self.has_run[target],
+            has_run: mem::replace(&mut self.has_run, has_run),
             asked: self.asked,
             failed: self.failed,
         };
-        note_run(&mut self.has_run, target, step);
         self.asked = Asked::Answered;
         self.failed |= step.is_errors();
-        undo
+        Ok(undo)
     }
 
     /// Goes on through the list of this step to the next ask; where there is no memory, the walk stays.
@@ -72,7 +76,7 @@ impl OrderWalk {
     {
         let _ = &self.places;
         let _count = names.as_slice().len();
-        let undo = self.take(step, names);
+        let undo = self.take(alloc, step, names)?;
         match self.go_on(alloc) {
             Ok(ask) => Ok(ask),
             Err(e) => {
@@ -97,7 +101,7 @@ impl OrderWalk {
             failed,
         } = undo;
         let top = self.visits.len() - 1;
-        self.has_run[visit.target] = has_run;
+        self.has_run = has_run;
         self.visits[top] = visit;
         self.asked = asked;
         self.failed = failed;
@@ -121,13 +125,14 @@ impl OrderWalk {
             passed,
             ..
         } = cursor;
-        self.come_to(depth, step, passed, stop)?;
+        self.come_to(alloc, depth, step, passed, stop)?;
         Ok(ask)
     }
 
     /// Makes the place where a search has stopped the walk's own; where there is no memory, the walk stays.
     fn come_to(
         &mut self,
+        alloc: Global,
         depth: usize,
         step: Step,
         passed: usize,
@@ -140,7 +145,7 @@ impl OrderWalk {
         ensures err { OnErr result (self.new ≡ self.old) }
     {
         match stop {
-            Stop::Visit(target) => self.visit(depth, step, passed + 1, target)?,
+            Stop::Visit(target) => self.visit(alloc, depth, step, passed + 1, target)?,
             Stop::Body => self.wait_for_body(depth, step, passed),
             Stop::Finished | Stop::Stopped => self.end(false),
             Stop::Circle(_) | Stop::Unknown => self.end(true),
@@ -193,6 +198,7 @@ impl OrderWalk {
     /// Opens a visit of this target inside the visits through this depth.
     fn visit(
         &mut self,
+        alloc: Global,
         depth: usize,
         step: Step,
         passed: usize,
@@ -211,8 +217,9 @@ impl OrderWalk {
             passed: 0,
             names: SharedNames::none(),
         };
+        let places = self.places.with(alloc, target, depth)?;
         open_at(&mut self.visits, depth, step, passed, visit)?;
-        self.places[target] = depth;
+        self.places = places;
         self.passed = request_passed(self.passed, depth, passed);
         self.asked = Asked::Condition;
         Ok(())
@@ -281,13 +288,20 @@ fn note(visits: &mut Vec<OpenVisit>, depth: usize, step: Step, passed: usize)
     }
 }
 
-/// A target whose visit has passed its body has run.
-fn note_run(has_run: &mut Vec<bool>, target: usize, step: Step)
-    requires { target < vec_len has_run.old }
-    ensures { has_run.new.items ≡ (if is_past step then slice_set has_run.old.items target true else has_run.old.items) }
+/// What has run, where the visit of this target goes on at this step: past its body the target has run.
+fn with_run(
+    alloc: Global,
+    has_run: &SharedArray<bool>,
+    target: usize,
+    step: Step,
+) -> Result<SharedArray<bool>, NoMemory>
+    requires { target < length has_run.now }
+    ensures { IfOk result (λ run. run ≡ (if is_past step then slice_set has_run.now target true else has_run.now)) }
 {
     if step.is_past() {
-        has_run[target] = true;
+        has_run.with(alloc, target, true)
+    } else {
+        has_run.copy()
     }
 }
 

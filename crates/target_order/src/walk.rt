@@ -9,6 +9,7 @@ ghost use Rattle.target_order.specs.declared.asks.OrderAnswer.TheVariants.{First
 ghost use Rattle.target_order.specs.declared.asks.OrderAsk.TheVariants.{Depends};
 ghost use Rattle.target_order.specs.declared.visits.Asked.TheVariants.{Condition, Depends as DependsOn};
 
+use crate::array::SharedArray;
 use crate::shared::SharedNames;
 use crate::table::SharedTable;
 use crate::visits::{Asked, OpenVisit, Step};
@@ -29,8 +30,8 @@ pub struct OrderWalk {
     /// The open visits, innermost last.
     pub(crate) visits: Vec<OpenVisit>,
     /// Of each target, the depth of its open visit, if that visit is its own.
-    pub(crate) places: Vec<usize>,
-    pub(crate) has_run: Vec<bool>,
+    pub(crate) places: SharedArray<usize>,
+    pub(crate) has_run: SharedArray<bool>,
     pub(crate) asked: Asked,
     pub(crate) failed: bool,
 }
@@ -40,11 +41,11 @@ impl Model for OrderWalk {
 
     ghost Value = { Progress };
 
-    ghost use Rattle.target_order.specs.Held.{progress, IsHeld};
+    ghost use Rattle.target_order.specs.Fields.{progress, AreSound};
 
     ghost view = { progress };
 
-    ghost invariant = { IsHeld };
+    ghost invariant = { AreSound };
 }
 
 impl OrderWalk {
@@ -65,8 +66,8 @@ impl OrderWalk {
             wanted: SharedNames::of(alloc, targets)?,
             passed: 0,
             visits: Vec::new(alloc),
-            places: vec![in alloc; 0; count]?,
-            has_run: vec![in alloc; false; count]?,
+            places: SharedArray::of(alloc, 0, count)?,
+            has_run: SharedArray::of(alloc, false, count)?,
             asked: Asked::Nothing,
             failed: false,
         })
@@ -129,15 +130,16 @@ impl OrderWalk {
 }
 
 impl Copied for OrderWalk {
-    /// The same walk, which goes on apart from this one. The copies share the project's table and all lists of names.
+    /// The same walk, which goes on apart from this one. The copies share the project's table, all lists of names and
+    /// what is noted of each target, so that a copy costs as much as its open visits.
     fn copy(&self) -> Result<OrderWalk, NoMemory> {
         Ok(OrderWalk {
             table: self.table.copy()?,
             wanted: self.wanted.copy()?,
             passed: self.passed,
             visits: copied(&self.visits)?,
-            places: self.places.clone()?,
-            has_run: self.has_run.clone()?,
+            places: self.places.copy()?,
+            has_run: self.has_run.copy()?,
             asked: self.asked,
             failed: self.failed,
         })

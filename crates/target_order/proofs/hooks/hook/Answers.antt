@@ -1,8 +1,7 @@
-use Rattle.std.proofs.Common.{◌≡◌, ◌+◌, ◌<◌, ◌++◌, ◌∷◌, [], List, ℕ, eqb, cond, set, Some, None, get_or, take, length, refl, sym, ap, ◌∙◌, subst, arith, rules}
+use Rattle.std.proofs.Common.{◌≡◌, ◌+◌, ◌++◌, ◌∷◌, [], eqb, Some, None, get_or, take, refl, sym, ap, ◌∙◌}
 use Rattle.std.proofs.lemmas.List.{take_more}
 use Rattle.target_order.specs.Visit.{Name}
 use Rattle.target_order.specs.Progress.{number_of}
-use Rattle.target_order.specs.Table.{AreHooked}
 use Rattle.target_order.proofs.Names.{number_below}
 use Rattle.target_order.proofs.Hooking.{hooked_none, hooked_some}
 use Rattle.target_order.proofs.hooks.hook.Goals as goal

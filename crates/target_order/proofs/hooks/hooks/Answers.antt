@@ -1,10 +1,10 @@
-use Rattle.std.proofs.Common.{◌≡◌, ◌+◌, ◌≤◌, ◌<◌, ℕ, List, map, take, length, get_or, sym, ap, ◌∙◌, subst, arith}
+use Rattle.std.proofs.Common.{◌+◌, ◌<◌, List, map, length, sym, ap, ◌∙◌, subst, arith}
 use Rattle.std.specs.Borrow.{Bor}
 use Rattle.std.proofs.Math.ListN.{get_or-map}
 use Rattle.std.proofs.lemmas.List.{length-map}
 use Rattle.target_order.specs.declared.row.TargetRow.{TargetRow}
 use Rattle.target_order.specs.Visit.{Name}
-use Rattle.target_order.specs.Table.{AreHooked, side_of}
+use Rattle.target_order.specs.Table.{AreHooked}
 use Rattle.target_order.proofs.Hooking.{hooks_more}
 use Rattle.target_order.proofs.hooks.hooks.Goals as goal
 

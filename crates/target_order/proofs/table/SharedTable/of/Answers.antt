@@ -1,4 +1,4 @@
-use Rattle.std.proofs.Common.{◌≡◌, map, [], sym, ap, ◌∙◌, subst}
+use Rattle.std.proofs.Common.{map, [], sym, ap, ◌∙◌, subst}
 use Rattle.std.specs.Borrow.{Bor}
 use Rattle.target_order.specs.declared.row.TargetRow.{TargetRow}
 use Rattle.target_order.specs.declared.hooks.Side.TheVariants.{Before, After}

@@ -1,4 +1,4 @@
-use Rattle.std.proofs.Common.{◌≡◌, ◌<◌, length, ap, sym, ◌∙◌, subst}
+use Rattle.std.proofs.Common.{◌<◌, length, sym, subst}
 use Rattle.target_order.specs.Search.{HasStopped}
 use Rattle.target_order.proofs.Names.{number_below}
 use Rattle.target_order.proofs.walk.OrderWalk.ask.Goals as goal

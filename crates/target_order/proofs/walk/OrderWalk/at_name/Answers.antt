@@ -7,5 +7,5 @@ use Rattle.target_order.proofs.walk.OrderWalk.at_name.Goals as goal
 pub returns-in-Settled : goal.returns-in-Settled
 returns-in-Settled c =
     let p = c.args.self.now in
-    let sound = subst (λ q. IsSound q c.self.inside.places.items) c.self.view_is c.self.invariant in
-    passes p c.self.inside.places.items c.args.cursor sound c.requires.cursor c.requires.within (subst (λ t. standing_at p c.args.cursor t ≡ settled) c.requires.name c.in-Settled.ensures)
+    let sound = subst (λ q. IsSound q c.self.inside.places) c.self.view_is c.self.invariant in
+    passes p c.self.inside.places c.args.cursor sound c.requires.cursor c.requires.within (subst (λ t. standing_at p c.args.cursor t ≡ settled) c.requires.name c.in-Settled.ensures)

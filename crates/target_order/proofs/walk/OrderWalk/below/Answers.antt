@@ -1,4 +1,4 @@
-use Rattle.std.proofs.Common.{◌≡◌, ◌-◌, ◌<◌, length, ap, ◌∙◌, arith}
+use Rattle.std.proofs.Common.{◌-◌, ◌<◌, length, ap, ◌∙◌, arith}
 use Rattle.target_order.specs.Progress.{list_at}
 use Rattle.target_order.proofs.Stack.{below_is}
 use Rattle.target_order.proofs.walk.OrderWalk.below.Goals as goal

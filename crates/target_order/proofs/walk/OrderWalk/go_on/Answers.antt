@@ -1,9 +1,9 @@
 use Rattle.std.proofs.Common.{◌≡◌, ◌≤◌, length, rules, ap, sym, ◌∙◌, subst}
 use Rattle.target_order.specs.AsksLeft.{asks_left}
 use Rattle.target_order.specs.Answers.{Asks}
-use Rattle.target_order.specs.Search.{is_going, inner, IsBelow, IsSound, HasStopped}
-use Rattle.target_order.specs.Steps.{going, going_asks, ask_of, came}
-use Rattle.target_order.proofs.Going.{IsAt, is_at, comes_next, comes_fewer, can_come, going_still}
+use Rattle.target_order.specs.Search.{inner, IsBelow, IsSound}
+use Rattle.target_order.specs.Steps.{going, going_asks, ask_of}
+use Rattle.target_order.proofs.Going.{is_at, comes_next, comes_fewer, can_come, going_still}
 use Rattle.target_order.proofs.walk.OrderWalk.go_on.Goals as goal
 
 pub come_to-requires-clause-can : goal.come_to-requires-clause-can
@@ -14,12 +14,12 @@ returns-clause-asks c =
     let p = c.args.self.now in
     let cursor = c.search-stop.result.0 in
     let stop = c.search-stop.result.1 in
-    let sound = subst (λ q. IsSound q c.self.inside.places.items) c.self.view_is c.self.invariant in
+    let sound = subst (λ q. IsSound q c.self.inside.places) c.self.view_is c.self.invariant in
     let held : c.len-depth.result ≡ length c.self.inside.visits.items = search rules in
     let len = held ∙ ap (λ q. length q.visits) c.self.view_is in
     let below = subst (λ n. IsBelow p (inner p n) c.below.result) len c.below.ensures.place in
     let at = is_at p c.below.result cursor (sound.progress.failed (going_still p.asked c.requires)) (c.below.ensures.depth ∙ len) below c.search-stop.ensures.goes in
-    let next = comes_next p c.self.inside.places.items cursor stop sound at c.search-stop.ensures.stops in
+    let next = comes_next p c.self.inside.places cursor stop sound at c.search-stop.ensures.stops in
     subst (λ ask. Asks (going p) ask c.come_to.new.self) (sym c.in_ok-ask.ensures)
     (subst (λ walk. Asks (going p) (ask_of p cursor stop) walk) (sym c.in_ok-come_to.ensures.ok) next)
 
@@ -28,9 +28,9 @@ returns-clause-fewer c =
     let p = c.args.self.now in
     let cursor = c.search-stop.result.0 in
     let stop = c.search-stop.result.1 in
-    let sound = subst (λ q. IsSound q c.self.inside.places.items) c.self.view_is c.self.invariant in
+    let sound = subst (λ q. IsSound q c.self.inside.places) c.self.view_is c.self.invariant in
     let held : c.len-depth.result ≡ length c.self.inside.visits.items = search rules in
     let len = held ∙ ap (λ q. length q.visits) c.self.view_is in
     let below = subst (λ n. IsBelow p (inner p n) c.below.result) len c.below.ensures.place in
     let at = is_at p c.below.result cursor (sound.progress.failed (going_still p.asked c.requires)) (c.below.ensures.depth ∙ len) below c.search-stop.ensures.goes in
-    subst (λ walk. asks_left walk ≤ going_asks p) (sym c.in_ok-come_to.ensures.ok) (comes_fewer p c.self.inside.places.items cursor stop sound at c.search-stop.ensures.stops)
+    subst (λ walk. asks_left walk ≤ going_asks p) (sym c.in_ok-come_to.ensures.ok) (comes_fewer p c.self.inside.places cursor stop sound at c.search-stop.ensures.stops)

@@ -1,4 +1,4 @@
-use Rattle.std.proofs.Common.{◌≡◌, ◌<◌, ◌-◌, refl, ap, ◌∙◌, subst}
+use Rattle.std.proofs.Common.{refl, ap, ◌∙◌, subst}
 use Rattle.target_order.specs.Progress.{list_at}
 use Rattle.target_order.specs.Search.{IsSound}
 use Rattle.target_order.proofs.Rest.{is_deep, top_of, hook_end, hook_within}
@@ -14,7 +14,7 @@ pub returns : goal.returns
 returns c =
     let p = c.args.self.now in
     let cursor = c.args.cursor in
-    let sound = subst (λ q. IsSound q c.self.inside.places.items) c.self.view_is c.self.invariant in
+    let sound = subst (λ q. IsSound q c.self.inside.places) c.self.view_is c.self.invariant in
     let positive = is_deep p cursor c.requires.cursor (hook_within _ _ c.requires.hooks).0 in
     let names = c.list_of.ensures ∙ ap (λ v. list_at p.table v.target v.names c.args.step) c.top.ensures.value in
     hook_end p cursor c.requires.cursor _ _ (top_of p cursor c.requires.cursor positive) c.requires.ends sound.progress.table _ refl refl names c.list_of.type_inv.0 c.requires.hooks

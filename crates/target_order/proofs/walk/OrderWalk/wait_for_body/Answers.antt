@@ -1,10 +1,9 @@
-use Rattle.std.proofs.Common.{◌≡◌, List, ap, sym, ◌∙◌, subst}
+use Rattle.std.proofs.Common.{List, ap, sym, ◌∙◌, subst}
 use Rattle.target_order.specs.declared.visits.OpenVisit.{OpenVisit}
 use Rattle.target_order.specs.declared.visits.Asked.TheVariants.{Body}
-use Rattle.target_order.specs.Progress.{Progress}
 use Rattle.target_order.specs.Search.{IsSound}
 use Rattle.target_order.specs.Steps.{at_body, noted, IsPlace}
-use Rattle.target_order.specs.Held.{progress}
+use Rattle.target_order.specs.Fields.{progress}
 use Rattle.target_order.proofs.Marks.{noted_top}
 use Rattle.target_order.proofs.Sound.{body_sound}
 use Rattle.target_order.proofs.walk.OrderWalk.wait_for_body.Goals as goal
@@ -14,8 +13,8 @@ invariant_of-self c =
     let p = progress c.self.inside in
     let place = subst (λ q. IsPlace q c.args.depth c.args.step) (sym c.self.view_is) c.requires.place in
     let marked = c.note.ensures ∙ (ap (λ vs. noted vs c.args.depth c.args.step c.args.passed) c.truncate.ensures.items ∙ noted_top p.visits c.args.depth c.args.step c.args.passed place.deep) in
-    subst (λ (vs : List OpenVisit). IsSound (record p { visits = vs; asked = Body }) c.self.inside.places.items) (sym marked)
-    (body_sound p c.self.inside.places.items c.args.depth c.args.step c.args.passed c.self.invariant place c.requires.some c.requires.calm)
+    subst (λ (vs : List OpenVisit). IsSound (record p { visits = vs; asked = Body }) c.self.inside.places) (sym marked)
+    (body_sound p c.self.inside.places c.args.depth c.args.step c.args.passed c.self.invariant place c.requires.some c.requires.calm)
 
 pub returns : goal.returns
 returns c =

@@ -9,10 +9,10 @@ progress w = record {
   wanted = w.wanted;
   passed = w.passed;
   visits = w.visits.items;
-  has_run = w.has_run.items;
+  has_run = w.has_run;
   asked = w.asked;
   failed = w.failed;
 }
 
-abbrev pub IsHeld : Inside → Type 0
-IsHeld w = IsSound (progress w) w.places.items
+abbrev pub AreSound : Inside → Type 0
+AreSound w = IsSound (progress w) w.places
