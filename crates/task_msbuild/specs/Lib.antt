@@ -1,0 +1,5 @@
+pub mod GlobalProperties
+pub mod Parameters
+pub mod Calls
+pub mod Plans
+pub mod Gathered

@@ -1,0 +1,123 @@
+ghost use Rattle.std.specs.Prelude.{◌≡◌, [], ◌∷◌, ◌++◌, map, IfOk, OnOk};
+ghost use Rattle.task_msbuild.specs.Calls.{is_there, through_missing, looked_up, target_lists, request_of, instance_of, all_calls};
+ghost use Rattle.task_msbuild.specs.GlobalProperties.{shared_globals};
+
+use crate::parameters::Parameters;
+use crate::project::Project;
+use crate::properties::{put_all, remove_all};
+use file_store::Tree;
+use msb_values::{Copied, InstanceKey, List, Name, NoMemory, Pairs};
+use result_cache::RequestKey;
+use std::alloc::Global;
+
+/// Whether the file of the project is in the tree.
+pub(crate) fn is_there(tree: &Tree, project: &Project) -> bool
+    ensures { result ≡ is_there tree.now.files project.now }
+{
+    tree.find(project.path.as_str()).is_some()
+}
+
+/// The projects that are looked up: where the first that is missing ends the list, those through it.
+pub(crate) fn looked_up<'a>(tree: &Tree, parameters: &'a Parameters) -> &'a [Project]
+    ensures { result.now ≡ looked_up tree.now.files parameters.now }
+{
+    let projects = parameters.projects.as_slice();
+    if parameters.stop_first && !parameters.parallel && !parameters.skip_missing {
+        through_missing(tree, projects)
+    } else {
+        projects
+    }
+}
+
+fn through_missing<'a>(tree: &Tree, projects: &'a [Project]) -> &'a [Project]
+    ensures { result.now ≡ through_missing tree.now.files projects.now }
+{
+    match projects.iter().position(|project| !is_there(tree, project)) {
+        Some(at) => &projects[..=at],
+        None => projects,
+    }
+}
+
+/// The requests of these projects, in order: those of each that is there. (MSBuild task.)
+pub(crate) fn all_calls(
+    alloc: Global,
+    tree: &Tree,
+    globals: &Pairs,
+    parameters: &Parameters,
+) -> Result<List<RequestKey>, NoMemory>
+    ensures { IfOk result (λ calls. calls ≡ all_calls tree.now.files globals.now parameters.now) }
+{
+    let shared = shared_globals(globals, parameters)?;
+    let lists = target_lists(alloc, parameters)?;
+    let mut calls = List::new(alloc);
+    for project in looked_up(tree, parameters) {
+        if is_there(tree, project) {
+            push_calls(&mut calls, &instance(&shared, project)?, lists.as_slice())?;
+        }
+    }
+    Ok(calls)
+}
+
+fn push_calls(
+    calls: &mut List<RequestKey>,
+    instance: &InstanceKey,
+    lists: &[List<Name>],
+) -> Result<(), NoMemory>
+    ensures { OnOk result (calls.new ≡ calls.old ++ map (request_of instance.now) lists.now) }
+{
+    for targets in lists {
+        calls.push(RequestKey {
+            instance: instance.copy()?,
+            targets: targets.copy()?,
+            named: !targets.is_empty(),
+        })?;
+    }
+    Ok(())
+}
+
+/// The project with its global properties.
+fn instance(shared: &Pairs, project: &Project) -> Result<InstanceKey, NoMemory>
+    ensures { IfOk result (λ key. key ≡ instance_of shared.now project.now) }
+{
+    let mut globals = shared.copy()?;
+    put_all(&mut globals, project.item.additional.as_slice())?;
+    Ok(InstanceKey {
+        path: project.path.copy()?,
+        globals,
+    })
+}
+
+/// The global properties that all projects get.
+fn shared_globals(globals: &Pairs, parameters: &Parameters) -> Result<Pairs, NoMemory>
+    ensures { IfOk result (λ shared. shared ≡ shared_globals parameters.now.removed parameters.now.properties globals.now) }
+{
+    let mut shared = globals.copy()?;
+    remove_all(&mut shared, parameters.removed.as_slice());
+    put_all(&mut shared, parameters.properties.as_slice())?;
+    Ok(shared)
+}
+
+/// The targets of each call of a project.
+fn target_lists(alloc: Global, parameters: &Parameters) -> Result<List<List<Name>>, NoMemory>
+    ensures { IfOk result (λ lists. lists ≡ target_lists parameters.now.separately parameters.now.targets) }
+{
+    let targets = &parameters.targets;
+    if parameters.separately && !targets.is_empty() {
+        return each_alone(alloc, targets.as_slice());
+    }
+    let mut lists = List::new(alloc);
+    lists.push(targets.copy()?)?;
+    Ok(lists)
+}
+
+fn each_alone(alloc: Global, targets: &[Name]) -> Result<List<List<Name>>, NoMemory>
+    ensures { IfOk result (λ lists. lists ≡ map (λ target. target ∷ []) targets.now) }
+{
+    let mut lists = List::new(alloc);
+    for target in targets {
+        let mut alone = List::new(alloc);
+        alone.push(target.copy()?)?;
+        lists.push(alone)?;
+    }
+    Ok(lists)
+}

@@ -1,0 +1,103 @@
+ghost use Rattle.std.specs.Prelude.{◌≡◌, ◌≤◌, ◌++◌, IfOk, length, codes};
+ghost use Rattle.std.specs.List.{flat_map, zip};
+ghost use Rattle.task_msbuild.specs.Gathered.{gathered, target_outputs, call_items, call_notes, failure_text};
+ghost use Rattle.msb_values.specs.declared.note.Note.TheVariants.{Fail};
+
+use crate::Plan;
+use crate::name::literal_name;
+use crate::outputs::push_returned;
+use msb_values::{Copied, Item, List, NoMemory, Note, Text};
+use result_cache::{RequestKey, RequestResult};
+use std::alloc::Global;
+use task_trait::{Param, TaskOutput};
+
+/// What the MSBuild task gives by its plan and the results of its first calls, in order.
+///
+/// TargetOutputs holds the items that the calls which succeeded have returned, in call order, without escapes; each item
+/// has the metadata MSBuildSourceProjectFile, the full path of its project, and MSBuildSourceTargetName. Behind the plan's
+/// notes stands an error note for each call that failed, and the task succeeds where the plan is fine and no call failed.
+/// (MSBuild task: TargetOutputs.)
+pub fn gather(
+    alloc: Global,
+    plan: &Plan,
+    results: &List<RequestResult>,
+) -> Result<TaskOutput, NoMemory>
+    requires { length results.now ≤ length plan.now.calls }
+    ensures { IfOk result (λ output. output ≡ gathered plan.now results.now) }
+{
+    let calls = plan.calls.as_slice();
+    let results = results.as_slice();
+    let mut notes = plan.notes.copy()?;
+    notes.append(failures(alloc, calls, results)?)?;
+    Ok(TaskOutput {
+        ok: plan.ok && results.iter().all(|given| given.ok),
+        outputs: target_outputs(alloc, items(alloc, calls, results)?)?,
+        files: List::new(alloc),
+        notes,
+    })
+}
+
+fn target_outputs(alloc: Global, items: List<Item>) -> Result<List<Param>, NoMemory>
+    ensures { IfOk result (λ outputs. outputs ≡ target_outputs items) }
+{
+    let mut outputs = List::new(alloc);
+    outputs.push(Param {
+        name: literal_name(alloc, "targetoutputs")?,
+        items,
+    })?;
+    Ok(outputs)
+}
+
+/// The items that the calls have returned, each with where it comes from; a failed call gives none.
+fn items(
+    alloc: Global,
+    calls: &[RequestKey],
+    results: &[RequestResult],
+) -> Result<List<Item>, NoMemory>
+    ensures { IfOk result (λ items. items ≡ flat_map call_items (zip calls.now results.now)) }
+{
+    let mut items = List::new(alloc);
+    for (key, given) in calls.iter().zip(results) {
+        if given.ok {
+            push_returned(alloc, &mut items, key, given.returned.as_slice())?;
+        }
+    }
+    Ok(items)
+}
+
+/// A note for each call that failed.
+fn failures(
+    alloc: Global,
+    calls: &[RequestKey],
+    results: &[RequestResult],
+) -> Result<List<Note>, NoMemory>
+    ensures { IfOk result (λ notes. notes ≡ flat_map call_notes (zip calls.now results.now)) }
+{
+    let mut notes = List::new(alloc);
+    for (key, given) in calls.iter().zip(results) {
+        if !given.ok {
+            notes.push(failure(alloc, key, given)?)?;
+        }
+    }
+    Ok(notes)
+}
+
+fn failure(alloc: Global, key: &RequestKey, given: &RequestResult) -> Result<Note, NoMemory>
+    ensures { IfOk result (λ note. note ≡ Fail (failure_text key.now given.now.evaluated given.now.error)) }
+{
+    let text = match &given.error {
+        Some(fault) if !given.evaluated => fault.copy()?,
+        Some(text) => joined(key.instance.shown(alloc)?, text.as_str())?,
+        None => joined(key.instance.shown(alloc)?, "request failed")?,
+    };
+    Ok(Note::Fail(text))
+}
+
+fn joined(front: Text, back: &str) -> Result<Text, NoMemory>
+    ensures { IfOk result (λ text. text ≡ front ++ codes ": " ++ back.now) }
+{
+    let mut text = front;
+    text.push_str(": ")?;
+    text.push_str(back)?;
+    Ok(text)
+}

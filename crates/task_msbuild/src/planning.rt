@@ -1,0 +1,90 @@
+ghost use Rattle.std.specs.Prelude.{◌≡◌, IfOk};
+ghost use Rattle.task_msbuild.specs.Plans.{note_of, refused, all_missing_notes, planned, plan_of};
+
+use crate::Plan;
+use crate::calls::{all_calls, is_there, looked_up};
+use crate::parameters::Parameters;
+use file_store::Tree;
+use msb_values::{Copied, List, NoMemory, Note, Pairs};
+use std::alloc::Global;
+use task_trait::{Failure, ToolInput};
+
+/// What the MSBuild task is to do in a project of this folder and with these global properties: the requests that it
+/// calls, in order, and what it says before the first call.
+///
+/// The texts of the input stand without escapes. A request has the caller's global properties, less those of
+/// RemoveProperties, then those of Properties, then those of the metadata AdditionalProperties of its project, with values
+/// escaped. The task makes no call and fails with a note where it does not have a parameter, Projects is missing, or a
+/// value can't be used. A project whose file is not in the tree fails the task with a note, or is passed over where
+/// SkipNonexistentProjects is true. (MSBuild task.)
+pub fn plan(
+    alloc: Global,
+    tree: &Tree,
+    dir: &str,
+    globals: &Pairs,
+    input: &ToolInput,
+) -> Result<Plan, NoMemory>
+    ensures { IfOk result (λ plan. plan ≡ plan_of tree.now.files dir.now globals.now input.now.params) }
+{
+    match Parameters::read(alloc, dir, input.params.as_slice()) {
+        Ok(parameters) => planned(alloc, tree, globals, &parameters),
+        Err(Failure::Memory) => Err(NoMemory),
+        Err(failure) => refused(alloc, &failure),
+    }
+}
+
+fn planned(
+    alloc: Global,
+    tree: &Tree,
+    globals: &Pairs,
+    parameters: &Parameters,
+) -> Result<Plan, NoMemory>
+    ensures { IfOk result (λ plan. plan ≡ planned tree.now.files globals.now parameters.now) }
+{
+    let notes = missing_notes(alloc, tree, parameters)?;
+    Ok(Plan {
+        calls: all_calls(alloc, tree, globals, parameters)?,
+        parallel: parameters.parallel,
+        stop_first: parameters.stop_first && !parameters.parallel,
+        ok: notes.is_empty(),
+        notes,
+    })
+}
+
+fn refused(alloc: Global, failure: &Failure) -> Result<Plan, NoMemory>
+    ensures { IfOk result (λ plan. plan ≡ refused failure.now) }
+{
+    let mut notes = List::new(alloc);
+    notes.push(note(alloc, failure)?)?;
+    Ok(Plan {
+        calls: List::new(alloc),
+        parallel: false,
+        stop_first: false,
+        notes,
+        ok: false,
+    })
+}
+
+/// A note for each project that is looked up and is missing, unless these are passed over.
+fn missing_notes(
+    alloc: Global,
+    tree: &Tree,
+    parameters: &Parameters,
+) -> Result<List<Note>, NoMemory>
+    ensures { IfOk result (λ notes. notes ≡ all_missing_notes tree.now.files parameters.now) }
+{
+    let mut notes = List::new(alloc);
+    for project in looked_up(tree, parameters) {
+        if !is_there(tree, project) && !parameters.skip_missing {
+            let failure = Failure::NoProject(project.item.text.copy()?);
+            notes.push(note(alloc, &failure)?)?;
+        }
+    }
+    Ok(notes)
+}
+
+fn note(alloc: Global, failure: &Failure) -> Result<Note, NoMemory>
+    ensures { IfOk result (λ note. note ≡ note_of failure.now) }
+{
+    Ok(Note::Fail(failure.text(alloc, "msbuild")?))
+}

@@ -1,0 +1,54 @@
+ghost use Rattle.std.specs.Prelude.{◌≡◌, not};
+ghost use Rattle.std.specs.List.{list_any};
+
+use msb_values::{List, Note};
+use result_cache::{RequestKey, RequestResult};
+
+/// What the MSBuild task is to do. (MSBuild task.)
+#[derive(Drop)]
+pub struct Plan {
+    /// The requests that it calls, in order.
+    pub calls: List<RequestKey>,
+    /// Whether they are called at once.
+    pub parallel: bool,
+    /// Whether no call is made behind one that fails; never where they are called at once.
+    pub stop_first: bool,
+    /// What is said before the first call.
+    pub notes: List<Note>,
+    /// False where the task fails, whatever its calls give.
+    pub ok: bool,
+}
+
+impl Plan {
+    ghost use Rattle.task_msbuild.specs.Plans.{has_stopped, next_calls};
+
+    /// The calls that are made next, when these are the results of the first ones: all at once, or one after the other.
+    /// Where there is none, the results are to be [gathered](crate::gather). It takes no memory.
+    pub fn next(&self, results: &List<RequestResult>) -> &[RequestKey]
+        ensures { result.now ≡ next_calls self.now results.now }
+    {
+        let waiting = self.waiting(results.len());
+        if self.parallel {
+            return waiting;
+        }
+        match waiting {
+            [_, ..] if !self.has_stopped(results.as_slice()) => &waiting[..1],
+            _ => &[],
+        }
+    }
+
+    fn waiting(&self, made: usize) -> &[RequestKey] {
+        let calls = self.calls.as_slice();
+        if made < calls.len() {
+            &calls[made..]
+        } else {
+            &[]
+        }
+    }
+
+    fn has_stopped(&self, results: &[RequestResult]) -> bool
+        ensures { result ≡ has_stopped self.now results.now }
+    {
+        self.stop_first && results.iter().any(|given| !given.ok)
+    }
+}
