@@ -1,0 +1,5 @@
+pub mod Ages
+pub mod Decisions
+pub mod Inferred
+pub mod Newest
+pub mod Shapes
