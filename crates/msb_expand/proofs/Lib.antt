@@ -1,4 +1,5 @@
 pub mod Folders
+pub mod PutEntries
 pub mod Overlays
 pub mod Distinct
 pub mod Giving

@@ -2,7 +2,7 @@
 use Rattle.std.specs.Prelude.{ℕ, ◌+◌, nat_lt, List, [], ◌∷◌, length, map, Result, Ok, Err, if◌then◌else◌}
 use Rattle.msb_expand.specs.declared.open_entry.OpenEntry.{OpenEntry as Open}
 use Rattle.msb_expand.specs.declared.open_entry.OpenEntry.TheVariants.{Begun, Given, Joined}
-use Rattle.msb_expand.specs.declared.reading.Reading.{Reading as Held}
+use Rattle.msb_expand.specs.declared.reading.Reading.{Reading as SoFar}
 use Rattle.msb_expand.specs.declared.faults.ExpandFault.{ExpandFault}
 use Rattle.msb_expand.specs.declared.faults.ExpandFault.TheVariants.{TooLong}
 use Rattle.msb_laws.specs.Results.{and_then}
@@ -17,7 +17,7 @@ open_entry_of (Begun text) = begun text
 open_entry_of (Given items) = given (map seen_item items.items)
 open_entry_of (Joined items separator) = given (one_item (joined separator (map seen_item items.items)))
 
-abbrev pub reading_of : Held → Reading
+abbrev pub reading_of : SoFar → Reading
 reading_of r = reading r.whole (open_entry_of r.entry)
 
 -- what is read behind what was read

@@ -8,7 +8,7 @@ pub mod Tokens
 pub mod Values
 pub mod Answers
 pub mod Causes
-pub mod Held
+pub mod CowTexts
 pub mod Seen
 pub mod Wanted
 pub mod Joins

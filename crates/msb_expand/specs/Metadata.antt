@@ -34,7 +34,7 @@ or_bad_path ident (Err fault) = Err (BadPath ident)
 abbrev pub path_of : List ℕ → List ℕ → Result (List ℕ) ExpandFault
 path_of project ident = or_bad_path ident (normal_path (folder_of project) ident)
 
--- of an identity as it is held
+-- of an identity as it stands in its item
 abbrev pub full_path : List ℕ → List ℕ → Result (List ℕ) ExpandFault
 full_path project ident = map_ok (λ path. escaped (from_root path)) (path_of project (unescaped ident))
 

@@ -48,7 +48,7 @@ reserved_value project file ThisFileDirectory = from_root (relative_dir file)
 
 -- the engine's value, else the project's, else empty
 abbrev pub value_or : Scene → Option Reserved → Option (List ℕ) → List ℕ
-value_or scene (Some property) held = escaped (reserved_value scene.project scene.file property)
+value_or scene (Some property) own = escaped (reserved_value scene.project scene.file property)
 value_or scene None (Some text) = text
 value_or scene None None = []
 

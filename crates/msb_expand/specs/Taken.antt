@@ -4,12 +4,12 @@ use Rattle.msb_expand.specs.declared.tokens.Token.{Token as Taken}
 use Rattle.msb_expand.specs.declared.tokens.Token.TheVariants.{Plain, Value, Kept, Items, Again}
 use Rattle.msb_expand.specs.declared.faults.ExpandFault.{ExpandFault}
 use Rattle.msb_expand.specs.declared.faults.ExpandFault.TheVariants.{ItemsHere, MetadataHere, UnknownFunction, TooLong, MixedList, BadPath, Expr, Memory}
-use Rattle.msb_expand.specs.Held.{held_text}
+use Rattle.msb_expand.specs.CowTexts.{cow_text}
 use Rattle.msb_expand.specs.Tokens.{Token, written, referred, faulty, again_token}
 
 abbrev pub taken_tokens : Taken → List Token
 taken_tokens (Plain text) = written text.now ∷ []
-taken_tokens (Value held) = written (held_text held) ∷ []
+taken_tokens (Value text) = written (cow_text text) ∷ []
 taken_tokens (Kept text) = written text ∷ []
 taken_tokens (Items reference) = referred reference.kind.now reference.steps.now (option_copied reference.separator) ∷ []
 taken_tokens (Again expr) = map again_token expr.parts

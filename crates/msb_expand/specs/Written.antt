@@ -33,8 +33,8 @@ abbrev pub expanded_entries : Scene → List ℕ → Result (List Entry) Cause
 expanded_entries scene written = and_then (or_unread (reading written)) (λ parts. or_cause (entries_value scene parts))
 
 -- its list
-abbrev pub listed : Scene → List ℕ → Result (List Item) Cause
-listed scene written = and_then (or_unread (reading written)) (λ parts. or_cause (list_value scene parts))
+abbrev pub expanded_items : Scene → List ℕ → Result (List Item) Cause
+expanded_items scene written = and_then (or_unread (reading written)) (λ parts. or_cause (list_value scene parts))
 
 -- an entry of a list of targets is a target's name, or refused at its first bad byte
 abbrev pub name_if : List ℕ → Option ℕ → Result (List ℕ) Cause
@@ -46,4 +46,4 @@ target_name item = name_if item.ident (bad_place is_target_byte item.ident)
 
 -- the targets that it names
 abbrev pub target_names : Scene → List ℕ → Result (List (List ℕ)) Cause
-target_names scene written = and_then (listed scene written) (all_ok target_name)
+target_names scene written = and_then (expanded_items scene written) (all_ok target_name)

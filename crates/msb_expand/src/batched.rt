@@ -3,7 +3,7 @@ ghost use Rattle.msb_expand.specs.Scenes.{scene_of};
 ghost use Rattle.msb_expand.specs.Taken.{Takes};
 ghost use Rattle.msb_expand.specs.Tokens.{token_if, bucket_value, reference_key, value_by, value_in, is_qualifier};
 
-use crate::properties::Held;
+use crate::properties::CowText;
 use crate::tokens::Token;
 use crate::{Bucket, ExpandFault, Lens};
 use msb_expression::Word;
@@ -21,14 +21,14 @@ pub(crate) fn bucket_token<'a, 'e>(
 {
     match lens.bucket {
         None => Err(ExpandFault::MetadataHere),
-        Some(bucket) => match value_held(alloc, bucket, qualifier, name)? {
-            Some(value) => Ok(Token::Value(Held::Scope(value))),
+        Some(bucket) => match value_of_bucket(alloc, bucket, qualifier, name)? {
+            Some(value) => Ok(Token::Value(CowText::Borrowed(value))),
             None => Err(ExpandFault::MetadataHere),
         },
     }
 }
 
-fn value_held<'a>(
+fn value_of_bucket<'a>(
     alloc: Global,
     bucket: &'a Bucket,
     qualifier: &Option<Word>,

@@ -2,13 +2,13 @@ ghost use Rattle.std.specs.Prelude.{◌≡◌, [], ◌∷◌, IfOk, option_and_t
 ghost use Rattle.msb_values.specs.Pairs.{value_at};
 ghost use Rattle.msb_values.specs.Keys.{key_of};
 ghost use Rattle.msb_expand.specs.Answers.{GivesAs};
-ghost use Rattle.msb_expand.specs.Held.{held_text};
+ghost use Rattle.msb_expand.specs.CowTexts.{cow_text};
 ghost use Rattle.msb_expand.specs.Metadata.{metadata_of, text_or_none};
 ghost use Rattle.msb_expand.specs.Scenes.{scene_of, defaults_at, with_defaults};
 ghost use Rattle.msb_expand.specs.Taken.{Takes};
 ghost use Rattle.msb_expand.specs.Tokens.{is_foreign, default_token, own_token};
 
-use crate::properties::{Held, text_or_empty};
+use crate::properties::{CowText, text_or_empty};
 use crate::seen::Seen;
 use crate::tokens::Token;
 use crate::{ExpandFault, Lens};
@@ -28,7 +28,9 @@ pub(crate) fn default_token<'a, 'e>(
     match lens.own {
         None => Err(ExpandFault::MetadataHere),
         Some((kind, _)) if is_foreign(alloc, kind, qualifier)? => Err(ExpandFault::MetadataHere),
-        Some((kind, _)) => Ok(Token::Value(Held::Scope(default_value(alloc, lens, kind, name)?))),
+        Some((kind, _)) => Ok(Token::Value(CowText::Borrowed(default_value(
+            alloc, lens, kind, name,
+        )?))),
     }
 }
 
@@ -81,8 +83,8 @@ fn own_value<'a>(
     kind: &Name,
     item: &'a Item,
     name: &str,
-) -> Result<Held<'a>, ExpandFault>
-    ensures { GivesAs held_text result (metadata_of lens.now.project.now (with_defaults (defaults_at (scene_of lens.now) kind.now) item.now) name.now) }
+) -> Result<CowText<'a>, ExpandFault>
+    ensures { GivesAs cow_text result (metadata_of lens.now.project.now (with_defaults (defaults_at (scene_of lens.now) kind.now) item.now) name.now) }
 {
     let item = Seen::of(item, lens.scope.defaults.get(kind));
     item.metadata_named(alloc, lens.project, name)

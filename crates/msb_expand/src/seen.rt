@@ -4,11 +4,11 @@ ghost use Rattle.msb_expand.specs.Scenes.{pairs_or_none, with_defaults};
 ghost use Rattle.msb_values.specs.Overlays.{overlaid};
 ghost use Rattle.msb_expand.specs.Answers.{GivesAs};
 ghost use Rattle.msb_expand.specs.Functions.{plain_item, without_metadata};
-ghost use Rattle.msb_expand.specs.Held.{held_text};
+ghost use Rattle.msb_expand.specs.CowTexts.{cow_text};
 ghost use Rattle.msb_expand.specs.Metadata.{metadata_at, metadata_if, metadata_of, text_or_none};
 ghost use Rattle.msb_expand.specs.Seen.{seen_item};
 
-use crate::properties::{Held, text_or_empty};
+use crate::properties::{CowText, text_or_empty};
 use crate::{ExpandFault, WellKnown};
 use msb_values::{Copied, Item, Name, NoMemory, Pairs, Text, put_all_missing};
 use std::alloc::Global;
@@ -16,7 +16,7 @@ use std::alloc::Global;
 /// An item of a reference, as the steps hand it on: nothing of the scope is copied before it has to be.
 #[derive(Drop)]
 pub(crate) struct Seen<'a> {
-    pub(crate) ident: Held<'a>,
+    pub(crate) ident: CowText<'a>,
     pub(crate) recursive: &'a str,
     /// The item's own metadata, where they are still seen.
     pub(crate) meta: Option<&'a Pairs>,
@@ -30,7 +30,7 @@ impl<'a> Seen<'a> {
         ensures { seen_item result ≡ with_defaults (pairs_or_none (option_copied defaults.entry)) item.now }
     {
         Seen {
-            ident: Held::Scope(item.ident.as_str()),
+            ident: CowText::Borrowed(item.ident.as_str()),
             recursive: item.recursive.as_str(),
             meta: Some(&item.meta),
             defaults,
@@ -42,7 +42,7 @@ impl<'a> Seen<'a> {
         ensures { seen_item result ≡ plain_item text }
     {
         Seen {
-            ident: Held::Made(text),
+            ident: CowText::Owned(text),
             recursive: "",
             meta: None,
             defaults: None,
@@ -79,12 +79,12 @@ impl<'a> Seen<'a> {
         alloc: Global,
         project: &str,
         name: &Name,
-    ) -> Result<Held<'a>, ExpandFault>
-        ensures { GivesAs held_text result (metadata_at project.now (seen_item self.now) name.now) }
+    ) -> Result<CowText<'a>, ExpandFault>
+        ensures { GivesAs cow_text result (metadata_at project.now (seen_item self.now) name.now) }
     {
         match WellKnown::named(name.key()) {
             Some(known) => known.value(alloc, project, self),
-            None => Ok(Held::Scope(self.own_or_default(name))),
+            None => Ok(CowText::Borrowed(self.own_or_default(name))),
         }
     }
 
@@ -94,8 +94,8 @@ impl<'a> Seen<'a> {
         alloc: Global,
         project: &str,
         name: &str,
-    ) -> Result<Held<'a>, ExpandFault>
-        ensures { GivesAs held_text result (metadata_of project.now (seen_item self.now) name.now) }
+    ) -> Result<CowText<'a>, ExpandFault>
+        ensures { GivesAs cow_text result (metadata_of project.now (seen_item self.now) name.now) }
     {
         let key = Name::written(alloc, name)?;
         self.metadata_if(alloc, project, &key)
@@ -107,12 +107,12 @@ impl<'a> Seen<'a> {
         alloc: Global,
         project: &str,
         key: &Option<Name>,
-    ) -> Result<Held<'a>, ExpandFault>
-        ensures { GivesAs held_text result (metadata_if project.now (seen_item self.now) key.now) }
+    ) -> Result<CowText<'a>, ExpandFault>
+        ensures { GivesAs cow_text result (metadata_if project.now (seen_item self.now) key.now) }
     {
         match key {
             Some(key) => self.metadata(alloc, project, key),
-            None => Ok(Held::Scope("")),
+            None => Ok(CowText::Borrowed("")),
         }
     }
 

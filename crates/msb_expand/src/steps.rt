@@ -9,7 +9,7 @@ ghost use Rattle.msb_expand.specs.Seen.{seen_item};
 use crate::functions::call;
 use crate::kept::keep;
 use crate::limits::grow;
-use crate::properties::{Held, property};
+use crate::properties::{CowText, property};
 use crate::references::quoted_value;
 use crate::seen::Seen;
 use crate::{ExpandFault, Lens};
@@ -87,7 +87,7 @@ fn transform_item<'a>(
 {
     let ident = transform_text(alloc, lens, pieces, &item)?;
     Ok(Seen {
-        ident: Held::Made(ident),
+        ident: CowText::Owned(ident),
         recursive: item.recursive,
         meta: item.meta,
         defaults: item.defaults,

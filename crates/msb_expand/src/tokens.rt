@@ -12,7 +12,7 @@ ghost use Rattle.msb_expand.specs.Tokens.{part_tokens, property_tokens, metadata
 use crate::batched::bucket_token;
 use crate::filled::kept_text;
 use crate::own::{default_token, own_token};
-use crate::properties::{Held, property};
+use crate::properties::{CowText, property};
 use crate::{ExpandFault, Lens, Use};
 use msb_expression::{Expr, ExprFault, NoRoom, Part, Pieces, Steps, Word, parse};
 use std::alloc::Global;
@@ -30,7 +30,7 @@ pub(crate) struct Reference<'e> {
 pub(crate) enum Token<'a, 'e> {
     /// Text of the expression.
     Plain(&'e str),
-    Value(Held<'a>),
+    Value(CowText<'a>),
     /// A reference that stays text.
     Kept(Word),
     Items(Reference<'e>),

@@ -1,13 +1,13 @@
 ghost use Rattle.std.specs.Prelude.{◌≡◌, is_some};
 ghost use Rattle.msb_values.specs.Pairs.{value_at};
 ghost use Rattle.msb_expand.specs.Answers.{GivesAs};
-ghost use Rattle.msb_expand.specs.Held.{held_text};
+ghost use Rattle.msb_expand.specs.CowTexts.{cow_text};
 ghost use Rattle.msb_expand.specs.Metadata.{well_known, well_known_value};
 ghost use Rattle.msb_expand.specs.Seen.{seen_item};
 
 use crate::ExpandFault;
 use crate::identities::{directory, extension, filename, full_path, identity, relative_dir};
-use crate::properties::Held;
+use crate::properties::CowText;
 use crate::seen::Seen;
 use msb_values::Name;
 use std::alloc::Global;
@@ -49,19 +49,19 @@ impl WellKnown {
         alloc: Global,
         project: &str,
         item: &Seen<'a>,
-    ) -> Result<Held<'a>, ExpandFault>
-        ensures { GivesAs held_text result (well_known_value project.now (seen_item item.now) self) }
+    ) -> Result<CowText<'a>, ExpandFault>
+        ensures { GivesAs cow_text result (well_known_value project.now (seen_item item.now) self) }
     {
         let ident = item.ident.as_str();
         match self {
-            WellKnown::Identity => Ok(Held::Made(identity(alloc, ident)?)),
-            WellKnown::FullPath => Ok(Held::Made(full_path(alloc, project, ident)?)),
-            WellKnown::RootDir => Ok(Held::Scope("/")),
-            WellKnown::Directory => Ok(Held::Made(directory(alloc, project, ident)?)),
-            WellKnown::RelativeDir => Ok(Held::Made(relative_dir(alloc, ident)?)),
-            WellKnown::Filename => Ok(Held::Made(filename(alloc, ident)?)),
-            WellKnown::Extension => Ok(Held::Made(extension(alloc, ident)?)),
-            WellKnown::RecursiveDir => Ok(Held::Scope(item.recursive)),
+            WellKnown::Identity => Ok(CowText::Owned(identity(alloc, ident)?)),
+            WellKnown::FullPath => Ok(CowText::Owned(full_path(alloc, project, ident)?)),
+            WellKnown::RootDir => Ok(CowText::Borrowed("/")),
+            WellKnown::Directory => Ok(CowText::Owned(directory(alloc, project, ident)?)),
+            WellKnown::RelativeDir => Ok(CowText::Owned(relative_dir(alloc, ident)?)),
+            WellKnown::Filename => Ok(CowText::Owned(filename(alloc, ident)?)),
+            WellKnown::Extension => Ok(CowText::Owned(extension(alloc, ident)?)),
+            WellKnown::RecursiveDir => Ok(CowText::Borrowed(item.recursive)),
         }
     }
 }

@@ -1,7 +1,7 @@
 ghost use Rattle.msb_laws.specs.Results.{all_ok};
 ghost use Rattle.msb_values.specs.Caused.{GivesCause};
 ghost use Rattle.msb_expand.specs.Scenes.{scene_of};
-ghost use Rattle.msb_expand.specs.Written.{expanded, expanded_entries, listed, target_name, target_names};
+ghost use Rattle.msb_expand.specs.Written.{expanded, expanded_entries, expanded_items, target_name, target_names};
 
 use crate::{Entry, Lens, entries, expression_cause, list, text};
 use msb_expression::parse;
@@ -36,7 +36,7 @@ pub fn expand_entries(alloc: Global, lens: &Lens<'_>, written: &str) -> Result<L
 
 /// The items that a text of a project file denotes as a list where it stands. (MSBuild items.)
 pub fn expand_list(alloc: Global, lens: &Lens<'_>, written: &str) -> Result<List<Item>, Cause>
-    ensures { GivesCause result (listed (scene_of lens.now) written.now) }
+    ensures { GivesCause result (expanded_items (scene_of lens.now) written.now) }
 {
     match parse(alloc, written) {
         Ok(expr) => match list(alloc, lens, &expr) {
