@@ -22,6 +22,7 @@ enum Slot {
 }
 
 /// What a table says of a run.
+#[derive(Drop)]
 pub enum Found<'a> {
     /// Nobody has begun it.
     Absent,
