@@ -70,25 +70,16 @@ fn record(alloc: Global) -> Result<RecordRef, NoMemory> {
 }
 
 fn begin(table: &mut Table, run: &RunId, request: u64) -> Result<(), NoMemory> {
-    let absent = match table.find(run) {
-        Found::Absent => true,
-        Found::Begun(_) => false,
-        Found::Done(_) => false,
-    };
-    if absent {
+    if let Found::Absent = table.find(run) {
         table.begin(run, request)?;
     }
     Ok(())
 }
 
 fn finish(table: &mut Table, run: &RunId, made: &RecordRef) -> Result<(), NoMemory> {
-    let begun = match table.find(run) {
-        Found::Absent => false,
-        Found::Begun(_) => true,
-        Found::Done(_) => false,
-    };
-    if begun {
-        table.finish(run, made.copy()?);
+    let made = made.copy()?;
+    if let Found::Begun(_) = table.find(run) {
+        table.finish(run, made);
     }
     Ok(())
 }

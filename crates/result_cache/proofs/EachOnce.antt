@@ -1,5 +1,5 @@
 -- Each run stands once in a table whose map has each key once.
-use Rattle.std.proofs.Common.{◌≡◌, Bool, true, false, ◌||◌, List, [], ◌∷◌, ◌++◌, map, Option, None, Some, is_some, refl, sym, ap, subst, ◌∙◌}
+use Rattle.std.proofs.Common.{◌≡◌, true, false, ◌||◌, List, [], ◌∷◌, ◌++◌, map, Option, None, Some, is_some, refl, sym, ap, subst, ◌∙◌}
 use Rattle.std.specs.List.{IsDistinct}
 use Rattle.std.specs.Map.{keys_of, lookup}
 use Rattle.std.proofs.lemmas.List.{map-append}
@@ -7,13 +7,11 @@ use Rattle.std.proofs.lemmas.Map.Keys.{IsDistinct-tail}
 use Rattle.result_cache.specs.declared.run.RunId.{RunId}
 use Rattle.result_cache.specs.declared.table.Slot.{Slot}
 use Rattle.result_cache.specs.declared.table.Slot.TheVariants.{Begun, Done}
-use Rattle.result_cache.specs.Exact.{run-exact}
-use Rattle.result_cache.specs.Lists.{this_or}
 use Rattle.result_cache.specs.Same.{same_run, is_in, AreDistinct}
 use Rattle.result_cache.specs.Table.{FinishedRun, Records, found, BegunRun, is_begun, request_of, HasEachOnce}
 use Rattle.result_cache.specs.Slots.{with_record, records_in, with_begun, begun_in, table_of}
 use Rattle.result_cache.proofs.RunTests.{clash, or_neither}
-use Rattle.result_cache.proofs.SlotEntries.{run_laws, or-some, begun-some, told-record, told-request, record_if, request_if, absent-behind, slot-begun}
+use Rattle.result_cache.proofs.SlotEntries.{run_laws, or-some, begun-some, told-record, told-request, record_if, request_if, absent-behind}
 
 is_in-found : (run : RunId) (xs : Records) → is_in run (map (λ (f : FinishedRun). f.run) xs) ≡ is_some (found xs run)
 is_in-found run [] = refl

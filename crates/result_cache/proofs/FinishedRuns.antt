@@ -1,5 +1,5 @@
 -- The entries of a table's map after a run is finished: its entry stands behind those that were finished before.
-use Rattle.std.proofs.Common.{◌≡◌, ℕ, zero, suc, ◌+◌, ◌<◌, ◌≤◌, Bool, true, false, ◌||◌, List, [], ◌∷◌, ◌++◌, length, map, insert, slice_get, reverse, Option, None, Some, is_some, refl, sym, ap, subst, ◌∙◌, arith, length-append}
+use Rattle.std.proofs.Common.{◌≡◌, ℕ, zero, suc, ◌+◌, ◌<◌, ◌≤◌, true, false, List, [], ◌∷◌, ◌++◌, length, insert, slice_get, reverse, Option, None, Some, is_some, IsSome, refl, sym, ap, subst, ◌∙◌, arith, length-append}
 use Rattle.std.specs.List.{IsDistinct, remove}
 use Rattle.std.specs.Map.{keys_of, lookup, lookup_key}
 use Rattle.std.specs.Option.{option_map, option_map_or}
@@ -14,10 +14,10 @@ use Rattle.result_cache.specs.declared.table.Slot.{Slot}
 use Rattle.result_cache.specs.declared.table.Slot.TheVariants.{Begun, Done}
 use Rattle.result_cache.specs.Exact.{run-exact}
 use Rattle.result_cache.specs.Same.{same_run}
-use Rattle.result_cache.specs.Table.{FinishedRun, Records, is_begun, without, TableRuns}
-use Rattle.result_cache.specs.Slots.{with_record, records_in, with_begun, begun_in, table_of, LeadsFinished, FinishedFirst, AreSlots}
+use Rattle.result_cache.specs.Table.{FinishedRun, request_of, without, TableRuns}
+use Rattle.result_cache.specs.Slots.{with_record, records_in, begun_in, table_of, LeadsFinished, FinishedFirst, AreSlots}
 use Rattle.result_cache.proofs.RunTests.{clash}
-use Rattle.result_cache.proofs.SlotEntries.{none-behind, none-leads, told-request, request_if, begun-some, slot-begun, begun-removed, begun-inserted}
+use Rattle.result_cache.proofs.SlotEntries.{none-behind, none-leads, told-request, request_if, slot-begun, begun-removed, begun-inserted}
 
 none-removed : (es : List (RunId × Slot)) (i : ℕ) → records_in es ≡ [] → records_in (remove es i) ≡ []
 none-removed [] zero h = refl
@@ -113,10 +113,9 @@ finished-by-number (e ∷ es) i first = number-step e.1 i first (λ j f. finishe
 
 -- ---- the whole of it
 
-module _ (es : List (RunId × Slot)) (done : ℕ) (slots : AreSlots es done) (table : TableRuns) (view_is : table_of es ≡ table) (run : RunId) (begun : is_begun run table.begun ≡ true) where
+module _ (es : List (RunId × Slot)) (done : ℕ) (slots : AreSlots es done) (table : TableRuns) (view_is : table_of es ≡ table) (run : RunId) (begun : IsSome (request_of table.begun run)) where
   requested : is_some (request_if (lookup (same_run run) es)) ≡ true
-  requested =
-      ap is_some (sym (told-request run es slots.distinct)) ∙ (sym (begun-some run (begun_in es)) ∙ (ap (λ (t : TableRuns). is_begun run t.begun) view_is ∙ begun))
+  requested = ap is_some (sym (told-request run es slots.distinct)) ∙ (ap (λ (t : TableRuns). is_some (request_of t.begun run)) view_is ∙ begun)
 
   -- the run has an entry
   pub has-entry : lookup (same_run run) es ≡ None → ⊥

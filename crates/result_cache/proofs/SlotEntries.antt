@@ -1,5 +1,5 @@
 -- The entries of a table's map: what is found of a run, and what they are after a run is begun or finished.
-use Rattle.std.proofs.Common.{◌≡◌, ℕ, zero, suc, ◌+◌, ◌<◌, ◌≤◌, Bool, true, false, cond, ◌||◌, List, [], ◌∷◌, ◌++◌, length, map, insert, slice_get, Option, None, Some, is_some, refl, sym, ap, subst, ◌∙◌, arith}
+use Rattle.std.proofs.Common.{◌≡◌, ℕ, zero, suc, Bool, true, false, cond, ◌||◌, List, [], ◌∷◌, ◌++◌, insert, slice_get, Option, None, Some, is_some, refl, sym, ap, ◌∙◌}
 use Rattle.std.specs.Cmp.{IsEquivalence, decided}
 use Rattle.std.specs.List.{IsDistinct, remove}
 use Rattle.std.specs.Map.{keys_of, lookup}
@@ -12,10 +12,10 @@ use Rattle.result_cache.specs.declared.table.Slot.{Slot}
 use Rattle.result_cache.specs.declared.table.Slot.TheVariants.{Begun, Done}
 use Rattle.result_cache.specs.Exact.{run-exact}
 use Rattle.result_cache.specs.Lists.{this_or}
-use Rattle.result_cache.specs.Same.{same_run, is_in, AreDistinct}
-use Rattle.result_cache.specs.Table.{FinishedRun, Records, found, BegunRun, is_begun, request_of, begun_unless, without, TableRuns, HasEachOnce}
-use Rattle.result_cache.specs.Slots.{with_record, records_in, with_begun, begun_in, table_of, LeadsFinished, FinishedFirst, AreSlots}
-use Rattle.result_cache.proofs.RunTests.{clash, or_neither}
+use Rattle.result_cache.specs.Same.{same_run}
+use Rattle.result_cache.specs.Table.{FinishedRun, Records, found, BegunRun, is_begun, request_of, begun_unless, without}
+use Rattle.result_cache.specs.Slots.{with_record, records_in, with_begun, begun_in, LeadsFinished, FinishedFirst}
+use Rattle.result_cache.proofs.RunTests.{clash}
 
 pub run_laws : IsEquivalence same_run
 run_laws = decided same_run run-exact

@@ -1,5 +1,5 @@
 -- The tests that tell records apart hold exactly of equal ones.
-use Rattle.std.proofs.Common.{◌≡◌, ℕ, Bool, true, false, ◌&&◌, ◌==◌, List, refl, ap, ◌∙◌}
+use Rattle.std.proofs.Common.{◌≡◌, true, false, ◌&&◌, ◌==◌, refl, ap, ◌∙◌}
 use Rattle.std.specs.Bool.{Decides}
 use Rattle.std.specs.Cmp.{unsigned_Decides}
 use Rattle.std.specs.Str.{bytes_eq}

@@ -1,11 +1,11 @@
-ghost use Rattle.std.specs.Prelude.{◌≡◌, ◌<◌, [], ◌∷◌, true, None, Some, length, reverse, slice_get, OnErr, OnOk};
+ghost use Rattle.std.specs.Prelude.{◌≡◌, ◌<◌, [], ◌∷◌, None, IsSome, length, reverse, slice_get, OnErr, OnOk};
 ghost use Rattle.indexmap.specs.IndexMap.{index_map_len};
 ghost use Rattle.indexmap.specs.Layout.{set_value_at};
 ghost use Rattle.result_cache.specs.declared.table.Slot.TheVariants.{Done};
 ghost use Rattle.std.specs.Option.{option_map};
 ghost use Rattle.result_cache.specs.Found.{FoundIn, seen_finished};
 ghost use Rattle.result_cache.specs.Slots.{AreSlots};
-ghost use Rattle.result_cache.specs.Table.{found, is_begun, request_of, without, TableRuns, HasEachOnce};
+ghost use Rattle.result_cache.specs.Table.{found, request_of, without, TableRuns, HasEachOnce};
 
 use crate::{RecordRef, RunId};
 use indexmap::IndexMap;
@@ -81,7 +81,7 @@ impl Table {
 
     /// Gives a begun run its record: it is finished. This takes no memory.
     pub fn finish(&mut self, run: &RunId, made: RecordRef)
-        requires { is_begun run.now self.old.begun ≡ true }
+        requires { IsSome (request_of self.old.begun run.now) }
         ensures finished { self.new.finished ≡ record { run = run.now; made = made } ∷ self.old.finished }
         ensures begun { self.new.begun ≡ without run.now self.old.begun }
     {
