@@ -1,5 +1,5 @@
 -- What the records and journals of every legal history are like.
-use Rattle.std.specs.Prelude.{ℕ, ◌≡◌, false, List, [], ◌∷◌, map, Some}
+use Rattle.std.specs.Prelude.{ℕ, ◌≡◌, List, [], ◌∷◌, map, Some}
 use Rattle.result_cache.specs.declared.run.RunId.{RunId}
 use Rattle.result_cache.specs.declared.record.Record.{Record}
 use Rattle.build_meaning.specs.declared.event.Event.{Event}
@@ -10,13 +10,8 @@ use Rattle.build_meaning.specs.Lists.{at}
 use Rattle.result_cache.specs.Journal.{Journal, ended}
 use Rattle.result_cache.specs.Table.{FinishedRun, found, BegunRun}
 use Rattle.result_cache.specs.Replay.{IsClosed, replay}
-use Rattle.result_cache.specs.Same.{is_in}
+pub use Rattle.result_cache.specs.Same.{AreDistinct}
 use Rattle.build_meaning.specs.State.{RequestState, State}
-
--- no run is there twice
-abbrev pub AreDistinct : List RunId → Type 0
-AreDistinct [] = Unit {0}
-AreDistinct (run ∷ runs) = (is_in run runs ≡ false) × AreDistinct runs
 
 -- the runs that events begin, the last one first, in front of others
 abbrev pub begun_by : List Event → List RunId → List RunId
