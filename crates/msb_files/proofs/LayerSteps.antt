@@ -1,14 +1,25 @@
 -- What is asked of a journal's layers one after the other, one layer on.
-use Rattle.std.proofs.Common.{◌≡◌, ℕ, ◌+◌, ◌<◌, List, ◌++◌, length, drop, get_or, Bool, true, false, ◌||◌, Option, Some, None, refl, ap, ◌∙◌, sym}
-use Rattle.std.specs.List.{list_any}
+use Rattle.std.proofs.Common.{◌≡◌, ℕ, zero, suc, ◌+◌, ◌-◌, ◌<◌, ◌≤◌, List, [], ◌∷◌, ◌++◌, length, drop, get_or, Bool, true, false, ◌||◌, Option, Some, None, refl, ap, ◌∙◌, sym, arith}
+use Rattle.std.specs.List.{list_any, slice_get}
 use Rattle.std.specs.Option.{option_or}
 use Rattle.std.proofs.lemmas.List.{drop_more}
 use Rattle.std.proofs.lemmas.List.Folds.{list_any-append}
+use Rattle.std.proofs.lemmas.Option.{slice_get-get_or}
 use Rattle.msb_paths.specs.Presence.{is_there}
-use Rattle.result_cache.specs.Journal.{Journal, Mark, has, content}
+use Rattle.result_cache.specs.Journal.{Journal, Entry, Mark, has, content}
 use Rattle.msb_files.specs.Layers.{all_of}
 use Rattle.msb_files.proofs.Contents.{content-append, has-append}
 use Rattle.msb_files.proofs.Paths.{paths_in, paths_in-append}
+
+slice_get_front : {X : Type 0} (xs ys : List X) (n : ℕ) → n < length xs → slice_get (xs ++ ys) n ≡ slice_get xs n
+slice_get_front [] ys n w = absurd (omega arith)
+slice_get_front (x ∷ xs) ys zero w = refl
+slice_get_front (x ∷ xs) ys (suc n) w = slice_get_front xs ys n (omega arith)
+
+slice_get_back : {X : Type 0} (xs ys : List X) (n : ℕ) → length xs ≤ n → slice_get (xs ++ ys) n ≡ slice_get ys (n - length xs)
+slice_get_back [] ys n past = ap (slice_get ys) (omega arith)
+slice_get_back (x ∷ xs) ys zero past = absurd (omega arith)
+slice_get_back (x ∷ xs) ys (suc n) past = slice_get_back xs ys n (omega arith) ∙ ap (slice_get ys) (omega arith)
 
 -- the layer at a place, which a loop has come to
 pub record IsAt (layers : List Journal) (i : ℕ) (layer : Journal) : Type 0 where
@@ -46,3 +57,9 @@ module _ (layers : List Journal) (i : ℕ) (layer : Journal) (at : IsAt layers i
 
   pub there_later : (path : List ℕ) (r : Bool) → r ≡ is_there (paths_in layer) path → r ≡ false → is_there (paths_in (all_of (drop (i + 1) layers))) path ≡ is_there (paths_in (all_of (drop i layers))) path
   there_later path r is fails = sym (there_first path ∙ ap (λ b. b || is_there (paths_in (all_of (drop (i + 1) layers))) path) (sym is ∙ fails))
+
+  pub entry_here : (n : ℕ) (e : Entry) → n < length layer → e ≡ get_or layer n e → Some e ≡ slice_get (all_of (drop i layers)) n
+  entry_here n e w is = sym (ap (λ j. slice_get j n) first ∙ (slice_get_front layer (all_of (drop (i + 1) layers)) n w ∙ (slice_get-get_or layer n e w ∙ ap Some (sym is))))
+
+  pub entry_later : (n : ℕ) → length layer ≤ n → slice_get (all_of (drop (i + 1) layers)) (n - length layer) ≡ slice_get (all_of (drop i layers)) n
+  entry_later n past = sym (ap (λ j. slice_get j n) first ∙ slice_get_back layer (all_of (drop (i + 1) layers)) n past)

@@ -1,6 +1,10 @@
+pub mod Committed
 pub mod Contents
 pub mod Indexed
 pub mod LayerSteps
 pub mod MarkOrder
+pub mod MergeSteps
 pub mod Paths
+pub mod ReplaySteps
+pub mod Replays
 pub mod Searches

@@ -77,7 +77,7 @@ put_any f k x xs rest Less is all = refl
 put_any f k x xs rest Equal is all = twice_or (f k) (f x) (list_any f xs) (ap f (tied_same k x is))
 put_any f k x xs rest Greater is all = ap (λ b. f x || b) all ∙ swap_or (f x) (f k) (list_any f xs)
 
-insert_any : (f : List ℕ → Bool) (k : List ℕ) (xs : List (List ℕ)) → list_any f (insert_key (slice_cmp nat_cmp) xs k) ≡ (f k || list_any f xs)
+pub insert_any : (f : List ℕ → Bool) (k : List ℕ) (xs : List (List ℕ)) → list_any f (insert_key (slice_cmp nat_cmp) xs k) ≡ (f k || list_any f xs)
 insert_any f k [] = refl
 insert_any f k (x ∷ xs) = put_any f k x xs (insert_key (slice_cmp nat_cmp) xs k) (slice_cmp nat_cmp k x) refl (insert_any f k xs)
 

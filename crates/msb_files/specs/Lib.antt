@@ -1,6 +1,10 @@
+pub mod Before
+pub mod Entries
+pub mod FinalTree
 pub mod Indices
 pub mod Kept
 pub mod Layers
 pub mod Marks
+pub mod Recorded
 pub mod Seen
 pub mod Views

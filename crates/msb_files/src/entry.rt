@@ -1,5 +1,6 @@
-ghost use Rattle.std.specs.Prelude.{◌≡◌, IfOk, option_copied};
+ghost use Rattle.std.specs.Prelude.{◌≡◌, IfOk, IfSome, IsSome, option_copied};
 ghost use Rattle.result_cache.specs.Journal.{wrote, ended, mark};
+ghost use Rattle.msb_files.specs.Recorded.{written_at};
 ghost use Rattle.msb_files.specs.Seen.{entry_shown, put_in, mark_shown};
 
 use crate::mark::Mark;
@@ -30,7 +31,7 @@ enum JEntry {
 
 impl Model for Entry {
     ghost use Rattle.result_cache.specs.Journal.{Entry};
-    ghost use Rattle.msb_files.specs.Kept.{entry_of};
+    ghost use Rattle.msb_files.specs.Entries.{entry_of};
 
     ghost Value = { Entry };
 
@@ -50,6 +51,23 @@ impl Entry {
         let put = PutRef::new(alloc, put)?;
         Ok(Entry {
             kept: JEntry::Wrote(run, number, put),
+        })
+    }
+
+    /// The file that a segment of a run's record writes.
+    pub(crate) fn recorded(
+        alloc: Global,
+        run: &RunId,
+        made: &RecordRef,
+        number: usize,
+    ) -> Result<Entry, NoMemory>
+        requires { IsSome (written_at made.now number) }
+        ensures { IfOk result (λ e. IfSome (written_at made.now number) (λ put. e ≡ wrote run.now number put)) }
+    {
+        let run = RunRef::new(alloc, run)?;
+        let put = PutRef::recorded(made, number)?;
+        Ok(Entry {
+            kept: JEntry::Wrote(run, number as u64, put),
         })
     }
 

@@ -1,4 +1,4 @@
-ghost use Rattle.std.specs.Prelude.{◌≡◌, [], ◌∷◌, length, IfOk, OnOk, OnErr, map, option_copied};
+ghost use Rattle.std.specs.Prelude.{◌≡◌, ◌<◌, [], ◌∷◌, length, reverse, slice_get, IfOk, OnOk, OnErr, Some, map, option_copied};
 ghost use Rattle.msb_paths.specs.Presence.{is_there};
 ghost use Rattle.result_cache.specs.Journal.{wrote, ended, end_of, has, add, content};
 ghost use Rattle.msb_files.specs.Seen.{entry_shown, mark_shown};
@@ -6,7 +6,7 @@ ghost use Rattle.msb_files.specs.Views.{puts_of, with_paths};
 
 use crate::entry::{Entry, JView};
 use crate::layer::{Layer, LayerRef};
-use crate::layers::{add_paths, content_of, has_mark, is_there, with_new};
+use crate::layers::{add_paths, content_of, entry_at, has_mark, is_there, with_new};
 use crate::mark::Mark;
 use msb_values::{Copied, List, NoMemory, Put, Text};
 use result_cache::{RecordRef, RunId};
@@ -90,6 +90,14 @@ impl Journal {
     {
         self.count
     }
+
+    /// The entry at a place, from the oldest on.
+    pub fn entry(&self, at: usize) -> JView<'_>
+        requires { at < length self.now }
+        ensures { slice_get (reverse self.now) at ≡ Some (entry_shown result) }
+    {
+        self.newest(self.count() - 1 - at).seen()
+    }
 }
 
 impl Journal {
@@ -119,6 +127,17 @@ impl Journal {
         ensures { result ≡ has (mark_shown mark.entry) self.now }
     {
         has_mark(self.layers.as_slice(), mark)
+    }
+
+    // The entry at a place, from the newest on.
+    pub(crate) fn newest(&self, at: usize) -> &Entry
+        requires { at < length self.now }
+        ensures { slice_get self.now at ≡ Some result.now }
+    {
+        match entry_at(self.layers.as_slice(), at) {
+            Some(entry) => entry,
+            None => unreachable!(),
+        }
     }
 
     // Puts an entry in front, unless there is one with its mark.

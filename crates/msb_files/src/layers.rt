@@ -1,12 +1,13 @@
 //! The layers of a journal, the newest first.
 
-ghost use Rattle.std.specs.Prelude.{◌≡◌, ◌++◌, IfOk, OnOk, map, option_copied};
+ghost use Rattle.std.specs.Prelude.{◌≡◌, ◌++◌, IfOk, OnOk, map, slice_get, option_copied};
 ghost use Rattle.msb_paths.specs.Presence.{is_there};
 ghost use Rattle.result_cache.specs.Journal.{content, has};
 ghost use Rattle.msb_files.specs.Layers.{all_of};
 ghost use Rattle.msb_files.specs.Seen.{mark_shown};
 ghost use Rattle.msb_files.specs.Views.{puts_of, with_paths};
 
+use crate::entry::Entry;
 use crate::layer::{self, Layer, LayerRef};
 use crate::mark::Mark;
 use msb_values::{Copied, List, NoMemory, Text};
@@ -82,4 +83,19 @@ pub(crate) fn add_paths(all: &mut BTreeSet<Text>, layers: &[LayerRef]) -> Result
         layer::add_paths(all, layer.get().entries())?;
     }
     Ok(())
+}
+
+/// The entry at a place, from the newest on.
+pub(crate) fn entry_at(layers: &[LayerRef], at: usize) -> Option<&Entry>
+    ensures { option_copied result ≡ slice_get (all_of layers.now) at }
+{
+    let mut left = at;
+    for layer in layers {
+        let entries = layer.get().entries();
+        if left < entries.len() {
+            return Some(&entries[left]);
+        }
+        left -= entries.len();
+    }
+    None
 }

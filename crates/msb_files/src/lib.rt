@@ -5,11 +5,14 @@
 //! its tree and that list.
 #![tactic(auto)]
 
+mod committing;
 mod entry;
 mod journal;
 mod layer;
 mod layers;
 mod mark;
+mod merging;
+mod replaying;
 mod shared;
 mod sorted;
 mod view;

@@ -1,26 +1,37 @@
 //! What the copies of a journal share.
 
-ghost use Rattle.std.specs.Prelude.{◌≡◌, IfOk};
+ghost use Rattle.std.specs.Prelude.{◌≡◌, Some, IfOk, IsSome};
+ghost use Rattle.msb_files.specs.Recorded.{written_at};
 
 use msb_values::{Copied, NoMemory, Put};
-use result_cache::RunId;
+use result_cache::{RecordRef, RunId, Segment};
 use std::alloc::Global;
 use std::marker::Model;
 use std::sync::Arc;
 
-/// A file that a run has written, which all journals that have it share.
+/// A file that a run has written, which all journals that have it share, with the record of the run where the run has
+/// ended.
 #[derive(Drop)]
 pub(crate) struct PutRef {
-    shared: Arc<Put>,
+    kept: KeptPut,
+}
+
+#[derive(Drop)]
+enum KeptPut {
+    Own(Arc<Put>),
+    /// The segment of this number in the record, which writes the file.
+    Recorded(RecordRef, usize),
 }
 
 impl Model for PutRef {
-    ghost use Rattle.std.specs.Arc.{arc_value};
     ghost use Rattle.msb_values.specs.declared.put.Put.{Put};
+    ghost use Rattle.msb_files.specs.Kept.{put_kept, IsKept};
 
     ghost Value = { Put };
 
-    ghost view = { λ p. arc_value p.shared };
+    ghost view = { λ p. put_kept p.kept };
+
+    ghost invariant = { λ p. IsKept p.kept };
 }
 
 impl PutRef {
@@ -28,22 +39,40 @@ impl PutRef {
         ensures { IfOk result (λ p. p ≡ put) }
     {
         Ok(PutRef {
-            shared: Arc::new(alloc, put)?,
+            kept: KeptPut::Own(Arc::new(alloc, put)?),
+        })
+    }
+
+    /// The file that a segment of a record writes.
+    pub(crate) fn recorded(made: &RecordRef, number: usize) -> Result<PutRef, NoMemory>
+        requires { IsSome (written_at made.now number) }
+        ensures { IfOk result (λ p. written_at made.now number ≡ Some p) }
+    {
+        Ok(PutRef {
+            kept: KeptPut::Recorded(made.copy()?, number),
         })
     }
 
     pub(crate) fn get(&self) -> &Put
         ensures { result.now ≡ self.now }
     {
-        &self.shared
+        match &self.kept {
+            KeptPut::Own(put) => put,
+            KeptPut::Recorded(made, number) => match &made.get().segments.as_slice()[*number] {
+                Segment::Write(put) => put,
+                Segment::Call(_, _) => unreachable!(),
+            },
+        }
     }
 }
 
 impl Copied for PutRef {
     fn copy(&self) -> Result<PutRef, NoMemory> {
-        Ok(PutRef {
-            shared: Arc::try_clone(&self.shared)?,
-        })
+        let kept = match &self.kept {
+            KeptPut::Own(put) => KeptPut::Own(Arc::try_clone(put)?),
+            KeptPut::Recorded(made, number) => KeptPut::Recorded(made.copy()?, *number),
+        };
+        Ok(PutRef { kept })
     }
 }
 

@@ -1,0 +1,93 @@
+ghost use Rattle.std.specs.Prelude.{◌≡◌, Some, OnOk, OnErr, IsSome, false, map};
+ghost use Rattle.result_cache.specs.Journal.{end_of, has};
+ghost use Rattle.result_cache.specs.Replay.{effects_of, replay, replays, replays_run};
+ghost use Rattle.msb_files.specs.Before.{before};
+
+use crate::Journal;
+use crate::entry::Entry;
+use msb_values::{Copied, NoMemory};
+use result_cache::{Found, RecordRef, RunId, Segment, Table};
+use std::alloc::Global;
+
+impl Journal {
+    /// Uses the record of a run: puts what the journal lacks of it behind the entries, in the record's order, with what it
+    /// lacks of the records of the runs that its calls made or used, and then the run's end. A run that has ended in the
+    /// journal adds nothing. Every record that is taken has to be in the table before the one that calls for it. Want of
+    /// memory leaves the journal as it was. (MSBuild task.)
+    pub fn replay(&mut self, alloc: Global, table: &Table, run: &RunId) -> Result<(), NoMemory>
+        requires { IsSome (replay table.now.finished run.now self.old) }
+        ensures ok { OnOk result (replay table.now.finished run.now self.old ≡ Some self.new) }
+        ensures err { OnErr result (self.new ≡ self.old) }
+    {
+        if self.has_ended(run) {
+            return Ok(());
+        }
+        let mut grown = self.copy()?;
+        take_run(alloc, &mut grown, table, run)?;
+        *self = grown;
+        Ok(())
+    }
+}
+
+// Where there is no memory, these put in some of the entries.
+
+#[cycle(replaying)]
+fn take_run(
+    alloc: Global,
+    journal: &mut Journal,
+    table: &Table,
+    run: &RunId,
+) -> Result<(), NoMemory>
+    requires goes_on { has (end_of run.now) journal.old ≡ false }
+    requires defined { IsSome (replay table.now.finished run.now journal.old) }
+    ensures { OnOk result (replay table.now.finished run.now journal.old ≡ Some journal.new) }
+{
+    match table.find(run) {
+        Found::Done(made) => {
+            take_record(alloc, journal, table, run, made)?;
+            journal.ended(alloc, run, made.copy()?)
+        }
+        Found::Absent | Found::Begun(_) => unreachable!(),
+    }
+}
+
+#[cycle(replaying)]
+fn take_record(
+    alloc: Global,
+    journal: &mut Journal,
+    table: &Table,
+    run: &RunId,
+    made: &RecordRef,
+) -> Result<(), NoMemory>
+    requires { IsSome (replays (replay (before run.now table.now.finished)) (effects_of run.now made.now) journal.old) }
+    ensures { OnOk result (replays (replay (before run.now table.now.finished)) (effects_of run.now made.now) journal.old ≡ Some journal.new) }
+{
+    for (number, segment) in made.get().segments.as_slice().iter().enumerate() {
+        match segment {
+            Segment::Write(_) => journal.add(alloc, Entry::recorded(alloc, run, made, number)?)?,
+            Segment::Call(_, runs) => take_runs(alloc, journal, table, run, runs.as_slice())?,
+        }
+    }
+    Ok(())
+}
+
+// The runs of a call that the outer run has made, of which each stands in the table before it.
+#[cycle(replaying)]
+fn take_runs(
+    alloc: Global,
+    journal: &mut Journal,
+    table: &Table,
+    outer: &RunId,
+    runs: &[RunId],
+) -> Result<(), NoMemory>
+    requires { IsSome (replays (replay (before outer.now table.now.finished)) (map replays_run runs.now) journal.old) }
+    ensures { OnOk result (replays (replay (before outer.now table.now.finished)) (map replays_run runs.now) journal.old ≡ Some journal.new) }
+{
+    table.each_once();
+    for run in runs {
+        if !journal.has_ended(run) {
+            take_run(alloc, journal, table, run)?;
+        }
+    }
+    Ok(())
+}
