@@ -7,13 +7,21 @@ use Rattle.std.specs.Option.{option_or}
 use Rattle.std.specs.Ordering.{is_eq, nat_cmp}
 use Rattle.std.specs.Str.{bytes_eq}
 use Rattle.std.proofs.Math.Bool.{or-true, or-false}
-use Rattle.std.proofs.lemmas.Cmp.{nat_list_eq_equiv}
-use Rattle.std.proofs.lemmas.List.{append-nil, map-append}
+use Rattle.std.proofs.lemmas.List.{append-nil, map-append, reverse-append}
 use Rattle.std.proofs.lemmas.List.Elements.{filter-append}
 use Rattle.std.proofs.lemmas.List.Folds.{list_any-append}
 use Rattle.std.proofs.lemmas.Map.Text.{is_eq-slice_cmp}
+use Rattle.std.proofs.lemmas.Slice.Eq.{bytes_eq-Decides}
 use Rattle.msb_values.specs.declared.put.Put.{Put}
-use Rattle.msb_files.specs.FinalTree.{last_puts}
+use Rattle.file_store.specs.Commits.{last_bytes, HasContents}
+use Rattle.file_store.specs.Files.{file_at}
+use Rattle.file_store.specs.declared.tree.File.{File}
+use Rattle.file_store.proofs.Order.{not_true}
+use Rattle.result_cache.specs.Journal.{Journal, content}
+use Rattle.msb_files.specs.FinalTree.{last_puts, commit_list, IsFinalTree}
+use Rattle.msb_files.specs.Indices.{has_path}
+use Rattle.msb_files.specs.Views.{puts_of}
+use Rattle.msb_files.proofs.Contents.{content-is}
 use Rattle.msb_files.proofs.Paths.{insert_any}
 
 -- ---- a file behind others
@@ -67,4 +75,65 @@ pub keys_more : (path : List ℕ) (keys : List (List ℕ)) (newer : List Put) (p
     list_any (bytes_eq path) (insert_key (slice_cmp nat_cmp) keys put.path) ≡ list_any (bytes_eq path) (paths_of_puts (newer ++ put ∷ []))
 keys_more path keys newer put same =
     insert_any (bytes_eq path) put.path keys ∙ (or_swap (bytes_eq path put.path) (list_any (bytes_eq path) keys) ∙ (ap (λ b. b || bytes_eq path put.path) same
-        ∙ sym (ap (list_any (bytes_eq path)) (map-append (λ (p : Put). p.path) newer (put ∷ [])) ∙ (list_any-append (bytes_eq path) (paths_of_puts newer) (put.path ∷ []) ∙ ap (λ b. list_any (bytes_eq path) (paths_of_puts newer) || b) (or-false (bytes_eq path put.path))))))
+    ∙ sym (ap (list_any (bytes_eq path)) (map-append (λ (p : Put). p.path) newer (put ∷ [])) ∙ (list_any-append (bytes_eq path) (paths_of_puts newer) (put.path ∷ []) ∙ ap (λ b. list_any (bytes_eq path) (paths_of_puts newer) || b) (or-false (bytes_eq path put.path))))))
+
+-- ---- the tree that is left
+
+option_or_none : {X : Type 0} (o : Option X) → option_or o None ≡ o
+option_or_none None = refl
+option_or_none (Some x) = refl
+
+option_or_assoc : {X : Type 0} (a b c : Option X) → option_or (option_or a b) c ≡ option_or a (option_or b c)
+option_or_assoc None b c = refl
+option_or_assoc (Some x) b c = refl
+
+abbrev pub bytes_if : List ℕ → Put → Option (List ℕ)
+bytes_if path put = cond (bytes_eq put.path path) (Some put.bytes) None
+
+last_bytes-push : (path : List ℕ) (puts : List Put) (put : Put) → last_bytes path (puts ++ put ∷ []) ≡ option_or (bytes_if path put) (last_bytes path puts)
+last_bytes-push path [] put = sym (option_or_none (bytes_if path put))
+last_bytes-push path (first ∷ puts) put = ap (λ o. option_or o (bytes_if path first)) (last_bytes-push path puts put) ∙ option_or_assoc (bytes_if path put) (last_bytes path puts) (bytes_if path first)
+
+first_of : (b : Bool) (put : Put) (rest : Option Put) → option_or (cond b (Some put.bytes) None) (option_map (λ p. p.bytes) rest) ≡ option_map (λ p. p.bytes) (cond b (Some put) rest)
+first_of true put rest = refl
+first_of false put rest = refl
+
+last_of_reverse : (path : List ℕ) (puts : List Put) → last_bytes path (reverse puts) ≡ option_map (λ p. p.bytes) (find (has_path path) puts)
+last_of_reverse path [] = refl
+last_of_reverse path (put ∷ puts) =
+    ap (last_bytes path) (reverse-append (put ∷ []) puts) ∙ (last_bytes-push path (reverse puts) put
+    ∙ (ap (option_or (bytes_if path put)) (last_of_reverse path puts) ∙ first_of (bytes_eq put.path path) put (find (has_path path) puts)))
+
+find_kept : (path : List ℕ) (keeps : Put → Bool) → ((p : Put) → has_path path p ≡ true → keeps p ≡ true) → (puts : List Put) → find (has_path path) (filter keeps puts) ≡ find (has_path path) puts
+find_kept path keeps all [] = refl
+find_kept path keeps all (put ∷ puts) = by (keeps put) (has_path path put) refl refl (find_kept path keeps all puts)
+  where
+    by : (k h : Bool) → keeps put ≡ k → has_path path put ≡ h → find (has_path path) (filter keeps puts) ≡ find (has_path path) puts → find (has_path path) (cond k (put ∷ filter keeps puts) (filter keeps puts)) ≡ cond h (Some put) (find (has_path path) puts)
+    by true h k-is h-is rest = ap (λ b. cond b (Some put) (find (has_path path) (filter keeps puts))) h-is ∙ ap (λ o. cond h (Some put) o) rest
+    by false true k-is h-is rest = let t = all put h-is in absurd (cc)
+    by false false k-is h-is rest = rest
+
+apart : (path : List ℕ) (put p : Put) → has_path path put ≡ false → has_path path p ≡ true → bytes_eq p.path put.path ≡ false
+apart path put p not_put is = not_true (bytes_eq p.path put.path) (λ s.
+    let e : p.path ≡ put.path = (bytes_eq-Decides p.path put.path).0 s in
+    let t : has_path path put ≡ true = ap (λ q. bytes_eq q path) (sym e) ∙ is in cc)
+
+first_of_last : (path : List ℕ) (puts : List Put) → find (has_path path) (last_puts puts) ≡ find (has_path path) puts
+first_of_last path [] = refl
+first_of_last path (put ∷ puts) = by (has_path path put) refl (first_of_last path puts)
+  where
+    by : (h : Bool) → has_path path put ≡ h → find (has_path path) (last_puts puts) ≡ find (has_path path) puts → cond h (Some put) (find (has_path path) (filter (is_other put) (last_puts puts))) ≡ cond h (Some put) (find (has_path path) puts)
+    by true h-is rest = refl
+    by false h-is rest = find_kept path (is_other put) (λ p is. ap not (apart path put p h-is is)) (last_puts puts) ∙ rest
+
+pub last_content : (journal : Journal) (path : List ℕ) → last_bytes path (commit_list journal) ≡ content journal path
+last_content journal path = last_of_reverse path (last_puts (puts_of journal)) ∙ (ap (option_map (λ p. p.bytes)) (first_of_last path (puts_of journal)) ∙ sym (content-is journal path))
+
+final_at : (last : Option (List ℕ)) (was is : Option File) → MatchOption last (is ≡ was) (λ bytes. IsSomeAnd is (λ f. f.bytes ≡ bytes)) → option_map (λ f. f.bytes) is ≡ option_or last (option_map (λ f. f.bytes) was)
+final_at None was is same = ap (option_map (λ f. f.bytes)) same
+final_at (Some bytes) was None has = absurd has
+final_at (Some bytes) was (Some f) has = ap Some has
+
+pub final : (journal : Journal) (before after : List File) → HasContents (commit_list journal) before after → IsFinalTree before journal after
+final journal before after contents path =
+    final_at (last_bytes path (commit_list journal)) (file_at path before) (file_at path after) (contents path) ∙ ap (λ o. option_or o (option_map (λ f. f.bytes) (file_at path before))) (last_content journal path)

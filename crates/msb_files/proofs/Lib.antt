@@ -1,9 +1,11 @@
 pub mod Committed
 pub mod Contents
+pub mod Growing
 pub mod Indexed
 pub mod LayerSteps
 pub mod MarkOrder
 pub mod MergeSteps
+pub mod PathLaws
 pub mod Paths
 pub mod ReplaySteps
 pub mod Replays

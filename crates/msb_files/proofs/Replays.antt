@@ -104,6 +104,7 @@ replays_before (f ∷ table) outer run journal once goes_on there =
     by_in : (b : Bool) → is_in run (runs_of (these_or b table (before outer table))) ≡ true → is_in run (runs_of table) ≡ true
     by_in true h = h
     by_in false h = in_before table outer run h
+
     by : (b : Bool) → is_in run (runs_of (these_or b table (before outer table))) ≡ true → (is_in run (runs_of (before outer table)) ≡ true → replay table run journal ≡ replay (before outer table) run journal) →
         replay table run journal ≡ replay (these_or b table (before outer table)) run journal
     by true h rest = refl
@@ -115,11 +116,12 @@ before_fewer [] outer run once there = absurd (cc)
 before_fewer (f ∷ table) outer run once there =
     let other : same_run f.run run ≡ false = other_run f.run run (runs_of table) once.0 (by_in (same_run f.run outer) there) in
     subst (λ b. length (these_or b table (before run table)) < length (these_or (same_run f.run outer) table (before outer table))) (sym other)
-        (by (same_run f.run outer) there (before_fewer table outer run once.1))
+    (by (same_run f.run outer) there (before_fewer table outer run once.1))
   where
     by_in : (b : Bool) → is_in run (runs_of (these_or b table (before outer table))) ≡ true → is_in run (runs_of table) ≡ true
     by_in true h = h
     by_in false h = in_before table outer run h
+
     by : (b : Bool) → is_in run (runs_of (these_or b table (before outer table))) ≡ true → (is_in run (runs_of (before outer table)) ≡ true → length (before run table) < length (before outer table)) →
         length (before run table) < length (these_or b table (before outer table))
     by true h rest = before_shorter table run h

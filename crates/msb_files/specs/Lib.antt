@@ -1,6 +1,7 @@
 pub mod Before
 pub mod Entries
 pub mod FinalTree
+pub mod Growth
 pub mod Indices
 pub mod Kept
 pub mod Layers

@@ -8,6 +8,7 @@
 mod committing;
 mod entry;
 mod journal;
+mod laws;
 mod layer;
 mod layers;
 mod mark;
@@ -19,4 +20,8 @@ mod view;
 
 pub use entry::JView;
 pub use journal::Journal;
+pub use laws::{
+    commits_leave_the_final_tree, entries_stay_once, merges_put_news_in_front, paths_have_content,
+    replays_put_news_in_front,
+};
 pub use view::FileView;

@@ -21,12 +21,14 @@ loop-at-preserved c =
     let is : e ≡ get_or journal at e = sym (get_or_from_slice_get journal at e e c.newest.ensures) in
     elim c.match-put.branch [
       | in-Some+in_ok-push_unless_written w ↦ (let put = w.get.result.now in
-          let next : newer ++ put ∷ [] ≡ puts_of (take (at + 1) journal) = ap (λ p. newer ++ p ∷ []) w.get.ensures ∙ more (Some w.in-Some.put.now) within is refl w.in-Some.ensures in
-          ( puts_more c.loop-at.written.keys newer put c.loop-at.puts.items c.match-put.puts.items c.loop-at.invariant.0 (c.loop-at.invariant.1 put.path)
-              (ap (λ v. v.items) w.puts-is ∙ w.in_ok-push_unless_written.ensures.puts) ∙ ap last_puts next,
+          let next : newer ++ put ∷ [] ≡ puts_of (take (at + 1) journal) = ap (λ p. newer ++ p ∷ []) w.get.ensures ∙ more (Some w.in-Some.put.now) within is refl w.in-Some.ensures in (
+            puts_more c.loop-at.written.keys newer put c.loop-at.puts.items c.match-put.puts.items c.loop-at.invariant.0 (c.loop-at.invariant.1 put.path)
+                (ap (λ v. v.items) w.puts-is ∙ w.in_ok-push_unless_written.ensures.puts) ∙ ap last_puts next,
             λ path. ap (λ (s : _). list_any (bytes_eq path) s.keys) w.written-is ∙ (ap (list_any (bytes_eq path)) w.in_ok-push_unless_written.ensures.written
-              ∙ (keys_more path c.loop-at.written.keys newer put (c.loop-at.invariant.1 path) ∙ ap (λ ps. list_any (bytes_eq path) (paths_of_puts ps)) next))))
-      | in_default w ↦ (let next : newer ≡ puts_of (take (at + 1) journal) = sym (append-nil newer) ∙ more None within is refl w.in_default.ensures in
-          ( ap (λ v. v.items) w.puts-is ∙ (c.loop-at.invariant.0 ∙ ap last_puts next),
-            λ path. ap (λ (s : _). list_any (bytes_eq path) s.keys) w.written-is ∙ (c.loop-at.invariant.1 path ∙ ap (λ ps. list_any (bytes_eq path) (paths_of_puts ps)) next)))
+                ∙ (keys_more path c.loop-at.written.keys newer put (c.loop-at.invariant.1 path) ∙ ap (λ ps. list_any (bytes_eq path) (paths_of_puts ps)) next)),
+          ))
+      | in_default w ↦ (let next : newer ≡ puts_of (take (at + 1) journal) = sym (append-nil newer) ∙ more None within is refl w.in_default.ensures in (
+        ap (λ v. v.items) w.puts-is ∙ (c.loop-at.invariant.0 ∙ ap last_puts next),
+        λ path. ap (λ (s : _). list_any (bytes_eq path) s.keys) w.written-is ∙ (c.loop-at.invariant.1 path ∙ ap (λ ps. list_any (bytes_eq path) (paths_of_puts ps)) next),
+      ))
     ]

@@ -21,7 +21,7 @@ take_run-returns t c =
     let after = c.take_record.new.journal in
     let run = c.args.run.now in
     if_ok c.ended.result c.ended.ensures.ok (λ is. taken_gives c.args.table.now.finished run c.in-Done.made.now c.args.journal.now after c.requires.goes_on c.in-Done.ensures c.in_ok-take_record-in-Done.ensures
-        ∙ ap Some (ap (λ m. add after (ended run m)) (sym c.in_ok-copy-in-Done.ensures) ∙ sym is))
+    ∙ ap Some (ap (λ m. add after (ended run m)) (sym c.in_ok-copy-in-Done.ensures) ∙ sym is))
 
 pub take_record-take_runs-requires : goal.take_record-take_runs-requires
 take_record-take_runs-requires t c =
@@ -31,9 +31,11 @@ take_record-take_runs-requires t c =
     let same : c.as_slice-segment-items.result.now ≡ segments = c.as_slice-segment-items.ensures ∙ ap (λ m. m.segments) c.get.ensures in
     let within = subst (λ s. n < length s) same c.loop-number-test.true in
     let at = c.segment-item.is ∙ ap (λ s. get_or s n c.segment-item.result) same in
-    let defined = subst (λ o. IsSome o) (sym c.loop-number.invariant) c.requires in
-    (omega arith, subst (λ rs. IsSome (replays one (map replays_run rs) c.loop-number.journal)) (sym c.as_slice.ensures)
-        (call_defined one c.args.run.now segments n c.segment-item.result within at c.in-Call.field-0 c.in-Call.runs c.loop-number.journal c.in-Call.is defined))
+    let defined = subst (λ o. IsSome o) (sym c.loop-number.invariant) c.requires in (
+      omega arith,
+      subst (λ rs. IsSome (replays one (map replays_run rs) c.loop-number.journal)) (sym c.as_slice.ensures)
+          (call_defined one c.args.run.now segments n c.segment-item.result within at c.in-Call.field-0 c.in-Call.runs c.loop-number.journal c.in-Call.is defined),
+    )
 
 pub take_record-loop-number-preserved : goal.take_record-loop-number-preserved
 take_record-loop-number-preserved t c =
@@ -47,12 +49,12 @@ take_record-loop-number-preserved t c =
     elim c.match-segment.branch [
       | take_record-in-Write+in_ok-recorded-in-Write+in_ok-add-in-Write w ↦
           ap (left one run (n + 1) segments) (w.journal-is ∙ (w.in_ok-add-in-Write.ensures.ok
-              ∙ ap (add c.loop-number.journal) (recorded_is c.args.made.now run n c.segment-item.result w.in-Write.field-0 w.in_ok-recorded-in-Write.field-0 within at w.in-Write.is w.in_ok-recorded-in-Write.ensures)))
+          ∙ ap (add c.loop-number.journal) (recorded_is c.args.made.now run n c.segment-item.result w.in-Write.field-0 w.in_ok-recorded-in-Write.field-0 within at w.in-Write.is w.in_ok-recorded-in-Write.ensures)))
           ∙ (write_step one run segments n c.segment-item.result within at w.in-Write.field-0 c.loop-number.journal w.in-Write.is ∙ c.loop-number.invariant)
       | take_record-in-Call+in_ok-take_runs-in-Call w ↦
           ap (left one run (n + 1) segments) w.journal-is
           ∙ (call_step one run segments n c.segment-item.result within at w.in-Call.field-0 w.in-Call.runs c.loop-number.journal w.take_runs.new.journal w.in-Call.is
-              (ap (λ rs. replays one (map replays_run rs) c.loop-number.journal) (sym w.as_slice.ensures) ∙ w.in_ok-take_runs-in-Call.ensures) ∙ c.loop-number.invariant)
+          (ap (λ rs. replays one (map replays_run rs) c.loop-number.journal) (sym w.as_slice.ensures) ∙ w.in_ok-take_runs-in-Call.ensures) ∙ c.loop-number.invariant)
     ]
 
 pub take_runs-take_run-requires : goal.take_runs-take_run-requires
@@ -83,7 +85,7 @@ take_runs-loop-run-preserved t c =
           let there = replayed_in (before outer table) run journal goes_on defined in
           ap (replays one (map replays_run (drop (i + 1) runs))) w.journal-is
           ∙ (run_step one runs i run c.loop-run-test.true c.run-item.is journal w.take_run.new.journal
-              (sym (replays_before table outer run journal c.each_once.ensures.finished_once goes_on there) ∙ w.in_ok-take_run.ensures) ∙ c.loop-run.invariant))
+          (sym (replays_before table outer run journal c.each_once.ensures.finished_once goes_on there) ∙ w.in_ok-take_run.ensures) ∙ c.loop-run.invariant))
       | take_runs-else-not-has_ended w ↦
           ap (replays one (map replays_run (drop (i + 1) runs))) w.journal-is
           ∙ (run_step one runs i run c.loop-run-test.true c.run-item.is journal journal (replay-has (before outer table) run journal (search (rules, tests))) ∙ c.loop-run.invariant)
