@@ -1,0 +1,8 @@
+use Rattle.std.proofs.Common.{sym, ◌∙◌, subst, IsSorted}
+use Rattle.std.specs.Cmp.Lexicographic.{slice_cmp}
+use Rattle.std.specs.Ordering.{nat_cmp}
+use Rattle.task_kit.proofs.Rising.{paths_sorted}
+use Rattle.task_kit.proofs.included.items_included.Goals as goal
+
+pub sorted_paths-requires : goal.sorted_paths-requires
+sorted_paths-requires c = subst (IsSorted (slice_cmp nat_cmp)) (sym (c.as_slice.ensures ∙ c.in_ok-paths.ensures)) (paths_sorted c.args.view.now)

@@ -1,0 +1,37 @@
+-- Tasks that are not built in: what a tool is handed, and what is taken from it. (UsingTask element; MSBuild tasks)
+use Rattle.std.specs.Prelude.{ℕ, List, Result, Err, codes, if◌then◌else◌}
+use Rattle.msb_laws.specs.Results.{map_ok, all_ok}
+use Rattle.msb_paths.specs.Normal.{is_normal}
+use Rattle.msb_values.specs.declared.item.Item.{Item}
+use Rattle.msb_values.specs.declared.put.Put.{Put}
+use Rattle.msb_files.specs.Views.{View, content}
+use Rattle.task_trait.specs.Failures.{failed}
+use Rattle.task_trait.specs.Params.{items_of}
+use Rattle.task_trait.specs.declared.failures.Failure.{Failure}
+use Rattle.task_trait.specs.declared.failures.Failure.TheVariants.{UnknownTask, BadPath}
+use Rattle.task_trait.specs.declared.tools.FileIn.{FileIn}
+use Rattle.task_trait.specs.declared.tools.Param.{Param}
+use Rattle.task_trait.specs.declared.tools.TaskOutput.{TaskOutput}
+use Rattle.task_trait.specs.declared.tools.ToolAnswer.{ToolAnswer}
+use Rattle.task_trait.specs.declared.tools.ToolAnswer.TheVariants.{Unknown, Made as made_answer}
+use Rattle.task_trait.specs.declared.tools.ToolInput.{ToolInput}
+use Rattle.task_kit.specs.Made.{started, with_file, made_by, output_with}
+use Rattle.task_kit.specs.Paths.{path_in}
+use Rattle.task_kit.specs.declared.made.Made.{Made}
+
+-- a file of the parameter Sources: its normal path, and its content in the view
+abbrev pub file_at : List ℕ → View → Item → Result FileIn Failure
+file_at dir view item = map_ok (λ path. record { path = path; content = content view path }) (path_in dir (codes "sources") item.ident)
+
+-- a tool is handed the parameters, and the files of its Sources
+abbrev pub foreign_input : List ℕ → View → List Param → Result ToolInput Failure
+foreign_input dir view params = map_ok (λ files. record { params = params; files = files }) (all_ok (file_at dir view) (items_of (codes "sources") params))
+
+-- a file of a tool is written at a normal path alone
+abbrev pub written_by_tool : Made → Put → Result Made Failure
+written_by_tool made put = if is_normal put.path then with_file put.path put made else Err (BadPath put.path)
+
+-- what is taken from a tool, in a run that has written this much before
+abbrev pub foreign_output : List ℕ → ℕ → ToolAnswer → TaskOutput
+foreign_output name written Unknown = failed name UnknownTask
+foreign_output name written (made_answer output) = output_with name output (made_by written_by_tool (started written) output.files)

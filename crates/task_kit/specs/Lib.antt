@@ -1,0 +1,9 @@
+pub mod Tasks
+pub mod Made
+pub mod Paths
+pub mod Messages
+pub mod Copies
+pub mod Lines
+pub mod Included
+pub mod Computed
+pub mod Foreign

@@ -1,0 +1,124 @@
+ghost use Rattle.std.specs.Prelude.{◌≡◌, IfOk, option_copied};
+ghost use Rattle.msb_laws.specs.Results.{all_ok};
+ghost use Rattle.task_trait.specs.Answers.{Gives, GivesAs, UnlessMemory};
+ghost use Rattle.task_kit.specs.Foreign.{file_at, foreign_input, foreign_output, written_by_tool};
+ghost use Rattle.task_kit.specs.Made.{Acts, Makes, made_by, output_with, started};
+
+use crate::made::{Made, output_with};
+use crate::paths::path_in;
+use msb_files::FileView;
+use msb_paths::is_normal;
+use msb_values::{Item, List, Name, NoMemory, Put, Text, Text8};
+use std::alloc::Global;
+use task_trait::{Failure, FileIn, Param, TaskOutput, ToolAnswer, ToolInput, items_of};
+
+/// What a tool is handed: its parameters, which are without escapes already, and each file of its parameter Sources with
+/// its content in the view. A path of Sources that can't be made normal is a failure.
+pub fn foreign_input(
+    alloc: Global,
+    dir: &str,
+    view: &FileView<'_>,
+    params: List<Param>,
+) -> Result<ToolInput, Failure>
+    ensures { Gives result (foreign_input dir.now view.now params) }
+{
+    let files = all_files(alloc, dir, view, items_of(params.as_slice(), "sources"))?;
+    Ok(ToolInput { params, files })
+}
+
+fn all_files(
+    alloc: Global,
+    dir: &str,
+    view: &FileView<'_>,
+    items: &[Item],
+) -> Result<List<FileIn>, Failure>
+    ensures { Gives result (all_ok (file_at dir.now view.now) items.now) }
+{
+    let mut files = List::new(alloc);
+    for item in items {
+        let file = file_at(alloc, dir, view, item)?;
+        files.push(file)?;
+    }
+    Ok(files)
+}
+
+fn file_at(alloc: Global, dir: &str, view: &FileView<'_>, item: &Item) -> Result<FileIn, Failure>
+    ensures { Gives result (file_at dir.now view.now item.now) }
+{
+    let path = path_in(alloc, dir, "sources", item.ident.as_str())?;
+    let content = copied(alloc, view.content(path.as_str()))?;
+    Ok(FileIn { path, content })
+}
+
+fn copied(alloc: Global, bytes: Option<&[u8]>) -> Result<Option<Text8>, NoMemory>
+    ensures { IfOk result (λ copy. copy ≡ option_copied bytes.entry) }
+{
+    match bytes {
+        Some(bytes) => Ok(Some(Text8::of(alloc, bytes)?)),
+        None => Ok(None),
+    }
+}
+
+/// What is taken from a tool, in a run that has written this much before: an unknown task is a failure, and so are a
+/// file whose path is not normal and one that is too large, before which the files are kept.
+pub fn foreign_output(
+    alloc: Global,
+    name: &Name,
+    answer: ToolAnswer,
+    written: u64,
+) -> Result<TaskOutput, NoMemory>
+    ensures { IfOk result (λ output. output ≡ foreign_output name.now written answer) }
+{
+    match answer {
+        ToolAnswer::Unknown => Failure::UnknownTask.output(alloc, name.key()),
+        ToolAnswer::Made(output) => checked(alloc, name.key(), output, written),
+    }
+}
+
+fn checked(
+    alloc: Global,
+    name: &str,
+    output: TaskOutput,
+    written: u64,
+) -> Result<TaskOutput, NoMemory>
+    ensures { IfOk result (λ whole. whole ≡ output_with name.now output (made_by written_by_tool (started written) output.files)) }
+{
+    let TaskOutput {
+        ok,
+        outputs,
+        files,
+        notes,
+    } = output;
+    let mut made = Made::new(alloc, written);
+    let work = write_all(alloc, &mut made, files.into_vec());
+    let without_files = TaskOutput {
+        ok,
+        outputs,
+        files: List::new(alloc),
+        notes,
+    };
+    output_with(alloc, name, without_files, made, work)
+}
+
+fn write_all(alloc: Global, made: &mut Made, files: Vec<Put>) -> Result<(), Failure>
+    ensures { Makes result made.new (made_by written_by_tool made.old files.items) }
+{
+    for put in files {
+        write_one(alloc, made, put)?;
+    }
+    Ok(())
+}
+
+/// Writes a file, whose path is to be normal.
+fn write_one(alloc: Global, made: &mut Made, put: Put) -> Result<(), Failure>
+    ensures { Acts result made.old made.new (written_by_tool made.old put) }
+{
+    let told = match Text::of(alloc, put.path.as_str()) {
+        Ok(told) => told,
+        Err(NoMemory) => return Err(Failure::Memory),
+    };
+    if !is_normal(put.path.as_str()) {
+        return Err(Failure::BadPath(told));
+    }
+    made.write(alloc, told.as_str(), put)
+}

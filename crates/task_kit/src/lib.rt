@@ -1,0 +1,19 @@
+//! The built-in tasks: what each does with what it is handed.
+//!
+//! What they do is one definition, `answer` in `specs/Tasks.antt`, with a row a task. The checks of a task come first,
+//! and the first that fails is its failure; then it works, file by file, and what it made before a failure stays.
+#![tactic(auto)]
+
+mod copies;
+mod excluded;
+mod foreign;
+mod included;
+mod lines;
+mod made;
+mod messages;
+mod paths;
+mod patterns;
+mod tasks;
+
+pub use foreign::{foreign_input, foreign_output};
+pub use tasks::call;

@@ -1,0 +1,138 @@
+ghost use Rattle.std.specs.Prelude.{◌≡◌, ◌+◌, ◌<◌, ◌^◌, true, Some, Result, Err, IfOk};
+ghost use Rattle.msb_values.specs.Keys.{key_of};
+ghost use Rattle.task_trait.specs.Answers.{UnlessMemory};
+ghost use Rattle.task_trait.specs.declared.failures.Failure.TheVariants.{TooLarge, Memory};
+ghost use Rattle.task_trait.specs.declared.failures.Failure.{Failure};
+ghost use Rattle.task_kit.specs.declared.made.Made.{Made};
+ghost use Rattle.task_kit.specs.Made.{Acts, Makes, has_room, made_in, output_with, started, succeeded, with_file};
+
+use msb_values::{Item, List, Name, NoMemory, Put, Text};
+use std::alloc::Global;
+use task_trait::{Failure, Param, TaskOutput};
+
+/// The bytes of the largest file that a task may write.
+const FILE_LIMIT: u64 = 16_777_216;
+
+/// The bytes that one run may write.
+const RUN_LIMIT: u64 = 67_108_864;
+
+/// What a task has made so far.
+#[derive(Drop)]
+pub(crate) struct Made {
+    /// The bytes that the run has written, with what it wrote before this task.
+    pub(crate) written: u64,
+    pub(crate) files: List<Put>,
+    /// The items that the task gives.
+    pub(crate) items: List<Item>,
+}
+
+impl Made {
+    /// Nothing yet, in a run that has written this much before.
+    pub(crate) fn new(alloc: Global, written: u64) -> Made
+        ensures { result ≡ started written }
+    {
+        Made {
+            written,
+            files: List::new(alloc),
+            items: List::new(alloc),
+        }
+    }
+
+    /// Writes a file, unless it is too large; `told` is its path as the task was handed it.
+    pub(crate) fn write(&mut self, alloc: Global, told: &str, put: Put) -> Result<(), Failure>
+        ensures { Acts result self.old self.new (with_file told.now put self.old) }
+    {
+        let size = put.bytes.len() as u64;
+        if !has_room(self.written, size) {
+            return Err(too_large(alloc, told));
+        }
+        self.files.push(put)?;
+        self.written += size;
+        Ok(())
+    }
+}
+
+fn has_room(written: u64, size: u64) -> bool
+    ensures room { result ≡ has_room written size }
+    ensures fits { result ≡ true → written + size < 2 ^ 64 }
+{
+    size <= FILE_LIMIT && written <= RUN_LIMIT - size
+}
+
+fn too_large(alloc: Global, told: &str) -> Failure
+    ensures { UnlessMemory result (result ≡ TooLarge told.now) }
+{
+    match Text::of(alloc, told) {
+        Ok(told) => Failure::TooLarge(told),
+        Err(NoMemory) => Failure::Memory,
+    }
+}
+
+/// An output of this name, which is in lower case.
+pub(crate) fn output(
+    alloc: Global,
+    name: &'static str,
+    items: List<Item>,
+) -> Result<Param, NoMemory>
+    requires { key_of name.now ≡ Some name.now }
+    ensures { IfOk result (λ param. param ≡ record { name = name.now; items = items }) }
+{
+    match Name::written(alloc, name)? {
+        Some(name) => Ok(Param { name, items }),
+        None => unreachable!(),
+    }
+}
+
+/// The output of a task that does what it is to do.
+pub(crate) fn succeeded(alloc: Global, outputs: List<Param>) -> TaskOutput
+    ensures { result ≡ succeeded outputs }
+{
+    TaskOutput {
+        ok: true,
+        outputs,
+        files: List::new(alloc),
+        notes: List::new(alloc),
+    }
+}
+
+/// An output with the files that were made; where the work has failed the task fails, with its note behind the others.
+pub(crate) fn output_with(
+    alloc: Global,
+    task: &str,
+    output: TaskOutput,
+    made: Made,
+    work: Result<(), Failure>,
+) -> Result<TaskOutput, NoMemory>
+    ensures output { IfOk result (λ whole. (answer : Result Made (Made × Failure)) → Makes work made answer → whole ≡ output_with task.now output answer) }
+    ensures made { IfOk result (λ _. (answer : Result Made (Made × Failure)) → Makes work made answer → made_in answer ≡ made) }
+{
+    match work {
+        Ok(()) => Ok(TaskOutput {
+            ok: output.ok,
+            outputs: output.outputs,
+            files: made.files,
+            notes: output.notes,
+        }),
+        Err(failure) => failed_with(alloc, task, output, made, &failure),
+    }
+}
+
+fn failed_with(
+    alloc: Global,
+    task: &str,
+    output: TaskOutput,
+    made: Made,
+    failure: &Failure,
+) -> Result<TaskOutput, NoMemory>
+    ensures told { IfOk result (λ _. failure.now ≡ Memory → ⊥) }
+    ensures output { IfOk result (λ whole. whole ≡ output_with task.now output (Err (made, failure.now))) }
+{
+    let mut notes = output.notes;
+    notes.push(failure.note(alloc, task)?)?;
+    Ok(TaskOutput {
+        ok: false,
+        outputs: output.outputs,
+        files: made.files,
+        notes,
+    })
+}

@@ -1,0 +1,84 @@
+ghost use Rattle.std.specs.Prelude.{◌≡◌, IfOk};
+ghost use Rattle.task_trait.specs.Answers.{Gives};
+ghost use Rattle.task_kit.specs.Messages.{create_property, error, is_low, message, message_note, said, warning};
+
+use crate::made::{output, succeeded};
+use msb_values::{List, NoMemory, Note, Text, same_text};
+use std::alloc::Global;
+use task_trait::{Failure, Param, TaskOutput, bad, check_known, items_of, text_of};
+
+/// A note of the Text, by the Importance. (Message task.)
+pub(crate) fn message(alloc: Global, params: &[Param]) -> Result<TaskOutput, Failure>
+    ensures { Gives result (message params.now) }
+{
+    check_known(alloc, params, &["importance", "text"])?;
+    match is_low(text_of(params, "importance")) {
+        Some(low) => Ok(said(alloc, message_note(alloc, text_of(params, "text"), low)?)?),
+        None => Err(bad(alloc, "importance")),
+    }
+}
+
+/// Whether an Importance is low; `normal` and `high` are not, and another text is none.
+fn is_low(text: &str) -> Option<bool>
+    ensures { result ≡ is_low text.now }
+{
+    if same_text(text, "low") {
+        Some(true)
+    } else if text.is_empty() || same_text(text, "normal") || same_text(text, "high") {
+        Some(false)
+    } else {
+        None
+    }
+}
+
+fn message_note(alloc: Global, text: &str, low: bool) -> Result<Note, NoMemory>
+    ensures { IfOk result (λ note. note ≡ message_note text.now low) }
+{
+    let text = Text::of(alloc, text)?;
+    Ok(if low {
+        Note::Low(text)
+    } else {
+        Note::Message(text)
+    })
+}
+
+/// A warning of the Text. (Warning task.)
+pub(crate) fn warning(alloc: Global, params: &[Param]) -> Result<TaskOutput, Failure>
+    ensures { Gives result (warning params.now) }
+{
+    check_known(alloc, params, &["text"])?;
+    let text = Text::of(alloc, text_of(params, "text"))?;
+    Ok(said(alloc, Note::Warning(text))?)
+}
+
+/// The failure with the Text as its note. (Error task.)
+pub(crate) fn error(alloc: Global, params: &[Param]) -> Result<TaskOutput, Failure>
+    ensures { Gives result (error params.now) }
+{
+    check_known(alloc, params, &["text"])?;
+    Err(Failure::Raised(Text::of(alloc, text_of(params, "text"))?))
+}
+
+/// The items of the Value. (CreateProperty task.)
+pub(crate) fn create_property(alloc: Global, params: &[Param]) -> Result<TaskOutput, Failure>
+    ensures { Gives result (create_property params.now) }
+{
+    check_known(alloc, params, &["value"])?;
+    let items = List::of(alloc, items_of(params, "value"))?;
+    let mut outputs = List::new(alloc);
+    outputs.push(output(alloc, "value", items)?)?;
+    Ok(succeeded(alloc, outputs))
+}
+
+fn said(alloc: Global, note: Note) -> Result<TaskOutput, NoMemory>
+    ensures { IfOk result (λ output. output ≡ said note) }
+{
+    let mut notes = List::new(alloc);
+    notes.push(note)?;
+    Ok(TaskOutput {
+        ok: true,
+        outputs: List::new(alloc),
+        files: List::new(alloc),
+        notes,
+    })
+}
