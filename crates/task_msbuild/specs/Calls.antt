@@ -1,6 +1,6 @@
 -- The requests that the task calls: of each project that is there, with all targets or with each by itself. (MSBuild task)
-use Rattle.std.specs.Prelude.{ℕ, List, [], ◌∷◌, Bool, true, false, not, ◌&&◌, ◌||◌, ◌==◌, ◌+◌, length, map, take, is_some, if◌then◌else◌}
-use Rattle.std.specs.List.{flat_map, position_or_len}
+use Rattle.std.specs.Prelude.{ℕ, List, [], ◌∷◌, Bool, true, false, not, ◌&&◌, ◌||◌, ◌==◌, ◌+◌, length, map, take, Option, Some, None, is_some, if◌then◌else◌}
+use Rattle.std.specs.List.{flat_map, position}
 use Rattle.file_store.specs.Files.{file_at}
 use Rattle.file_store.specs.declared.tree.File.{File}
 use Rattle.msb_values.specs.declared.key.InstanceKey.{InstanceKey}
@@ -16,9 +16,14 @@ is_there files project = is_some (file_at project.path files)
 abbrev pub ends_at_missing : Parameters → Bool
 ends_at_missing p = p.stop_first && not p.parallel && not p.skip_missing
 
+-- the projects through a place, or all
+abbrev pub through : Option ℕ → List Project → List Project
+through (Some at) projects = take (at + 1) projects
+through None projects = projects
+
 -- the projects through the first that is missing
 abbrev pub through_missing : List File → List Project → List Project
-through_missing files projects = take (position_or_len (λ project. not (is_there files project)) projects + 1) projects
+through_missing files projects = through (position (λ project. not (is_there files project)) projects) projects
 
 -- the projects that are looked up
 abbrev pub looked_up : List File → Parameters → List Project

@@ -1,5 +1,5 @@
 -- What the MSBuild task gives, when the results of its calls have come. (MSBuild task: TargetOutputs)
-use Rattle.std.specs.Prelude.{ℕ, List, [], ◌∷◌, ◌++◌, Bool, true, false, ◌&&◌, map, Option, Some, None, codes, if◌then◌else◌}
+use Rattle.std.specs.Prelude.{ℕ, List, [], ◌∷◌, ◌++◌, Bool, ◌&&◌, map, Option, Some, None, codes, if◌then◌else◌}
 use Rattle.std.specs.List.{flat_map, list_all, zip}
 use Rattle.msb_expand.specs.Reserved.{from_root}
 use Rattle.msb_values.specs.Changes.{with_metadata}
@@ -27,11 +27,14 @@ output_items key returned = map (with_metadata (source_of key returned.target)) 
 abbrev pub call_items : RequestKey × RequestResult → List Item
 call_items (key, result) = if result.ok then flat_map (output_items key) result.returned else []
 
--- why a call has failed: the fault of a project that did not evaluate, or the error of the request, or nothing more than that it failed
+-- what is said of a request
+abbrev pub said_of : RequestKey → List ℕ → List ℕ
+said_of key text = key_text key.instance ++ codes ": " ++ text
+
+-- why a call has failed: the error of the request, or the fault of a project that did not evaluate, or nothing more than that it failed
 abbrev pub failure_text : RequestKey → Bool → Option (List ℕ) → List ℕ
-failure_text key false (Some fault) = fault
-failure_text key true (Some text) = key_text key.instance ++ codes ": " ++ text
-failure_text key evaluated None = key_text key.instance ++ codes ": request failed"
+failure_text key evaluated (Some text) = if evaluated then said_of key text else text
+failure_text key evaluated None = said_of key (codes "request failed")
 
 abbrev pub call_notes : RequestKey × RequestResult → List Note
 call_notes (key, result) = if result.ok then [] else Fail (failure_text key result.evaluated result.error) ∷ []

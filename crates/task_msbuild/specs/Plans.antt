@@ -51,7 +51,7 @@ plan_of files dir globals params = planned_or_refused files globals (parameters_
 
 -- a call has failed behind which no other is made
 abbrev pub has_stopped : Plan → List RequestResult → Bool
-has_stopped plan results = plan.stop_first && list_any (λ r. not r.ok) results
+has_stopped plan results = plan.stop_first && list_any (λ result. not result.ok) results
 
 -- the calls that are made next, when these are the results of the first calls: all at once, or one after the other
 abbrev pub next_calls : Plan → List RequestResult → List RequestKey

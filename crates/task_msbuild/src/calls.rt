@@ -1,4 +1,5 @@
-ghost use Rattle.std.specs.Prelude.{◌≡◌, [], ◌∷◌, ◌++◌, map, IfOk, OnOk};
+ghost use Rattle.std.specs.Prelude.{◌≡◌, ◌<◌, [], ◌∷◌, ◌++◌, not, length, map, IfOk, IfSome, OnOk};
+ghost use Rattle.std.specs.List.{position};
 ghost use Rattle.task_msbuild.specs.Calls.{is_there, through_missing, looked_up, target_lists, request_of, instance_of, all_calls};
 ghost use Rattle.task_msbuild.specs.GlobalProperties.{shared_globals};
 
@@ -32,10 +33,17 @@ pub(crate) fn looked_up<'a>(tree: &Tree, parameters: &'a Parameters) -> &'a [Pro
 fn through_missing<'a>(tree: &Tree, projects: &'a [Project]) -> &'a [Project]
     ensures { result.now ≡ through_missing tree.now.files projects.now }
 {
-    match projects.iter().position(|project| !is_there(tree, project)) {
-        Some(at) => &projects[..=at],
+    match first_missing(tree, projects) {
+        Some(at) => &projects[..at + 1],
         None => projects,
     }
+}
+
+fn first_missing(tree: &Tree, projects: &[Project]) -> Option<usize>
+    ensures value { result ≡ position (λ project. not (is_there tree.now.files project)) projects.now }
+    ensures within { IfSome result (λ at. at < length projects.now) }
+{
+    projects.iter().position(|project| !is_there(tree, project))
 }
 
 /// The requests of these projects, in order: those of each that is there. (MSBuild task.)

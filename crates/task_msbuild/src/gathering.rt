@@ -1,7 +1,6 @@
-ghost use Rattle.std.specs.Prelude.{◌≡◌, ◌≤◌, ◌++◌, IfOk, length, codes};
-ghost use Rattle.std.specs.List.{flat_map, zip};
-ghost use Rattle.task_msbuild.specs.Gathered.{gathered, target_outputs, call_items, call_notes, failure_text};
-ghost use Rattle.msb_values.specs.declared.note.Note.TheVariants.{Fail};
+ghost use Rattle.std.specs.Prelude.{◌≡◌, ◌≤◌, IfOk, length};
+ghost use Rattle.std.specs.List.{flat_map, list_all, zip};
+ghost use Rattle.task_msbuild.specs.Gathered.{gathered, target_outputs, call_items, call_notes, failure_text, said_of};
 
 use crate::Plan;
 use crate::name::literal_name;
@@ -30,7 +29,7 @@ pub fn gather(
     let mut notes = plan.notes.copy()?;
     notes.append(failures(alloc, calls, results)?)?;
     Ok(TaskOutput {
-        ok: plan.ok && results.iter().all(|given| given.ok),
+        ok: plan.ok && all_succeeded(results),
         outputs: target_outputs(alloc, items(alloc, calls, results)?)?,
         files: List::new(alloc),
         notes,
@@ -76,28 +75,34 @@ fn failures(
     let mut notes = List::new(alloc);
     for (key, given) in calls.iter().zip(results) {
         if !given.ok {
-            notes.push(failure(alloc, key, given)?)?;
+            notes.push(Note::Fail(failure(alloc, key, given)?))?;
         }
     }
     Ok(notes)
 }
 
-fn failure(alloc: Global, key: &RequestKey, given: &RequestResult) -> Result<Note, NoMemory>
-    ensures { IfOk result (λ note. note ≡ Fail (failure_text key.now given.now.evaluated given.now.error)) }
+fn failure(alloc: Global, key: &RequestKey, given: &RequestResult) -> Result<Text, NoMemory>
+    ensures { IfOk result (λ text. text ≡ failure_text key.now given.now.evaluated given.now.error) }
 {
-    let text = match &given.error {
-        Some(fault) if !given.evaluated => fault.copy()?,
-        Some(text) => joined(key.instance.shown(alloc)?, text.as_str())?,
-        None => joined(key.instance.shown(alloc)?, "request failed")?,
-    };
-    Ok(Note::Fail(text))
+    match &given.error {
+        Some(text) if given.evaluated => said(alloc, key, text.as_str()),
+        Some(fault) => fault.copy(),
+        None => said(alloc, key, "request failed"),
+    }
 }
 
-fn joined(front: Text, back: &str) -> Result<Text, NoMemory>
-    ensures { IfOk result (λ text. text ≡ front ++ codes ": " ++ back.now) }
+/// What is said of a request.
+fn said(alloc: Global, key: &RequestKey, text: &str) -> Result<Text, NoMemory>
+    ensures { IfOk result (λ said. said ≡ said_of key.now text.now) }
 {
-    let mut text = front;
-    text.push_str(": ")?;
-    text.push_str(back)?;
-    Ok(text)
+    let mut said = key.instance.shown(alloc)?;
+    said.push_str(": ")?;
+    said.push_str(text)?;
+    Ok(said)
+}
+
+fn all_succeeded(results: &[RequestResult]) -> bool
+    ensures { result ≡ list_all (λ given. given.ok) results.now }
+{
+    results.iter().all(|given| given.ok)
 }

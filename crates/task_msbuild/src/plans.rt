@@ -1,4 +1,4 @@
-ghost use Rattle.std.specs.Prelude.{◌≡◌, not};
+ghost use Rattle.std.specs.Prelude.{◌≡◌, not, drop, take};
 ghost use Rattle.std.specs.List.{list_any};
 
 use msb_values::{List, Note};
@@ -29,15 +29,17 @@ impl Plan {
     {
         let waiting = self.waiting(results.len());
         if self.parallel {
-            return waiting;
-        }
-        match waiting {
-            [_, ..] if !self.has_stopped(results.as_slice()) => &waiting[..1],
-            _ => &[],
+            waiting
+        } else if self.has_stopped(results.as_slice()) {
+            &[]
+        } else {
+            first_of(waiting)
         }
     }
 
-    fn waiting(&self, made: usize) -> &[RequestKey] {
+    fn waiting(&self, made: usize) -> &[RequestKey]
+        ensures { result.now ≡ drop made self.now.calls }
+    {
         let calls = self.calls.as_slice();
         if made < calls.len() {
             &calls[made..]
@@ -49,6 +51,21 @@ impl Plan {
     fn has_stopped(&self, results: &[RequestResult]) -> bool
         ensures { result ≡ has_stopped self.now results.now }
     {
-        self.stop_first && results.iter().any(|given| !given.ok)
+        self.stop_first && any_failed(results)
     }
+}
+
+fn first_of(calls: &[RequestKey]) -> &[RequestKey]
+    ensures { result.now ≡ take 1 calls.now }
+{
+    match calls {
+        [] => &[],
+        [_, ..] => &calls[..1],
+    }
+}
+
+fn any_failed(results: &[RequestResult]) -> bool
+    ensures { result ≡ list_any (λ given. not given.ok) results.now }
+{
+    results.iter().any(|given| !given.ok)
 }

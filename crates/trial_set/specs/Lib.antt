@@ -1,0 +1,4 @@
+pub mod Draws
+pub mod Elements
+pub mod Projects
+pub mod Sets

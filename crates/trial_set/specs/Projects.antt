@@ -1,0 +1,55 @@
+-- The projects of a set, as their files' texts. (MSBuild task; WriteLinesToFile task)
+use Rattle.std.specs.Prelude.{ℕ, List, [], ◌∷◌, ◌++◌, codes}
+use Rattle.std.specs.Fmt.{decimal}
+use Rattle.std.specs.List.{flat_map}
+use Rattle.trial_set.specs.Elements.{element_text}
+
+-- the name of project i
+abbrev pub name_of : ℕ → List ℕ
+name_of i = codes "p" ++ decimal i
+
+-- its file
+abbrev pub file_of : ℕ → List ℕ
+file_of i = name_of i ++ codes ".proj"
+
+-- the file that it writes
+abbrev pub output_of : ℕ → List ℕ
+output_of i = codes "out/" ++ name_of i ++ codes ".txt"
+
+abbrev pub next_file : ℕ → List ℕ
+next_file i = codes ";" ++ file_of i
+
+-- files of projects as a list
+abbrev pub file_list : List ℕ → List ℕ
+file_list [] = []
+file_list (i ∷ is) = file_of i ++ flat_map next_file is
+
+-- a task that calls projects at once, with perhaps an Output
+abbrev pub call_text : List ℕ → List (List ℕ) → List ℕ
+call_text calls outputs = element_text (codes "MSBuild") ((codes "BuildInParallel", codes "true") ∷ (codes "Projects", file_list calls) ∷ []) outputs
+
+-- what the projects return goes to the item O
+abbrev pub output_text : List ℕ
+output_text = element_text (codes "Output") ((codes "ItemName", codes "O") ∷ (codes "TaskParameter", codes "TargetOutputs") ∷ []) []
+
+-- the call of the projects that a project calls, if there are any
+abbrev pub calls_text : List ℕ → List (List ℕ)
+calls_text [] = []
+calls_text (i ∷ is) = call_text (i ∷ is) (output_text ∷ []) ∷ []
+
+-- a task that writes the project's name and what was returned to its file
+abbrev pub write_text : ℕ → List ℕ
+write_text i =
+    element_text (codes "WriteLinesToFile")
+    ((codes "File", output_of i) ∷ (codes "Lines", name_of i ++ codes ";@(O)") ∷ (codes "Overwrite", codes "true") ∷ []) []
+
+abbrev pub target_text : List (List ℕ × List ℕ) → List (List ℕ) → List ℕ
+target_text outputs tasks = element_text (codes "Project") [] (element_text (codes "Target") ((codes "Name", codes "Build") ∷ outputs) tasks ∷ [])
+
+-- project i, which calls these
+abbrev pub project_text : ℕ → List ℕ → List ℕ
+project_text i calls = target_text ((codes "Outputs", output_of i) ∷ []) (calls_text calls ++ write_text i ∷ [])
+
+-- the project that calls all
+abbrev pub root_text : List ℕ → List ℕ
+root_text all = target_text [] (call_text all [] ∷ [])
