@@ -1,6 +1,6 @@
 ghost use Rattle.std.specs.Prelude.{◌≡◌, ◌<◌, [], ◌∷◌, ◌++◌, not, length, map, IfOk, IfSome, OnOk};
-ghost use Rattle.std.specs.List.{position};
-ghost use Rattle.task_msbuild.specs.Calls.{is_there, through_missing, looked_up, target_lists, request_of, instance_of, all_calls};
+ghost use Rattle.std.specs.List.{flat_map, position};
+ghost use Rattle.task_msbuild.specs.Calls.{is_there, through_missing, looked_up, target_lists, request_of, instance_of, calls_of, all_calls};
 ghost use Rattle.task_msbuild.specs.GlobalProperties.{shared_globals};
 
 use crate::parameters::Parameters;
@@ -46,7 +46,7 @@ fn first_missing(tree: &Tree, projects: &[Project]) -> Option<usize>
     projects.iter().position(|project| !is_there(tree, project))
 }
 
-/// The requests of these projects, in order: those of each that is there. (MSBuild task.)
+/// The requests that the task calls: those of each project that is looked up and is there. (MSBuild task.)
 pub(crate) fn all_calls(
     alloc: Global,
     tree: &Tree,
@@ -57,13 +57,41 @@ pub(crate) fn all_calls(
 {
     let shared = shared_globals(globals, parameters)?;
     let lists = target_lists(alloc, parameters)?;
+    let projects = looked_up(tree, parameters);
+    calls_of(alloc, tree, &shared, lists.as_slice(), projects)
+}
+
+/// The requests of these projects, in order, with these global properties of all and these targets of each.
+fn calls_of(
+    alloc: Global,
+    tree: &Tree,
+    shared: &Pairs,
+    lists: &[List<Name>],
+    projects: &[Project],
+) -> Result<List<RequestKey>, NoMemory>
+    ensures { IfOk result (λ calls. calls ≡ flat_map (calls_of tree.now.files shared.now lists.now) projects.now) }
+{
     let mut calls = List::new(alloc);
-    for project in looked_up(tree, parameters) {
-        if is_there(tree, project) {
-            push_calls(&mut calls, &instance(&shared, project)?, lists.as_slice())?;
-        }
+    for project in projects {
+        push_project(&mut calls, tree, shared, lists, project)?;
     }
     Ok(calls)
+}
+
+/// Adds the requests of a project, if it is there.
+fn push_project(
+    calls: &mut List<RequestKey>,
+    tree: &Tree,
+    shared: &Pairs,
+    lists: &[List<Name>],
+    project: &Project,
+) -> Result<(), NoMemory>
+    ensures { OnOk result (calls.new ≡ calls.old ++ calls_of tree.now.files shared.now lists.now project.now) }
+{
+    if !is_there(tree, project) {
+        return Ok(());
+    }
+    push_calls(calls, &instance(shared, project)?, lists)
 }
 
 fn push_calls(

@@ -1,4 +1,4 @@
-ghost use Rattle.std.specs.Prelude.{◌≡◌, ◌≤◌, IfOk, length};
+ghost use Rattle.std.specs.Prelude.{◌≡◌, ◌≤◌, ◌++◌, IfOk, OnOk, length};
 ghost use Rattle.std.specs.List.{flat_map, list_all, zip};
 ghost use Rattle.task_msbuild.specs.Gathered.{gathered, target_outputs, call_items, call_notes, failure_text, said_of};
 
@@ -57,11 +57,23 @@ fn items(
 {
     let mut items = List::new(alloc);
     for (key, given) in calls.iter().zip(results) {
-        if given.ok {
-            push_returned(alloc, &mut items, key, given.returned.as_slice())?;
-        }
+        push_items(alloc, &mut items, key, given)?;
     }
     Ok(items)
+}
+
+fn push_items(
+    alloc: Global,
+    items: &mut List<Item>,
+    key: &RequestKey,
+    given: &RequestResult,
+) -> Result<(), NoMemory>
+    ensures { OnOk result (items.new ≡ items.old ++ call_items (key.now, given.now)) }
+{
+    if !given.ok {
+        return Ok(());
+    }
+    push_returned(alloc, items, key, given.returned.as_slice())
 }
 
 /// A note for each call that failed.
@@ -74,11 +86,23 @@ fn failures(
 {
     let mut notes = List::new(alloc);
     for (key, given) in calls.iter().zip(results) {
-        if !given.ok {
-            notes.push(Note::Fail(failure(alloc, key, given)?))?;
-        }
+        push_failure(alloc, &mut notes, key, given)?;
     }
     Ok(notes)
+}
+
+fn push_failure(
+    alloc: Global,
+    notes: &mut List<Note>,
+    key: &RequestKey,
+    given: &RequestResult,
+) -> Result<(), NoMemory>
+    ensures { OnOk result (notes.new ≡ notes.old ++ call_notes (key.now, given.now)) }
+{
+    if given.ok {
+        return Ok(());
+    }
+    notes.push(Note::Fail(failure(alloc, key, given)?))
 }
 
 fn failure(alloc: Global, key: &RequestKey, given: &RequestResult) -> Result<Text, NoMemory>

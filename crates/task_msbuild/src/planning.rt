@@ -1,13 +1,17 @@
-ghost use Rattle.std.specs.Prelude.{◌≡◌, IfOk};
-ghost use Rattle.task_msbuild.specs.Plans.{note_of, refused, all_missing_notes, planned, plan_of};
+ghost use Rattle.std.specs.Prelude.{◌≡◌, ◌++◌, IfOk, OnOk};
+ghost use Rattle.task_msbuild.specs.Plans.{refused, missing_notes, all_missing_notes, planned, plan_of};
 
 use crate::Plan;
 use crate::calls::{all_calls, is_there, looked_up};
 use crate::parameters::Parameters;
+use crate::project::Project;
 use file_store::Tree;
 use msb_values::{Copied, List, NoMemory, Note, Pairs};
 use std::alloc::Global;
 use task_trait::{Failure, ToolInput};
+
+/// The task's name, as its notes have it.
+const TASK: &str = "msbuild";
 
 /// What the MSBuild task is to do in a project of this folder and with these global properties: the requests that it
 /// calls, in order, and what it says before the first call.
@@ -55,7 +59,7 @@ fn refused(alloc: Global, failure: &Failure) -> Result<Plan, NoMemory>
     ensures { IfOk result (λ plan. plan ≡ refused failure.now) }
 {
     let mut notes = List::new(alloc);
-    notes.push(note(alloc, failure)?)?;
+    notes.push(failure.note(alloc, TASK)?)?;
     Ok(Plan {
         calls: List::new(alloc),
         parallel: false,
@@ -75,16 +79,24 @@ fn missing_notes(
 {
     let mut notes = List::new(alloc);
     for project in looked_up(tree, parameters) {
-        if !is_there(tree, project) && !parameters.skip_missing {
-            let failure = Failure::NoProject(project.item.text.copy()?);
-            notes.push(note(alloc, &failure)?)?;
-        }
+        push_missing(alloc, &mut notes, tree, parameters.skip_missing, project)?;
     }
     Ok(notes)
 }
 
-fn note(alloc: Global, failure: &Failure) -> Result<Note, NoMemory>
-    ensures { IfOk result (λ note. note ≡ note_of failure.now) }
+/// Adds the note of a project, if it is missing and isn't passed over.
+fn push_missing(
+    alloc: Global,
+    notes: &mut List<Note>,
+    tree: &Tree,
+    skip_missing: bool,
+    project: &Project,
+) -> Result<(), NoMemory>
+    ensures { OnOk result (notes.new ≡ notes.old ++ missing_notes tree.now.files skip_missing project.now) }
 {
-    Ok(Note::Fail(failure.text(alloc, "msbuild")?))
+    if is_there(tree, project) || skip_missing {
+        return Ok(());
+    }
+    let failure = Failure::NoProject(project.item.text.copy()?);
+    notes.push(failure.note(alloc, TASK)?)
 }
