@@ -3,7 +3,7 @@ use Rattle.std.proofs.Common.{◌≡◌, ◌≤◌, ◌⊎◌, ℕ, List, [], �
 use Rattle.std.specs.List.{zip}
 use Rattle.std.proofs.lemmas.Grind.{common_steps}
 
-zip-no_second : {A B : Type 0} (xs : List A) → zip {B = B} xs [] ≡ []
+zip-no_second : {A B : Type 0} (xs : List A) → zip {X = B} xs [] ≡ []
 zip-no_second [] = refl
 zip-no_second (x ∷ xs) = refl
 
