@@ -33,7 +33,11 @@ fn reads_the_last_write(rt: HostRuntime) -> Result<(), Fail> {
     }
     journal.wrote(alloc, &run(alloc, "b")?, 0, put(alloc, "out/x.txt", "two")?)?;
     let mut files = List::new(alloc);
-    files.push(File { path: Text::of(alloc, "src/a.c")?, bytes: Text8::of(alloc, b"c")?, stamp: 7 })?;
+    files.push(File {
+        path: Text::of(alloc, "src/a.c")?,
+        bytes: Text8::of(alloc, b"c")?,
+        stamp: 7,
+    })?;
     let Some(tree) = Tree::of(files) else {
         return Ok(());
     };

@@ -53,13 +53,7 @@ fn made(alloc: Global, text: &str) -> Result<Record, Fail> {
 fn told<'a>(table: &'a Table, run: &RunId) -> &'a str {
     match table.find(run) {
         Found::Absent => "absent",
-        Found::Begun(by) => {
-            if by == 7 {
-                "begun by 7"
-            } else {
-                "begun"
-            }
-        }
+        Found::Begun(by) => { if by == 7 { "begun by 7" } else { "begun" } }
         Found::Done(made) => match made.get().notes.get(0) {
             Some(Note::Message(text)) => text.as_str(),
             _ => "done",

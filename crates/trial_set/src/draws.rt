@@ -1,9 +1,9 @@
 ghost use Rattle.std.specs.Prelude.{◌≡◌, ◌≤◌, ◌<◌, ◌-◌, ◌+◌, ◌%◌, OnOk, IfOk};
 ghost use Rattle.trial_set.specs.Draws.{next_state, answer_of, drawn, distinct, calls_drawn, calls_of};
 
+use msb_values::NoMemory;
 use std::alloc::Global;
 use std::collections::BTreeSet;
-use msb_values::NoMemory;
 
 /// The draws of a seed. (This engine's own generator.)
 #[derive(Drop)]

@@ -21,7 +21,11 @@ pub(crate) fn project(alloc: Global, number: u64, calls: &[u64]) -> Result<Strin
     let mut tasks = called(alloc, calls)?;
     tasks.push(write(alloc, number)?)?;
     let output = output_of(alloc, number)?;
-    target(alloc, &[("Name", "Build"), ("Outputs", output.as_str())], &tasks)
+    target(
+        alloc,
+        &[("Name", "Build"), ("Outputs", output.as_str())],
+        &tasks,
+    )
 }
 
 /// The text of the project that calls all.
@@ -33,11 +37,7 @@ pub(crate) fn root(alloc: Global, all: &[u64]) -> Result<String, NoMemory>
     target(alloc, &[("Name", "Build")], &tasks)
 }
 
-fn target(
-    alloc: Global,
-    attributes: &[(&str, &str)],
-    tasks: &[String],
-) -> Result<String, NoMemory>
+fn target(alloc: Global, attributes: &[(&str, &str)], tasks: &[String]) -> Result<String, NoMemory>
     ensures { IfOk result (λ text. string_bytes text ≡ target_text (map (λ p. (p.0.now, p.1.now)) attributes.now) (map string_bytes tasks.now)) }
 {
     let mut targets = Vec::new(alloc);

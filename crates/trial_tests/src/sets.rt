@@ -4,7 +4,8 @@ use std::test::Fail;
 use trial_set::make;
 
 /// With seed 7 the first draw is 1,059,165,278, so project 2 draws two numbers, both 1.
-const SEVEN: &str = r#"all.proj 1 {"c":[{"a":{"Name":"Build"},"c":[{"a":{"BuildInParallel":"true","Projects":"p1.proj;p2.proj"},"e":"MSBuild"}],"e":"Target"}],"e":"Project"}
+const SEVEN: &str =
+    r#"all.proj 1 {"c":[{"a":{"Name":"Build"},"c":[{"a":{"BuildInParallel":"true","Projects":"p1.proj;p2.proj"},"e":"MSBuild"}],"e":"Target"}],"e":"Project"}
 p1.proj 1 {"c":[{"a":{"Name":"Build","Outputs":"out/p1.txt"},"c":[{"a":{"File":"out/p1.txt","Lines":"p1;@(O)","Overwrite":"true"},"e":"WriteLinesToFile"}],"e":"Target"}],"e":"Project"}
 p2.proj 1 {"c":[{"a":{"Name":"Build","Outputs":"out/p2.txt"},"c":[{"a":{"BuildInParallel":"true","Projects":"p1.proj"},"c":[{"a":{"ItemName":"O","TaskParameter":"TargetOutputs"},"e":"Output"}],"e":"MSBuild"},{"a":{"File":"out/p2.txt","Lines":"p2;@(O)","Overwrite":"true"},"e":"WriteLinesToFile"}],"e":"Target"}],"e":"Project"}
 "#;
