@@ -13,7 +13,7 @@ use Rattle.msb_values.specs.declared.item.Item.{Item}
 use Rattle.msb_elements.specs.Nodes.{name_of, inner_text}
 use Rattle.msb_expand.specs.Keys.{key_of}
 use Rattle.msb_expand.specs.Reserved.{is_reserved, folder_of}
-use Rattle.msb_expand.specs.Written.{expanded, listed}
+use Rattle.msb_expand.specs.Written.{expanded, expanded_items}
 use Rattle.msb_expand.specs.declared.lens.Use.TheVariants.{Properties as InProperty, Definition}
 use Rattle.msb_condition.specs.Written.{condition_holds}
 use Rattle.build_world.specs.declared.fault.EvalFault.{EvalFault}
@@ -83,7 +83,7 @@ with_local p items = record { values = p.values; local = p.local ++ names_in ite
 
 abbrev pub made_local : Option (List ℕ) → Setting → Properties → At → Result Properties EvalFault
 made_local None s p e = Ok p
-made_local (Some text) s p e = map_ok (with_local p) (or_fault e (listed (scene_at s p Definition e) text))
+made_local (Some text) s p e = map_ok (with_local p) (or_fault e (expanded_items (scene_at s p Definition e) text))
 
 -- the Project element of a file, whose TreatAsLocalProperty is read where the file begins
 abbrev pub with_project : Setting → Properties → At → Result Properties EvalFault

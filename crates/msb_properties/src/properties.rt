@@ -2,7 +2,7 @@ ghost use Rattle.std.specs.Prelude.{◌≡◌, IfOk, None};
 ghost use Rattle.build_world.specs.Answers.{GivesFault};
 ghost use Rattle.build_world.specs.Elements.{or_fault};
 ghost use Rattle.msb_expand.specs.Scenes.{scene_of};
-ghost use Rattle.msb_expand.specs.Written.{expanded, listed, target_names};
+ghost use Rattle.msb_expand.specs.Written.{expanded, expanded_items, target_names};
 ghost use Rattle.msb_expand.specs.declared.lens.Use.TheVariants.{Definition};
 ghost use Rattle.msb_properties.specs.Settings.{scene_at};
 ghost use Rattle.msb_properties.specs.Propertied.{holds_from, holds_in_file, holds_in_project, first_properties};
@@ -92,7 +92,7 @@ impl Properties {
     }
 
     /// The items that an element's attribute names as a list.
-    pub(crate) fn listed(
+    pub(crate) fn expanded_items(
         &self,
         alloc: Global,
         setting: &Setting<'_>,
@@ -100,7 +100,7 @@ impl Properties {
         written: &str,
     ) -> Result<List<Item>, EvalFault>
         requires { IsPlain (seen_setting setting.now) self.now }
-        ensures { GivesFault (λ items. items) result (or_fault (seen_spot spot.now) (listed (scene_at (seen_setting setting.now) (seen_properties self.now) Definition (seen_spot spot.now)) written.now)) }
+        ensures { GivesFault (λ items. items) result (or_fault (seen_spot spot.now) (expanded_items (scene_at (seen_setting setting.now) (seen_properties self.now) Definition (seen_spot spot.now)) written.now)) }
     {
         let lens = self.lens(setting, spot.file.as_str(), "", Use::Definition);
         match expand_list(alloc, &lens, written) {

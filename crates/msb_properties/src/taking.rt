@@ -51,7 +51,7 @@ fn take_project(
 {
     match spot.element.attribute("TreatAsLocalProperty") {
         Some(written) => {
-            let items = properties.listed(alloc, setting, spot, written)?;
+            let items = properties.expanded_items(alloc, setting, spot, written)?;
             add_names(alloc, &mut properties.local, items.as_slice())
         }
         None => Ok(()),
