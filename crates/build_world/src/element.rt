@@ -1,11 +1,12 @@
-ghost use Rattle.std.specs.Prelude.{◌≡◌};
+ghost use Rattle.std.specs.Prelude.{◌≡◌, IfOk};
 ghost use Rattle.msb_values.specs.Caused.{UnlessMemory};
 ghost use Rattle.msb_elements.specs.View.{view};
 ghost use Rattle.build_world.specs.Elements.{at, seen_element, seen_placed, fault_of};
+ghost use Rattle.build_world.specs.Faults.{fault_text};
 
 use crate::{EvalFault, Placed};
 use msb_elements::Element;
-use msb_values::{Cause, Copied, Text};
+use msb_values::{Cause, Copied, NoMemory, Text};
 use std::alloc::Global;
 
 /// An element of a project, by reference, with the path of the file that holds it.
@@ -39,9 +40,27 @@ impl<'a> PlacedElement<'a> {
     pub fn fault(&self, alloc: Global, cause: Cause) -> EvalFault
         ensures { UnlessMemory result.cause (result ≡ fault_of (seen_element self.now) cause) }
     {
-        match (Text::of(alloc, self.file), self.element.place().copy()) {
-            (Ok(file), Ok(place)) => EvalFault { file, place, cause },
-            _ => EvalFault::memory(alloc),
+        match self.placed_fault(alloc, cause) {
+            Ok(fault) => fault,
+            Err(_) => EvalFault::memory(alloc),
         }
+    }
+
+    /// This cause as a fault of the element, as it is printed.
+    pub fn fault_text(&self, alloc: Global, cause: Cause) -> Result<Text, NoMemory>
+        ensures { IfOk result (λ text. text ≡ fault_text (fault_of (seen_element self.now) cause)) }
+    {
+        let fault = self.placed_fault(alloc, cause)?;
+        fault.shown(alloc)
+    }
+
+    fn placed_fault(&self, alloc: Global, cause: Cause) -> Result<EvalFault, NoMemory>
+        ensures { IfOk result (λ fault. fault ≡ fault_of (seen_element self.now) cause) }
+    {
+        Ok(EvalFault {
+            file: Text::of(alloc, self.file)?,
+            place: self.element.place().copy()?,
+            cause,
+        })
     }
 }

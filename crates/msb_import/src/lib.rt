@@ -5,4 +5,4 @@ mod laid_out;
 mod resolving;
 
 pub use laid_out::LaidOut;
-pub use resolving::{ImportFault, resolve, resolve_import};
+pub use resolving::{ImportFault, resolve};

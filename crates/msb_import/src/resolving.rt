@@ -1,6 +1,4 @@
-ghost use Rattle.std.specs.Prelude.{◌≡◌, ◌<◌, IfOk, length};
-ghost use Rattle.std.specs.List.{list_any};
-ghost use Rattle.std.specs.Str.{bytes_eq};
+ghost use Rattle.std.specs.Prelude.{◌≡◌};
 ghost use Rattle.msb_import.specs.Resolved.{Resolves, resolved, importing_folder, path_or_fault};
 ghost use Rattle.msb_import.specs.declared.resolving.ImportFault.TheVariants.{Memory};
 
@@ -38,34 +36,9 @@ const MOST_FILES: usize = 64;
 
 /// The path of the file that an import brings in, from the text of its Project with values put in and unescaped. The
 /// path is relative to the importing file, the last of the `chain` that leads to it from the root file; `done` are the
-/// files that were laid out before. Of several faults the first in this order is told: the path, the missing file, the
-/// duplicate, the depth. (Import element.)
+/// files that were laid out before, which are looked up in a time that grows with the logarithm of their number. Of
+/// several faults the first in this order is told: the path, the missing file, the duplicate, the depth. (Import element.)
 pub fn resolve(
-    alloc: Global,
-    tree: &Tree,
-    chain: &List<Text>,
-    done: &List<Text>,
-    text: &str,
-) -> Result<Text, ImportFault>
-    ensures { Resolves result (resolved tree.now.files chain.now done.now text.now) }
-{
-    let path = path_of(alloc, chain.as_slice(), text)?;
-    if tree.find(path.as_str()).is_none() {
-        return Err(ImportFault::Missing(path));
-    }
-    if is_among(done.as_slice(), path.as_str()) {
-        return Err(ImportFault::Duplicate(path));
-    }
-    if chain.len() < MOST_FILES {
-        Ok(path)
-    } else {
-        Err(ImportFault::ImportDepth)
-    }
-}
-
-/// The same, where the files that were laid out before are looked up by their paths: in a time that grows with the
-/// logarithm of their number.
-pub fn resolve_import(
     alloc: Global,
     tree: &Tree,
     chain: &List<Text>,
@@ -105,10 +78,4 @@ fn folder_in(chain: &[Text]) -> &str
         Some(file) => folder_of(file.as_str()),
         None => "",
     }
-}
-
-fn is_among(paths: &[Text], path: &str) -> bool
-    ensures { result ≡ list_any (λ other. bytes_eq other path.now) paths.now }
-{
-    paths.iter().any(|other| other.as_str() == path)
 }

@@ -1,4 +1,3 @@
-pub mod Faults
 pub mod Folds
 pub mod Steps
 pub mod Heights

@@ -1,20 +1,15 @@
 -- What the code's values are, as the pass is defined.
 use Rattle.std.specs.Prelude.{◌≡◌, map, Ok}
-use Rattle.msb_elements.specs.View.{view}
-use Rattle.build_world.specs.Elements.{At, at, seen_placed}
+use Rattle.build_world.specs.Elements.{seen_placed}
 use Rattle.msb_properties.specs.Settings.{Setting, setting, Properties, scope_with}
 use Rattle.msb_properties.specs.Propertied.{properties_of}
 use Rattle.msb_properties.specs.Laid.{Layout}
-use Rattle.msb_properties.specs.declared.setting.Setting.{Setting as Held}
-use Rattle.msb_properties.specs.declared.setting.Spot.{Spot}
+use Rattle.msb_properties.specs.declared.setting.Setting.{Setting as Given}
 use Rattle.msb_properties.specs.declared.properties.Properties.{Properties as Kept}
 use Rattle.msb_properties.specs.declared.layout.Layout.{Layout as Laid}
 
-abbrev pub seen_setting : Held → Setting
-seen_setting held = setting held.tree.now.files held.key.now
-
-abbrev pub seen_spot : Spot → At
-seen_spot spot = at spot.file.now (view spot.element.now)
+abbrev pub seen_setting : Given → Setting
+seen_setting given = setting given.tree.now.files given.key.now
 
 abbrev pub seen_properties : Kept → Properties
 seen_properties kept = record { values = kept.scope.props; local = kept.local }

@@ -1,16 +1,17 @@
 ghost use Rattle.std.specs.Prelude.{◌≡◌, ◌<◌, ◌-◌, [], ◌∷◌, ◌++◌, length, IfOk, OnOk};
 ghost use Rattle.msb_elements.specs.View.{view, views};
 ghost use Rattle.build_world.specs.Answers.{GivesFault};
+ghost use Rattle.build_world.specs.Elements.{seen_element};
 ghost use Rattle.msb_elements.specs.Nodes.{name_of};
 ghost use Rattle.msb_properties.specs.declared.part.Part.TheVariants.{Grouped};
 ghost use Rattle.msb_properties.specs.Laid.{import_text, imported_as, lay_import, lay, part_of, lay_all, lay_chosen, lay_project, lay_within};
-ghost use Rattle.msb_properties.specs.Seen.{seen_setting, seen_spot, seen_properties, seen_laid, IsPlain, IsKept};
+ghost use Rattle.msb_properties.specs.Seen.{seen_setting, seen_properties, seen_laid, IsPlain, IsKept};
 
 use crate::layout::Layout;
 use crate::part::Part;
 use crate::properties::Properties;
-use crate::setting::{Setting, Spot};
-use build_world::{EvalFault, read_file};
+use crate::setting::Setting;
+use build_world::{EvalFault, PlacedElement, read_file};
 use msb_elements::Element;
 use msb_expand::Use;
 use msb_import::{ImportFault, resolve};
@@ -105,11 +106,11 @@ fn lay_one(
 {
     match Part::of(child.name()) {
         Part::Imported => {
-            let spot = Spot {
-                file,
+            let element = PlacedElement {
+                file: file.as_str(),
                 element: &child,
             };
-            lay_import(alloc, setting, layout, chain, &spot)
+            lay_import(alloc, setting, layout, chain, &element)
         }
         Part::Grouped => lay_group(alloc, setting, layout, chain, file, child),
         Part::Chosen => {
@@ -136,11 +137,11 @@ fn lay_group(
     ensures laid { GivesFault (λ _. seen_laid layout.new) result (lay (lay_within (64 - length chain.now) (seen_setting setting.now)) (seen_setting setting.now) chain.now file.now (seen_laid layout.old) (view group)) }
     ensures kept { OnOk result (IsKept (seen_setting setting.now) layout.new) }
 {
-    let spot = Spot {
-        file,
+    let element = PlacedElement {
+        file: file.as_str(),
         element: &group,
     };
-    if layout.properties.holds_in_file(alloc, setting, &spot)? {
+    if layout.properties.holds_in_file(alloc, setting, &element)? {
         let (_, imports) = group.split(alloc);
         return lay_all(alloc, setting, layout, chain, file, imports);
     }
@@ -162,11 +163,14 @@ fn lay_chosen(
     ensures kept { OnOk result (IsKept (seen_setting setting.now) layout.new) }
 {
     for choice in choices {
-        let spot = Spot {
-            file,
+        let element = PlacedElement {
+            file: file.as_str(),
             element: &choice,
         };
-        if layout.properties.holds_in_project(alloc, setting, &spot)? {
+        if layout
+            .properties
+            .holds_in_project(alloc, setting, &element)?
+        {
             let (_, children) = choice.split(alloc);
             return lay_all(alloc, setting, layout, chain, file, children);
         }
@@ -181,18 +185,18 @@ fn lay_import(
     setting: &Setting<'_>,
     layout: &mut Layout,
     chain: &List<Text>,
-    spot: &Spot<'_>,
+    element: &PlacedElement<'_>,
 ) -> Result<(), EvalFault>
     requires { IsKept (seen_setting setting.now) layout.old }
-    ensures laid { GivesFault (λ _. seen_laid layout.new) result (lay_import (lay_within (64 - length chain.now) (seen_setting setting.now)) (seen_setting setting.now) chain.now (seen_laid layout.old) (seen_spot spot.now)) }
+    ensures laid { GivesFault (λ _. seen_laid layout.new) result (lay_import (lay_within (64 - length chain.now) (seen_setting setting.now)) (seen_setting setting.now) chain.now (seen_laid layout.old) (seen_element element.now)) }
     ensures kept { OnOk result (IsKept (seen_setting setting.now) layout.new) }
 {
-    if !layout.properties.holds_in_file(alloc, setting, spot)? {
+    if !layout.properties.holds_in_file(alloc, setting, element)? {
         return Ok(());
     }
-    let text = import_text(alloc, setting, &layout.properties, spot)?;
+    let text = import_text(alloc, setting, &layout.properties, element)?;
     let found = resolve(alloc, setting.tree, chain, &layout.files, text.as_str());
-    lay_found(alloc, setting, layout, chain, spot, found)
+    lay_found(alloc, setting, layout, chain, element, found)
 }
 
 /// What an import brings in, or why it brings in nothing. A file that was laid out before is noted and ignored.
@@ -202,20 +206,20 @@ fn lay_found(
     setting: &Setting<'_>,
     layout: &mut Layout,
     chain: &List<Text>,
-    spot: &Spot<'_>,
+    element: &PlacedElement<'_>,
     found: Result<Text, ImportFault>,
 ) -> Result<(), EvalFault>
     requires short { IfOk found (λ _. length chain.now < 64) }
     requires kept { IsKept (seen_setting setting.now) layout.old }
-    ensures laid { GivesFault (λ _. seen_laid layout.new) result (imported_as (lay_within (64 - length chain.now) (seen_setting setting.now)) chain.now (seen_laid layout.old) (seen_spot spot.now) found) }
+    ensures laid { GivesFault (λ _. seen_laid layout.new) result (imported_as (lay_within (64 - length chain.now) (seen_setting setting.now)) chain.now (seen_laid layout.old) (seen_element element.now) found) }
     ensures kept { OnOk result (IsKept (seen_setting setting.now) layout.new) }
 {
     match found {
         Ok(path) => lay_file(alloc, setting, layout, chain, &path),
         Err(ImportFault::Duplicate(path)) => layout.add_duplicate(alloc, path),
-        Err(ImportFault::Missing(path)) => Err(spot.fault(alloc, Cause::MissingImport(path))),
-        Err(ImportFault::ImportDepth) => Err(spot.fault(alloc, Cause::ImportDepth)),
-        Err(ImportFault::Path(text)) => Err(spot.fault(alloc, Cause::BadPath(text))),
+        Err(ImportFault::Missing(path)) => Err(element.fault(alloc, Cause::MissingImport(path))),
+        Err(ImportFault::ImportDepth) => Err(element.fault(alloc, Cause::ImportDepth)),
+        Err(ImportFault::Path(text)) => Err(element.fault(alloc, Cause::BadPath(text))),
         Err(ImportFault::Memory) => Err(EvalFault::memory(alloc)),
     }
 }
@@ -225,16 +229,16 @@ fn import_text(
     alloc: Global,
     setting: &Setting<'_>,
     properties: &Properties,
-    spot: &Spot<'_>,
+    element: &PlacedElement<'_>,
 ) -> Result<Text, EvalFault>
     requires { IsPlain (seen_setting setting.now) properties.now }
-    ensures { GivesFault (λ text. text) result (import_text (seen_setting setting.now) (seen_properties properties.now) (seen_spot spot.now)) }
+    ensures { GivesFault (λ text. text) result (import_text (seen_setting setting.now) (seen_properties properties.now) (seen_element element.now)) }
 {
-    let written = match spot.element.attribute("Project") {
+    let written = match element.element.attribute("Project") {
         Some(written) => written,
         None => "",
     };
-    let text = properties.expanded(alloc, setting, spot, Use::Definition, written)?;
+    let text = properties.expanded(alloc, setting, element, Use::Definition, written)?;
     match unescape(alloc, text.as_str()) {
         Ok(text) => Ok(text),
         Err(_) => Err(EvalFault::memory(alloc)),

@@ -4,10 +4,11 @@ ghost use Rattle.build_world.specs.Elements.{at};
 ghost use Rattle.msb_elements.specs.View.{view};
 
 use crate::properties::Properties;
-use crate::setting::{Setting, Spot};
+use crate::setting::Setting;
 use crate::taking::take_element;
-use build_world::{EvalFault, Placed};
+use build_world::{EvalFault, Placed, PlacedElement};
 use msb_elements::Element;
+use msb_import::LaidOut;
 use msb_values::{Copied, List, NoMemory, Text};
 use std::alloc::Global;
 
@@ -17,7 +18,7 @@ use std::alloc::Global;
 pub(crate) struct Layout {
     pub properties: Properties,
     pub elements: Vec<Placed>,
-    pub files: List<Text>,
+    pub files: LaidOut,
     pub duplicates: List<Text>,
 }
 
@@ -38,11 +39,11 @@ impl Layout {
         ensures laid { GivesFault (λ _. seen_laid self.new) result (extended (seen_setting setting.now) (seen_laid self.old) (at file.now (view element))) }
         ensures kept { OnOk result (IsKept (seen_setting setting.now) self.new) }
     {
-        let spot = Spot {
-            file,
+        let placed = PlacedElement {
+            file: file.as_str(),
             element: &element,
         };
-        take_element(alloc, setting, &mut self.properties, &spot)?;
+        take_element(alloc, setting, &mut self.properties, &placed)?;
         let Ok(file) = file.copy() else {
             return Err(EvalFault::memory(alloc));
         };
@@ -57,9 +58,6 @@ impl Layout {
         ensures laid { GivesFault (λ _. seen_laid self.new) result (Ok (with_file (seen_laid self.old) file.now)) }
         ensures kept { (s : Given) → IsKept s self.old → OnOk result (IsKept s self.new) }
     {
-        let Ok(file) = file.copy() else {
-            return Err(EvalFault::memory(alloc));
-        };
         match self.files.push(file) {
             Ok(()) => Ok(()),
             Err(_) => Err(EvalFault::memory(alloc)),

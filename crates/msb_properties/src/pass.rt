@@ -28,7 +28,7 @@ pub fn property_pass(alloc: Global, tree: &Tree, key: &InstanceKey) -> Result<La
     let mut layout = Layout {
         properties,
         elements: Vec::new(alloc),
-        files: List::new(alloc),
+        files: msb_import::LaidOut::new(alloc),
         duplicates: List::new(alloc),
     };
     let chain = List::new(alloc);

@@ -1,15 +1,15 @@
 ghost use Rattle.std.specs.Prelude.{◌≡◌, IfOk, None};
 ghost use Rattle.build_world.specs.Answers.{GivesFault};
-ghost use Rattle.build_world.specs.Elements.{or_fault};
+ghost use Rattle.build_world.specs.Elements.{or_fault, seen_element};
 ghost use Rattle.msb_expand.specs.Scenes.{scene_of};
 ghost use Rattle.msb_expand.specs.Written.{expanded, expanded_items, target_names};
 ghost use Rattle.msb_expand.specs.declared.lens.Use.TheVariants.{Definition};
 ghost use Rattle.msb_properties.specs.Settings.{scene_at};
 ghost use Rattle.msb_properties.specs.Propertied.{holds_from, holds_in_file, holds_in_project, first_properties};
-ghost use Rattle.msb_properties.specs.Seen.{seen_setting, seen_spot, seen_properties, IsPlain};
+ghost use Rattle.msb_properties.specs.Seen.{seen_setting, seen_properties, IsPlain};
 
-use crate::setting::{Setting, Spot};
-use build_world::EvalFault;
+use crate::setting::Setting;
+use build_world::{EvalFault, PlacedElement};
 use msb_condition::condition_holds;
 use msb_expand::{Lens, Use, expand_list, expand_names, expand_text, folder_of};
 use msb_values::{Copied, Defaults, Item, List, Lists, Name, NoMemory, Pairs, Scope, Text};
@@ -74,20 +74,16 @@ impl Properties {
         &self,
         alloc: Global,
         setting: &Setting<'_>,
-        spot: &Spot<'_>,
+        element: &PlacedElement<'_>,
         usage: Use,
         written: &str,
     ) -> Result<Text, EvalFault>
         requires { IsPlain (seen_setting setting.now) self.now }
-        ensures { GivesFault (λ text. text) result (or_fault (seen_spot spot.now) (expanded (scene_at (seen_setting setting.now) (seen_properties self.now) usage (seen_spot spot.now)) written.now)) }
+        ensures { GivesFault (λ text. text) result (or_fault (seen_element element.now) (expanded (scene_at (seen_setting setting.now) (seen_properties self.now) usage (seen_element element.now)) written.now)) }
     {
-        match expand_text(
-            alloc,
-            &self.lens(setting, spot.file.as_str(), "", usage),
-            written,
-        ) {
+        match expand_text(alloc, &self.lens(setting, element.file, "", usage), written) {
             Ok(text) => Ok(text),
-            Err(cause) => Err(spot.fault(alloc, cause)),
+            Err(cause) => Err(element.fault(alloc, cause)),
         }
     }
 
@@ -96,16 +92,16 @@ impl Properties {
         &self,
         alloc: Global,
         setting: &Setting<'_>,
-        spot: &Spot<'_>,
+        element: &PlacedElement<'_>,
         written: &str,
     ) -> Result<List<Item>, EvalFault>
         requires { IsPlain (seen_setting setting.now) self.now }
-        ensures { GivesFault (λ items. items) result (or_fault (seen_spot spot.now) (expanded_items (scene_at (seen_setting setting.now) (seen_properties self.now) Definition (seen_spot spot.now)) written.now)) }
+        ensures { GivesFault (λ items. items) result (or_fault (seen_element element.now) (expanded_items (scene_at (seen_setting setting.now) (seen_properties self.now) Definition (seen_element element.now)) written.now)) }
     {
-        let lens = self.lens(setting, spot.file.as_str(), "", Use::Definition);
+        let lens = self.lens(setting, element.file, "", Use::Definition);
         match expand_list(alloc, &lens, written) {
             Ok(items) => Ok(items),
-            Err(cause) => Err(spot.fault(alloc, cause)),
+            Err(cause) => Err(element.fault(alloc, cause)),
         }
     }
 
@@ -114,16 +110,16 @@ impl Properties {
         &self,
         alloc: Global,
         setting: &Setting<'_>,
-        spot: &Spot<'_>,
+        element: &PlacedElement<'_>,
         written: &str,
     ) -> Result<List<Name>, EvalFault>
         requires { IsPlain (seen_setting setting.now) self.now }
-        ensures { GivesFault (λ names. names) result (or_fault (seen_spot spot.now) (target_names (scene_at (seen_setting setting.now) (seen_properties self.now) Definition (seen_spot spot.now)) written.now)) }
+        ensures { GivesFault (λ names. names) result (or_fault (seen_element element.now) (target_names (scene_at (seen_setting setting.now) (seen_properties self.now) Definition (seen_element element.now)) written.now)) }
     {
-        let lens = self.lens(setting, spot.file.as_str(), "", Use::Definition);
+        let lens = self.lens(setting, element.file, "", Use::Definition);
         match expand_names(alloc, &lens, written) {
             Ok(names) => Ok(names),
-            Err(cause) => Err(spot.fault(alloc, cause)),
+            Err(cause) => Err(element.fault(alloc, cause)),
         }
     }
 
@@ -132,21 +128,21 @@ impl Properties {
         &self,
         alloc: Global,
         setting: &Setting<'_>,
-        spot: &Spot<'_>,
+        element: &PlacedElement<'_>,
         folder: &str,
     ) -> Result<bool, EvalFault>
         requires { IsPlain (seen_setting setting.now) self.now }
-        ensures { GivesFault (λ holds. holds) result (holds_from folder.now (seen_setting setting.now) (seen_properties self.now) (seen_spot spot.now)) }
+        ensures { GivesFault (λ holds. holds) result (holds_from folder.now (seen_setting setting.now) (seen_properties self.now) (seen_element element.now)) }
     {
-        let lens = self.lens(setting, spot.file.as_str(), folder, Use::Definition);
+        let lens = self.lens(setting, element.file, folder, Use::Definition);
         match condition_holds(
             alloc,
             &lens,
             setting.tree,
-            spot.element.attribute("Condition"),
+            element.element.attribute("Condition"),
         ) {
             Ok(holds) => Ok(holds),
-            Err(cause) => Err(spot.fault(alloc, cause)),
+            Err(cause) => Err(element.fault(alloc, cause)),
         }
     }
 
@@ -155,12 +151,12 @@ impl Properties {
         &self,
         alloc: Global,
         setting: &Setting<'_>,
-        spot: &Spot<'_>,
+        element: &PlacedElement<'_>,
     ) -> Result<bool, EvalFault>
         requires { IsPlain (seen_setting setting.now) self.now }
-        ensures { GivesFault (λ holds. holds) result (holds_in_file (seen_setting setting.now) (seen_properties self.now) (seen_spot spot.now)) }
+        ensures { GivesFault (λ holds. holds) result (holds_in_file (seen_setting setting.now) (seen_properties self.now) (seen_element element.now)) }
     {
-        self.holds_from(alloc, setting, spot, folder_of(spot.file.as_str()))
+        self.holds_from(alloc, setting, element, folder_of(element.file))
     }
 
     /// Of any other element, where it is the project's folder.
@@ -168,11 +164,16 @@ impl Properties {
         &self,
         alloc: Global,
         setting: &Setting<'_>,
-        spot: &Spot<'_>,
+        element: &PlacedElement<'_>,
     ) -> Result<bool, EvalFault>
         requires { IsPlain (seen_setting setting.now) self.now }
-        ensures { GivesFault (λ holds. holds) result (holds_in_project (seen_setting setting.now) (seen_properties self.now) (seen_spot spot.now)) }
+        ensures { GivesFault (λ holds. holds) result (holds_in_project (seen_setting setting.now) (seen_properties self.now) (seen_element element.now)) }
     {
-        self.holds_from(alloc, setting, spot, folder_of(setting.key.path.as_str()))
+        self.holds_from(
+            alloc,
+            setting,
+            element,
+            folder_of(setting.key.path.as_str()),
+        )
     }
 }

@@ -8,13 +8,13 @@ ghost use Rattle.msb_laws.specs.Results.{fold_ok};
 ghost use Rattle.msb_values.specs.Caused.{UnlessMemory};
 ghost use Rattle.msb_values.specs.declared.cause.Cause.TheVariants.{Reserved};
 ghost use Rattle.build_world.specs.Answers.{GivesFault};
-ghost use Rattle.build_world.specs.Elements.{at, fault_of};
+ghost use Rattle.build_world.specs.Elements.{at, fault_of, seen_element};
 ghost use Rattle.msb_properties.specs.Propertied.{may_change, set_if, set_named, with_property, with_group, names_if, names_in, with_project, with_element};
-ghost use Rattle.msb_properties.specs.Seen.{seen_setting, seen_spot, seen_properties, IsPlain};
+ghost use Rattle.msb_properties.specs.Seen.{seen_setting, seen_properties, IsPlain};
 
 use crate::properties::Properties;
-use crate::setting::{Setting, Spot};
-use build_world::EvalFault;
+use crate::setting::Setting;
+use build_world::{EvalFault, PlacedElement};
 use msb_elements::Element;
 use msb_expand::{Use, is_reserved};
 use msb_values::{Cause, Item, List, Name, NameFault, Text};
@@ -25,15 +25,15 @@ pub(crate) fn take_element(
     alloc: Global,
     setting: &Setting<'_>,
     properties: &mut Properties,
-    spot: &Spot<'_>,
+    element: &PlacedElement<'_>,
 ) -> Result<(), EvalFault>
     requires { IsPlain (seen_setting setting.now) properties.old }
-    ensures taken { GivesFault (λ _. seen_properties properties.new) result (with_element (seen_setting setting.now) (seen_properties properties.old) (seen_spot spot.now)) }
+    ensures taken { GivesFault (λ _. seen_properties properties.new) result (with_element (seen_setting setting.now) (seen_properties properties.old) (seen_element element.now)) }
     ensures plain { OnOk result (IsPlain (seen_setting setting.now) properties.new) }
 {
-    match spot.element.name() {
-        "Project" => take_project(alloc, setting, properties, spot),
-        "PropertyGroup" => take_group(alloc, setting, properties, spot),
+    match element.element.name() {
+        "Project" => take_project(alloc, setting, properties, element),
+        "PropertyGroup" => take_group(alloc, setting, properties, element),
         _ => Ok(()),
     }
 }
@@ -43,15 +43,15 @@ fn take_project(
     alloc: Global,
     setting: &Setting<'_>,
     properties: &mut Properties,
-    spot: &Spot<'_>,
+    element: &PlacedElement<'_>,
 ) -> Result<(), EvalFault>
     requires { IsPlain (seen_setting setting.now) properties.old }
-    ensures taken { GivesFault (λ _. seen_properties properties.new) result (with_project (seen_setting setting.now) (seen_properties properties.old) (seen_spot spot.now)) }
+    ensures taken { GivesFault (λ _. seen_properties properties.new) result (with_project (seen_setting setting.now) (seen_properties properties.old) (seen_element element.now)) }
     ensures plain { OnOk result (IsPlain (seen_setting setting.now) properties.new) }
 {
-    match spot.element.attribute("TreatAsLocalProperty") {
+    match element.element.attribute("TreatAsLocalProperty") {
         Some(written) => {
-            let items = properties.expanded_items(alloc, setting, spot, written)?;
+            let items = properties.expanded_items(alloc, setting, element, written)?;
             add_names(alloc, &mut properties.local, items.as_slice())
         }
         None => Ok(()),
@@ -85,19 +85,19 @@ fn take_group(
     alloc: Global,
     setting: &Setting<'_>,
     properties: &mut Properties,
-    spot: &Spot<'_>,
+    element: &PlacedElement<'_>,
 ) -> Result<(), EvalFault>
     requires { IsPlain (seen_setting setting.now) properties.old }
-    ensures taken { GivesFault (λ _. seen_properties properties.new) result (with_group (seen_setting setting.now) (seen_properties properties.old) (seen_spot spot.now)) }
+    ensures taken { GivesFault (λ _. seen_properties properties.new) result (with_group (seen_setting setting.now) (seen_properties properties.old) (seen_element element.now)) }
     ensures plain { OnOk result (IsPlain (seen_setting setting.now) properties.new) }
 {
-    if properties.holds_in_file(alloc, setting, spot)? {
+    if properties.holds_in_file(alloc, setting, element)? {
         return take_each(
             alloc,
             setting,
             properties,
-            spot.file,
-            spot.element.children(),
+            element.file,
+            element.element.children(),
         );
     }
     Ok(())
@@ -107,7 +107,7 @@ fn take_each(
     alloc: Global,
     setting: &Setting<'_>,
     properties: &mut Properties,
-    file: &Text,
+    file: &str,
     elements: &[Element],
 ) -> Result<(), EvalFault>
     requires { IsPlain (seen_setting setting.now) properties.old }
@@ -115,7 +115,7 @@ fn take_each(
     ensures plain { OnOk result (IsPlain (seen_setting setting.now) properties.new) }
 {
     for element in elements {
-        take_property(alloc, setting, properties, &Spot { file, element })?;
+        take_property(alloc, setting, properties, &PlacedElement { file, element })?;
     }
     Ok(())
 }
@@ -124,14 +124,14 @@ fn take_property(
     alloc: Global,
     setting: &Setting<'_>,
     properties: &mut Properties,
-    spot: &Spot<'_>,
+    element: &PlacedElement<'_>,
 ) -> Result<(), EvalFault>
     requires { IsPlain (seen_setting setting.now) properties.old }
-    ensures taken { GivesFault (λ _. seen_properties properties.new) result (with_property (seen_setting setting.now) (seen_properties properties.old) (seen_spot spot.now)) }
+    ensures taken { GivesFault (λ _. seen_properties properties.new) result (with_property (seen_setting setting.now) (seen_properties properties.old) (seen_element element.now)) }
     ensures plain { OnOk result (IsPlain (seen_setting setting.now) properties.new) }
 {
-    if properties.holds_in_project(alloc, setting, spot)? {
-        return take_named(alloc, setting, properties, spot);
+    if properties.holds_in_project(alloc, setting, element)? {
+        return take_named(alloc, setting, properties, element);
     }
     Ok(())
 }
@@ -141,17 +141,17 @@ fn take_named(
     alloc: Global,
     setting: &Setting<'_>,
     properties: &mut Properties,
-    spot: &Spot<'_>,
+    element: &PlacedElement<'_>,
 ) -> Result<(), EvalFault>
     requires { IsPlain (seen_setting setting.now) properties.old }
-    ensures taken { GivesFault (λ _. seen_properties properties.new) result (set_named (key_of (name_of (view spot.now.element.now))) (seen_setting setting.now) (seen_properties properties.old) (seen_spot spot.now)) }
+    ensures taken { GivesFault (λ _. seen_properties properties.new) result (set_named (key_of (name_of (view element.now.element.now))) (seen_setting setting.now) (seen_properties properties.old) (seen_element element.now)) }
     ensures plain { OnOk result (IsPlain (seen_setting setting.now) properties.new) }
 {
-    match Name::read(alloc, spot.element.name()) {
+    match Name::read(alloc, element.element.name()) {
         Ok(name) => if is_reserved(&name) {
-            Err(reserved(alloc, spot, &name))
+            Err(reserved(alloc, element, &name))
         } else {
-            set(alloc, setting, properties, spot, name)
+            set(alloc, setting, properties, element, name)
         },
         Err(NameFault::BadName(_)) => Ok(()),
         Err(NameFault::Memory) => Err(EvalFault::memory(alloc)),
@@ -159,11 +159,11 @@ fn take_named(
 }
 
 /// The fault of a property that the engine sets.
-fn reserved(alloc: Global, spot: &Spot<'_>, name: &Name) -> EvalFault
-    ensures { UnlessMemory result.cause (fault_of (seen_spot spot.now) (Reserved name.now) ≡ result) }
+fn reserved(alloc: Global, element: &PlacedElement<'_>, name: &Name) -> EvalFault
+    ensures { UnlessMemory result.cause (result ≡ fault_of (seen_element element.now) (Reserved name.now)) }
 {
     match Text::of(alloc, name.key()) {
-        Ok(name) => spot.fault(alloc, Cause::Reserved(name)),
+        Ok(name) => element.fault(alloc, Cause::Reserved(name)),
         Err(_) => EvalFault::memory(alloc),
     }
 }
@@ -173,17 +173,23 @@ fn set(
     alloc: Global,
     setting: &Setting<'_>,
     properties: &mut Properties,
-    spot: &Spot<'_>,
+    element: &PlacedElement<'_>,
     name: Name,
 ) -> Result<(), EvalFault>
     requires { IsPlain (seen_setting setting.now) properties.old }
-    ensures taken { GivesFault (λ _. seen_properties properties.new) result (set_if (may_change (seen_setting setting.now) (seen_properties properties.old) name) (seen_setting setting.now) (seen_properties properties.old) (seen_spot spot.now) name) }
+    ensures taken { GivesFault (λ _. seen_properties properties.new) result (set_if (may_change (seen_setting setting.now) (seen_properties properties.old) name) (seen_setting setting.now) (seen_properties properties.old) (seen_element element.now) name) }
     ensures plain { OnOk result (IsPlain (seen_setting setting.now) properties.new) }
 {
     if !may_change(setting, properties, &name) {
         return Ok(());
     }
-    let text = properties.expanded(alloc, setting, spot, Use::Properties, spot.element.text())?;
+    let text = properties.expanded(
+        alloc,
+        setting,
+        element,
+        Use::Properties,
+        element.element.text(),
+    )?;
     match properties.scope.props.insert(name, text) {
         Ok(()) => Ok(()),
         Err(_) => Err(EvalFault::memory(alloc)),

@@ -6,8 +6,8 @@ ghost use Rattle.msb_properties.specs.Passed.{on_project, with_initial, initial_
 ghost use Rattle.msb_properties.specs.Seen.{seen_setting, seen_properties, IsPlain};
 
 use crate::properties::Properties;
-use crate::setting::{Setting, Spot};
-use build_world::{EvalFault, Placed};
+use crate::setting::Setting;
+use build_world::{EvalFault, Placed, PlacedElement};
 use msb_elements::Element;
 use msb_values::{Copied, List, Name, NoMemory};
 use std::alloc::Global;
@@ -42,11 +42,8 @@ fn add_initial(
     let Some(written) = on_project(&placed.element, "InitialTargets") else {
         return Ok(());
     };
-    let spot = Spot {
-        file: &placed.file,
-        element: &placed.element,
-    };
-    let more = properties.targets(alloc, setting, &spot, written)?;
+    let element = PlacedElement::of(placed);
+    let more = properties.targets(alloc, setting, &element, written)?;
     match append(names, more.as_slice()) {
         Ok(()) => Ok(()),
         Err(_) => Err(EvalFault::memory(alloc)),
@@ -74,11 +71,8 @@ pub(crate) fn default_targets(
 {
     for placed in elements {
         if let Some(written) = on_project(&placed.element, "DefaultTargets") {
-            let spot = Spot {
-                file: &placed.file,
-                element: &placed.element,
-            };
-            return properties.targets(alloc, setting, &spot, written);
+            let element = PlacedElement::of(placed);
+            return properties.targets(alloc, setting, &element, written);
         }
     }
     Ok(List::new(alloc))

@@ -4,9 +4,12 @@ use Rattle.std.proofs.lemmas.List.{nil_from_length}
 use Rattle.std.specs.Vec.Iter.{into_iter_items}
 use Rattle.file_store.specs.Files.{file_at}
 use Rattle.msb_elements.specs.View.{view, views}
-use Rattle.msb_properties.specs.Laid.{part_of, lay_all, lay_chosen, lay_within}
+use Rattle.build_world.specs.Elements.{at}
+use Rattle.msb_values.proofs.Causing.{passed_on}
+use Rattle.build_world.specs.declared.fault.EvalFault.{EvalFault}
+use Rattle.msb_properties.specs.Propertied.{holds_in_file, holds_in_project}
+use Rattle.msb_properties.specs.Laid.{part_of, lay_all, lay_chosen, lay_import, lay_within}
 use Rattle.msb_properties.specs.Seen.{seen_setting, seen_laid, seen_properties}
-use Rattle.msb_properties.proofs.Faults.{passed_on}
 use Rattle.msb_properties.proofs.Taken.{gives_same}
 use Rattle.msb_properties.proofs.Heights.{height, above_all, height_first, heights_rest, below_split, less_deep, lower, one_less}
 use Rattle.msb_properties.proofs.Steps as step
@@ -28,7 +31,7 @@ pub lay_all-returns-in_err-lay_one-clause-laid : goal.lay_all-returns-in_err-lay
 lay_all-returns-in_err-lay_one-clause-laid t c =
     let p = err_from_is_err_and c.from_residual.result c.from_residual.ensures.1 in
     rw (p.1, p.2)
-    (passed_on c.in_err-lay_one.field-0.0 _ _
+    (passed_on (λ (f : EvalFault). f.cause) c.in_err-lay_one.field-0.0 _ _
     (λ f is. step.all_stops (lay_within (64 - length c.args.chain.now) (seen_setting c.args.setting.now)) (seen_setting c.args.setting.now) c.args.chain.now c.args.file.now (seen_laid c.loop-child.layout) _ _ c.in-Some.child _ f c.in-Some.ensures.steps.0 c.loop-child.invariant.laid is)
     c.in_err-lay_one.ensures.laid)
 
@@ -40,8 +43,8 @@ pub lay_chosen-returns-in_err-holds_in_project-clause-laid : goal.lay_chosen-ret
 lay_chosen-returns-in_err-holds_in_project-clause-laid t c =
     let p = err_from_is_err_and c.from_residual.result c.from_residual.ensures.1 in
     rw (p.1, p.2)
-    (passed_on c.in_err-holds_in_project.field-0.0 _ _
-    (λ f is. step.chosen_stops (lay_within (64 - length c.args.chain.now) (seen_setting c.args.setting.now)) (seen_setting c.args.setting.now) c.args.chain.now c.args.file.now (seen_laid c.loop-choice.layout) (seen_properties c.loop-choice.layout.properties) (into_iter_items c.loop-choice.choice-iterator) (into_iter_items c.next.new.self) c.in-Some.choice (lay_chosen (lay_within (64 - length c.args.chain.now) (seen_setting c.args.setting.now)) (seen_setting c.args.setting.now) c.args.chain.now c.args.file.now (seen_laid c.args.layout.now) (views c.args.choices.items)) f c.in-Some.ensures.steps.0 c.loop-choice.invariant.laid c.loop-choice.invariant.kept.kept is)
+    (passed_on (λ (f : EvalFault). f.cause) c.in_err-holds_in_project.field-0.0 _ _
+    (λ f is. step.chosen_stops (lay_within (64 - length c.args.chain.now) (seen_setting c.args.setting.now)) (seen_setting c.args.setting.now) c.args.chain.now c.args.file.now (seen_laid c.loop-choice.layout) (seen_properties c.loop-choice.layout.properties) (into_iter_items c.loop-choice.choice-iterator) (into_iter_items c.next.new.self) c.in-Some.choice (lay_chosen (lay_within (64 - length c.args.chain.now) (seen_setting c.args.setting.now)) (seen_setting c.args.setting.now) c.args.chain.now c.args.file.now (seen_laid c.args.layout.now) (views c.args.choices.items)) f c.in-Some.ensures.steps.0 c.loop-choice.invariant.laid c.loop-choice.invariant.kept.kept (ap (λ f. holds_in_project (seen_setting c.args.setting.now) (seen_properties c.loop-choice.layout.properties) (at f (view c.in-Some.choice))) (sym c.as_str.ensures) ∙ is))
     c.in_err-holds_in_project.ensures)
 
 pub lay_chosen-lay_all-requires : goal.lay_chosen-lay_all-requires
@@ -53,7 +56,7 @@ lay_chosen-lay_all-requires t c =
 pub lay_chosen-returns-then-branch-clause-laid : goal.lay_chosen-returns-then-branch-clause-laid
 lay_chosen-returns-then-branch-clause-laid t c =
     gives_same _ c.lay_all.result _ _
-    (step.chosen_takes (lay_within (64 - length c.args.chain.now) (seen_setting c.args.setting.now)) (seen_setting c.args.setting.now) c.args.chain.now c.args.file.now (seen_laid c.loop-choice.layout) (seen_properties c.loop-choice.layout.properties) (into_iter_items c.loop-choice.choice-iterator) (into_iter_items c.next.new.self) c.in-Some.choice _ c.in-Some.ensures.steps.0 c.loop-choice.invariant.laid c.loop-choice.invariant.kept.kept (c.in_ok-holds_in_project.ensures ∙ ap Ok c.if-branch.true)
+    (step.chosen_takes (lay_within (64 - length c.args.chain.now) (seen_setting c.args.setting.now)) (seen_setting c.args.setting.now) c.args.chain.now c.args.file.now (seen_laid c.loop-choice.layout) (seen_properties c.loop-choice.layout.properties) (into_iter_items c.loop-choice.choice-iterator) (into_iter_items c.next.new.self) c.in-Some.choice _ c.in-Some.ensures.steps.0 c.loop-choice.invariant.laid c.loop-choice.invariant.kept.kept (ap (λ f. holds_in_project (seen_setting c.args.setting.now) (seen_properties c.loop-choice.layout.properties) (at f (view c.in-Some.choice))) (sym c.as_str.ensures) ∙ (c.in_ok-holds_in_project.ensures ∙ ap Ok c.if-branch.true))
     ∙ ap (lay_all (lay_within (64 - length c.args.chain.now) (seen_setting c.args.setting.now)) (seen_setting c.args.setting.now) c.args.chain.now c.args.file.now (seen_laid c.loop-choice.layout)) (sym (step.nodes_split (view c.in-Some.choice) c.split-children.result.1.items c.split-children.ensures.children)))
     c.lay_all.ensures.laid
 
@@ -63,7 +66,7 @@ lay_chosen-loop-choice-preserved t c =
     let before = c.loop-choice.invariant in
     let shorter = ap length steps.0 in
     record {
-      laid = step.chosen_goes (lay_within (64 - length c.args.chain.now) (seen_setting c.args.setting.now)) (seen_setting c.args.setting.now) c.args.chain.now c.args.file.now (seen_laid c.loop-choice.layout) (seen_properties c.loop-choice.layout.properties) (into_iter_items c.loop-choice.choice-iterator) (into_iter_items c.next.new.self) c.in-Some.choice (lay_chosen (lay_within (64 - length c.args.chain.now) (seen_setting c.args.setting.now)) (seen_setting c.args.setting.now) c.args.chain.now c.args.file.now (seen_laid c.args.layout.now) (views c.args.choices.items)) steps.0 before.laid before.kept.kept (c.in_ok-holds_in_project.ensures ∙ ap Ok c.if-branch.false);
+      laid = step.chosen_goes (lay_within (64 - length c.args.chain.now) (seen_setting c.args.setting.now)) (seen_setting c.args.setting.now) c.args.chain.now c.args.file.now (seen_laid c.loop-choice.layout) (seen_properties c.loop-choice.layout.properties) (into_iter_items c.loop-choice.choice-iterator) (into_iter_items c.next.new.self) c.in-Some.choice (lay_chosen (lay_within (64 - length c.args.chain.now) (seen_setting c.args.setting.now)) (seen_setting c.args.setting.now) c.args.chain.now c.args.file.now (seen_laid c.args.layout.now) (views c.args.choices.items)) steps.0 before.laid before.kept.kept (ap (λ f. holds_in_project (seen_setting c.args.setting.now) (seen_properties c.loop-choice.layout.properties) (at f (view c.in-Some.choice))) (sym c.as_str.ensures) ∙ (c.in_ok-holds_in_project.ensures ∙ ap Ok c.if-branch.false));
       kept = before.kept;
       counted = omega (arith, shorter, steps.1, before.counted);
       less_deep = heights_rest _ _ c.in-Some.choice _ steps.0 before.less_deep;
@@ -78,7 +81,7 @@ lay_file-returns-in_err-project-clause-laid t c =
     let found : file_at c.args.path.now c.args.setting.now.tree.now.files ≡ Some c.in-Some.file.now = ap (λ p. file_at p c.args.setting.now.tree.now.files) (sym c.as_str.ensures) ∙ sym c.in-Some.ensures in
     let p = err_from_is_err_and c.from_residual.result c.from_residual.ensures.1 in
     rw (p.1, p.2)
-    (passed_on c.in_err-project.field-0.0 _ _
+    (passed_on (λ (f : EvalFault). f.cause) c.in_err-project.field-0.0 _ _
     (λ f is. step.file_stops (seen_setting c.args.setting.now) c.args.chain.now c.args.path.now (seen_laid c.args.layout.now) (64 - length c.args.chain.now) (64 - length c.in-Ok.chain) c.in-Some.file.now f (one_less c.args.chain.now c.in-Ok.chain c.args.path.now c.requires.short c.in-Ok.ensures) found is)
     c.in_err-project.ensures)
 
@@ -99,8 +102,8 @@ pub lay_group-returns-in_err-holds_in_file-clause-laid : goal.lay_group-returns-
 lay_group-returns-in_err-holds_in_file-clause-laid t c =
     let p = err_from_is_err_and c.from_residual.result c.from_residual.ensures.1 in
     rw (p.1, p.2)
-    (passed_on c.in_err-holds_in_file.field-0.0 _ _
-    (λ f is. step.group_fault (lay_within (64 - length c.args.chain.now) (seen_setting c.args.setting.now)) (seen_setting c.args.setting.now) c.args.chain.now c.args.file.now (seen_laid c.args.layout.now) (view c.args.group) (seen_properties c.args.layout.now.properties) f c.requires.group c.requires.kept.kept is)
+    (passed_on (λ (f : EvalFault). f.cause) c.in_err-holds_in_file.field-0.0 _ _
+    (λ f is. step.group_fault (lay_within (64 - length c.args.chain.now) (seen_setting c.args.setting.now)) (seen_setting c.args.setting.now) c.args.chain.now c.args.file.now (seen_laid c.args.layout.now) (view c.args.group) (seen_properties c.args.layout.now.properties) f c.requires.group c.requires.kept.kept (ap (λ f. holds_in_file (seen_setting c.args.setting.now) (seen_properties c.args.layout.now.properties) (at f (view c.args.group))) (sym c.as_str.ensures) ∙ is))
     c.in_err-holds_in_file.ensures)
 
 pub lay_group-lay_all-requires : goal.lay_group-lay_all-requires
@@ -110,13 +113,13 @@ lay_group-lay_all-requires t c =
 pub lay_group-returns-then-branch-clause-laid : goal.lay_group-returns-then-branch-clause-laid
 lay_group-returns-then-branch-clause-laid t c =
     gives_same _ c.lay_all.result _ _
-    (step.group_held (lay_within (64 - length c.args.chain.now) (seen_setting c.args.setting.now)) (seen_setting c.args.setting.now) c.args.chain.now c.args.file.now (seen_laid c.args.layout.now) (view c.args.group) (seen_properties c.args.layout.now.properties) c.requires.group c.requires.kept.kept (c.in_ok-holds_in_file.ensures ∙ ap Ok c.if-branch.true)
+    (step.group_held (lay_within (64 - length c.args.chain.now) (seen_setting c.args.setting.now)) (seen_setting c.args.setting.now) c.args.chain.now c.args.file.now (seen_laid c.args.layout.now) (view c.args.group) (seen_properties c.args.layout.now.properties) c.requires.group c.requires.kept.kept (ap (λ f. holds_in_file (seen_setting c.args.setting.now) (seen_properties c.args.layout.now.properties) (at f (view c.args.group))) (sym c.as_str.ensures) ∙ (c.in_ok-holds_in_file.ensures ∙ ap Ok c.if-branch.true))
     ∙ ap (lay_all (lay_within (64 - length c.args.chain.now) (seen_setting c.args.setting.now)) (seen_setting c.args.setting.now) c.args.chain.now c.args.file.now (seen_laid c.args.layout.now)) (sym (step.nodes_split (view c.args.group) c.split-imports.result.1.items c.split-imports.ensures.children)))
     c.lay_all.ensures.laid
 
 pub lay_group-returns-clause-laid : goal.lay_group-returns-clause-laid
 lay_group-returns-clause-laid t c =
-    step.group_not (lay_within (64 - length c.args.chain.now) (seen_setting c.args.setting.now)) (seen_setting c.args.setting.now) c.args.chain.now c.args.file.now (seen_laid c.args.layout.now) (view c.args.group) (seen_properties c.args.layout.now.properties) c.requires.group c.requires.kept.kept (c.in_ok-holds_in_file.ensures ∙ ap Ok c.if-branch.false)
+    step.group_not (lay_within (64 - length c.args.chain.now) (seen_setting c.args.setting.now)) (seen_setting c.args.setting.now) c.args.chain.now c.args.file.now (seen_laid c.args.layout.now) (view c.args.group) (seen_properties c.args.layout.now.properties) c.requires.group c.requires.kept.kept (ap (λ f. holds_in_file (seen_setting c.args.setting.now) (seen_properties c.args.layout.now.properties) (at f (view c.args.group))) (sym c.as_str.ensures) ∙ (c.in_ok-holds_in_file.ensures ∙ ap Ok c.if-branch.false))
 
 pub lay_one-lay_chosen-requires : goal.lay_one-lay_chosen-requires
 lay_one-lay_chosen-requires t c =
@@ -124,7 +127,10 @@ lay_one-lay_chosen-requires t c =
 
 pub lay_one-returns-in-Imported-clause-laid : goal.lay_one-returns-in-Imported-clause-laid
 lay_one-returns-in-Imported-clause-laid t c =
-    gives_same _ c.lay_import.result _ _ (step.laid_import (lay_within (64 - length c.args.chain.now) (seen_setting c.args.setting.now)) (seen_setting c.args.setting.now) c.args.chain.now c.args.file.now (seen_laid c.args.layout.now) (view c.args.child) (ap part_of (sym c.name.ensures) ∙ sym c.of.ensures ∙ c.in-Imported.is)) c.lay_import.ensures.laid
+    gives_same _ c.lay_import.result _ _
+    (step.laid_import (lay_within (64 - length c.args.chain.now) (seen_setting c.args.setting.now)) (seen_setting c.args.setting.now) c.args.chain.now c.args.file.now (seen_laid c.args.layout.now) (view c.args.child) (ap part_of (sym c.name.ensures) ∙ sym c.of.ensures ∙ c.in-Imported.is)
+    ∙ ap (λ f. lay_import (lay_within (64 - length c.args.chain.now) (seen_setting c.args.setting.now)) (seen_setting c.args.setting.now) c.args.chain.now (seen_laid c.args.layout.now) (at f (view c.args.child))) (sym c.as_str.ensures))
+    c.lay_import.ensures.laid
 
 pub lay_one-returns-in-Chosen-clause-laid : goal.lay_one-returns-in-Chosen-clause-laid
 lay_one-returns-in-Chosen-clause-laid t c =

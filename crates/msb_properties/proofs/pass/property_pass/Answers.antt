@@ -1,7 +1,8 @@
 use Rattle.std.proofs.lemmas.Result.{err_from_is_err_and}
+use Rattle.msb_values.proofs.Causing.{passed_on}
+use Rattle.build_world.specs.declared.fault.EvalFault.{EvalFault}
 use Rattle.msb_properties.specs.Settings.{setting}
 use Rattle.msb_properties.specs.Seen.{seen_laid, seen_properties}
-use Rattle.msb_properties.proofs.Faults.{passed_on}
 use Rattle.msb_properties.proofs.Passing.{pass_stops, pass_goes}
 use Rattle.msb_properties.proofs.Taken.{gives_same}
 use Rattle.msb_properties.proofs.pass.property_pass.Goals as goal
@@ -10,7 +11,7 @@ pub returns-in_err-lay_file : goal.returns-in_err-lay_file
 returns-in_err-lay_file c =
     let p = err_from_is_err_and c.from_residual.result c.from_residual.ensures.1 in
     rw (p.1, p.2)
-    (passed_on c.in_err-lay_file.field-0.0 _ _
+    (passed_on (λ (f : EvalFault). f.cause) c.in_err-lay_file.field-0.0 _ _
     (λ f is. pass_stops (setting c.args.tree.now.files c.args.key.now) c.new-chain.result c.new.result.items c.new-2.result c.new-3.result f c.new-chain.ensures c.new.ensures.items c.new-2.ensures c.new-3.ensures is)
     c.in_err-lay_file.ensures.laid)
 
