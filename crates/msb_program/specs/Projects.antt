@@ -1,10 +1,10 @@
 -- An evaluated project that is built, at its path and among the files. (How MSBuild builds projects, execution phase)
-use Rattle.std.specs.Prelude.{ℕ, List, Option, None}
+use Rattle.std.specs.Prelude.{ℕ, List, Option}
 use Rattle.std.specs.List.{find}
 use Rattle.std.specs.Str.{bytes_eq}
 use Rattle.file_store.specs.Files.{paths_of}
 use Rattle.msb_expand.specs.Reserved.{folder_of}
-use Rattle.msb_expand.specs.Scenes.{Scene}
+use Rattle.msb_expand.specs.Scenes.{Scene, scene_at}
 use Rattle.msb_expand.specs.declared.lens.Use.{Use}
 use Rattle.msb_expand.specs.declared.lens.Use.TheVariants.{All}
 use Rattle.msb_condition.specs.Truth.{View}
@@ -21,14 +21,7 @@ project path files instance = record { path = path; files = files; instance = in
 
 -- what a text of an element in this file sees
 abbrev pub scene_in : Project → List ℕ → Use → Scene
-scene_in project file usage = record {
-  scope = project.instance.scope;
-  project = project.path;
-  file = file;
-  usage = usage;
-  own = None;
-  bucket = None;
-}
+scene_in project file usage = scene_at project.instance.scope project.path file usage
 
 -- what a Condition of a target in this file sees: Exists starts from the project's folder (MSBuild conditions)
 abbrev pub view_in : Project → List ℕ → View

@@ -5,10 +5,9 @@ ghost use Rattle.build_world.specs.Instances.{seen_target};
 ghost use Rattle.msb_program.specs.Bodies.{run_of, said_by, all_said, has_lists};
 ghost use Rattle.msb_program.specs.Projects.{seen_project};
 
-use crate::fault::fault_text;
 use crate::message::{Said, say};
 use crate::project::Project;
-use build_world::{Placed, UsedTarget};
+use build_world::{Placed, PlacedElement, UsedTarget};
 use msb_elements::Element;
 use msb_values::{Cause, Copied, List, Name, NoMemory, Text};
 use std::alloc::Global;
@@ -45,7 +44,7 @@ fn said_by(
 {
     let file = target.file.as_str();
     if has_lists(&target.element) {
-        let error = fault_text(alloc, file, &target.element, Cause::NotYet)?;
+        let error = PlacedElement::of(target).fault_text(alloc, Cause::NotYet)?;
         return Ok((List::new(alloc), Some(error)));
     }
     all_said(alloc, project, file, target.element.children())

@@ -6,7 +6,6 @@
 #![tactic(auto)]
 
 mod body;
-mod fault;
 mod message;
 mod outcome;
 mod project;

@@ -7,8 +7,8 @@ ghost use Rattle.build_world.specs.Elements.{at};
 ghost use Rattle.msb_program.specs.Bodies.{is_metadata, message_of, said_if, said_in, said_of, said_of_parts, text_in};
 ghost use Rattle.msb_program.specs.Projects.{seen_project};
 
-use crate::fault::fault_text;
 use crate::project::Project;
+use build_world::PlacedElement;
 use msb_elements::Element;
 use msb_expand::{Lens, Use, expression_cause, text};
 use msb_expression::{Expr, Part, parse};
@@ -36,7 +36,7 @@ pub fn say(
     match said_if(alloc, &lens, message_of(element)) {
         Ok(text) => Ok(Said::Text(text)),
         Err(Cause::Memory) => Err(NoMemory),
-        Err(cause) => Ok(Said::Fault(fault_text(alloc, file, element, cause)?)),
+        Err(cause) => Ok(Said::Fault(PlacedElement { file, element }.fault_text(alloc, cause)?)),
     }
 }
 

@@ -5,7 +5,7 @@ ghost use Rattle.msb_program.specs.Projects.{scene_in, seen_project};
 
 use build_world::Instance;
 use file_store::Tree;
-use msb_expand::{Lens, Use, folder_of};
+use msb_expand::{Lens, Use};
 
 /// An evaluated project that is built, at its path and among the files of a tree.
 /// (How MSBuild builds projects, execution phase.)
@@ -22,14 +22,6 @@ impl<'a> Project<'a> {
         ensures scene { scene_of result ≡ scene_in (seen_project self.now) file.entry.now usage }
         ensures folder { result.dir.now ≡ folder_of self.now.path.now }
     {
-        Lens {
-            scope: &self.instance.scope,
-            dir: folder_of(self.path),
-            project: self.path,
-            file,
-            usage,
-            own: None,
-            bucket: None,
-        }
+        Lens::new(&self.instance.scope, self.path, file, usage)
     }
 }

@@ -10,10 +10,9 @@ ghost use Rattle.msb_program.specs.Requests.{named_or, wanted_of, answer_of_run,
 ghost use Rattle.msb_program.specs.Asked.{RepliesTo, Replies, error_of_ask};
 
 use crate::body::Run;
-use crate::fault::fault_text;
 use crate::project::Project;
 use crate::targets::Targets;
-use build_world::{Instance, UsedTarget};
+use build_world::{Instance, PlacedElement, UsedTarget};
 use msb_condition::condition_holds;
 use msb_expand::{Lens, Use, expand_names};
 use msb_values::{Cause, Copied, List, Name, NoMemory, Text};
@@ -169,7 +168,7 @@ fn target_holds(
     match condition_holds(alloc, &lens, project.tree, element.attribute("Condition")) {
         Ok(holds) => Ok(Reply::Answer(OrderAnswer::Truth(holds))),
         Err(Cause::Memory) => Err(NoMemory),
-        Err(cause) => Ok(Reply::Fault(fault_text(alloc, file, element, cause)?)),
+        Err(cause) => Ok(Reply::Fault(PlacedElement { file, element }.fault_text(alloc, cause)?)),
     }
 }
 
@@ -200,7 +199,7 @@ fn target_depends(
     match names_if(alloc, &lens, element.attribute("DependsOnTargets")) {
         Ok(names) => Ok(Reply::Answer(OrderAnswer::Names(names))),
         Err(Cause::Memory) => Err(NoMemory),
-        Err(cause) => Ok(Reply::Fault(fault_text(alloc, file, element, cause)?)),
+        Err(cause) => Ok(Reply::Fault(PlacedElement { file, element }.fault_text(alloc, cause)?)),
     }
 }
 
