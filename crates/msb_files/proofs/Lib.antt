@@ -1,5 +1,6 @@
 pub mod Committed
 pub mod Contents
+pub mod Defined
 pub mod Growing
 pub mod Indexed
 pub mod LayerSteps

@@ -6,6 +6,7 @@ pub mod Indices
 pub mod Kept
 pub mod Layers
 pub mod Marks
+pub mod Ordered
 pub mod Recorded
 pub mod Seen
 pub mod Views

@@ -1,6 +1,6 @@
 //! Laws of the definitions that the contracts of journals cite. They run no code: their contracts are what is proved.
 
-ghost use Rattle.std.specs.Prelude.{◌≡◌, ℕ, List, [], ◌++◌, Some, is_some, true};
+ghost use Rattle.std.specs.Prelude.{◌≡◌, ℕ, List, [], ◌++◌, Some, IsSome, is_some, true};
 ghost use Rattle.std.specs.List.{list_any};
 ghost use Rattle.std.specs.Option.{option_or};
 ghost use Rattle.std.specs.Str.{bytes_eq};
@@ -10,9 +10,10 @@ ghost use Rattle.file_store.specs.declared.tree.File.{File};
 ghost use Rattle.result_cache.specs.declared.run.RunId.{RunId};
 ghost use Rattle.result_cache.specs.Journal.{Journal, Entry, add, merge, content};
 ghost use Rattle.result_cache.specs.Replay.{replay};
-ghost use Rattle.result_cache.specs.Table.{Records};
+ghost use Rattle.result_cache.specs.Table.{Records, found};
 ghost use Rattle.msb_files.specs.FinalTree.{commit_list, IsFinalTree};
 ghost use Rattle.msb_files.specs.Growth.{AreOnce, news, Grows};
+ghost use Rattle.msb_files.specs.Ordered.{IsOrdered};
 ghost use Rattle.msb_files.specs.Views as views;
 ghost use Rattle.msb_files.specs.Views.{View, paths};
 
@@ -42,6 +43,12 @@ pub fn merges_put_news_in_front()
 pub fn replays_put_news_in_front()
     ensures replayed { (table : Records) (run : RunId) (journal after : Journal) → replay table run journal ≡ Some after → Grows journal after }
     ensures content { (gained journal : Journal) (path : List ℕ) → content (gained ++ journal) path ≡ option_or (content gained path) (content journal path) }
+{}
+
+/// A finished run can be replayed in every journal where each record of the table calls for runs that were finished before
+/// it.
+pub fn replays_are_defined()
+    ensures { (table : Records) (run : RunId) (journal : Journal) → IsOrdered table → IsSome (found table run) → IsSome (replay table run journal) }
 {}
 
 /// The paths of a view stand in byte order, and are just those that have content.

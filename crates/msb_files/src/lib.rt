@@ -22,6 +22,6 @@ pub use entry::JView;
 pub use journal::Journal;
 pub use laws::{
     commits_leave_the_final_tree, entries_stay_once, merges_put_news_in_front, paths_have_content,
-    replays_put_news_in_front,
+    replays_are_defined, replays_put_news_in_front,
 };
 pub use view::FileView;
