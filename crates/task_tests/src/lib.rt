@@ -3,4 +3,6 @@
 #![tactic(auto)]
 
 #[cfg(test)]
+mod built_in;
+#[cfg(test)]
 mod msbuild;
