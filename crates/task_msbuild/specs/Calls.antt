@@ -1,5 +1,5 @@
 -- The requests that the task calls: of each project that is there, with all targets or with each by itself. (MSBuild task)
-use Rattle.std.specs.Prelude.{ℕ, List, [], ◌∷◌, Bool, true, false, not, ◌&&◌, ◌||◌, ◌==◌, ◌+◌, length, map, take, Option, Some, None, is_some, if◌then◌else◌}
+use Rattle.std.specs.Prelude.{ℕ, List, [], ◌∷◌, Bool, true, false, not, ◌&&◌, ◌==◌, ◌+◌, length, map, take, Option, Some, None, is_some, if◌then◌else◌}
 use Rattle.std.specs.List.{flat_map, position}
 use Rattle.file_store.specs.Files.{file_at}
 use Rattle.file_store.specs.declared.tree.File.{File}

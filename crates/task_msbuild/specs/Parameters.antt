@@ -1,5 +1,5 @@
 -- The parameters of the MSBuild task as it uses them, or why it can't. (MSBuild task)
-use Rattle.std.specs.Prelude.{ℕ, List, [], ◌∷◌, Bool, Option, option_map, Result, codes}
+use Rattle.std.specs.Prelude.{ℕ, List, [], ◌∷◌, Option, option_map, Result, codes}
 use Rattle.std.specs.Result.{result_ok}
 use Rattle.msb_laws.specs.Results.{and_then, map_ok}
 use Rattle.msb_laws.specs.Traverse.{traverse}
