@@ -37,19 +37,26 @@ abbrev pub calls_text : List ℕ → List (List ℕ)
 calls_text [] = []
 calls_text (i ∷ is) = call_text (i ∷ is) (output_text ∷ []) ∷ []
 
--- a task that writes the project's name and what was returned to its file
+-- a task that writes lines to a file
+abbrev pub lines_text : List ℕ → List ℕ → List ℕ
+lines_text file lines =
+    element_text (codes "WriteLinesToFile") ((codes "File", file) ∷ (codes "Lines", lines) ∷ (codes "Overwrite", codes "true") ∷ []) []
+
+-- the project's name and what was returned are written to its file
 abbrev pub write_text : ℕ → List ℕ
-write_text i =
-    element_text (codes "WriteLinesToFile")
-    ((codes "File", output_of i) ∷ (codes "Lines", name_of i ++ codes ";@(O)") ∷ (codes "Overwrite", codes "true") ∷ []) []
+write_text i = lines_text (output_of i) (name_of i ++ codes ";@(O)")
 
 abbrev pub target_text : List (List ℕ × List ℕ) → List (List ℕ) → List ℕ
-target_text outputs tasks = element_text (codes "Project") [] (element_text (codes "Target") ((codes "Name", codes "Build") ∷ outputs) tasks ∷ [])
+target_text attributes tasks = element_text (codes "Project") [] (element_text (codes "Target") attributes tasks ∷ [])
+
+-- the target Build, which writes this file
+abbrev pub build_text : List ℕ → List (List ℕ) → List ℕ
+build_text file tasks = target_text ((codes "Name", codes "Build") ∷ (codes "Outputs", file) ∷ []) tasks
 
 -- project i, which calls these
 abbrev pub project_text : ℕ → List ℕ → List ℕ
-project_text i calls = target_text ((codes "Outputs", output_of i) ∷ []) (calls_text calls ++ write_text i ∷ [])
+project_text i calls = build_text (output_of i) (calls_text calls ++ write_text i ∷ [])
 
 -- the project that calls all
 abbrev pub root_text : List ℕ → List ℕ
-root_text all = target_text [] (call_text all [] ∷ [])
+root_text all = target_text ((codes "Name", codes "Build") ∷ []) (call_text all [] ∷ [])

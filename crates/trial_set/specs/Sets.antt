@@ -1,5 +1,5 @@
 -- Sets of projects that call each other, made from a seed. (This engine's own generator)
-use Rattle.std.specs.Prelude.{ℕ, zero, suc, ◌+◌, List, [], ◌∷◌, ◌++◌, map, codes}
+use Rattle.std.specs.Prelude.{ℕ, zero, suc, ◌+◌, List, [], ◌∷◌, map, codes}
 use Rattle.msb_values.specs.Pairs.{all_put}
 use Rattle.file_store.specs.declared.tree.File.{File}
 use Rattle.trial_set.specs.Draws.{calls_of}

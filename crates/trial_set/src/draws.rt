@@ -44,8 +44,10 @@ impl Draws {
         ensures state { OnOk result (self.new.state ≡ (drawn (last + 1) count self.old.state).state) }
     {
         let mut numbers = BTreeSet::new(alloc);
-        for _ in 0..count {
+        let mut left = count;
+        while left > 0 {
             numbers.insert(1 + self.draw() % last)?;
+            left -= 1;
         }
         Ok(numbers)
     }

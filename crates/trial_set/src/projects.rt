@@ -1,6 +1,6 @@
-ghost use Rattle.std.specs.Prelude.{◌≡◌, ◌++◌, map, IfOk, OnOk, string_bytes};
+ghost use Rattle.std.specs.Prelude.{◌≡◌, [], ◌∷◌, ◌++◌, map, IfOk, OnOk, string_bytes, codes};
 ghost use Rattle.std.specs.List.{flat_map};
-ghost use Rattle.trial_set.specs.Projects.{file_of, output_of, next_file, file_list, call_text, output_text, calls_text, write_text, target_text, project_text, root_text};
+ghost use Rattle.trial_set.specs.Projects.{name_of, file_of, output_of, next_file, file_list, call_text, output_text, calls_text, lines_text, write_text, target_text, build_text, project_text, root_text};
 
 use crate::elements::element;
 use msb_values::NoMemory;
@@ -18,31 +18,48 @@ pub(crate) fn file_of(alloc: Global, number: u64) -> Result<String, NoMemory>
 pub(crate) fn project(alloc: Global, number: u64, calls: &[u64]) -> Result<String, NoMemory>
     ensures { IfOk result (λ text. string_bytes text ≡ project_text number calls.now) }
 {
-    let mut tasks = called(alloc, calls)?;
-    tasks.push(write(alloc, number)?)?;
+    let tasks = tasks(alloc, number, calls)?;
     let output = output_of(alloc, number)?;
-    target(
-        alloc,
-        &[("Name", "Build"), ("Outputs", output.as_str())],
-        &tasks,
-    )
+    build(alloc, output.as_str(), &tasks)
 }
 
 /// The text of the project that calls all.
 pub(crate) fn root(alloc: Global, all: &[u64]) -> Result<String, NoMemory>
     ensures { IfOk result (λ text. string_bytes text ≡ root_text all.now) }
 {
-    let mut tasks = Vec::new(alloc);
-    tasks.push(call(alloc, all, &[])?)?;
+    let tasks = one(alloc, call(alloc, all, &[])?)?;
     target(alloc, &[("Name", "Build")], &tasks)
+}
+
+/// The tasks of a project's target.
+fn tasks(alloc: Global, number: u64, calls: &[u64]) -> Result<Vec<String>, NoMemory>
+    ensures { IfOk result (λ tasks. map string_bytes tasks.items ≡ calls_text calls.now ++ write_text number ∷ []) }
+{
+    let mut tasks = called(alloc, calls)?;
+    tasks.push(write(alloc, number)?)?;
+    Ok(tasks)
+}
+
+/// The target Build, which writes this file.
+fn build(alloc: Global, file: &str, tasks: &[String]) -> Result<String, NoMemory>
+    ensures { IfOk result (λ text. string_bytes text ≡ build_text file.now (map string_bytes tasks.now)) }
+{
+    target(alloc, &[("Name", "Build"), ("Outputs", file)], tasks)
 }
 
 fn target(alloc: Global, attributes: &[(&str, &str)], tasks: &[String]) -> Result<String, NoMemory>
     ensures { IfOk result (λ text. string_bytes text ≡ target_text (map (λ p. (p.0.now, p.1.now)) attributes.now) (map string_bytes tasks.now)) }
 {
-    let mut targets = Vec::new(alloc);
-    targets.push(element(alloc, "Target", attributes, tasks)?)?;
+    let targets = one(alloc, element(alloc, "Target", attributes, tasks)?)?;
     element(alloc, "Project", &[], &targets)
+}
+
+fn one(alloc: Global, text: String) -> Result<Vec<String>, NoMemory>
+    ensures { IfOk result (λ texts. map string_bytes texts.items ≡ string_bytes text ∷ []) }
+{
+    let mut texts = Vec::new(alloc);
+    texts.push(text)?;
+    Ok(texts)
 }
 
 /// The call of the projects that a project calls, if there are any.
@@ -51,8 +68,7 @@ fn called(alloc: Global, calls: &[u64]) -> Result<Vec<String>, NoMemory>
 {
     let mut tasks = Vec::new(alloc);
     if !calls.is_empty() {
-        let mut outputs = Vec::new(alloc);
-        outputs.push(output(alloc)?)?;
+        let outputs = one(alloc, output(alloc)?)?;
         tasks.push(call(alloc, calls, &outputs)?)?;
     }
     Ok(tasks)
@@ -88,15 +104,23 @@ fn write(alloc: Global, number: u64) -> Result<String, NoMemory>
     ensures { IfOk result (λ text. string_bytes text ≡ write_text number) }
 {
     let file = output_of(alloc, number)?;
-    let lines = format!(in alloc; "p{number};@(O)")?;
+    let lines = lines_of(alloc, number)?;
+    write_lines(alloc, file.as_str(), lines.as_str())
+}
+
+fn lines_of(alloc: Global, number: u64) -> Result<String, NoMemory>
+    ensures { IfOk result (λ lines. string_bytes lines ≡ name_of number ++ codes ";@(O)") }
+{
+    Ok(format!(in alloc; "p{number};@(O)")?)
+}
+
+fn write_lines<'a>(alloc: Global, file: &'a str, lines: &'a str) -> Result<String, NoMemory>
+    ensures { IfOk result (λ text. string_bytes text ≡ lines_text file.now lines.now) }
+{
     element(
         alloc,
         "WriteLinesToFile",
-        &[
-            ("File", file.as_str()),
-            ("Lines", lines.as_str()),
-            ("Overwrite", "true"),
-        ],
+        &[("File", file), ("Lines", lines), ("Overwrite", "true")],
         &[],
     )
 }
