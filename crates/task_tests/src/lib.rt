@@ -3,6 +3,4 @@
 #![tactic(auto)]
 
 #[cfg(test)]
-mod built_in;
-#[cfg(test)]
 mod msbuild;
