@@ -1,4 +1,10 @@
 pub mod Turning
 pub mod Stopping
 pub mod Rising
-pub mod Holding
+pub mod Naming
+pub mod SetLemmas
+pub mod Changing
+pub mod Plain
+pub mod Replacing
+pub mod InOrder
+pub mod PutBack

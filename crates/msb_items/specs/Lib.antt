@@ -4,6 +4,16 @@ pub mod Definitions
 pub mod Patterns
 pub mod ItemNames
 pub mod Items
-pub mod Held
+pub mod FoldedNames
+pub mod Replaced
+pub mod Batched
+pub mod ReadTexts
+pub mod Truths
+pub mod Repeats
+pub mod RepeatKeys
+pub mod Transfers
+pub mod TargetItems
+pub mod TargetProperties
+pub mod TargetGroups
 pub mod Seen
 pub mod Answers

@@ -39,6 +39,10 @@ definition_attributes = codes "Condition" ∷ codes "Label" ∷ []
 abbrev pub item_attributes : List (List ℕ)
 item_attributes = codes "Include" ∷ codes "Exclude" ∷ codes "Remove" ∷ codes "Update" ∷ codes "Condition" ∷ codes "Label" ∷ []
 
+-- and of an item element in a target
+abbrev pub target_attributes : List (List ℕ)
+target_attributes = codes "KeepDuplicates" ∷ codes "KeepMetadata" ∷ codes "RemoveMetadata" ∷ item_attributes
+
 -- well-known metadata are computed, and these are as well in other builds
 abbrev pub left_out : List (List ℕ)
 left_out = codes "modifiedtime" ∷ codes "createdtime" ∷ codes "accessedtime" ∷ codes "definingprojectfullpath"

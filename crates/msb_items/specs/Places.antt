@@ -7,7 +7,7 @@ use Rattle.msb_expand.specs.Scenes.{Scene}
 use Rattle.msb_expand.specs.Written.{expanded, expanded_entries}
 use Rattle.msb_expand.specs.declared.lens.Bucket.{Bucket}
 use Rattle.msb_expand.specs.declared.lens.Use.{Use}
-use Rattle.msb_expand.specs.declared.lens.Use.TheVariants.{Definition, Metadata, All}
+use Rattle.msb_expand.specs.declared.lens.Use.TheVariants.{Definition, Metadata, All, Batched}
 use Rattle.msb_condition.specs.Truth.{View}
 use Rattle.msb_condition.specs.Written.{condition_holds}
 use Rattle.msb_laws.specs.Results.{fold_ok}
@@ -25,7 +25,7 @@ pub record Place : Type 0 where
   pub own : Option (List ℕ × Item)
   pub bucket : Option Bucket
 
--- the place of item definitions, and the place of items, outside targets
+-- the place of item definitions, and the place of items outside targets and of the groups in a target
 abbrev pub definition_place : List (List ℕ) → List ℕ → Scope → Place
 definition_place files project scope = record { files = files; project = project; scope = scope; usage = Definition; own = None; bucket = None }
 
@@ -43,6 +43,10 @@ metadata_usage usage = usage
 
 abbrev pub metadata_place : Place → List ℕ → Item → Place
 metadata_place p kind item = record { files = p.files; project = p.project; scope = p.scope; usage = metadata_usage p.usage; own = Some (kind, item); bucket = p.bucket }
+
+-- an element in a target, in one of its buckets, where metadata are the bucket's
+abbrev pub in_bucket : Place → Bucket → Place
+in_bucket p bucket = record { files = p.files; project = p.project; scope = p.scope; usage = Batched; own = p.own; bucket = Some bucket }
 
 -- each element in turn sees the scope that those ahead of it have left
 abbrev pub after_each : (Place → At → Result Scope EvalFault) → Place → List At → Result Scope EvalFault

@@ -5,10 +5,10 @@ use Rattle.build_world.specs.Elements.{seen_element}
 use Rattle.msb_items.specs.declared.place.Place as code
 use Rattle.msb_items.specs.declared.source.Source.{Source}
 use Rattle.msb_items.specs.declared.metadata.Kind.{Kind}
-use Rattle.msb_items.specs.declared.metadata.Kind.TheVariants.{Definition, Item}
+use Rattle.msb_items.specs.declared.metadata.Kind.TheVariants.{Definition, Item, TargetItem}
 use Rattle.msb_items.specs.declared.metadata.WrittenMetadata as written
 use Rattle.msb_items.specs.Places.{Place, definition_place, item_place}
-use Rattle.msb_items.specs.Metadata.{WrittenMetadata, definition_attributes, item_attributes}
+use Rattle.msb_items.specs.Metadata.{WrittenMetadata, definition_attributes, item_attributes, target_attributes}
 
 -- by what files a view of them has
 abbrev pub place_of : {F : Type 0} → (F → List (List ℕ)) → code.Place F → Place
@@ -34,3 +34,4 @@ metadata_of metadata = record { name = metadata.name.now; text = metadata.text.n
 abbrev pub reserved_of : Kind → List (List ℕ)
 reserved_of Definition = definition_attributes
 reserved_of Item = item_attributes
+reserved_of TargetItem = target_attributes

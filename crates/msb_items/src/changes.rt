@@ -2,17 +2,20 @@ ghost use Rattle.std.specs.Prelude.{◌≡◌, option_copied};
 ghost use Rattle.msb_laws.specs.Results.{and_then, map_ok};
 ghost use Rattle.build_world.specs.Answers.{GivesFault};
 ghost use Rattle.build_world.specs.Elements.{seen_element};
-ghost use Rattle.msb_items.specs.Held.{held, held_in};
-ghost use Rattle.msb_items.specs.Items.{items_at, less_excluded, list_of, names_at, new_items, unnamed, updated_items};
+ghost use Rattle.msb_items.specs.FoldedNames.{folded_names, seen_names};
+ghost use Rattle.msb_items.specs.Items.{items_at, less_excluded, list_of, names_at, new_items, unnamed};
+ghost use Rattle.msb_items.specs.ItemNames.{is_named};
 ghost use Rattle.msb_items.specs.Metadata.{item_attributes, metadata_on};
+ghost use Rattle.msb_items.specs.Replaced.{replacements_of};
 ghost use Rattle.msb_items.specs.Seen.{place_of};
 
-use crate::entries::all_items;
+use crate::entries::{all_items, items_by};
+use crate::files::ListedFiles;
 use crate::item_names::ItemNames;
 use crate::metadata::{Kind, metadata_on};
 use crate::place::Place;
 use crate::unnamed::unnamed;
-use crate::updates::{updated_items, with_metadata};
+use crate::updates::{replacements, with_metadata};
 use build_world::{EvalFault, PlacedElement};
 use msb_glob::SortedPaths;
 use msb_paths::Present;
@@ -59,7 +62,23 @@ fn items_at<F: Present>(
     }
 }
 
-fn less_excluded<F: Present>(
+/// The items of the entries of an Include in a target.
+pub(crate) fn target_items_at<F: ListedFiles>(
+    alloc: Global,
+    place: &Place<'_, F>,
+    element: &PlacedElement<'_>,
+    include: &str,
+) -> Result<Vec<Item>, EvalFault>
+    ensures { GivesFault (λ items. items.items) result (items_at (place_of F.files place.now) (seen_element element.now) include.now) }
+{
+    let entries = place.entries(alloc, element, include)?;
+    match items_by(alloc, place.files, place.project, entries.as_slice()) {
+        Ok(items) => Ok(items),
+        Err(cause) => Err(element.fault(alloc, cause)),
+    }
+}
+
+pub(crate) fn less_excluded<F: Present>(
     alloc: Global,
     place: &Place<'_, F>,
     element: &PlacedElement<'_>,
@@ -98,7 +117,7 @@ pub(crate) fn names_at<F: Present>(
     element: &PlacedElement<'_>,
     written: &str,
 ) -> Result<ItemNames, EvalFault>
-    ensures { GivesFault held_in result (map_ok held (names_at (place_of F.files place.now) (seen_element element.now) written.now)) }
+    ensures { GivesFault seen_names result (map_ok folded_names (names_at (place_of F.files place.now) (seen_element element.now) written.now)) }
 {
     let entries = place.entries(alloc, element, written)?;
     match ItemNames::of(alloc, place.project, entries.as_slice()) {
@@ -107,23 +126,23 @@ pub(crate) fn names_at<F: Present>(
     }
 }
 
-/// The items of a type, of which those that an Update names get the metadata that are written on the element.
+/// What each item of a type becomes that an Update names: a copy with the metadata that are written on the element.
 /// (MSBuild items.)
-pub(crate) fn items_updated<F: Present>(
+pub(crate) fn update_replacements<F: Present>(
     alloc: Global,
     place: &Place<'_, F>,
     kind: &Name,
     element: &PlacedElement<'_>,
     update: &str,
-) -> Result<Vec<Item>, EvalFault>
-    ensures { GivesFault (λ items. items.items) result (and_then (names_at (place_of F.files place.now) (seen_element element.now) update.now) (λ names. updated_items (place_of F.files place.now) kind.now (metadata_on item_attributes (seen_element element.now)) names (list_of place.now.scope.now kind.now))) }
+) -> Result<Vec<Option<Item>>, EvalFault>
+    ensures { GivesFault (λ replacements. replacements.items) result (and_then (names_at (place_of F.files place.now) (seen_element element.now) update.now) (λ names. replacements_of (place_of F.files place.now) kind.now (metadata_on item_attributes (seen_element element.now)) (is_named place.now.project.now names) (list_of place.now.scope.now kind.now))) }
 {
     let names = names_at(alloc, place, element, update)?;
     let Ok(written) = metadata_on(alloc, Kind::Item, element) else {
         return Err(EvalFault::memory(alloc));
     };
     let items = list_of(place.scope, kind);
-    updated_items(alloc, place, kind, &names, &written, items)
+    replacements(alloc, place, kind, &names, &written, items)
 }
 
 fn list_of<'a>(scope: &'a Scope, kind: &Name) -> &'a [Item]

@@ -1,10 +1,14 @@
-ghost use Rattle.std.specs.Prelude.{◌≡◌, [], ◌∷◌, ◌++◌, map, IfOk, OnOk};
+ghost use Rattle.std.specs.Prelude.{◌≡◌, [], ◌∷◌, ◌++◌, map, IfOk, IsSorted, OnOk};
+ghost use Rattle.std.specs.Cmp.Lexicographic.{slice_cmp};
+ghost use Rattle.std.specs.List.{list_any};
+ghost use Rattle.std.specs.Ordering.{nat_cmp};
 ghost use Rattle.msb_laws.specs.Results.{map_ok};
 ghost use Rattle.msb_values.specs.Caused.{GivesCause, UnlessMemory};
 ghost use Rattle.msb_items.specs.Answers.{GivesCauseAs};
 ghost use Rattle.msb_items.specs.Items.{all_items, item_of, items_of, matched};
 ghost use Rattle.msb_items.specs.Patterns.{is_pattern_entry, pattern_cause, pattern_of};
 
+use crate::files::ListedFiles;
 use msb_expand::{Entry, folder_of};
 use msb_glob::{GlobFault, Match, Pattern, SortedPaths, expand_in, is_pattern};
 use msb_values::{Cause, Copied, Item, NoMemory, Pairs, Text};
@@ -53,6 +57,68 @@ pub(crate) fn all_items(
     let mut items = Vec::new(alloc);
     push_items(alloc, &mut items, paths, project, entries)?;
     Ok(items)
+}
+
+/// The items of the entries of an Include in a target, where the paths of the files are listed only for a pattern.
+pub(crate) fn items_by<F: ListedFiles>(
+    alloc: Global,
+    files: &F,
+    project: &str,
+    entries: &[Entry],
+) -> Result<Vec<Item>, Cause>
+    ensures { GivesCauseAs (λ items. items.items) result (all_items (F.files files.now) project.now entries.now) }
+{
+    if has_pattern(entries) {
+        return listed_items(alloc, files, project, entries);
+    }
+    match copies_of(alloc, entries) {
+        Ok(items) => Ok(items),
+        Err(_) => Err(Cause::Memory),
+    }
+}
+
+fn listed_items<F: ListedFiles>(
+    alloc: Global,
+    files: &F,
+    project: &str,
+    entries: &[Entry],
+) -> Result<Vec<Item>, Cause>
+    ensures { GivesCauseAs (λ items. items.items) result (all_items (F.files files.now) project.now entries.now) }
+{
+    let Ok(paths) = files.paths(alloc) else {
+        return Err(Cause::Memory);
+    };
+    let Ok(paths) = sorted(alloc, paths.as_slice()) else {
+        return Err(Cause::Memory);
+    };
+    all_items(alloc, &paths, project, entries)
+}
+
+fn has_pattern(entries: &[Entry]) -> bool
+    ensures { result ≡ list_any is_pattern_entry entries.now }
+{
+    entries.iter().any(|entry| is_pattern_entry(entry))
+}
+
+fn copies_of(alloc: Global, entries: &[Entry]) -> Result<Vec<Item>, NoMemory>
+    ensures { IfOk result (λ items. items.items ≡ map (λ entry. entry.item) entries.now) }
+{
+    let mut items = Vec::with_capacity(alloc, entries.len())?;
+    for entry in entries {
+        items.push(entry.item.copy()?)?;
+    }
+    Ok(items)
+}
+
+fn sorted<'p>(alloc: Global, paths: &'p [Text]) -> Result<SortedPaths<'p>, NoMemory>
+    requires { IsSorted (slice_cmp nat_cmp) paths.now }
+    ensures { IfOk result (λ sorted. sorted ≡ paths.now) }
+{
+    let mut texts = Vec::with_capacity(alloc, paths.len())?;
+    for path in paths {
+        texts.push(path.as_str())?;
+    }
+    Ok(SortedPaths::of(texts).unwrap())
 }
 
 fn push_items(

@@ -6,7 +6,7 @@ ghost use Rattle.std.specs.Cmp.Lexicographic.{slice_cmp};
 ghost use Rattle.msb_laws.specs.Results.{map_ok, all_ok};
 ghost use Rattle.msb_glob.specs.Match.{fits_path};
 ghost use Rattle.msb_items.specs.Answers.{GivesCauseAs};
-ghost use Rattle.msb_items.specs.Held.{fits_any, folded_ident, has_ident, held, held_in, is_held, path_of, with_idents};
+ghost use Rattle.msb_items.specs.FoldedNames.{fits_any, folded_ident, has_ident, folded_names, seen_names, is_named_by, path_of, with_idents};
 ghost use Rattle.msb_items.specs.ItemNames.{idents_of, names_of, patterns_of};
 ghost use Rattle.msb_items.specs.Patterns.{is_pattern_entry, pattern_of};
 
@@ -30,7 +30,7 @@ pub(crate) struct ItemNames {
 impl ItemNames {
     /// What the entries of a list name.
     pub(crate) fn of(alloc: Global, project: &str, entries: &[Entry]) -> Result<ItemNames, Cause>
-        ensures { GivesCauseAs held_in result (map_ok held (names_of project.now entries.now)) }
+        ensures { GivesCauseAs seen_names result (map_ok folded_names (names_of project.now entries.now)) }
     {
         let mut patterns = List::new(alloc);
         push_patterns(alloc, &mut patterns, project, entries)?;
@@ -42,7 +42,7 @@ impl ItemNames {
 
     /// Whether an entry is the item's identity, or a pattern among them matches it.
     pub(crate) fn names(&self, alloc: Global, project: &str, item: &Item) -> Result<bool, NoMemory>
-        ensures { IfOk result (λ is. is ≡ is_held project.now (held_in self.now) item.now) }
+        ensures { IfOk result (λ is. is ≡ is_named_by project.now (seen_names self.now) item.now) }
     {
         let ident = item.ident.as_str();
         if self.has(alloc, ident)? {

@@ -1,14 +1,15 @@
-ghost use Rattle.std.specs.Prelude.{◌≡◌, ◌++◌, map, true, Some, OnOk};
+ghost use Rattle.std.specs.Prelude.{◌≡◌, ◌++◌, map, true, Some, OnOk, option_and_then};
 ghost use Rattle.file_store.specs.Files.{paths_of};
 ghost use Rattle.build_world.specs.Answers.{GivesFault};
 ghost use Rattle.build_world.specs.Elements.{children_of, seen_element, seen_placed};
 ghost use Rattle.msb_items.specs.Answers.{Changes};
 ghost use Rattle.msb_items.specs.Items.{all_itemed, included, item_if, item_named, itemed_by, list_of, removed, updated, with_item, with_items, with_list};
-ghost use Rattle.msb_items.specs.Held.{held_in, unheld};
+ghost use Rattle.msb_items.specs.FoldedNames.{seen_names, unnamed_by};
 ghost use Rattle.msb_items.specs.Places.{after_each, element_holds};
+ghost use Rattle.msb_items.specs.Replaced.{or_item, replaced};
 ghost use Rattle.msb_items.specs.Seen.{items_in};
 
-use crate::changes::{items_updated, names_at, new_items};
+use crate::changes::{names_at, new_items, update_replacements};
 use crate::item_names::ItemNames;
 use crate::metadata::key_of;
 use crate::place::Place;
@@ -208,7 +209,7 @@ fn remove_named(
     kind: &Name,
     scope: &mut Scope,
 ) -> Result<(), NoMemory>
-    ensures { OnOk result (scope.new ≡ with_list scope.old kind.now (unheld project.now (held_in names.now) (list_of scope.old kind.now))) }
+    ensures { OnOk result (scope.new ≡ with_list scope.old kind.now (unnamed_by project.now (seen_names names.now) (list_of scope.old kind.now))) }
 {
     let list = scope.items.replace(kind, List::new(alloc));
     let kept = unnamed(alloc, project, names, list.into_vec())?;
@@ -226,10 +227,42 @@ fn update<F: Present>(
     ensures { Changes result scope.new (updated (items_in F.files source.now scope.old) kind.now (seen_element element.now) written.now) }
 {
     let place = Place::of_items(source.files, source.project, scope);
-    let items = items_updated(alloc, &place, kind, element, written)?;
-    match set_list(scope, kind, items) {
+    let replacements = update_replacements(alloc, &place, kind, element, written)?;
+    match replace_in(alloc, scope, kind, replacements) {
         Ok(()) => Ok(()),
         Err(_) => Err(EvalFault::memory(alloc)),
+    }
+}
+
+/// Puts what replaces items of a type in their places; the others stay where they are.
+fn replace_in(
+    alloc: Global,
+    scope: &mut Scope,
+    kind: &Name,
+    replacements: Vec<Option<Item>>,
+) -> Result<(), NoMemory>
+    ensures { OnOk result (scope.new ≡ with_list scope.old kind.now (replaced (list_of scope.old kind.now) replacements.items)) }
+{
+    let mut items = scope.items.replace(kind, List::new(alloc)).into_vec();
+    put_all(&mut items, replacements);
+    scope.items.insert(kind.copy()?, List::from(items))
+}
+
+fn put_all(items: &mut [Item], replacements: Vec<Option<Item>>)
+    ensures { items.new ≡ replaced items.old replacements.items }
+{
+    let mut replacements = replacements.into_iter();
+    for item in items.iter_mut() {
+        put(item, replacements.next());
+    }
+}
+
+/// Puts what replaces an item in its place, if something does.
+fn put(item: &mut Item, replacement: Option<Option<Item>>)
+    ensures { item.new ≡ or_item (option_and_then (λ changed. changed) replacement) item.old }
+{
+    if let Some(Some(changed)) = replacement {
+        *item = changed;
     }
 }
 
@@ -249,10 +282,4 @@ fn push_all(list: &mut List<Item>, new: Vec<Item>) -> Result<(), NoMemory>
         list.push(item)?;
     }
     Ok(())
-}
-
-fn set_list(scope: &mut Scope, kind: &Name, items: Vec<Item>) -> Result<(), NoMemory>
-    ensures { OnOk result (scope.new ≡ with_list scope.old kind.now items.items) }
-{
-    scope.items.insert(kind.copy()?, List::from(items))
 }

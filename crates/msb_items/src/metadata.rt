@@ -21,6 +21,8 @@ use std::alloc::Global;
 pub(crate) enum Kind {
     Definition,
     Item,
+    /// An item element in a target.
+    TargetItem,
 }
 
 /// A metadata that is written on an element: its name and its value, its Condition if there is one, and the element at
@@ -77,6 +79,18 @@ fn is_reserved(kind: Kind, name: &str) -> bool
             name,
             "Include" | "Exclude" | "Remove" | "Update" | "Condition" | "Label"
         ),
+        Kind::TargetItem => matches!(
+            name,
+            "KeepDuplicates"
+                | "KeepMetadata"
+                | "RemoveMetadata"
+                | "Include"
+                | "Exclude"
+                | "Remove"
+                | "Update"
+                | "Condition"
+                | "Label"
+        ),
     }
 }
 
@@ -130,7 +144,7 @@ impl WrittenMetadata<'_> {
         ensures { GivesFault (λ pair. pair) result (value_unless (is_computed name) (place_of F.files place.now) (metadata_of self.now) name) }
     {
         if is_computed(&name) {
-            return Err(refused(alloc, &self.element, &name));
+            return Err(reserved_fault(alloc, &self.element, &name));
         }
         let text = place.text(alloc, &self.element, self.text)?;
         Ok(Some((name, text)))
@@ -148,7 +162,7 @@ pub(crate) fn key_of(alloc: Global, text: &str) -> Result<Option<Name>, EvalFaul
     }
 }
 
-fn refused(alloc: Global, element: &PlacedElement<'_>, name: &Name) -> EvalFault
+pub(crate) fn reserved_fault(alloc: Global, element: &PlacedElement<'_>, name: &Name) -> EvalFault
     ensures { UnlessMemory result.cause (result ≡ fault_of (seen_element element.now) (Reserved name.now)) }
 {
     match Text::of(alloc, name.key()) {

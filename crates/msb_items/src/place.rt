@@ -2,8 +2,9 @@ ghost use Rattle.std.specs.Prelude.{◌≡◌, option_map, option_copied};
 ghost use Rattle.msb_condition.specs.Answers.{view_of};
 ghost use Rattle.build_world.specs.Answers.{GivesFault};
 ghost use Rattle.build_world.specs.Elements.{seen_element};
-ghost use Rattle.msb_items.specs.Places.{definition_place, element_holds, entries_at, holds_at, item_place, metadata_place, metadata_usage, text_at, view_in};
+ghost use Rattle.msb_items.specs.Places.{definition_place, element_holds, entries_at, holds_at, in_bucket, item_place, metadata_place, metadata_usage, text_at, view_in};
 ghost use Rattle.msb_items.specs.Seen.{place_of};
+ghost use Rattle.msb_items.specs.TargetItems.{items_seen};
 
 use build_world::{EvalFault, PlacedElement};
 use msb_condition::condition_holds;
@@ -67,8 +68,29 @@ impl<'a, F: Present> Place<'a, F> {
         }
     }
 
+    /// The place of an element in a target in one of its buckets.
+    pub(crate) fn in_bucket<'s>(&'s self, bucket: &'s Bucket) -> Place<'s, F>
+        ensures { place_of F.files result ≡ in_bucket (place_of F.files self.now) bucket.now }
+    {
+        Place {
+            files: self.files,
+            project: self.project,
+            scope: self.scope,
+            usage: Use::Batched,
+            own: self.own(),
+            bucket: Some(bucket),
+        }
+    }
+
+    /// The items of a type that the bucket sees.
+    pub(crate) fn items<'s>(&'s self, kind: &Name) -> &'s [Item]
+        ensures { result.now ≡ items_seen (place_of F.files self.now) kind.now }
+    {
+        self.lens("").items(kind)
+    }
+
     /// What a text sees that stands in a file.
-    fn lens<'s>(&'s self, file: &'s str) -> Lens<'s>
+    pub(crate) fn lens<'s>(&'s self, file: &'s str) -> Lens<'s>
         ensures { view_of result (F.files self.now.files.now) ≡ view_in (place_of F.files self.now) file.now }
     {
         Lens {

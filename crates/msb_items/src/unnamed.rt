@@ -1,5 +1,5 @@
 ghost use Rattle.std.specs.Prelude.{◌≡◌, ◌++◌, IfOk, OnOk};
-ghost use Rattle.msb_items.specs.Held.{held_in, if_unheld, unheld};
+ghost use Rattle.msb_items.specs.FoldedNames.{seen_names, item_unless, unnamed_by};
 
 use crate::item_names::ItemNames;
 use msb_values::{Item, NoMemory};
@@ -12,7 +12,7 @@ pub(crate) fn unnamed(
     names: &ItemNames,
     items: Vec<Item>,
 ) -> Result<Vec<Item>, NoMemory>
-    ensures { IfOk result (λ kept. kept.items ≡ unheld project.now (held_in names.now) items.items) }
+    ensures { IfOk result (λ kept. kept.items ≡ unnamed_by project.now (seen_names names.now) items.items) }
 {
     let mut kept = Vec::new(alloc);
     for item in items {
@@ -22,8 +22,9 @@ pub(crate) fn unnamed(
     Ok(kept)
 }
 
-fn keep_unless(kept: &mut Vec<Item>, named: bool, item: Item) -> Result<(), NoMemory>
-    ensures { OnOk result (kept.new.items ≡ kept.old.items ++ if_unheld named item) }
+/// Puts an item behind others, unless it is named.
+pub(crate) fn keep_unless(kept: &mut Vec<Item>, named: bool, item: Item) -> Result<(), NoMemory>
+    ensures { OnOk result (kept.new.items ≡ kept.old.items ++ item_unless named item) }
 {
     if named {
         return Ok(());

@@ -1,8 +1,9 @@
-ghost use Rattle.std.specs.Prelude.{◌≡◌, [], ◌∷◌, ◌++◌, map, OnOk};
+ghost use Rattle.std.specs.Prelude.{◌≡◌, [], ◌∷◌, ◌++◌, map, true, OnOk};
 ghost use Rattle.msb_laws.specs.Results.{map_ok, all_ok};
 ghost use Rattle.build_world.specs.Answers.{GivesFault};
-ghost use Rattle.msb_items.specs.Held.{held_in, is_held};
-ghost use Rattle.msb_items.specs.Items.{updated_if, with_all_metadata, with_metadata_written};
+ghost use Rattle.msb_items.specs.FoldedNames.{seen_names, is_named_by};
+ghost use Rattle.msb_items.specs.Items.{with_all_metadata, with_metadata_written};
+ghost use Rattle.msb_items.specs.Replaced.{replacement_if};
 ghost use Rattle.msb_items.specs.Seen.{metadata_of, place_of};
 
 use crate::item_names::ItemNames;
@@ -68,64 +69,62 @@ fn push(items: &mut Vec<Item>, item: Item) -> Result<(), NoMemory>
     Ok(items.push(item)?)
 }
 
-/// Copies of the items, of which those that are named get the metadata that are written on an element.
-pub(crate) fn updated_items<F: Present>(
+/// What each of some items becomes that is named: a copy with the metadata that are written on an element.
+pub(crate) fn replacements<F: Present>(
     alloc: Global,
     place: &Place<'_, F>,
     kind: &Name,
     names: &ItemNames,
     written: &[WrittenMetadata<'_>],
     items: &[Item],
-) -> Result<Vec<Item>, EvalFault>
-    ensures { GivesFault (λ items. items.items) result (all_ok (λ item. updated_if (is_held place.now.project.now (held_in names.now) item) (place_of F.files place.now) kind.now (map metadata_of written.now) item) items.now) }
+) -> Result<Vec<Option<Item>>, EvalFault>
+    ensures { GivesFault (λ replacements. replacements.items) result (all_ok (λ item. replacement_if (is_named_by place.now.project.now (seen_names names.now) item) (place_of F.files place.now) kind.now (map metadata_of written.now) item) items.now) }
 {
-    let mut done = Vec::new(alloc);
-    push_updated_all(alloc, place, kind, names, written, &mut done, items)?;
-    Ok(done)
-}
-
-fn push_updated_all<F: Present>(
-    alloc: Global,
-    place: &Place<'_, F>,
-    kind: &Name,
-    names: &ItemNames,
-    written: &[WrittenMetadata<'_>],
-    done: &mut Vec<Item>,
-    items: &[Item],
-) -> Result<(), EvalFault>
-    ensures { GivesFault (λ _. done.new.items) result (map_ok (λ more. done.old.items ++ more) (all_ok (λ item. updated_if (is_held place.now.project.now (held_in names.now) item) (place_of F.files place.now) kind.now (map metadata_of written.now) item) items.now)) }
-{
+    let mut replacements = Vec::new(alloc);
     for item in items {
-        push_updated(alloc, place, kind, names, written, done, item)?;
+        let replacement = replacement(alloc, place, kind, names, written, item)?;
+        if replacements.push(replacement).is_err() {
+            return Err(EvalFault::memory(alloc));
+        }
     }
-    Ok(())
+    Ok(replacements)
 }
 
-fn push_updated<F: Present>(
+fn replacement<F: Present>(
     alloc: Global,
     place: &Place<'_, F>,
     kind: &Name,
     names: &ItemNames,
     written: &[WrittenMetadata<'_>],
-    done: &mut Vec<Item>,
     item: &Item,
-) -> Result<(), EvalFault>
-    ensures { GivesFault (λ _. done.new.items) result (map_ok (λ item. done.old.items ++ item ∷ []) (updated_if (is_held place.now.project.now (held_in names.now) item.now) (place_of F.files place.now) kind.now (map metadata_of written.now) item.now)) }
+) -> Result<Option<Item>, EvalFault>
+    ensures { GivesFault (λ replacement. replacement) result (replacement_if (is_named_by place.now.project.now (seen_names names.now) item.now) (place_of F.files place.now) kind.now (map metadata_of written.now) item.now) }
 {
-    let (Ok(copy), Ok(named)) = (item.copy(), names.names(alloc, place.project, item)) else {
-        return Err(EvalFault::memory(alloc));
-    };
-    if named {
-        return push_one(alloc, place, kind, written, done, copy);
-    }
-    match push(done, copy) {
-        Ok(()) => Ok(()),
+    match names.names(alloc, place.project, item) {
+        Ok(true) => changed(alloc, place, kind, written, item),
+        Ok(false) => Ok(None),
         Err(_) => Err(EvalFault::memory(alloc)),
     }
 }
 
+fn changed<F: Present>(
+    alloc: Global,
+    place: &Place<'_, F>,
+    kind: &Name,
+    written: &[WrittenMetadata<'_>],
+    item: &Item,
+) -> Result<Option<Item>, EvalFault>
+    ensures { GivesFault (λ replacement. replacement) result (replacement_if true (place_of F.files place.now) kind.now (map metadata_of written.now) item.now) }
+{
+    let Ok(mut item) = item.copy() else {
+        return Err(EvalFault::memory(alloc));
+    };
+    set_metadata(alloc, place, kind, written, &mut item)?;
+    Ok(Some(item))
+}
+
 /// Gives metadata to an item, each of which sees those ahead of it.
-fn set_metadata<F: Present>(
+pub(crate) fn set_metadata<F: Present>(
     alloc: Global,
     place: &Place<'_, F>,
     kind: &Name,

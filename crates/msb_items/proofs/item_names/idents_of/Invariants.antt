@@ -1,5 +1,5 @@
 use Rattle.std.proofs.Common.{◌≡◌, [], drop}
-use Rattle.msb_items.specs.Held.{with_idents}
+use Rattle.msb_items.specs.FoldedNames.{with_idents}
 use Rattle.msb_items.specs.ItemNames.{idents_of}
 use Rattle.msb_items.proofs.item_names.idents_of.Given as goal
 

@@ -1,7 +1,7 @@
 use Rattle.std.proofs.lemmas.Result.{err_from_is_err_and}
 use Rattle.msb_laws.proofs.Collecting.{fold_step, fold_stop}
 use Rattle.msb_items.specs.Patterns.{is_pattern_entry, pattern_of}
-use Rattle.msb_items.proofs.Stopping.{unless}
+use Rattle.msb_values.proofs.Causing.{unless}
 use Rattle.msb_items.proofs.Turning.{fold-filtered}
 use Rattle.msb_items.proofs.item_names.push_patterns.Goals as goal
 

@@ -3,11 +3,12 @@ use Rattle.std.proofs.lemmas.Result.{err_from_is_err_and}
 use Rattle.build_world.specs.Elements.{seen_element}
 use Rattle.build_world.specs.declared.fault.EvalFault.{EvalFault}
 use Rattle.msb_laws.specs.Results.{map_ok}
-use Rattle.msb_items.specs.Held.{held, held_in}
+use Rattle.msb_items.specs.FoldedNames.{folded_names, seen_names}
 use Rattle.msb_items.specs.Items.{list_of, names_at, removed, unnamed, with_list}
 use Rattle.msb_items.specs.Seen.{items_in, place_of}
-use Rattle.msb_items.proofs.Holding.{left_same}
-use Rattle.msb_items.proofs.Stopping.{unless, remapped}
+use Rattle.msb_items.proofs.Naming.{left_same}
+use Rattle.msb_values.proofs.Causing.{unless}
+use Rattle.msb_items.proofs.Stopping.{remapped}
 use Rattle.msb_items.proofs.items.remove.Goals as goal
 
 pub returns-in-Ok : goal.returns-in-Ok
@@ -17,7 +18,7 @@ returns-in-Ok g c =
     let project = c.args.source.now.project.now in
     let items = list_of scope kind in
     ap (λ place. map_ok (λ found. with_list scope kind (unnamed project items found)) (names_at place (seen_element c.args.element.now) c.args.written.now)) (sym c.of_items-place.ensures)
-    ∙ left_same (with_list scope kind) project items _ (held_in c.in_ok-names.names) c.in_ok-names.ensures ∙ ap Ok (sym c.in-Ok.ensures)
+    ∙ left_same (with_list scope kind) project items _ (seen_names c.in_ok-names.names) c.in_ok-names.ensures ∙ ap Ok (sym c.in-Ok.ensures)
 
 pub returns-in_err-names : goal.returns-in_err-names
 returns-in_err-names g c =
@@ -26,8 +27,8 @@ returns-in_err-names g c =
     let kind = c.args.kind.now in
     let e = seen_element c.args.element.now in
     let written = c.args.written.now in
-    let stops : (fault : EvalFault) → map_ok held (names_at place e written) ≡ Err fault → removed (items_in g.F.Present.files c.args.source.now c.args.scope.now) kind e written ≡ Err fault =
+    let stops : (fault : EvalFault) → map_ok folded_names (names_at place e written) ≡ Err fault → removed (items_in g.F.Present.files c.args.source.now c.args.scope.now) kind e written ≡ Err fault =
     λ fault is.
     ap (λ seen. removed seen kind e written) (sym c.of_items-place.ensures)
-    ∙ remapped held (λ names. with_list place.scope kind (unnamed place.project (list_of place.scope kind) names)) (names_at place e written) fault is in
+    ∙ remapped folded_names (λ names. with_list place.scope kind (unnamed place.project (list_of place.scope kind) names)) (names_at place e written) fault is in
     rw (p.1, p.2) (unless _ (stops _) c.in_err-names.ensures)

@@ -1,5 +1,5 @@
 use Rattle.std.proofs.lemmas.Result.{err_from_is_err_and}
-use Rattle.msb_items.proofs.Stopping.{unless}
+use Rattle.msb_values.proofs.Causing.{unless}
 use Rattle.msb_items.proofs.Turning.{taken_step, taken_stop}
 use Rattle.msb_items.proofs.updates.push_all.Goals as goal
 

@@ -1,0 +1,13 @@
+use Rattle.std.proofs.Common.{◌∙◌, ap}
+use Rattle.msb_values.specs.Changes.{with_metadata_on}
+use Rattle.msb_items.proofs.PutBack.{put_back}
+use Rattle.msb_items.proofs.applying.set_metadata.Goals as goal
+
+pub returns : goal.returns
+returns c =
+    let change = with_metadata_on c.args.given.now c.args.pairs.now in
+    put_back c.args.kind.now change c.args.lists.now _ _ c.new.result c.replace-items.result c.from.result
+    c.replace-items.ensures.left
+    c.replace-items.ensures.had
+    (c.from.ensures ∙ c.in_ok-changed.ensures ∙ ap change c.into_vec.ensures)
+    c.replace.ensures.left

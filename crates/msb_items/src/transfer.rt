@@ -1,0 +1,154 @@
+ghost use Rattle.std.specs.Prelude.{◌≡◌, ◌++◌, map, IfOk, OnOk, option_to_list};
+ghost use Rattle.msb_laws.specs.Results.{map_ok};
+ghost use Rattle.msb_values.specs.Keys.{key_of};
+ghost use Rattle.msb_values.specs.Pairs.{value_at};
+ghost use Rattle.build_world.specs.Answers.{GivesFault};
+ghost use Rattle.build_world.specs.Elements.{seen_element};
+ghost use Rattle.msb_items.specs.Places.{entries_at};
+ghost use Rattle.msb_items.specs.Seen.{place_of};
+ghost use Rattle.msb_items.specs.declared.transfer.Transfer.TheVariants.{Without};
+ghost use Rattle.msb_items.specs.Transfers.{metadata_names, none_named, only_entries, only_named, transfer_at, transferred, with_value};
+
+use crate::place::Place;
+use build_world::{EvalFault, PlacedElement};
+use msb_expand::Entry;
+use msb_paths::Present;
+use msb_values::{Copied, Item, List, Name, NoMemory, Pairs};
+use std::alloc::Global;
+
+/// Which metadata of its source a copied item keeps. (Item element.)
+#[derive(Drop)]
+pub(crate) enum Transfer {
+    All,
+    /// Those of these names.
+    Only(List<Name>),
+    /// Those of all other names.
+    Without(List<Name>),
+}
+
+impl Transfer {
+    /// What an element's KeepMetadata or RemoveMetadata says; one of the two may stand on it.
+    pub(crate) fn of<F: Present>(
+        alloc: Global,
+        place: &Place<'_, F>,
+        element: &PlacedElement<'_>,
+    ) -> Result<Transfer, EvalFault>
+        ensures { GivesFault (λ transfer. transfer) result (transfer_at (place_of F.files place.now) (seen_element element.now)) }
+    {
+        if let Some(keep) = element.element.attribute("KeepMetadata") {
+            return only(alloc, place, element, keep);
+        }
+        match element.element.attribute("RemoveMetadata") {
+            Some(remove) => without(alloc, place, element, remove),
+            None => Ok(Transfer::All),
+        }
+    }
+
+    /// The items with the metadata that they keep.
+    pub(crate) fn apply(&self, alloc: Global, items: &mut [Item]) -> Result<(), NoMemory>
+        ensures { OnOk result (items.new ≡ map (transferred self.now) items.old) }
+    {
+        for item in items.iter_mut() {
+            self.apply_to(alloc, item)?;
+        }
+        Ok(())
+    }
+
+    fn apply_to(&self, alloc: Global, item: &mut Item) -> Result<(), NoMemory>
+        ensures { OnOk result (item.new ≡ transferred self.now item.old) }
+    {
+        match self {
+            Transfer::All => Ok(()),
+            Transfer::Only(names) => {
+                item.meta = only_named(alloc, names.as_slice(), &item.meta)?;
+                Ok(())
+            }
+            Transfer::Without(names) => {
+                take_named(&mut item.meta, names.as_slice());
+                Ok(())
+            }
+        }
+    }
+}
+
+fn only<F: Present>(
+    alloc: Global,
+    place: &Place<'_, F>,
+    element: &PlacedElement<'_>,
+    keep: &str,
+) -> Result<Transfer, EvalFault>
+    ensures { GivesFault (λ transfer. transfer) result (map_ok only_entries (entries_at (place_of F.files place.now) (seen_element element.now) keep.now)) }
+{
+    let entries = place.entries(alloc, element, keep)?;
+    if entries.is_empty() {
+        return Ok(Transfer::All);
+    }
+    match metadata_names(alloc, entries.as_slice()) {
+        Ok(names) => Ok(Transfer::Only(names)),
+        Err(_) => Err(EvalFault::memory(alloc)),
+    }
+}
+
+fn without<F: Present>(
+    alloc: Global,
+    place: &Place<'_, F>,
+    element: &PlacedElement<'_>,
+    remove: &str,
+) -> Result<Transfer, EvalFault>
+    ensures { GivesFault (λ transfer. transfer) result (map_ok (λ entries. Without (metadata_names entries)) (entries_at (place_of F.files place.now) (seen_element element.now) remove.now)) }
+{
+    let entries = place.entries(alloc, element, remove)?;
+    match metadata_names(alloc, entries.as_slice()) {
+        Ok(names) => Ok(Transfer::Without(names)),
+        Err(_) => Err(EvalFault::memory(alloc)),
+    }
+}
+
+/// The names that the entries of a list are.
+fn metadata_names(alloc: Global, entries: &[Entry]) -> Result<List<Name>, NoMemory>
+    ensures { IfOk result (λ names. names ≡ metadata_names entries.now) }
+{
+    let mut names = List::new(alloc);
+    for entry in entries {
+        push_name(alloc, &mut names, entry.item.ident.as_str())?;
+    }
+    Ok(names)
+}
+
+fn push_name(alloc: Global, names: &mut List<Name>, text: &str) -> Result<(), NoMemory>
+    ensures { OnOk result (names.new ≡ names.old ++ option_to_list (key_of text.now)) }
+{
+    match Name::written(alloc, text)? {
+        Some(name) => names.push(name),
+        None => Ok(()),
+    }
+}
+
+/// The metadata of these names.
+fn only_named(alloc: Global, names: &[Name], meta: &Pairs) -> Result<Pairs, NoMemory>
+    ensures { IfOk result (λ kept. kept ≡ only_named names.now meta.now) }
+{
+    let mut kept = Pairs::new(alloc);
+    for name in names {
+        keep(&mut kept, name, meta)?;
+    }
+    Ok(kept)
+}
+
+fn keep(kept: &mut Pairs, name: &Name, meta: &Pairs) -> Result<(), NoMemory>
+    ensures { OnOk result (kept.new ≡ with_value name.now (value_at name.now meta.now) kept.old) }
+{
+    match meta.get(name) {
+        Some(value) => kept.insert(name.copy()?, value.copy()?),
+        None => Ok(()),
+    }
+}
+
+/// Takes the metadata of these names away.
+fn take_named(meta: &mut Pairs, names: &[Name])
+    ensures { meta.new ≡ none_named names.now meta.old }
+{
+    for name in names {
+        meta.take(name);
+    }
+}
