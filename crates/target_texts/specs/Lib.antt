@@ -1,0 +1,10 @@
+pub mod Made
+pub mod Batched
+pub mod OnErrors
+pub mod Parameters
+pub mod Outputs
+pub mod Inferred
+pub mod Returned
+pub mod Lists
+pub mod Seen
+pub mod Answered
