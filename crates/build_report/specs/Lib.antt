@@ -1,3 +1,6 @@
 pub mod Line
 pub mod Eval
 pub mod Targets
+pub mod Runs
+pub mod Shown
+pub mod Refused
