@@ -1,0 +1,2 @@
+pub mod RunsReplayed
+pub mod JournalsReplayed
