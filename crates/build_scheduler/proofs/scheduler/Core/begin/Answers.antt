@@ -1,0 +1,56 @@
+use Rattle.std.proofs.Common.{◌∷◌, ◌++◌, [], Some, sym, ◌∙◌, ap, arith}
+use Rattle.std.proofs.Math.Logic.{∥∥₁_map, ∥∥₁_map₂}
+use Rattle.build_meaning.specs.declared.event.Event.TheVariants.{Claim}
+use Rattle.build_meaning.specs.declared.event.ClaimKind.TheVariants.{Go}
+use Rattle.build_meaning.specs.Lists.{put}
+use Rattle.build_scheduler.specs.Own.{seen_by}
+use Rattle.build_scheduler.proofs.Claiming.{begun-shown, begun-out, shown-room, making-there}
+use Rattle.build_scheduler.proofs.Stopping.{none-stops}
+use Rattle.build_scheduler.proofs.scheduler.Core.begin.Goals as goal
+
+pub invariant_of-self-in-Break-branch-4 : goal.invariant_of-self-in-Break-branch-4
+invariant_of-self-in-Break-branch-4 g c =
+    let m = g.W.Walker in
+    let self = c.args.self.now in
+    record {
+      legal = ∥∥₁_map self.legal (λ x. shown-room (seen_by m.world m.position m.asked m.learnt) (m.world_of self.world) c.in_ok-reserve.ensures.events (omega (arith, c.in_ok-reserve.ensures.ok))
+          c.in_err-begin.ensures.finished c.in_err-begin.ensures.err x);
+      indexed = self.indexed;
+      counted = self.counted;
+      few = self.few;
+      nested = self.nested;
+      stops = ∣ none-stops (m.world_of self.world) _ c.requires.running ∣₁;
+    }
+
+pub put_run-requires : goal.put_run-requires
+put_run-requires g c =
+    let m = g.W.Walker in
+    let self = c.args.self.now in
+    making-there (seen_by m.world m.position m.asked m.learnt) (m.world_of self.world) c.args.id c.args.walk.now self.legal c.requires.own
+
+pub invariant_of-self-2 : goal.invariant_of-self-2
+invariant_of-self-2 g c =
+    let m = g.W.Walker in
+    let self = c.args.self.now in
+    record {
+      legal = ∥∥₁_map₂ self.legal c.requires.own (λ x own. begun-shown (seen_by m.world m.position m.asked m.learnt) (m.world_of self.world) self.history c.push.new.self c.args.id c.args.walk.now c.args.run.now
+          own c.requires.asks c.requires.unfinished c.requires.unbegun
+          (c.push.ensures.events ∙ (ap (λ es. es ++ Claim c.args.id c.in_ok-claimed.claimed Go ∷ []) c.in_ok-reserve.ensures.events ∙ ap (λ r. self.history.events ++ Claim c.args.id r Go ∷ []) c.in_ok-claimed.ensures))
+          (sym c.in_ok-reserve.ensures.ok ∙ c.push.ensures.room)
+          (c.put_run.ensures ∙ ap (λ r. put self.making.items c.args.id (Some r)) c.in_ok-made.ensures)
+          c.in_ok-begin.ensures.finished c.in_ok-begin.ensures.begun x);
+      indexed = self.indexed;
+      counted = self.counted;
+      few = self.few;
+      nested = self.nested;
+      stops = ∣ none-stops (m.world_of self.world) _ c.requires.running ∣₁;
+    }
+
+pub returns-clause-out : goal.returns-clause-out
+returns-clause-out g c =
+    let m = g.W.Walker in
+    let self = c.args.self.now in
+    ∥∥₁_map₂ self.legal c.requires.own (λ x own. begun-out (seen_by m.world m.position m.asked m.learnt) (m.world_of self.world) self.history c.push.new.self c.args.id c.args.walk.now c.args.run.now
+    own c.requires.asks c.requires.unfinished c.requires.unbegun
+    (c.push.ensures.events ∙ (ap (λ es. es ++ Claim c.args.id c.in_ok-claimed.claimed Go ∷ []) c.in_ok-reserve.ensures.events ∙ ap (λ r. self.history.events ++ Claim c.args.id r Go ∷ []) c.in_ok-claimed.ensures))
+    c.in_ok-begin.ensures.finished x)

@@ -1,0 +1,83 @@
+use Rattle.std.proofs.Common.{refl}
+use Rattle.std.proofs.Math.Logic.{∥∥₁_map}
+use Rattle.build_scheduler.specs.Own.{seen_by}
+use Rattle.build_scheduler.proofs.Ending.{over-room, over-slot, over-there, root-zero, called-other-than_root, caller-open, caller-unlisted, ended-shown, resumed-shown, over-indexed}
+use Rattle.build_scheduler.proofs.SlotNumbers.{resumed-indexed}
+use Rattle.build_scheduler.proofs.Stopping.{none-stops}
+use Rattle.build_scheduler.proofs.scheduler.Core.done.Goals as goal
+
+pub push-requires : goal.push-requires
+push-requires g c =
+    let m = g.W.Walker in
+    let self = c.args.self.now in
+    over-room (seen_by m.world m.position m.asked m.learnt) (m.world_of self.world) c.args.id c.args.told self.legal c.requires.asks
+
+pub put_slot-requires : goal.put_slot-requires
+put_slot-requires g c =
+    let m = g.W.Walker in
+    let self = c.args.self.now in
+    over-slot (seen_by m.world m.position m.asked m.learnt) (m.world_of self.world) c.args.id c.args.told self.legal c.requires.asks
+
+pub parent_of-requires : goal.parent_of-requires
+parent_of-requires g c =
+    let m = g.W.Walker in
+    let self = c.args.self.now in
+    over-there (seen_by m.world m.position m.asked m.learnt) (m.world_of self.world) c.args.id c.args.told self.legal c.requires.asks
+
+pub invariant_of-self : goal.invariant_of-self
+invariant_of-self g c =
+    let m = g.W.Walker in
+    let self = c.args.self.now in
+    record {
+      legal = ended-shown (seen_by m.world m.position m.asked m.learnt) (m.world_of self.world) c.args.id c.args.told self.legal c.requires.asks c.in-None.ensures c.push.ensures.events c.push.ensures.room c.put_slot.ensures refl;
+      indexed = over-indexed (seen_by m.world m.position m.asked m.learnt) (m.world_of self.world) c.args.id c.args.told self.legal c.requires.asks c.put_slot.ensures self.indexed;
+      counted = self.counted;
+      few = self.few;
+      nested = self.nested;
+      stops = ∣ tt ∣₁;
+    }
+
+pub resume-requires-clause-calls : goal.resume-requires-clause-calls
+resume-requires-clause-calls g c =
+    let m = g.W.Walker in
+    let self = c.args.self.now in
+    caller-open (seen_by m.world m.position m.asked m.learnt) (m.world_of self.world) c.args.id c.args.told self.legal c.requires.asks c.in-Some.caller c.in-Some.ensures c.put_slot.ensures
+
+pub resume-requires-clause-absent : goal.resume-requires-clause-absent
+resume-requires-clause-absent g c =
+    let m = g.W.Walker in
+    let self = c.args.self.now in
+    (caller-unlisted (seen_by m.world m.position m.asked m.learnt) (m.world_of self.world) c.args.id c.args.told self.legal c.requires.asks c.in-Some.caller c.in-Some.ensures self.indexed).0
+
+pub resume-requires-clause-room : goal.resume-requires-clause-room
+resume-requires-clause-room g c =
+    let m = g.W.Walker in
+    let self = c.args.self.now in
+    (caller-unlisted (seen_by m.world m.position m.asked m.learnt) (m.world_of self.world) c.args.id c.args.told self.legal c.requires.asks c.in-Some.caller c.in-Some.ensures self.indexed).1
+
+pub invariant_of-self-in-Some : goal.invariant_of-self-in-Some
+invariant_of-self-in-Some g c =
+    let m = g.W.Walker in
+    let self = c.args.self.now in
+    record {
+      legal = resumed-shown (seen_by m.world m.position m.asked m.learnt) (m.world_of self.world) c.args.id c.args.told self.legal c.requires.asks c.in-Some.caller c.in-Some.ensures c.requires.running
+          c.push.ensures.events c.push.ensures.room c.put_slot.ensures c.resume.ensures;
+      indexed = ∥∥₁_map (over-indexed (seen_by m.world m.position m.asked m.learnt) (m.world_of self.world) c.args.id c.args.told self.legal c.requires.asks c.put_slot.ensures self.indexed)
+          (λ x. resumed-indexed c.put_slot.new.slots.items c.resume.new.slots.items self.ready c.resume.new.ready self.waiting.items c.in-Some.caller c.args.id c.args.told c.resume.ensures x);
+      counted = self.counted;
+      few = self.few;
+      nested = self.nested;
+      stops = ∣ none-stops (m.world_of self.world) _ c.requires.running ∣₁;
+    }
+
+pub returns-in-None-clause-others : goal.returns-in-None-clause-others
+returns-in-None-clause-others g c d =
+    let m = g.W.Walker in
+    let self = c.args.self.now in
+    absurd (d (root-zero (seen_by m.world m.position m.asked m.learnt) (m.world_of self.world) c.args.id c.args.told self.legal c.requires.asks c.in-None.ensures))
+
+pub returns-in-Some-clause-root : goal.returns-in-Some-clause-root
+returns-in-Some-clause-root g c z =
+    let m = g.W.Walker in
+    let self = c.args.self.now in
+    absurd (called-other-than_root (seen_by m.world m.position m.asked m.learnt) (m.world_of self.world) c.args.id c.args.told self.legal c.requires.asks c.in-Some.caller c.in-Some.ensures z)

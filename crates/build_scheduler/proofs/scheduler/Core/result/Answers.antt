@@ -1,0 +1,74 @@
+use Rattle.std.proofs.Common.{◌≡◌, ◌∷◌, ◌++◌, [], ◌∙◌, ap}
+use Rattle.std.proofs.Math.Logic.{∥∥₁_map₂}
+use Rattle.build_meaning.specs.declared.event.Event.TheVariants.{Result}
+use Rattle.build_scheduler.specs.Own.{seen_by}
+use Rattle.build_scheduler.proofs.Finishing.{finish-shown, finish-out, finishes-begun, finishes-room, finishes-there, finishes-slot, finishes-named, finishes-some}
+use Rattle.build_scheduler.proofs.Stopping.{none-stops}
+use Rattle.build_scheduler.proofs.scheduler.Core.result.Goals as goal
+
+pub finish-requires : goal.finish-requires
+finish-requires g c =
+    let m = g.W.Walker in
+    let self = c.args.self.now in
+    finishes-begun (seen_by m.world m.position m.asked m.learnt) (m.world_of self.world) c.args.id c.args.run.now c.args.made self.legal c.requires.asks
+
+pub take_run-requires : goal.take_run-requires
+take_run-requires g c =
+    let m = g.W.Walker in
+    let self = c.args.self.now in
+    finishes-there (seen_by m.world m.position m.asked m.learnt) (m.world_of self.world) c.args.id c.args.run.now c.args.made self.legal c.requires.asks
+
+pub push-requires : goal.push-requires
+push-requires g c =
+    let m = g.W.Walker in
+    let self = c.args.self.now in
+    finishes-room (seen_by m.world m.position m.asked m.learnt) (m.world_of self.world) c.args.id c.args.run.now c.args.made self.legal c.requires.asks
+
+pub unreachable-requires : goal.unreachable-requires
+unreachable-requires g c =
+    let m = g.W.Walker in
+    let self = c.args.self.now in
+    finishes-some (seen_by m.world m.position m.asked m.learnt) (m.world_of self.world) c.args.id c.args.run.now c.args.made self.legal c.requires.asks c.in-None.ensures.was
+
+pub wake-requires : goal.wake-requires
+wake-requires g c =
+    let m = g.W.Walker in
+    let self = c.args.self.now in
+    record {
+      indexed = self.indexed;
+      there = finishes-slot (seen_by m.world m.position m.asked m.learnt) (m.world_of self.world) c.args.id c.args.run.now c.args.made self.legal c.requires.asks;
+    }
+
+pub invariant_of-self : goal.invariant_of-self
+invariant_of-self g c =
+    let m = g.W.Walker in
+    let self = c.args.self.now in
+    let named : c.in-Some.finished ≡ c.args.run.now =
+    finishes-named (seen_by m.world m.position m.asked m.learnt) (m.world_of self.world) c.args.id c.args.run.now c.args.made self.legal c.requires.asks c.in-Some.finished c.in-Some.ensures.was in
+    record {
+      legal = ∥∥₁_map₂ self.legal c.requires.asks (λ x a. finish-shown (seen_by m.world m.position m.asked m.learnt) (m.world_of self.world) self.history c.push.new.self c.args.id c.args.run.now c.args.made
+          a c.requires.running (c.push.ensures.events ∙ ap (λ r. self.history.events ++ Result c.args.id r ∷ []) named) c.push.ensures.room
+          c.wake.ensures.slots c.in-Some.ensures.is c.finish.ensures.finished c.finish.ensures.begun x);
+      indexed = c.wake.ensures.indexed;
+      counted = self.counted;
+      few = self.few;
+      nested = self.nested;
+      stops = ∣ none-stops (m.world_of self.world) _ c.requires.running ∣₁;
+    }
+
+pub returns-clause-history : goal.returns-clause-history
+returns-clause-history g c =
+    let m = g.W.Walker in
+    let self = c.args.self.now in
+    let named : c.in-Some.finished ≡ c.args.run.now =
+    finishes-named (seen_by m.world m.position m.asked m.learnt) (m.world_of self.world) c.args.id c.args.run.now c.args.made self.legal c.requires.asks c.in-Some.finished c.in-Some.ensures.was in
+    c.push.ensures.events ∙ ap (λ r. self.history.events ++ Result c.args.id r ∷ []) named
+
+pub returns-clause-out : goal.returns-clause-out
+returns-clause-out g c walk own asks =
+    let m = g.W.Walker in
+    let self = c.args.self.now in
+    let named : c.in-Some.finished ≡ c.args.run.now =
+    finishes-named (seen_by m.world m.position m.asked m.learnt) (m.world_of self.world) c.args.id c.args.run.now c.args.made self.legal c.requires.asks c.in-Some.finished c.in-Some.ensures.was in
+    ∥∥₁_map₂ self.legal own (λ x o. finish-out (seen_by m.world m.position m.asked m.learnt) (m.world_of self.world) self.history c.push.new.self c.args.id c.args.run.now c.args.made
+    walk o asks (c.push.ensures.events ∙ ap (λ r. self.history.events ++ Result c.args.id r ∷ []) named) c.finish.ensures.finished x)

@@ -1,0 +1,17 @@
+use Rattle.std.proofs.Math.Logic.{∥∥₁_map}
+use Rattle.build_scheduler.specs.Own.{seen_by}
+use Rattle.build_scheduler.proofs.Stopping.{shows-stop, stopped-shown}
+use Rattle.build_scheduler.proofs.scheduler.Core.stop.Goals as goal
+
+pub invariant_of-self : goal.invariant_of-self
+invariant_of-self g c =
+    let m = g.W.Walker in
+    let self = c.args.self.now in
+    record {
+      legal = ∥∥₁_map self.legal (λ x. stopped-shown (seen_by m.world m.position m.asked m.learnt) (m.world_of self.world) c.args.end c.requires.shown x);
+      indexed = self.indexed;
+      counted = self.counted;
+      few = self.few;
+      nested = self.nested;
+      stops = ∣ shows-stop (m.world_of self.world) self.history.events c.args.end c.requires.shown ∣₁;
+    }

@@ -1,0 +1,58 @@
+use Rattle.std.proofs.Common.{refl, sym, subst, map, arith}
+use Rattle.std.proofs.Math.Logic.{∥∥₁_map}
+use Rattle.build_scheduler.specs.Instances.{AreCounted, instance_asked}
+use Rattle.build_scheduler.specs.Own.{seen_by}
+use Rattle.build_scheduler.specs.Shown.{AreNested}
+use Rattle.build_scheduler.proofs.Rooms.{room-kept, room-shown, room-indexed, room-stops, same-numbers, spare-of, unready-room}
+use Rattle.build_scheduler.proofs.scheduler.Core.take_room.Goals as goal
+
+pub invariant_of-self : goal.invariant_of-self
+invariant_of-self g c =
+    let m = g.W.Walker in
+    let self = c.args.self.now in
+    let r = c.reserve_all.ensures in
+    record {
+      legal = ∥∥₁_map self.legal (λ x. room-shown (seen_by m.world m.position m.asked m.learnt) (m.world_of self.world) refl (omega arith) r.origins r.slots r.making x);
+      indexed = ∥∥₁_map self.indexed (λ x. room-indexed r.slots refl (omega arith) (same-numbers r.waiting) x);
+      counted = subst (λ os. ∥ AreCounted self.instances (map instance_asked os) ∥₁) (sym r.origins) self.counted;
+      few = self.few;
+      nested = subst (λ os. ∥ AreNested os ∥₁) (sym r.origins) self.nested;
+      stops = self.stops;
+    }
+
+pub invariant_of-self-in-Break-branch-3 : goal.invariant_of-self-in-Break-branch-3
+invariant_of-self-in-Break-branch-3 g c =
+    let m = g.W.Walker in
+    let self = c.args.self.now in
+    let r = c.reserve_all.ensures in
+    record {
+      legal = ∥∥₁_map self.legal (λ x. room-shown (seen_by m.world m.position m.asked m.learnt) (m.world_of self.world) refl (omega arith) r.origins r.slots r.making x);
+      indexed = ∥∥₁_map self.indexed (λ x. room-indexed r.slots c.reserve.ensures.numbers (omega (arith, c.in_err-reserve.ensures.err)) (same-numbers r.waiting) x);
+      counted = subst (λ os. ∥ AreCounted self.instances (map instance_asked os) ∥₁) (sym r.origins) self.counted;
+      few = self.few;
+      nested = subst (λ os. ∥ AreNested os ∥₁) (sym r.origins) self.nested;
+      stops = self.stops;
+    }
+
+pub invariant_of-self-2 : goal.invariant_of-self-2
+invariant_of-self-2 g c =
+    let m = g.W.Walker in
+    let self = c.args.self.now in
+    let r = c.reserve_all.ensures in
+    record {
+      legal = ∥∥₁_map self.legal (λ x. room-shown (seen_by m.world m.position m.asked m.learnt) (m.world_of self.world) c.reserve-2.ensures.events (room-kept c.reserve-2.result self.history.room c.reserve-2.new.self.room c.in_ok-events.events c.reserve-2.ensures.ok c.reserve-2.ensures.err) r.origins r.slots r.making x);
+      indexed = ∥∥₁_map self.indexed (λ x. room-indexed r.slots c.reserve.ensures.numbers (omega (arith, c.in_ok-reserve.ensures.ok)) (same-numbers r.waiting) x);
+      counted = subst (λ os. ∥ AreCounted self.instances (map instance_asked os) ∥₁) (sym r.origins) self.counted;
+      few = self.few;
+      nested = subst (λ os. ∥ AreNested os ∥₁) (sym r.origins) self.nested;
+      stops = room-stops (m.world_of self.world) self.end c.reserve-2.ensures.events self.stops;
+    }
+
+pub returns-clause-ready_room : goal.returns-clause-ready_room
+returns-clause-ready_room g c = unready-room c.args.count c.reserve.new.self.room c.reserve_all.ensures.slots c.in_ok-reserve.ensures.ok c.args.self.now.indexed
+
+pub returns-clause-spare : goal.returns-clause-spare
+returns-clause-spare g c =
+    let m = g.W.Walker in
+    let self = c.args.self.now in
+    ∥∥₁_map self.legal (λ x. spare-of (seen_by m.world m.position m.asked m.learnt) (m.world_of self.world) c.reserve-2.ensures.events c.args.count c.in_ok-events.events c.in_ok-reserve-2.ensures.ok c.in_ok-events.ensures x)

@@ -1,0 +1,17 @@
+pub mod Calls
+pub mod Chain
+pub mod Children
+pub mod Claims
+pub mod Dependents
+pub mod Ends
+pub mod Entered
+pub mod Instances
+pub mod Learnt
+pub mod Log
+pub mod Numbers
+pub mod Own
+pub mod Position
+pub mod Ready
+pub mod Requests
+pub mod Shown
+pub mod Slots

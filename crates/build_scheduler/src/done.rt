@@ -1,0 +1,97 @@
+ghost use Rattle.std.specs.Prelude.{◌≡◌, ◌+◌, ◌-◌, ◌<◌, ◌≤◌, ◌++◌, ◌∷◌, ◌==◌, ◌||◌, ◌&&◌, ℕ, [], None, Some, false, true, IsTrue, length, ◌↔◌};
+ghost use Rattle.build_meaning.specs.declared.event.Event.TheVariants.{Done};
+ghost use Rattle.build_meaning.specs.Lists.{at, put};
+ghost use Rattle.build_scheduler.specs.declared.walker.Ask.TheVariants.{Done as IsOver};
+ghost use Rattle.build_scheduler.specs.declared.slot.End.TheVariants.{Root};
+ghost use Rattle.build_scheduler.specs.declared.slot.Slot.TheVariants.{Assigned, Calling};
+ghost use Rattle.build_scheduler.specs.Calls.{HasOpen, HasParent, IsCalling, IsResumed, IsTold};
+ghost use Rattle.build_scheduler.specs.Numbers.{among};
+ghost use Rattle.build_scheduler.specs.Own.{Asks};
+ghost use Rattle.build_scheduler.specs.Shown.{is_ready, one_unless};
+
+use crate::numbers::Numbers;
+use crate::scheduler::{put_slot, replace_slot};
+use crate::slot::{Calls, End, Origin, Slot};
+use crate::{Answer, Core, Walker};
+use build_meaning::Event;
+use msb_values::List;
+use result_cache::RequestResult;
+
+impl<W: Walker> Core<W> {
+    /// Ends a request. The last open call makes its caller ready with all results; with the root the build ends. This takes no
+    /// memory. (MSBuild task.)
+    pub fn done(&mut self, id: u64, told: RequestResult)
+        requires running { self.old.end ≡ None }
+        requires asks { ∥ Asks (W.world_of self.old.world) self.old.history.events id (IsOver told) ∥₁ }
+        ensures world { W.world_of self.new.world ≡ W.world_of self.old.world }
+        ensures history { self.new.history.events ≡ self.old.history.events ++ Done id ∷ [] }
+        ensures table { self.new.table ≡ self.old.table }
+        ensures root { id ≡ 0 → self.new.end ≡ Some (Root told) }
+        ensures others { (id ≡ 0 → ⊥) → self.new.end ≡ None }
+    {
+        self.history.push(Event::Done(id));
+        put_slot(&mut self.slots, id, Slot::Done);
+        match parent_of(&self.origins, id) {
+            None => self.end = Some(End::Root(told)),
+            Some(caller) => resume(&mut self.slots, &mut self.ready, caller, id, told),
+        }
+    }
+}
+
+/// The request that calls this one.
+pub(crate) fn parent_of(origins: &Vec<Origin>, id: u64) -> Option<u64>
+    requires { id < length origins.now.items }
+    ensures { HasParent (at origins.now.items id) result }
+{
+    origins[id as usize].parent
+}
+
+/// Tells a caller the result of one of its calls.
+fn resume<W: Drop>(
+    slots: &mut Vec<Slot<W>>,
+    ready: &mut Numbers,
+    caller: u64,
+    id: u64,
+    told: RequestResult,
+)
+    requires calls { HasOpen id (at slots.old.items caller) }
+    requires absent { among caller ready.old.numbers ≡ false }
+    requires room { 0 < ready.old.room }
+    ensures { IsResumed slots.old.items slots.new.items ready.old ready.new caller id told }
+{
+    let calls = take_calls(slots, caller);
+    let next = tell(calls, id, told);
+    let is_ready = next.is_ready();
+    put_slot(slots, caller, next);
+    if is_ready {
+        ready.insert(caller);
+    }
+}
+
+fn take_calls<W: Drop>(slots: &mut Vec<Slot<W>>, caller: u64) -> Calls<W>
+    requires { IsCalling (at slots.old.items caller) }
+    ensures was { at slots.old.items caller ≡ Some (Calling result) }
+    ensures is { slots.new.items ≡ put slots.old.items caller Assigned }
+{
+    match replace_slot(slots, caller, Slot::Assigned) {
+        Slot::Calling(calls) => calls,
+        _ => unreachable!(),
+    }
+}
+
+/// The slot of a caller after one of its calls has given its result.
+fn tell<W: Drop>(calls: Calls<W>, id: u64, told: RequestResult) -> Slot<W>
+    requires first { calls.first ≤ id }
+    requires place { id - calls.first < length calls.results.items }
+    requires some { 0 < calls.«open» }
+    ensures { IsTold calls (id - calls.first) told result }
+{
+    let mut calls = calls;
+    calls.results[(id - calls.first) as usize] = told;
+    calls.open -= 1;
+    if calls.open == 0 {
+        Slot::Ready(calls.walk, Answer::Results(List::from(calls.results)))
+    } else {
+        Slot::Calling(calls)
+    }
+}

@@ -1,0 +1,24 @@
+//! The scheduler of a build: its requests, the runs that they claim, and the records of those that are finished.
+//! (MSBuild task; Building projects in parallel.)
+#![tactic(auto)]
+
+mod children;
+mod claim;
+mod cycle;
+mod dependents;
+mod done;
+mod instances;
+mod log;
+mod numbers;
+mod request;
+mod result;
+mod scheduler;
+mod slot;
+mod walker;
+
+pub use build_meaning::{ClaimKind, Event};
+pub use claim::Claimed;
+pub use request::RequestFault;
+pub use scheduler::Core;
+pub use slot::End;
+pub use walker::{Answer, Ask, Walker};

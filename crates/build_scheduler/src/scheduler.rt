@@ -1,0 +1,182 @@
+ghost use Rattle.std.specs.Prelude.{◌≡◌, ◌+◌, ◌<◌, ◌≤◌, ◌++◌, map, ◌∷◌, [], IfOk, None, Some, true, length, option_copied};
+ghost use Rattle.build_meaning.specs.declared.event.Event.TheVariants.{Assign};
+ghost use Rattle.build_meaning.specs.Meaning.{most_instances};
+ghost use Rattle.build_scheduler.specs.Ends.{IsEnd, IsStop, ShowsStop};
+ghost use Rattle.build_scheduler.specs.Instances.{AreCounted, instance_asked};
+ghost use Rattle.build_scheduler.specs.Learnt.{AreInOrder};
+ghost use Rattle.build_scheduler.specs.Own.{IsOut, seen_by};
+ghost use Rattle.build_scheduler.specs.Position.{begins};
+ghost use Rattle.build_scheduler.specs.Ready.{IsReady, IsLeastReady};
+ghost use Rattle.build_scheduler.specs.Shown.{AreNested, Shown, Indexed, is_ready};
+ghost use Rattle.build_scheduler.specs.declared.slot.Slot.TheVariants.{Ready, Assigned};
+ghost use Rattle.build_meaning.specs.Lists.{at, put};
+
+use crate::instances::Instances;
+use crate::log::Log;
+use crate::numbers::Numbers;
+use crate::slot::{End, Origin, Slot};
+use crate::{Answer, Walker};
+use build_meaning::Event;
+use msb_values::NoMemory;
+use result_cache::{RequestKey, RunId, Table};
+use std::alloc::Global;
+use std::mem;
+
+/// The scheduler of a build.
+///
+/// Requests have numbers, from the root's 0. A walk is here, or with a node that has its request. Each call that changes the
+/// core is one event of its history, which is legal; what the core holds shows the state after it. (MSBuild task; Building
+/// projects in parallel.)
+#[derive(Drop)]
+pub struct Core<W: Walker> {
+    pub(crate) world: W::Origin,
+    pub(crate) history: Log,
+    pub(crate) table: Table,
+    pub(crate) origins: Vec<Origin>,
+    pub(crate) slots: Vec<Slot<W>>,
+    /// The run in whose body each request is.
+    pub(crate) making: Vec<Option<RunId>>,
+    pub(crate) ready: Numbers,
+    /// For each request those that wait for the run that it has begun.
+    pub(crate) waiting: Vec<Numbers>,
+    pub(crate) instances: Instances,
+    pub(crate) end: Option<End>,
+    ghost legal: { ∥ Shown (seen_by W.world W.position W.asked W.learnt) (W.world_of world) history origins.items slots.items making.items table end ∥₁ },
+    ghost indexed: { ∥ Indexed slots.items ready waiting.items ∥₁ },
+    ghost counted: { ∥ AreCounted instances (map instance_asked origins.items) ∥₁ },
+    ghost few: { length instances ≤ most_instances },
+    ghost nested: { ∥ AreNested origins.items ∥₁ },
+    ghost stops: { ∥ ShowsStop (W.world_of world) history.events end ∥₁ },
+}
+
+impl<W: Walker> Core<W> {
+    /// The core of a root request, whose walk had no answer yet.
+    pub fn new(alloc: Global, root: RequestKey, walk: W) -> Result<Core<W>, NoMemory>
+        requires key { root ≡ (W.world walk).root }
+        requires begins { W.position walk ≡ begins (W.world walk) root [] }
+        requires asked { W.asked walk ≡ 0 }
+        requires learnt { W.learnt walk ≡ [] }
+        ensures world { IfOk result (λ core. W.world_of core.world ≡ W.world walk) }
+        ensures history { IfOk result (λ core. core.history.events ≡ []) }
+        ensures table { IfOk result (λ core. core.table.finished ≡ []) }
+        ensures end { IfOk result (λ core. core.end ≡ None) }
+    {
+        let world = walk.origin();
+        let mut history = Log::new(alloc);
+        history.reserve(2)?;
+        let mut ready = Numbers::new(alloc);
+        ready.reserve(1)?;
+        ready.insert(0);
+        let instances = Instances::of(alloc, &root.instance)?;
+        let mut origins = Vec::new(alloc);
+        origins.push(Origin {
+            key: root,
+            parent: None,
+            depth: 0,
+        })?;
+        let mut slots = Vec::new(alloc);
+        slots.push(Slot::Ready(walk, Answer::First))?;
+        let mut making = Vec::new(alloc);
+        making.push(None)?;
+        let mut waiting = Vec::new(alloc);
+        waiting.push(Numbers::new(alloc))?;
+        Ok(Core {
+            world,
+            history,
+            table: Table::new(alloc),
+            origins,
+            slots,
+            making,
+            ready,
+            waiting,
+            instances,
+            end: None,
+        })
+    }
+
+    /// The least request that is ready.
+    pub fn ready(&self) -> Option<u64>
+        ensures { IsLeastReady (W.world_of self.now.world) self.now.history.events result }
+    {
+        self.ready.least()
+    }
+
+    /// Hands a ready request to a node: its walk, with its next answer. This takes no memory.
+    pub fn assign(&mut self, id: u64, node: u32) -> (W, Answer)
+        requires running { self.old.end ≡ None }
+        requires ready { ∥ IsReady (W.world_of self.old.world) self.old.history.events id ∥₁ }
+        ensures world { W.world_of self.new.world ≡ W.world_of self.old.world }
+        ensures history { self.new.history.events ≡ self.old.history.events ++ Assign id node ∷ [] }
+        ensures table { self.new.table ≡ self.old.table }
+        ensures end { self.new.end ≡ self.old.end }
+        ensures out { ∥ IsOut (W.world_of self.new.world) self.new.history.events self.new.table.finished id (seen_by W.world W.position W.asked W.learnt result.0) result.1 ∥₁ }
+    {
+        self.ready.remove(id);
+        self.history.push(Event::Assign(id, node));
+        take_ready(&mut self.slots, id)
+    }
+
+    /// Ends a build that can't go on. This takes no memory.
+    pub fn stop(&mut self, end: End)
+        requires running { self.old.end ≡ None }
+        requires shown { IsStop (W.world_of self.old.world) self.old.history.events end }
+        ensures world { W.world_of self.new.world ≡ W.world_of self.old.world }
+        ensures history { self.new.history.events ≡ self.old.history.events }
+        ensures table { self.new.table ≡ self.old.table }
+        ensures end { self.new.end ≡ Some end }
+    {
+        self.end = Some(end);
+    }
+
+    /// How the build has ended, if it has.
+    pub fn end(&self) -> Option<&End>
+        ensures end { option_copied result ≡ self.now.end }
+        ensures told { IsEnd (W.world_of self.now.world) self.now.history.events self.now.end }
+    {
+        self.end.as_ref()
+    }
+
+    /// The events so far.
+    pub fn history(&self) -> &[Event]
+        ensures { result.now ≡ self.now.history.events }
+    {
+        self.history.events()
+    }
+
+    /// The runs that are begun, and the records of those that are finished.
+    pub fn table(&self) -> &Table
+        ensures table { result.now ≡ self.now.table }
+        ensures in_order { AreInOrder self.now.table.finished }
+    {
+        &self.table
+    }
+}
+
+/// Takes the walk of a ready request and its answer out of its slot.
+fn take_ready<W: Drop>(slots: &mut Vec<Slot<W>>, id: u64) -> (W, Answer)
+    requires { is_ready (at slots.old.items id) ≡ true }
+    ensures was { at slots.old.items id ≡ Some (Ready result.0 result.1) }
+    ensures is { slots.new.items ≡ put slots.old.items id Assigned }
+{
+    match replace_slot(slots, id, Slot::Assigned) {
+        Slot::Ready(walk, answer) => (walk, answer),
+        _ => unreachable!(),
+    }
+}
+
+/// Puts this into a slot, and gives what was there.
+pub(crate) fn replace_slot<W: Drop>(slots: &mut Vec<Slot<W>>, id: u64, slot: Slot<W>) -> Slot<W>
+    requires { id < length slots.old.items }
+    ensures was { at slots.old.items id ≡ Some result }
+    ensures is { slots.new.items ≡ put slots.old.items id slot }
+{
+    mem::replace(&mut slots[id as usize], slot)
+}
+
+/// Puts this into a slot.
+pub(crate) fn put_slot<W: Drop>(slots: &mut Vec<Slot<W>>, id: u64, slot: Slot<W>)
+    requires { id < length slots.old.items }
+    ensures { slots.new.items ≡ put slots.old.items id slot }
+{
+    slots[id as usize] = slot;
+}

@@ -1,0 +1,111 @@
+ghost use Rattle.std.specs.Prelude.{◌≡◌, ◌+◌, ◌^◌, ◌<◌, ◌++◌, ℕ, List, IfOk, IsSome, OnOk, OnErr, Some};
+ghost use Rattle.result_cache.specs.Table.{Records};
+ghost use Rattle.build_meaning.specs.World.{World};
+ghost use Rattle.build_meaning.specs.SoFar.{ToolUse};
+ghost use Rattle.build_scheduler.specs.Position.{Position, ask_of, answered, begins, IsInTurn, IsCall, used_between};
+ghost use Rattle.build_scheduler.specs.Learnt.{AreInOrder, ArePartOf};
+
+use msb_values::{List, NoMemory};
+use result_cache::{RecordRef, RequestKey, RequestResult, RunId, Table};
+
+/// What the walk of a request asks. (Target build order; MSBuild task.)
+#[derive(Drop)]
+pub enum Ask {
+    /// It wants the record of this run.
+    Want(RunId),
+    /// The body that it is in calls these requests at once.
+    Call(List<RequestKey>),
+    /// The body of this run has come to its end, and this is its record.
+    Finished(RunId, RecordRef),
+    /// The request is over, with this result.
+    Done(RequestResult),
+}
+
+/// How a walk is answered.
+#[derive(Drop)]
+pub enum Answer {
+    /// Before anything is asked.
+    First,
+    /// The walk makes the run that it wants.
+    Go,
+    /// The walk uses the record of the run that it wants, or of the run whose body has ended in it.
+    Use,
+    /// The results of its calls, in call order.
+    Results(List<RequestResult>),
+}
+
+/// A request that asks, is answered, and goes on.
+///
+/// Contracts see the world that it is of, where it stands in it, how often it has asked, and the records that it has learnt.
+/// How it goes on with a record does not depend on who has made the run.
+pub trait Walker: Sized + Drop {
+    /// What a node has for every walk that it advances, such as the tools.
+    type Place;
+
+    /// What tells the world, apart from any walk.
+    type Origin: Drop;
+
+    /// What a tool is given.
+    ghost Input: { Type 0 };
+
+    /// What a tool answers.
+    ghost Output: { Type 0 };
+
+    /// The world that an origin tells.
+    ghost world_of: { Self.Origin → World Self.Input Self.Output };
+
+    /// The world that the walk is of.
+    ghost world: { Self → World Self.Input Self.Output };
+
+    /// Where it stands: what it asks there waits for its answer.
+    ghost position: { Self → Position Self.Input Self.Output };
+
+    /// How often it has asked.
+    ghost asked: { Self → ℕ };
+
+    /// The records that it has learnt, the last one first.
+    ghost learnt: { Self → Records };
+
+    /// The tools that were used at a place, in order.
+    ghost used: { Self.Place → List (ToolUse Self.Input) };
+
+    /// What tells the walk's world. This takes no memory.
+    fn origin(&self) -> Self::Origin
+        ensures { Self.world_of result ≡ Self.world self.now };
+
+    /// The walk of a request that this one calls. It begins with the caller's journal.
+    fn child(&self, key: &RequestKey) -> Result<Self, NoMemory>
+        requires { IsCall key.now (ask_of (Self.position self.now)) }
+        ensures world { IfOk result (λ child. Self.world child ≡ Self.world self.now) }
+        ensures begins { IfOk result (λ child. Self.position child ≡ begins (Self.world self.now) key.now (Self.position self.now).journal) }
+        ensures asked { IfOk result (λ child. Self.asked child ≡ 0) }
+        ensures learnt { IfOk result (λ child. ArePartOf (Self.learnt child) (Self.learnt self.now)) };
+
+    /// Learns the records that an answer needs, through all levels of calls: the answer then takes the walk where it would by
+    /// the whole table. Where there is no memory, the walk is as it was.
+    fn learn(&mut self, table: &Table, answer: &Answer) -> Result<(), NoMemory>
+        requires in_order { AreInOrder table.now.finished }
+        requires known { ArePartOf (Self.learnt self.old) table.now.finished }
+        requires fits { IsSome (answered (Self.world self.old) table.now.finished (Self.position self.old) answer.now) }
+        ensures learns { OnOk result (answered (Self.world self.old) (Self.learnt self.new) (Self.position self.old) answer.now
+            ≡ answered (Self.world self.old) table.now.finished (Self.position self.old) answer.now) }
+        ensures known { ArePartOf (Self.learnt self.new) table.now.finished }
+        ensures err { OnErr result (Self.learnt self.new ≡ Self.learnt self.old) }
+        ensures world { Self.world self.new ≡ Self.world self.old }
+        ensures position { Self.position self.new ≡ Self.position self.old }
+        ensures asked { Self.asked self.new ≡ Self.asked self.old };
+
+    /// Goes on with an answer to the next ask. Where there is no memory, the walk is as it was.
+    fn advance(&mut self, place: &mut Self::Place, answer: &Answer) -> Result<Ask, NoMemory>
+        requires fits { IsSome (answered (Self.world self.old) (Self.learnt self.old) (Self.position self.old) answer.now) }
+        requires turn { IsInTurn (Self.asked self.old) answer.now }
+        requires room { Self.asked self.old < 2 ^ 63 }
+        ensures asks { IfOk result (λ ask. ask ≡ ask_of (Self.position self.new)) }
+        ensures goes_on { OnOk result (answered (Self.world self.old) (Self.learnt self.old) (Self.position self.old) answer.now ≡ Some (Self.position self.new)) }
+        ensures asked { OnOk result (Self.asked self.new ≡ Self.asked self.old + 1) }
+        ensures used { OnOk result (Self.used place.new ≡ Self.used place.old ++ used_between (Self.position self.old).place (Self.position self.new).place) }
+        ensures stays { OnErr result (Self.position self.new ≡ Self.position self.old) }
+        ensures asked_err { OnErr result (Self.asked self.new ≡ Self.asked self.old) }
+        ensures world { Self.world self.new ≡ Self.world self.old }
+        ensures learnt { Self.learnt self.new ≡ Self.learnt self.old };
+}
