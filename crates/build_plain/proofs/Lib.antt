@@ -1,0 +1,5 @@
+pub mod Driving
+pub mod OneAtATime
+pub mod OwnTurns
+pub mod RequestsMove
+pub mod Turns

@@ -1,0 +1,15 @@
+use Rattle.std.proofs.Common.{◌≡◌, ◌-◌, ◌^◌, length}
+use Rattle.build_plain.specs.Driven.{Drives, IsFree}
+use Rattle.build_plain.proofs.alone.build_alone.Given as goal
+
+abbrev pub invariant-loop-core : goal.invariant-loop-core
+invariant-loop-core g l =
+    let m = g.W.Walker in
+    record {
+      world : m.world_of l.core.world ≡ m.world_of l.initial.core.world;
+      drives : Drives (m.world_of l.initial.core.world) l.initial.core.history.events l.core.history.events;
+      free : IsFree (m.world_of l.initial.core.world) l.core.history.events l.core.end;
+    }
+
+abbrev pub decreases-loop-core : goal.decreases-loop-core
+decreases-loop-core g l = 2 ^ 63 - length l.core.history.events

@@ -1,0 +1,42 @@
+use Rattle.std.proofs.Common.{◌≡◌, Some, sym, subst}
+use Rattle.std.specs.Prelude.{IsSome}
+use Rattle.build_scheduler.specs.Learnt.{ArePartOf}
+use Rattle.build_scheduler.specs.Own.{seen_by}
+use Rattle.build_scheduler.specs.Position.{answered}
+use Rattle.build_plain.proofs.OwnTurns.{known-of, fits-of, turn-of, room-of, own-of}
+use Rattle.build_plain.proofs.alone.step.Goals as goal
+
+pub go_on-requires-clause-known : goal.go_on-requires-clause-known
+go_on-requires-clause-known g c =
+    let m = g.W.Walker in
+    let core = c.args.core.now in
+    subst (λ table. ArePartOf (m.learnt c.args.walk) table.finished) (sym c.table.ensures.table)
+    (known-of (m.world_of core.world) core.history.events core.table.finished c.args.id (seen_by m.world m.position m.asked m.learnt c.args.walk) c.args.answer c.requires.out)
+
+pub go_on-requires-clause-fits : goal.go_on-requires-clause-fits
+go_on-requires-clause-fits g c =
+    let m = g.W.Walker in
+    let core = c.args.core.now in
+    subst (λ table. IsSome (answered (m.world c.args.walk) table.finished (m.position c.args.walk) c.args.answer)) (sym c.table.ensures.table)
+    (fits-of (m.world_of core.world) core.history.events core.table.finished c.args.id (seen_by m.world m.position m.asked m.learnt c.args.walk) c.args.answer c.requires.out)
+
+pub go_on-requires-clause-turn : goal.go_on-requires-clause-turn
+go_on-requires-clause-turn g c =
+    let m = g.W.Walker in
+    let core = c.args.core.now in
+    turn-of (m.world_of core.world) core.history.events core.table.finished c.args.id (seen_by m.world m.position m.asked m.learnt c.args.walk) c.args.answer c.requires.out
+
+pub go_on-requires-clause-room : goal.go_on-requires-clause-room
+go_on-requires-clause-room g c =
+    let m = g.W.Walker in
+    let core = c.args.core.now in
+    room-of (m.world_of core.world) core.history.events core.table.finished c.args.id (seen_by m.world m.position m.asked m.learnt c.args.walk) c.args.answer c.requires.out c.few_events.ensures
+
+pub answer_ask-requires-clause-own : goal.answer_ask-requires-clause-own
+answer_ask-requires-clause-own g c =
+    let m = g.W.Walker in
+    let core = c.args.core.now in
+    own-of (m.world_of core.world) core.history.events core.table.finished c.args.id (seen_by m.world m.position m.asked m.learnt c.args.walk) c.args.answer c.requires.out
+    (seen_by m.world m.position m.asked m.learnt c.go_on.new.walk) c.in-Ok.ensures.world
+    (subst (λ table. answered (m.world c.args.walk) table.finished (m.position c.args.walk) c.args.answer ≡ Some (m.position c.go_on.new.walk)) c.table.ensures.table c.in-Ok.ensures.goes_on)
+    c.in-Ok.ensures.asked (subst (λ table. ArePartOf (m.learnt c.go_on.new.walk) table.finished) c.table.ensures.table c.in-Ok.ensures.known)

@@ -1,0 +1,17 @@
+use Rattle.std.proofs.Common.{◌≡◌, length}
+use Rattle.build_scheduler.specs.Own.{seen_by}
+use Rattle.build_plain.specs.Driven.{Drives, IsTurn}
+use Rattle.build_plain.proofs.Turns.{left_of}
+use Rattle.build_plain.proofs.alone.work.Given as goal
+
+abbrev pub invariant-loop-turn : goal.invariant-loop-turn
+invariant-loop-turn g l =
+    let m = g.W.Walker in
+    record {
+      world : m.world_of l.core.world ≡ m.world_of l.initial.core.world;
+      drives : Drives (m.world_of l.initial.core.world) l.initial.core.history.events l.core.history.events;
+      turn : IsTurn (seen_by m.world m.position m.asked m.learnt) (m.world_of l.initial.core.world) l.core.history.events l.core.table.finished l.core.end l.id l.turn;
+    }
+
+abbrev pub decreases-loop-turn : goal.decreases-loop-turn
+decreases-loop-turn g l = left_of (length l.core.history.events) l.turn

@@ -1,0 +1,216 @@
+ghost use Rattle.std.specs.Prelude.{◌≡◌, ◌+◌, ◌^◌, ◌<◌, ◌++◌, None, Some, IfOk, IsSome, OnOk, length};
+ghost use Rattle.build_meaning.specs.declared.event.Event.{Event};
+ghost use Rattle.build_plain.specs.declared.alone.Turn.TheVariants.{Over};
+ghost use Rattle.build_plain.specs.Driven.{AssignsLeast, Continues, Drives, HasGrown, IsFree, IsLegal, IsTurn, NoneAssigned, OnlyAssigned, end_of};
+ghost use Rattle.build_scheduler.specs.declared.walker.Ask.TheVariants.{Want, Call};
+ghost use Rattle.build_scheduler.specs.Ends.{IsStop};
+ghost use Rattle.build_scheduler.specs.Learnt.{AreInOrder, ArePartOf};
+ghost use Rattle.build_scheduler.specs.Own.{IsOut, IsOwn, seen_by};
+ghost use Rattle.build_scheduler.specs.Position.{IsInTurn, answered, ask_of};
+
+use build_scheduler::{Answer, Ask, Claimed, Core, End, RequestFault, Walker};
+use msb_values::{List, NoMemory};
+use result_cache::{RequestKey, RunId, Table};
+
+/// What becomes of the request with the node.
+#[derive(Drop)]
+pub(crate) enum Turn<W> {
+    /// Its walk goes on with this answer.
+    GoesOn(W, Answer),
+    /// It waits, calls or is over, or the build has ended.
+    Over,
+}
+
+/// Builds on one node until the core's end is told: the least ready request is assigned each time, and its walk is advanced until
+/// it waits, calls or is over. Want of memory, a cycle of runs and a limit that is passed end the build. (MSBuild task; Building
+/// projects in parallel.)
+pub fn build_alone<W: Walker>(core: &mut Core<W>, place: &mut W::Place)
+    requires { NoneAssigned (W.world_of core.old.world) core.old.history.events }
+    ensures world { W.world_of core.new.world ≡ W.world_of core.old.world }
+    ensures continues { ∥ Continues core.old.history.events core.new.history.events ∥₁ }
+    ensures legal { ∥ IsLegal (W.world_of core.new.world) core.new.history.events ∥₁ }
+    ensures least { (more : List Event) → core.new.history.events ≡ core.old.history.events ++ more → AssignsLeast (W.world_of core.old.world) core.old.history.events more }
+    ensures end { IsSome core.new.end }
+    ensures free { IsFree (W.world_of core.new.world) core.new.history.events core.new.end }
+{
+    while core.end().is_none() {
+        take_turn(core, place);
+    }
+}
+
+/// Assigns the least ready request, and works at it.
+fn take_turn<W: Walker>(core: &mut Core<W>, place: &mut W::Place)
+    requires running { core.old.end ≡ None }
+    requires free { NoneAssigned (W.world_of core.old.world) core.old.history.events }
+    ensures world { W.world_of core.new.world ≡ W.world_of core.old.world }
+    ensures drives { Drives (W.world_of core.old.world) core.old.history.events core.new.history.events }
+    ensures free { IsFree (W.world_of core.old.world) core.new.history.events core.new.end }
+    ensures grows { length core.old.history.events < length core.new.history.events }
+    ensures few { length core.old.history.events < 2 ^ 63 }
+{
+    few_events(core);
+    match core.ready() {
+        Some(id) => {
+            let (walk, answer) = core.assign(id, 0);
+            work(core, place, id, walk, answer);
+        }
+        None => unreachable!(),
+    }
+}
+
+/// Works at the request with the node until it leaves the node, or the build ends.
+fn work<W: Walker>(core: &mut Core<W>, place: &mut W::Place, id: u64, walk: W, answer: Answer)
+    requires running { core.old.end ≡ None }
+    requires out { ∥ IsOut (W.world_of core.old.world) core.old.history.events core.old.table.finished id (seen_by W.world W.position W.asked W.learnt walk) answer ∥₁ }
+    requires only { OnlyAssigned (W.world_of core.old.world) core.old.history.events id }
+    ensures world { W.world_of core.new.world ≡ W.world_of core.old.world }
+    ensures drives { Drives (W.world_of core.old.world) core.old.history.events core.new.history.events }
+    ensures free { IsFree (W.world_of core.old.world) core.new.history.events core.new.end }
+{
+    let mut turn = Turn::GoesOn(walk, answer);
+    while let Turn::GoesOn(walk, answer) = turn {
+        turn = step(core, place, id, walk, answer);
+    }
+}
+
+/// The walk of the request with the node goes on to its next ask, which is answered where that can be done at once.
+fn step<W: Walker>(
+    core: &mut Core<W>,
+    place: &mut W::Place,
+    id: u64,
+    walk: W,
+    answer: Answer,
+) -> Turn<W>
+    requires running { core.old.end ≡ None }
+    requires out { ∥ IsOut (W.world_of core.old.world) core.old.history.events core.old.table.finished id (seen_by W.world W.position W.asked W.learnt walk) answer ∥₁ }
+    requires only { OnlyAssigned (W.world_of core.old.world) core.old.history.events id }
+    ensures world { W.world_of core.new.world ≡ W.world_of core.old.world }
+    ensures drives { Drives (W.world_of core.old.world) core.old.history.events core.new.history.events }
+    ensures turn { IsTurn (seen_by W.world W.position W.asked W.learnt) (W.world_of core.old.world) core.new.history.events core.new.table.finished core.new.end id result }
+    ensures grows { HasGrown core.old.history.events core.new.history.events result }
+    ensures few { length core.old.history.events < 2 ^ 63 }
+{
+    few_events(core);
+    let mut walk = walk;
+    match go_on(core.table(), place, &mut walk, &answer) {
+        Ok(ask) => answer_ask(core, id, walk, ask),
+        Err(NoMemory) => stop(core, End::NoMemory),
+    }
+}
+
+/// The history is a list, which has fewer than 2^63 entries: so each walk may ask once more, and the build comes to its end.
+fn few_events<W: Walker>(core: &Core<W>)
+    ensures { length core.now.history.events < 2 ^ 63 }
+{
+    let _events = core.history();
+}
+
+/// The walk learns the records that its answer needs, and goes on to its next ask.
+fn go_on<W: Walker>(
+    table: &Table,
+    place: &mut W::Place,
+    walk: &mut W,
+    answer: &Answer,
+) -> Result<Ask, NoMemory>
+    requires in_order { AreInOrder table.now.finished }
+    requires known { ArePartOf (W.learnt walk.old) table.now.finished }
+    requires fits { IsSome (answered (W.world walk.old) table.now.finished (W.position walk.old) answer.now) }
+    requires turn { IsInTurn (W.asked walk.old) answer.now }
+    requires room { W.asked walk.old < 2 ^ 63 }
+    ensures asks { IfOk result (λ ask. ask ≡ ask_of (W.position walk.new)) }
+    ensures goes_on { OnOk result (answered (W.world walk.old) table.now.finished (W.position walk.old) answer.now ≡ Some (W.position walk.new)) }
+    ensures asked { OnOk result (W.asked walk.new ≡ W.asked walk.old + 1) }
+    ensures known { ArePartOf (W.learnt walk.new) table.now.finished }
+    ensures world { W.world walk.new ≡ W.world walk.old }
+{
+    walk.learn(table, answer)?;
+    walk.advance(place, answer)
+}
+
+/// Answers what the request with the node asks.
+fn answer_ask<W: Walker>(core: &mut Core<W>, id: u64, walk: W, ask: Ask) -> Turn<W>
+    requires running { core.old.end ≡ None }
+    requires own { ∥ IsOwn (W.world_of core.old.world) core.old.history.events core.old.table.finished id (seen_by W.world W.position W.asked W.learnt walk) ∥₁ }
+    requires asks { ask_of (W.position walk) ≡ ask }
+    requires only { OnlyAssigned (W.world_of core.old.world) core.old.history.events id }
+    ensures world { W.world_of core.new.world ≡ W.world_of core.old.world }
+    ensures drives { Drives (W.world_of core.old.world) core.old.history.events core.new.history.events }
+    ensures turn { IsTurn (seen_by W.world W.position W.asked W.learnt) (W.world_of core.old.world) core.new.history.events core.new.table.finished core.new.end id result }
+    ensures grows { HasGrown core.old.history.events core.new.history.events result }
+{
+    match ask {
+        Ask::Want(run) => claim(core, id, walk, &run),
+        Ask::Call(calls) => call(core, id, walk, calls),
+        Ask::Finished(run, made) => {
+            core.result(id, &run, made);
+            Turn::GoesOn(walk, Answer::Use)
+        }
+        Ask::Done(told) => {
+            core.done(id, told);
+            Turn::Over
+        }
+    }
+}
+
+/// Claims the run that a request wants: it goes on, or waits, or a cycle of runs ends the build. (MSBuild task: a target is
+/// run once.)
+fn claim<W: Walker>(core: &mut Core<W>, id: u64, walk: W, run: &RunId) -> Turn<W>
+    requires running { core.old.end ≡ None }
+    requires own { ∥ IsOwn (W.world_of core.old.world) core.old.history.events core.old.table.finished id (seen_by W.world W.position W.asked W.learnt walk) ∥₁ }
+    requires asks { ask_of (W.position walk) ≡ Want run.now }
+    requires only { OnlyAssigned (W.world_of core.old.world) core.old.history.events id }
+    ensures world { W.world_of core.new.world ≡ W.world_of core.old.world }
+    ensures drives { Drives (W.world_of core.old.world) core.old.history.events core.new.history.events }
+    ensures turn { IsTurn (seen_by W.world W.position W.asked W.learnt) (W.world_of core.old.world) core.new.history.events core.new.table.finished core.new.end id result }
+    ensures grows { HasGrown core.old.history.events core.new.history.events result }
+{
+    match core.claim(id, walk, run) {
+        Ok(Claimed::Go(walk)) => Turn::GoesOn(walk, Answer::Go),
+        Ok(Claimed::Use(walk)) => Turn::GoesOn(walk, Answer::Use),
+        Ok(Claimed::Wait) => Turn::Over,
+        Ok(Claimed::Circular(_, runs)) => stop(core, End::Circular(runs)),
+        Err(_) => stop(core, End::NoMemory),
+    }
+}
+
+/// Makes the calls of a request, which then waits for them, or ends the build where they are refused. (MSBuild task,
+/// BuildInParallel.)
+fn call<W: Walker>(core: &mut Core<W>, id: u64, walk: W, calls: List<RequestKey>) -> Turn<W>
+    requires running { core.old.end ≡ None }
+    requires own { ∥ IsOwn (W.world_of core.old.world) core.old.history.events core.old.table.finished id (seen_by W.world W.position W.asked W.learnt walk) ∥₁ }
+    requires asks { ask_of (W.position walk) ≡ Call calls }
+    requires only { OnlyAssigned (W.world_of core.old.world) core.old.history.events id }
+    ensures world { W.world_of core.new.world ≡ W.world_of core.old.world }
+    ensures drives { Drives (W.world_of core.old.world) core.old.history.events core.new.history.events }
+    ensures turn { IsTurn (seen_by W.world W.position W.asked W.learnt) (W.world_of core.old.world) core.new.history.events core.new.table.finished core.new.end id result }
+    ensures grows { HasGrown core.old.history.events core.new.history.events result }
+{
+    match core.request(id, walk, calls) {
+        Ok(()) => Turn::Over,
+        Err((_, fault)) => stop(core, refused(fault)),
+    }
+}
+
+/// The end of a build whose calls are refused.
+fn refused(fault: RequestFault) -> End
+    ensures { result ≡ end_of fault }
+{
+    match fault {
+        RequestFault::TooDeep(keys) => End::TooDeep(keys),
+        RequestFault::TooMany(instance) => End::TooMany(instance),
+        RequestFault::Memory => End::NoMemory,
+    }
+}
+
+/// Ends a build that can't go on.
+fn stop<W: Walker>(core: &mut Core<W>, end: End) -> Turn<W>
+    requires running { core.old.end ≡ None }
+    requires shown { IsStop (W.world_of core.old.world) core.old.history.events end }
+    ensures world { W.world_of core.new.world ≡ W.world_of core.old.world }
+    ensures history { core.new.history.events ≡ core.old.history.events }
+    ensures turn { result ≡ Over }
+    ensures free { IsFree (W.world_of core.old.world) core.new.history.events core.new.end }
+{
+    core.stop(end);
+    Turn::Over
+}
