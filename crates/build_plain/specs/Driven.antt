@@ -42,12 +42,12 @@ abbrev pub TakesLeast : {I A : Type 0} → World I A → List Event → Event �
 TakesLeast w before (Assign id node) = NoneAssigned w before × IsLeastReady w before (Some id) × (node ≡ 0)
 TakesLeast w before event = Unit {0}
 
--- each of the events that come after these takes the least ready request
+-- among the events that come after these, each that hands a request to the node takes the least ready one
 abbrev pub AssignsLeast : {I A : Type 0} → World I A → List Event → List Event → Type 0
 AssignsLeast w before [] = Unit {0}
 AssignsLeast w before (event ∷ more) = TakesLeast w before event × AssignsLeast w (before ++ event ∷ []) more
 
--- more events came after these, and each takes the least ready request
+-- more events came after these, and each that hands a request to the node takes the least ready one
 pub record Drives {I A : Type 0} (w : World I A) (before events : List Event) : Type 0 where
   pub more : List Event
   pub is : events ≡ before ++ more

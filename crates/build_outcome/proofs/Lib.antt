@@ -1,0 +1,3 @@
+pub mod RootOver
+pub mod NoStops
+pub mod OutcomesAgree

@@ -1,0 +1,48 @@
+-- The journal of a root request that is over is got from its result by the table of the core, and tells what comes of the build.
+use Rattle.std.proofs.Common.{◌≡◌, Bool, List, [], Option, Some, IsSome, is_some, ap, sym, ◌∙◌, subst}
+use Rattle.std.proofs.Math.Logic.{∥∥₁_elim, ∥∥₁_map₂}
+use Rattle.std.specs.Prelude.{IfSome}
+use Rattle.result_cache.specs.declared.run.RunId.{RunId}
+use Rattle.result_cache.specs.declared.request.RequestResult.{RequestResult}
+use Rattle.result_cache.specs.Replay.{replay_all}
+use Rattle.result_cache.specs.Table.{TableRuns}
+use Rattle.build_meaning.specs.declared.event.Event.{Event}
+use Rattle.build_meaning.specs.World.{World}
+use Rattle.build_meaning.specs.State.{State}
+use Rattle.build_history.proofs.JournalsReplayed.{root_is_replayed}
+use Rattle.build_scheduler.specs.declared.slot.Origin.{Origin}
+use Rattle.build_scheduler.specs.declared.slot.Slot.{Slot}
+use Rattle.build_scheduler.specs.declared.slot.End.{End}
+use Rattle.build_scheduler.specs.declared.slot.End.TheVariants.{Root}
+use Rattle.build_scheduler.specs.Ends.{IsRootOver, IsEnd}
+use Rattle.build_scheduler.specs.Log.{Logged}
+use Rattle.build_scheduler.specs.Own.{Seen}
+use Rattle.build_scheduler.specs.Shown.{Shown}
+use Rattle.build_scheduler.proofs.HistoryFacts.{some-prop, one_state}
+use Rattle.build_outcome.specs.declared.outcome.Outcome.{Outcome}
+use Rattle.build_outcome.specs.Outcomes.{built, IsOutcomeAt}
+
+over : {I A : Type 0} (w : World I A) (events : List Event) (result : RequestResult) {end : Option End} → Some (Root result) ≡ end → IsEnd w events end → ∥ IsRootOver w events result ∥₁
+over w events result e told = subst (λ o. IsEnd w events o) (sym e) told
+
+module _ {W I A : Type 0} (seen : W → Seen I A) (w : World I A) {log : Logged} {origins : List Origin} {slots : List (Slot W)} {making : List (Option RunId)} {table : TableRuns} {end : Option End} (result : RequestResult) where
+  over-replayed : Shown seen w log origins slots making table end → (x : IsRootOver w log.events result) → replay_all table.finished result.runs [] ≡ Some x.journal
+  over-replayed s x =
+      let same : s.state ≡ x.state = one_state w log.events s.state x.state s.history x.history in
+      ap (λ finished. replay_all finished result.runs []) (s.finished ∙ ap (λ (t : State I A). t.table) same)
+      ∙ root_is_replayed w log.events x.state x.history result x.journal x.ends
+
+  pub root-replays : ∥ Shown seen w log origins slots making table end ∥₁ → Some (Root result) ≡ end → IsEnd w log.events end → IsSome (replay_all table.finished result.runs [])
+  root-replays legal e told =
+      ∥∥₁_elim legal (some-prop (replay_all table.finished result.runs [])) (λ s.
+      ∥∥₁_elim (over w log.events result e told) (some-prop (replay_all table.finished result.runs [])) (λ x. ap is_some (over-replayed s x)))
+
+  pub root-outcome : (low : Bool) (outcome : Outcome) → ∥ Shown seen w log origins slots making table end ∥₁ → Some (Root result) ≡ end → IsEnd w log.events end →
+      IfSome (replay_all table.finished result.runs []) (λ journal. outcome ≡ built low result journal) → ∥ IsOutcomeAt w low log.events end outcome ∥₁
+  root-outcome low outcome legal e told h = ∥∥₁_map₂ legal (over w log.events result e told) (λ s x. subst (λ o. IsOutcomeAt w low log.events o outcome) e (record {
+    state = x.state;
+    journal = x.journal;
+    history = x.history;
+    ends = x.ends;
+    outcome_is = subst (λ o. IfSome o (λ journal. outcome ≡ built low result journal)) (over-replayed s x) h;
+  }))

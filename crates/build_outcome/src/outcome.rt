@@ -1,0 +1,73 @@
+ghost use Rattle.std.specs.Prelude.{◌≡◌, [], IfOk, IfSome, IsSome};
+ghost use Rattle.result_cache.specs.Replay.{replay_all};
+ghost use Rattle.build_outcome.specs.Outcomes.{status_of, built, stopped, IsOutcomeAt, IsStatus};
+
+use crate::replayed::replayed;
+use build_report::{shown, shown_circular, shown_too_deep, shown_too_many};
+use build_scheduler::{Core, End, Walker};
+use msb_values::{List, NoMemory, Put, Text8};
+use result_cache::{RequestResult, Table};
+use std::alloc::Global;
+
+/// What comes of a build. (MSBuild command-line reference.)
+#[derive(Drop)]
+pub struct Outcome {
+    /// 0 where the root request succeeded, 1 where it failed, and 4 where the build was stopped.
+    pub status: u8,
+    /// What is printed.
+    pub text: Text8,
+    /// The files to write, in order; each path is there once.
+    pub commit: List<Put>,
+}
+
+impl Outcome {
+    /// The outcome of a build whose end is told. Messages of low importance are printed only where they are asked for. Where
+    /// the build ended for want of memory, or there is no memory now, there is none. (MSBuild command-line reference; MSBuild
+    /// task.)
+    pub fn of<W: Walker>(alloc: Global, core: &Core<W>, low: bool) -> Result<Outcome, NoMemory>
+        requires { IsSome core.now.end }
+        ensures outcome { IfOk result (λ outcome. ∥ IsOutcomeAt (W.world_of core.now.world) low core.now.history.events core.now.end outcome ∥₁) }
+        ensures status { IfOk result (λ outcome. IsStatus outcome.status) }
+    {
+        match core.end() {
+            Some(End::Root(root)) => built(alloc, core.table(), root, low),
+            Some(End::Circular(runs)) => Ok(stopped(alloc, shown_circular(alloc, runs)?)),
+            Some(End::TooDeep(keys)) => Ok(stopped(alloc, shown_too_deep(alloc, keys)?)),
+            Some(End::TooMany(instance)) => Ok(stopped(alloc, shown_too_many(alloc, instance)?)),
+            Some(End::NoMemory) => Err(NoMemory),
+            None => unreachable!(),
+        }
+    }
+}
+
+/// The outcome of a build whose root request is over, with this result.
+fn built(alloc: Global, table: &Table, root: &RequestResult, low: bool) -> Result<Outcome, NoMemory>
+    requires { IsSome (replay_all table.now.finished root.now.runs []) }
+    ensures outcome { IfOk result (λ outcome. IfSome (replay_all table.now.finished root.now.runs []) (λ journal. outcome ≡ built low root.now journal)) }
+    ensures status { IfOk result (λ outcome. IsStatus outcome.status) }
+{
+    let journal = replayed(alloc, table, root.runs.as_slice())?;
+    Ok(Outcome {
+        status: status_of(root.ok),
+        text: shown(alloc, root, &journal, low)?,
+        commit: journal.commit_list(alloc)?,
+    })
+}
+
+fn status_of(ok: bool) -> u8
+    ensures is { result ≡ status_of ok }
+    ensures status { IsStatus result }
+{
+    if ok { 0 } else { 1 }
+}
+
+/// The outcome of a build that was stopped: nothing is written.
+fn stopped(alloc: Global, text: Text8) -> Outcome
+    ensures { result ≡ stopped text }
+{
+    Outcome {
+        status: 4,
+        text,
+        commit: List::new(alloc),
+    }
+}
