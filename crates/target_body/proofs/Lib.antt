@@ -1,0 +1,14 @@
+pub mod Playing
+pub mod Stepping
+pub mod Advancing
+pub mod PlannedCalls
+pub mod Missing
+pub mod Pushing
+pub mod Giving
+pub mod TaskSteps
+pub mod ChildSteps
+pub mod Faulting
+pub mod Telling
+pub mod Finding
+pub mod Deciding
+pub mod Treating

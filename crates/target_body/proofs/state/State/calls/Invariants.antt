@@ -1,0 +1,23 @@
+use Rattle.std.proofs.Common.{◌≡◌, length}
+use Rattle.build_world.specs.Elements.{seen_element}
+use Rattle.task_trait.specs.Tools.{BeginsWith}
+use Rattle.target_body.specs.Moments.{Moment, done_at, moment, player, state_at}
+use Rattle.target_body.specs.Played.{played}
+use Rattle.target_body.specs.Seen.{seen_run}
+use Rattle.target_body.specs.Tasks.{call}
+use Rattle.target_body.specs.Work.{each_in_turn}
+use Rattle.target_body.proofs.state.State.calls.Given as goal
+
+abbrev pub invariant-loop-bucket : goal.invariant-loop-bucket
+invariant-loop-bucket g l =
+    let now : Moment = moment l.self l.journal (g.T.CountedTools.calls l.tools) in
+    let first : Moment = moment l.initial.self l.initial.journal (g.T.CountedTools.calls l.initial.tools) in
+    let part = call (seen_run l.at.site) (seen_element l.at.element) l.at.gives in
+    record {
+      plays : played (player l.at.site.id.now g.T.CountedTools.answer) (each_in_turn part l.later (state_at now)) (done_at now)
+          ≡ played (player l.at.site.id.now g.T.CountedTools.answer) (each_in_turn part l.fn.later (state_at first)) (done_at first);
+      begun : BeginsWith (g.T.CountedTools.calls l.initial.tools) (g.T.CountedTools.calls l.tools);
+    }
+
+abbrev pub decreases-loop-bucket : goal.decreases-loop-bucket
+decreases-loop-bucket g l = length l.later

@@ -1,0 +1,68 @@
+-- How a task is answered: by the tasks that are built in, by the requests that it calls, or by a tool. (Task element; MSBuild tasks; MSBuild task)
+use Rattle.std.specs.Prelude.{ℕ, List, [], ◌∷◌, ◌++◌, Bool, true, false, Result, Ok, Err, codes, if◌then◌else◌}
+use Rattle.std.specs.Str.{bytes_eq}
+use Rattle.msb_values.specs.declared.put.Put.{Put}
+use Rattle.msb_expand.specs.Reserved.{folder_of}
+use Rattle.result_cache.specs.declared.request.RequestKey.{RequestKey}
+use Rattle.result_cache.specs.declared.request.RequestResult.{RequestResult}
+use Rattle.task_trait.specs.Failures.{failed}
+use Rattle.task_trait.specs.declared.failures.Failure.{Failure}
+use Rattle.task_trait.specs.declared.tools.Param.{Param}
+use Rattle.task_trait.specs.declared.tools.TaskOutput.{TaskOutput}
+use Rattle.task_trait.specs.declared.tools.ToolAnswer.{ToolAnswer}
+use Rattle.task_trait.specs.declared.tools.ToolAnswer.TheVariants.{Unknown, Made}
+use Rattle.task_trait.specs.declared.tools.ToolInput.{ToolInput}
+use Rattle.task_kit.specs.Foreign.{foreign_input, foreign_output}
+use Rattle.task_kit.specs.Tasks.{answer}
+use Rattle.task_msbuild.specs.Plans.{plan_of, has_stopped}
+use Rattle.task_msbuild.specs.Gathered.{gathered}
+use Rattle.task_msbuild.specs.declared.plans.Plan.{Plan}
+use Rattle.target_body.specs.Work.{Work, done, writes, uses, calls, followed_by}
+use Rattle.target_body.specs.States.{Run, State, with_journal, with_write, view_of}
+
+-- the files that a task gives are written in order
+abbrev pub all_written : List Put → State → Work State
+all_written [] s = done s
+all_written (put ∷ puts) s = writes put (λ journal. all_written puts (with_write put journal s))
+
+abbrev pub given : State → TaskOutput → Work (State × TaskOutput)
+given s output = followed_by (all_written output.files s) (λ after. done (after, output))
+
+-- the calls of an MSBuild task are made at once
+abbrev pub at_once : List RequestKey → State → Work (State × List RequestResult)
+at_once [] s = done (s, [])
+at_once (key ∷ keys) s = calls key keys (λ results journal. done (with_journal journal s, results))
+
+-- or one after the other, up to one that fails, if it is to stop there
+abbrev pub in_order : Plan → List RequestResult → List RequestKey → State → Work (State × List RequestResult)
+in_order plan results [] s = done (s, results)
+in_order plan results (key ∷ keys) s =
+    elim (has_stopped plan results) [
+      | true ↦ done (s, results)
+      | false ↦ calls key [] (λ more journal. in_order plan (results ++ more) keys (with_journal journal s))
+    ]
+
+abbrev pub made : Plan → State → Work (State × List RequestResult)
+made plan s = elim plan.parallel [ true ↦ at_once plan.calls s | false ↦ in_order plan [] plan.calls s ]
+
+abbrev pub msbuild : Run → State → List Param → Work (State × TaskOutput)
+msbuild run s params =
+    let plan : Plan = plan_of run.files (folder_of run.instance.path) run.instance.globals params in
+    followed_by (made plan s) (λ x. done (x.0, gathered plan x.1))
+
+-- a tool is handed the parameters and the files of Sources
+abbrev pub tool : List ℕ → State → Result ToolInput Failure → Work (State × TaskOutput)
+tool task s (Ok input) = uses task input (λ given_answer. given s (foreign_output task s.written given_answer))
+tool task s (Err failure) = done (s, failed task failure)
+
+abbrev pub not_built_in : Bool → Run → State → (task : List ℕ) → List Param → Work (State × TaskOutput)
+not_built_in true run s task params = msbuild run s params
+not_built_in false run s task params = tool task s (foreign_input (folder_of run.instance.path) (view_of run s) params)
+
+abbrev pub answered_by : ToolAnswer → Run → State → (task : List ℕ) → List Param → Work (State × TaskOutput)
+answered_by (Made output) run s task params = given s output
+answered_by Unknown run s task params = not_built_in (bytes_eq task (codes "msbuild")) run s task params
+
+-- the answer to a task, when its files are written and its requests have come back
+abbrev pub answered : Run → State → (task : List ℕ) → List Param → Work (State × TaskOutput)
+answered run s task params = answered_by (answer task (folder_of run.instance.path) (view_of run s) params s.written) run s task params

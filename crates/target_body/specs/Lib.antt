@@ -1,0 +1,13 @@
+pub mod Work
+pub mod States
+pub mod Answers
+pub mod Tasks
+pub mod Children
+pub mod Returned
+pub mod Pieces
+pub mod Bodies
+pub mod Played
+pub mod Seen
+pub mod Moments
+pub mod Left
+pub mod Standings

@@ -1,0 +1,100 @@
+-- Where the body of a run stands between its calls, and what its next step is by the definition of bodies. (Target element; MSBuild task)
+use Rattle.std.specs.Prelude.{◌≡◌, ℕ, List, [], ◌∷◌, ◌++◌, length, map, Option, Some, None}
+use Rattle.std.specs.List.{find}
+use Rattle.std.specs.Str.{bytes_eq}
+use Rattle.msb_values.specs.declared.scope.Scope.{Scope}
+use Rattle.result_cache.specs.Journal.{Journal}
+use Rattle.result_cache.specs.declared.record.Segment.{Segment}
+use Rattle.result_cache.specs.declared.request.RequestKey.{RequestKey}
+use Rattle.result_cache.specs.declared.request.RequestResult.{RequestResult}
+use Rattle.result_cache.specs.declared.run.RunId.{RunId}
+use Rattle.build_meaning.specs.SoFar.{ToolUse, SoFar, called, recorded}
+use Rattle.build_meaning.specs.Stop.{Stop, Stopped, ends, asks, run_on}
+use Rattle.build_meaning.specs.Walk.{Body}
+use Rattle.build_world.specs.Instances.{Instance, UsedTarget, seen_target}
+use Rattle.build_world.specs.declared.world.World.{World}
+use Rattle.task_trait.specs.declared.tools.ToolAnswer.{ToolAnswer}
+use Rattle.task_trait.specs.declared.tools.ToolInput.{ToolInput}
+use Rattle.target_body.specs.Work.{body_of}
+use Rattle.target_body.specs.States.{Run, outcome_of}
+use Rattle.target_body.specs.Bodies.{body}
+use Rattle.target_body.specs.Left.{left, waiting_run}
+use Rattle.target_body.specs.Seen.{ended, seen_state}
+use Rattle.target_body.specs.declared.body.BodyAsk.{BodyAsk}
+use Rattle.target_body.specs.declared.body.BodyAsk.TheVariants.{Call, Finished}
+use Rattle.target_body.specs.declared.body.Body.{Body as Held}
+use Rattle.target_body.specs.declared.body.Stand.{Stand}
+use Rattle.target_body.specs.declared.frames.AtRun.{AtRun}
+use Rattle.target_body.specs.declared.state.State.{State}
+use Rattle.target_body.specs.declared.steps.Step.{Step}
+use Rattle.target_body.specs.declared.steps.Step.TheVariants.{Over, Waits}
+use Rattle.target_body.specs.declared.body.Stand.TheVariants.{Begun, Waiting, Ended}
+
+-- the target of this name
+abbrev pub target_named : List UsedTarget → List ℕ → Option UsedTarget
+target_named targets name = find (λ target. bytes_eq target.name name) targets
+
+abbrev pub run_with : World → RunId → UsedTarget → Run
+run_with world run target = record { files = world.tree.files; mode = world.mode; instance = run.instance; target = target }
+
+-- It has not begun, and will begin in this scope. Or it has written and called this, and waits for the results of these requests, by which and by
+-- the journal then it goes on. Or it is over.
+pub data Standing : Type 0 where
+  begins : Scope → Standing
+  waits : List Segment → RequestKey → List RequestKey → (List RequestResult → Journal → Body ToolInput ToolAnswer) → Standing
+  over : Standing
+
+abbrev pub waits_if : List RequestKey → List Segment → (List RequestResult → Journal → Body ToolInput ToolAnswer) → Standing
+waits_if [] segments go = over
+waits_if (key ∷ keys) segments go = waits segments key keys go
+
+-- where the machine stands in a run
+abbrev pub standing_by : Run → Stand → Standing
+standing_by run (Begun scope) = begins scope
+standing_by run (Waiting w) =
+    waits_if (waiting_run w.at) w.state.segments (λ results journal. body_of (left run w.at (seen_state w.state journal) results journal))
+standing_by run Ended = over
+
+abbrev pub standing : Run → Held → Standing
+standing run b = standing_by run b.stand
+
+-- whether these are the results for which it waits: none at first, and later one for each request
+abbrev pub Fits : Standing → List RequestResult → Type 0
+Fits (begins scope) results = results ≡ []
+Fits (waits segments key keys go) results = length results ≡ length (key ∷ keys)
+Fits over results = ⊥
+
+abbrev pub tool_use : List ℕ × ToolInput → ToolUse ToolInput
+tool_use call = record { name = call.0; input = call.1 }
+
+-- what it asks where it has stopped, and where it stands then
+abbrev pub IsTold : Stop ToolInput ToolAnswer → List Segment → BodyAsk → Standing → Type 0
+IsTold (ends outcome) segments ask now = (ask ≡ Finished (recorded outcome segments)) × (now ≡ over)
+IsTold (asks key keys go) segments ask now = (ask ≡ Call (key ∷ keys)) × (now ≡ waits segments key keys go)
+
+-- A body goes on from here, with what it has written and called: files are written and tools are used until it stops. The second list of calls of
+-- tools is the first with those that it makes behind it, and so it is whatever tools it used before.
+pub record Advances (answer : List ℕ → ToolInput → ToolAnswer) (run : RunId) (b : Body ToolInput ToolAnswer) (segments : List Segment)
+    (before after : Journal) (called called_then : List (List ℕ × ToolInput)) (ask : BodyAsk) (now : Standing) : Type 0 where
+  pub uses : List (List ℕ × ToolInput)
+  pub calls : called_then ≡ called ++ uses
+  pub stop : Stop ToolInput ToolAnswer
+  pub written : List Segment
+  pub told : IsTold stop written ask now
+  pub stops : (used : List (ToolUse ToolInput)) →
+      run_on answer run b before (record { segments = segments; tools = used })
+      ≡ record { stop = stop; journal = after; so_far = record { segments = written; tools = used ++ map tool_use uses } }
+
+-- one step of the machine, by the results that have come
+abbrev pub Goes : (answer : List ℕ → ToolInput → ToolAnswer) → RunId → Run → Standing → List RequestResult
+    → (before after : Journal) → (called called_then : List (List ℕ × ToolInput)) → BodyAsk → Standing → Type 0
+Goes answer id run (begins scope) results before after tools tools_then ask now =
+    Advances answer id (body run scope before) [] before after tools tools_then ask now
+Goes answer id run (waits segments key keys go) results before after tools tools_then ask now =
+    Advances answer id (go results before) (segments ++ called (key ∷ keys) results) before after tools tools_then ask now
+Goes answer id run over results before after tools tools_then ask now = Unit {0}
+
+-- what is asked behind a step of the machine, and where it stands then
+abbrev pub Tells : Run → State → Step AtRun → BodyAsk → Standing → Type 0
+Tells run state (Over ending) ask now = (ask ≡ Finished (recorded (outcome_of (ended ending (seen_state state []))) state.segments)) × (now ≡ over)
+Tells run state (Waits at) ask now = (ask ≡ Call (waiting_run at)) × (now ≡ standing_by run (Waiting (record { state = state; at = at })))

@@ -1,0 +1,240 @@
+ghost use Rattle.std.specs.Prelude.{◌≡◌, ◌<◌, ◌++◌, [], length, IfOk, IfSome, IsSome, OnErr, option_copied};
+ghost use Rattle.std.specs.List.{find};
+ghost use Rattle.std.specs.Str.{bytes_eq};
+ghost use Rattle.build_meaning.specs.SoFar.{called, recorded};
+ghost use Rattle.build_world.specs.Instances.{seen_instance};
+ghost use Rattle.result_cache.specs.Journal.{Journal as Files};
+ghost use Rattle.task_trait.specs.Tools.{BeginsWith};
+ghost use Rattle.target_body.specs.Bodies.{body};
+ghost use Rattle.target_body.specs.Left.{left, waiting_run};
+ghost use Rattle.target_body.specs.Seen.{ended, seen_run, seen_state};
+ghost use Rattle.target_body.specs.Standings.{Advances, Fits, Goes, Tells, begins, run_with, standing_by, target_named};
+ghost use Rattle.target_body.specs.States.{Run, outcome_of};
+ghost use Rattle.target_body.specs.Work.{body_of};
+
+use crate::frames::AtRun;
+use crate::site::Site;
+use crate::state::State;
+use crate::steps::{Ending, Step};
+use build_world::{Instance, UsedTarget, World};
+use msb_files::Journal;
+use msb_values::{Copied, List, NoMemory, Scope};
+use result_cache::{Record, RequestKey, RequestResult, RunId};
+use std::alloc::Global;
+use std::mem;
+use task_trait::CountedTools;
+
+/// What the body of a run does next.
+#[derive(Drop)]
+pub enum BodyAsk {
+    /// It calls these requests at once, at least one, and goes on when all their results have come. (MSBuild task.)
+    Call(List<RequestKey>),
+    /// It is over, and this is the record of the run.
+    Finished(Record),
+}
+
+/// The body of a run: it goes on by itself, writes files into the journal and uses tools, until it calls requests or is over.
+/// (Target element; MSBuild task.)
+#[derive(Drop)]
+pub struct Body {
+    pub(crate) run: RunId,
+    pub(crate) stand: Stand,
+}
+
+#[derive(Drop)]
+pub(crate) enum Stand {
+    /// It has not begun, and will begin in this scope.
+    Begun(Scope),
+    Waiting(Waiting),
+    Ended,
+}
+
+/// It waits for the results of calls.
+#[derive(Drop)]
+pub(crate) struct Waiting {
+    pub(crate) state: State,
+    pub(crate) at: AtRun,
+}
+
+impl Body {
+    /// The body of a run that begins in this scope.
+    pub fn start(alloc: Global, run: &RunId, scope: &Scope) -> Result<Body, NoMemory>
+        ensures run { IfOk result (λ body. body.run ≡ run.now) }
+        ensures begins { (run : Run) → IfOk result (λ body. standing_by run body.stand ≡ begins scope.now) }
+    {
+        let _ = alloc;
+        Ok(Body {
+            run: run.copy()?,
+            stand: Stand::Begun(scope.copy()?),
+        })
+    }
+
+    /// Goes on by the results of the requests that it called last, of which there are none at first, as the definition of bodies
+    /// says: `Goes` in `specs/Standings.antt`. The instance and the world are those of the first call. After want of memory the body is spent, and
+    /// nothing is claimed of the journal; the calls of the tools then begin with those of before.
+    pub fn advance<T: CountedTools>(
+        &mut self,
+        alloc: Global,
+        world: &World,
+        tools: &mut T,
+        instance: &Instance,
+        journal: &mut Journal,
+        results: &List<RequestResult>,
+    ) -> Result<BodyAsk, NoMemory>
+        requires target { IsSome (target_named (seen_instance instance.now).targets self.old.run.target) }
+        requires fits { IfSome (target_named (seen_instance instance.now).targets self.old.run.target) (λ target.
+            Fits (standing_by (run_with world.now self.old.run target) self.old.stand) results.now) }
+        ensures run { self.new.run ≡ self.old.run }
+        ensures goes { IfOk result (λ ask. IfSome (target_named (seen_instance instance.now).targets self.old.run.target) (λ target.
+            let run = run_with world.now self.old.run target in
+            Goes T.answer self.old.run run (standing_by run self.old.stand) results.now journal.old journal.new (T.calls tools.old) (T.calls tools.new) ask (standing_by run self.new.stand))) }
+        ensures begun { OnErr result (BeginsWith (T.calls tools.old) (T.calls tools.new)) }
+    {
+        let Some(target) = target_named(instance.targets.as_slice(), self.run.target.key()) else {
+            unreachable!()
+        };
+        let stand = mem::replace(&mut self.stand, Stand::Ended);
+        let site = Site {
+            world,
+            id: &self.run,
+            target,
+        };
+        let (ask, stand) = go_on(alloc, &site, stand, results, tools, journal)?;
+        self.stand = stand;
+        Ok(ask)
+    }
+}
+
+fn target_named<'t>(targets: &'t [UsedTarget], name: &str) -> Option<&'t UsedTarget>
+    ensures { option_copied result ≡ find (λ target. bytes_eq target.name name.now) targets.entry.now }
+{
+    targets.iter().find(|target| target.name.key() == name)
+}
+
+fn go_on<T: CountedTools>(
+    alloc: Global,
+    site: &Site<'_>,
+    stand: Stand,
+    results: &List<RequestResult>,
+    tools: &mut T,
+    journal: &mut Journal,
+) -> Result<(BodyAsk, Stand), NoMemory>
+    requires { Fits (standing_by (seen_run site.now) stand) results.now }
+    ensures goes { IfOk result (λ r. let run = seen_run site.now in
+        Goes T.answer site.now.id.now run (standing_by run stand) results.now journal.old journal.new (T.calls tools.old) (T.calls tools.new) r.0 (standing_by run r.1)) }
+    ensures begun { BeginsWith (T.calls tools.old) (T.calls tools.new) }
+{
+    match stand {
+        Stand::Begun(scope) => begin(alloc, site, scope, tools, journal),
+        Stand::Waiting(waiting) => resume(alloc, site, waiting, results, tools, journal),
+        Stand::Ended => unreachable!(),
+    }
+}
+
+fn begin<T: CountedTools>(
+    alloc: Global,
+    site: &Site<'_>,
+    scope: Scope,
+    tools: &mut T,
+    journal: &mut Journal,
+) -> Result<(BodyAsk, Stand), NoMemory>
+    ensures goes { IfOk result (λ r. let run = seen_run site.now in
+        Advances T.answer site.now.id.now (body run scope journal.old) [] journal.old journal.new (T.calls tools.old) (T.calls tools.new) r.0 (standing_by run r.1)) }
+    ensures begun { BeginsWith (T.calls tools.old) (T.calls tools.new) }
+{
+    let mut state = State::begun(alloc, scope.copy()?);
+    let step = state.begin(alloc, site, scope, tools, journal)?;
+    tell(alloc, state, step)
+}
+
+fn resume<T: CountedTools>(
+    alloc: Global,
+    site: &Site<'_>,
+    waiting: Waiting,
+    results: &List<RequestResult>,
+    tools: &mut T,
+    journal: &mut Journal,
+) -> Result<(BodyAsk, Stand), NoMemory>
+    requires waits { 0 < length (waiting_run waiting.at) }
+    requires fits { length results.now ≡ length (waiting_run waiting.at) }
+    ensures goes { IfOk result (λ r. let run = seen_run site.now in
+        Advances T.answer site.now.id.now (body_of (left run waiting.at (seen_state waiting.state journal.old) results.now journal.old)) (waiting.state.segments ++ called (waiting_run waiting.at) results.now) journal.old journal.new (T.calls tools.old) (T.calls tools.new) r.0 (standing_by run r.1)) }
+    ensures begun { BeginsWith (T.calls tools.old) (T.calls tools.new) }
+{
+    let Waiting { state, at } = waiting;
+    let mut state = state;
+    state.add_calls(at.waiting(), results.as_slice())?;
+    let step = state.resume(alloc, site, at, results.copy()?, tools, journal)?;
+    tell(alloc, state, step)
+}
+
+// What is asked behind a step, and where the body stands then.
+fn tell(alloc: Global, state: State, step: Step<AtRun>) -> Result<(BodyAsk, Stand), NoMemory>
+    ensures { IfOk result (λ r. (run : Run) → Tells run state step r.0 (standing_by run r.1)) }
+{
+    match step {
+        Step::Over(ending) => Ok((
+            BodyAsk::Finished(recorded(alloc, state, ending)),
+            Stand::Ended,
+        )),
+        Step::Waits(at) => {
+            let keys = List::of(alloc, at.waiting())?;
+            Ok((BodyAsk::Call(keys), Stand::Waiting(Waiting { state, at })))
+        }
+    }
+}
+
+// A run that has stopped returns nothing.
+fn recorded(alloc: Global, state: State, ending: Ending) -> Record
+    ensures { (journal : Files) → result ≡ recorded (outcome_of (ended ending (seen_state state journal))) state.segments }
+{
+    let State {
+        decisions,
+        items,
+        changes,
+        notes,
+        segments,
+        ..
+    } = state;
+    match ending {
+        Ending::Fine => Record {
+            ok: true,
+            decisions,
+            items,
+            changes,
+            notes,
+            segments,
+        },
+        Ending::Faulted | Ending::Failed => Record {
+            ok: false,
+            decisions,
+            items: List::new(alloc),
+            changes,
+            notes,
+            segments,
+        },
+    }
+}
+
+impl Copied for Waiting {
+    fn copy(&self) -> Result<Waiting, NoMemory> {
+        Ok(Waiting {
+            state: self.state.copy()?,
+            at: self.at.copy()?,
+        })
+    }
+}
+
+impl Copied for Body {
+    fn copy(&self) -> Result<Body, NoMemory> {
+        let stand = match &self.stand {
+            Stand::Begun(scope) => Stand::Begun(scope.copy()?),
+            Stand::Waiting(waiting) => Stand::Waiting(waiting.copy()?),
+            Stand::Ended => Stand::Ended,
+        };
+        Ok(Body {
+            run: self.run.copy()?,
+            stand,
+        })
+    }
+}

@@ -1,0 +1,369 @@
+//! A task that is called in a bucket of its element. (Task element; MSBuild tasks; MSBuild task.)
+
+ghost use Rattle.std.specs.Prelude.{◌≡◌, ◌<◌, ◌≤◌, ℕ, List, false, length, Some, IfOk, OnOk};
+ghost use Rattle.build_world.specs.Answers.{GivesFault};
+ghost use Rattle.build_world.specs.Elements.{seen_element};
+ghost use Rattle.msb_expand.specs.Reserved.{folder_of};
+ghost use Rattle.task_kit.specs.Tasks.{answer};
+ghost use Rattle.task_msbuild.specs.Gathered.{gathered};
+ghost use Rattle.task_trait.specs.Tools.{BeginsWith};
+ghost use Rattle.task_trait.specs.declared.tools.ToolAnswer.{ToolAnswer};
+ghost use Rattle.task_trait.specs.declared.tools.ToolInput.{ToolInput};
+ghost use Rattle.target_texts.specs.Answered.{Pushes};
+ghost use Rattle.target_texts.specs.Inferred.{task_of};
+ghost use Rattle.target_texts.specs.Parameters.{params_at};
+ghost use Rattle.target_texts.specs.Seen.{seen_place};
+ghost use Rattle.target_body.specs.Answers.{answered, given, msbuild, not_built_in};
+ghost use Rattle.target_body.specs.Left.{call_frames, call_left, made_from, waiting};
+ghost use Rattle.target_body.specs.Moments.{EndsAs, Plays, moment, player};
+ghost use Rattle.target_body.specs.Seen.{ended, seen_run, seen_state};
+ghost use Rattle.target_body.specs.States.{State as Now, taken};
+ghost use Rattle.target_body.specs.Tasks.{answered_to, call as call_in, called_place, called_with, ended_by, outputs_if, readied};
+ghost use Rattle.target_body.specs.Work.{done, followed_by};
+
+use crate::frames::AtCall;
+use crate::part::{own_or, scope_of_part};
+use crate::site::Site;
+use crate::state::State;
+use crate::steps::{Ending, Step};
+use build_world::{EvalFault, PlacedElement};
+use msb_expand::Bucket;
+use msb_files::{FileView, Journal};
+use msb_values::{Change, List, Name, NoMemory};
+use result_cache::RequestResult;
+use std::alloc::Global;
+use target_texts::{OnError, Place, TaskElement, push_outputs, task_of};
+use task_kit::{foreign_input, foreign_output};
+use task_msbuild::{gather, plan};
+use task_trait::{CountedTools, Failure, Param, TaskOutput, ToolAnswer, ToolInput};
+
+/// A task element in one of its buckets.
+#[derive(Clone, Copy)]
+pub(crate) struct TaskCall<'a> {
+    pub(crate) site: Site<'a>,
+    pub(crate) element: PlacedElement<'a>,
+    /// Whether its Outputs are what the task gives; else others are inferred in their place.
+    pub(crate) gives: bool,
+    pub(crate) bucket: &'a Bucket,
+}
+
+impl State {
+    /// Calls a task in a bucket, unless its Condition is false. (Task element.)
+    pub(crate) fn call<T: CountedTools>(
+        &mut self,
+        alloc: Global,
+        call: &TaskCall<'_>,
+        tools: &mut T,
+        journal: &mut Journal,
+    ) -> Result<Step<AtCall>, NoMemory>
+        ensures plays { IfOk result (λ step. let run = seen_run call.now.site in let e = seen_element call.now.element in
+            Plays (call_frames run e call.now.gives call.now.bucket.now) (player call.now.site.id.now T.answer) (call_in run e call.now.gives call.now.bucket.now) (moment self.old journal.old (T.calls tools.old)) step (moment self.new journal.new (T.calls tools.new))) }
+        ensures begun { BeginsWith (T.calls tools.old) (T.calls tools.new) }
+    {
+        match self.ready(alloc, &*call, &*journal) {
+            Ok(Some((on_error, params))) => {
+                self.call_with(alloc, call, on_error, params, tools, journal)
+            }
+            Ok(None) => Ok(Step::Over(Ending::Fine)),
+            Err(fault) => {
+                self.note_fault(alloc, &fault)?;
+                Ok(Step::Over(Ending::Faulted))
+            }
+        }
+    }
+
+    // What the task is called with, as the texts of its element say in the scope that tasks see.
+    fn ready<'x>(
+        &'x self,
+        alloc: Global,
+        call: &'x TaskCall<'x>,
+        journal: &'x Journal,
+    ) -> Result<Option<(OnError, List<Param>)>, EvalFault>
+        ensures { GivesFault (λ ready. ready) result (readied (called_place (seen_run call.entry.now.site) (seen_state self.entry.now journal.entry.now) call.entry.now.bucket.now) (seen_element call.entry.now.element)) }
+    {
+        let Ok(own) = scope_of_part(&self.scope, &self.part) else {
+            return Err(EvalFault::memory(alloc));
+        };
+        let view = FileView::of(&call.site.world.tree, journal);
+        let place = Place {
+            files: &view,
+            project: call.site.id.instance.path.as_str(),
+            scope: own_or(&own, &self.scope),
+            bucket: Some(call.bucket),
+        };
+        read_call(alloc, &place, &call.element)
+    }
+
+    fn call_with<T: CountedTools>(
+        &mut self,
+        alloc: Global,
+        call: &TaskCall<'_>,
+        on_error: OnError,
+        params: List<Param>,
+        tools: &mut T,
+        journal: &mut Journal,
+    ) -> Result<Step<AtCall>, NoMemory>
+        ensures plays { IfOk result (λ step. let run = seen_run call.now.site in let e = seen_element call.now.element in
+            Plays (call_frames run e call.now.gives call.now.bucket.now) (player call.now.site.id.now T.answer) (λ s. called_with run e call.now.gives call.now.bucket.now s (Some (on_error, params))) (moment self.old journal.old (T.calls tools.old)) step (moment self.new journal.new (T.calls tools.new))) }
+        ensures begun { BeginsWith (T.calls tools.old) (T.calls tools.new) }
+    {
+        match Name::written(alloc, call.element.element.name())? {
+            Some(task) => self.answer(alloc, call, &task, on_error, params, tools, journal),
+            None => {
+                let task = task_of(alloc, &call.element)?;
+                let output = Failure::UnknownTask.output(alloc, task.as_str())?;
+                Ok(Step::Over(self.give(alloc, call, on_error, output, journal)?))
+            }
+        }
+    }
+
+    // A task that is built in answers at once.
+    fn answer<T: CountedTools>(
+        &mut self,
+        alloc: Global,
+        call: &TaskCall<'_>,
+        task: &Name,
+        on_error: OnError,
+        params: List<Param>,
+        tools: &mut T,
+        journal: &mut Journal,
+    ) -> Result<Step<AtCall>, NoMemory>
+        ensures plays { IfOk result (λ step. let run = seen_run call.now.site in let e = seen_element call.now.element in
+            Plays (call_frames run e call.now.gives call.now.bucket.now) (player call.now.site.id.now T.answer) (λ s. followed_by (answered run s task.now params) (λ x. done (answered_to run e call.now.gives call.now.bucket.now on_error x))) (moment self.old journal.old (T.calls tools.old)) step (moment self.new journal.new (T.calls tools.new))) }
+        ensures begun { BeginsWith (T.calls tools.old) (T.calls tools.new) }
+    {
+        let input = ToolInput {
+            params,
+            files: List::new(alloc),
+        };
+        match built_in(alloc, &call.site, task, &input, self.written, journal)? {
+            ToolAnswer::Made(output) => {
+                Ok(Step::Over(self.give(alloc, call, on_error, output, journal)?))
+            }
+            ToolAnswer::Unknown if task.key() == "msbuild" => {
+                self.plan_calls(alloc, call, on_error, &input, journal)
+            }
+            ToolAnswer::Unknown => {
+                self.use_tool(alloc, call, task, on_error, input.params, tools, journal)
+            }
+        }
+    }
+
+    // A tool is handed the parameters and the files of Sources. (UsingTask element.)
+    fn use_tool<T: CountedTools>(
+        &mut self,
+        alloc: Global,
+        call: &TaskCall<'_>,
+        task: &Name,
+        on_error: OnError,
+        params: List<Param>,
+        tools: &mut T,
+        journal: &mut Journal,
+    ) -> Result<Step<AtCall>, NoMemory>
+        ensures plays { IfOk result (λ step. let run = seen_run call.now.site in let e = seen_element call.now.element in
+            Plays (call_frames run e call.now.gives call.now.bucket.now) (player call.now.site.id.now T.answer) (λ s. followed_by (not_built_in false run s task.now params) (λ x. done (answered_to run e call.now.gives call.now.bucket.now on_error x))) (moment self.old journal.old (T.calls tools.old)) step (moment self.new journal.new (T.calls tools.new))) }
+        ensures begun { BeginsWith (T.calls tools.old) (T.calls tools.new) }
+    {
+        let view = FileView::of(&call.site.world.tree, journal);
+        match foreign_input(alloc, call.site.folder(), &view, params) {
+            Ok(input) => {
+                let answer = tools.call(alloc, task, &input)?;
+                let output = foreign_output(alloc, task, answer, self.written)?;
+                Ok(Step::Over(self.give(alloc, call, on_error, output, journal)?))
+            }
+            Err(failure) => {
+                let output = failure.output(alloc, task.key())?;
+                Ok(Step::Over(self.give(alloc, call, on_error, output, journal)?))
+            }
+        }
+    }
+
+    // The MSBuild task calls requests.
+    fn plan_calls(
+        &mut self,
+        alloc: Global,
+        call: &TaskCall<'_>,
+        on_error: OnError,
+        input: &ToolInput,
+        journal: &mut Journal,
+    ) -> Result<Step<AtCall>, NoMemory>
+        ensures { (answer : List ℕ → ToolInput → ToolAnswer) (tools : List (List ℕ × ToolInput)) → IfOk result (λ step. let run = seen_run call.now.site in let e = seen_element call.now.element in
+            Plays (call_frames run e call.now.gives call.now.bucket.now) (player call.now.site.id.now answer) (λ s. followed_by (msbuild run s input.now.params) (λ x. done (answered_to run e call.now.gives call.now.bucket.now on_error x))) (moment self.old journal.old tools) step (moment self.new journal.new tools)) }
+    {
+        let site = &call.site;
+        let globals = &site.id.instance.globals;
+        let plan = plan(alloc, &site.world.tree, site.folder(), globals, input)?;
+        let at = AtCall {
+            plan,
+            results: List::new(alloc),
+            on_error,
+        };
+        self.make_calls(alloc, call, at, journal)
+    }
+
+    // Waits for the next calls of the plan, or gives what they have given.
+    fn make_calls(
+        &mut self,
+        alloc: Global,
+        call: &TaskCall<'_>,
+        at: AtCall,
+        journal: &mut Journal,
+    ) -> Result<Step<AtCall>, NoMemory>
+        requires { length at.results ≤ length at.plan.calls }
+        ensures { (answer : List ℕ → ToolInput → ToolAnswer) (tools : List (List ℕ × ToolInput)) → IfOk result (λ step. let run = seen_run call.now.site in let e = seen_element call.now.element in
+            Plays (call_frames run e call.now.gives call.now.bucket.now) (player call.now.site.id.now answer) (λ s. followed_by (made_from at.plan at.results s) (λ x. done (answered_to run e call.now.gives call.now.bucket.now at.on_error (x.0, gathered at.plan x.1)))) (moment self.old journal.old tools) step (moment self.new journal.new tools)) }
+    {
+        if at.plan.next(&at.results).is_empty() {
+            let output = gather(alloc, &at.plan, &at.results)?;
+            return Ok(Step::Over(self.give(alloc, call, at.on_error, output, journal)?));
+        }
+        Ok(Step::Waits(at))
+    }
+
+    /// Goes on when the results of calls have come. (MSBuild task.)
+    pub(crate) fn call_on(
+        &mut self,
+        alloc: Global,
+        call: &TaskCall<'_>,
+        at: AtCall,
+        results: List<RequestResult>,
+        journal: &mut Journal,
+    ) -> Result<Step<AtCall>, NoMemory>
+        requires waits { 0 < length (waiting at) }
+        requires fits { length results ≡ length (waiting at) }
+        ensures { (answer : List ℕ → ToolInput → ToolAnswer) (tools : List (List ℕ × ToolInput)) → IfOk result (λ step. let run = seen_run call.now.site in let e = seen_element call.now.element in
+            Plays (call_frames run e call.now.gives call.now.bucket.now) (player call.now.site.id.now answer) (λ s. call_left run e call.now.gives call.now.bucket.now at s results journal.old) (moment self.old journal.old tools) step (moment self.new journal.new tools)) }
+    {
+        let mut at = at;
+        at.results.append(results)?;
+        self.make_calls(alloc, call, at, journal)
+    }
+
+    // What a task gives: its files are written, and then its notes and its Outputs are taken.
+    fn give(
+        &mut self,
+        alloc: Global,
+        call: &TaskCall<'_>,
+        on_error: OnError,
+        output: TaskOutput,
+        journal: &mut Journal,
+    ) -> Result<Ending, NoMemory>
+        ensures { (answer : List ℕ → ToolInput → ToolAnswer) (tools : List (List ℕ × ToolInput)) → IfOk result (λ ending. let run = seen_run call.now.site in let e = seen_element call.now.element in
+            EndsAs (player call.now.site.id.now answer) (λ s. followed_by (given s output) (λ x. done (answered_to run e call.now.gives call.now.bucket.now on_error x))) (moment self.old journal.old tools) ending (moment self.new journal.new tools)) }
+    {
+        let TaskOutput {
+            ok,
+            outputs,
+            files,
+            notes,
+        } = output;
+        self.write_all(alloc, call.site.id, files.into_vec(), journal)?;
+        self.add_notes(on_error.notes(alloc, notes)?)?;
+        match self.take_outputs(alloc, call, &outputs, journal)? {
+            Ending::Fine => Ok(ending_of(on_error, ok)),
+            Ending::Faulted => Ok(Ending::Faulted),
+            Ending::Failed => Ok(Ending::Failed),
+        }
+    }
+
+    fn take_outputs(
+        &mut self,
+        alloc: Global,
+        call: &TaskCall<'_>,
+        outputs: &List<Param>,
+        journal: &Journal,
+    ) -> Result<Ending, NoMemory>
+        ensures taken { IfOk result (λ ending. let run = seen_run call.now.site in
+            ended ending (seen_state self.new journal.now) ≡ taken (outputs_if call.now.gives (called_place run (seen_state self.old journal.now) call.now.bucket.now) outputs.now (seen_element call.now.element)) (seen_state self.old journal.now)) }
+        ensures kept { OnOk result (self.new.segments ≡ self.old.segments) }
+    {
+        let mut made = List::new(alloc);
+        let end = self.push_outputs(alloc, &*call, outputs, &*journal, &mut made);
+        self.take(alloc, made, end)
+    }
+
+    // The Outputs see the scope that tasks see.
+    fn push_outputs<'x>(
+        &'x self,
+        alloc: Global,
+        call: &'x TaskCall<'x>,
+        outputs: &List<Param>,
+        journal: &'x Journal,
+        made: &mut List<Change>,
+    ) -> Result<(), EvalFault>
+        ensures { Pushes result made.old made.new (outputs_if call.entry.now.gives (called_place (seen_run call.entry.now.site) (seen_state self.entry.now journal.entry.now) call.entry.now.bucket.now) outputs.now (seen_element call.entry.now.element)) }
+    {
+        if !call.gives {
+            return Ok(());
+        }
+        let Ok(own) = scope_of_part(&self.scope, &self.part) else {
+            return Err(EvalFault::memory(alloc));
+        };
+        let view = FileView::of(&call.site.world.tree, journal);
+        let place = Place {
+            files: &view,
+            project: call.site.id.instance.path.as_str(),
+            scope: own_or(&own, &self.scope),
+            bucket: Some(call.bucket),
+        };
+        push_outputs(alloc, &place, outputs, &call.element, made)
+    }
+}
+
+// How the run goes on behind a task, be it that it has failed. (Task element, ContinueOnError.)
+fn ending_of(on_error: OnError, ok: bool) -> Ending
+    ensures { (s : Now) → ended result s ≡ ended_by on_error ok s }
+{
+    match on_error {
+        OnError::Stop if !ok => Ending::Failed,
+        _ => Ending::Fine,
+    }
+}
+
+fn built_in(
+    alloc: Global,
+    site: &Site<'_>,
+    task: &Name,
+    input: &ToolInput,
+    written: u64,
+    journal: &Journal,
+) -> Result<ToolAnswer, NoMemory>
+    ensures { IfOk result (λ made. made ≡ answer task.now (folder_of site.now.id.now.instance.path) (record { files = site.now.world.now.tree.files; journal = journal.now }) input.now.params written) }
+{
+    let view = FileView::of(&site.world.tree, journal);
+    task_kit::call(alloc, task, site.folder(), &view, input, written)
+}
+
+// The Condition of the element, its ContinueOnError, and then its parameters.
+fn read_call(
+    alloc: Global,
+    place: &Place<'_>,
+    element: &PlacedElement<'_>,
+) -> Result<Option<(OnError, List<Param>)>, EvalFault>
+    ensures { GivesFault (λ ready. ready) result (readied (seen_place place.now) (seen_element element.now)) }
+{
+    if place.holds(alloc, element)? {
+        let on_error = OnError::at(alloc, place, element)?;
+        let params = params_of(alloc, place, element)?;
+        return Ok(Some((on_error, params)));
+    }
+    Ok(None)
+}
+
+fn params_of(
+    alloc: Global,
+    place: &Place<'_>,
+    element: &PlacedElement<'_>,
+) -> Result<List<Param>, EvalFault>
+    ensures { GivesFault (λ params. params) result (params_at (seen_place place.now) (seen_element element.now) (task_of (seen_element element.now))) }
+{
+    let Ok(task) = task_of(alloc, element) else {
+        return Err(EvalFault::memory(alloc));
+    };
+    let task = TaskElement {
+        place: *place,
+        element: *element,
+        task: task.as_str(),
+    };
+    task.params(alloc)
+}

@@ -1,0 +1,330 @@
+//! A bucket of a target: what is decided of it, its children, and what it returns. (Target element; How to build incrementally.)
+
+ghost use Rattle.std.specs.Prelude.{◌≡◌, ◌<◌, ℕ, List, length, IfOk, OnOk, option_copied, option_map};
+ghost use Rattle.build_world.specs.Answers.{GivesFault};
+ghost use Rattle.msb_laws.specs.Results.{and_then, map_ok};
+ghost use Rattle.result_cache.specs.Journal.{Journal as Files};
+ghost use Rattle.task_trait.specs.Tools.{BeginsWith};
+ghost use Rattle.task_trait.specs.declared.tools.ToolAnswer.{ToolAnswer};
+ghost use Rattle.task_trait.specs.declared.tools.ToolInput.{ToolInput};
+ghost use Rattle.target_incremental.specs.Decisions.{decision};
+ghost use Rattle.target_texts.specs.Returned.{returns_of};
+ghost use Rattle.target_texts.specs.Seen.{seen_lists};
+ghost use Rattle.target_body.specs.Left.{bucket_frames, bucket_left, children_frames, waiting_bucket};
+ghost use Rattle.target_body.specs.Moments.{GoesOn, Plays, moment, player};
+ghost use Rattle.target_body.specs.Pieces.{bucket_of, decided, lists_at, number_of, on_old, or_failed, piece_or_run, treated, word_of};
+ghost use Rattle.target_body.specs.Returned.{items_if, returned};
+ghost use Rattle.target_body.specs.Seen.{ended, seen_run, seen_state};
+ghost use Rattle.target_body.specs.States.{with_decision};
+ghost use Rattle.target_body.specs.Work.{done, followed_by, unless_stopped};
+
+use crate::frames::{AtBucket, AtTask};
+use crate::site::{Site, place_of};
+use crate::state::State;
+use crate::steps::{Ending, Step};
+use build_world::{EvalFault, PlacedElement};
+use msb_expand::Bucket;
+use msb_files::{FileView, Journal};
+use msb_values::{Copied, Item, List, Name, NoMemory, Scope};
+use result_cache::{Decision, RequestResult};
+use std::alloc::Global;
+use target_incremental::{Choice, decide};
+use target_texts::{Lists, returned_items, returns_of};
+use task_trait::CountedTools;
+
+impl State {
+    /// Takes a bucket of the target, which sees the scope as the target found it. (MSBuild batching.)
+    pub(crate) fn bucket<T: CountedTools>(
+        &mut self,
+        alloc: Global,
+        site: &Site<'_>,
+        found: &Scope,
+        bucket: Bucket,
+        tools: &mut T,
+        journal: &mut Journal,
+    ) -> Result<Step<AtBucket>, NoMemory>
+        ensures plays { IfOk result (λ step. let run = seen_run site.now in
+            Plays (bucket_frames run) (player site.now.id.now T.answer) (bucket_of run found.now bucket) (moment self.old journal.old (T.calls tools.old)) step (moment self.new journal.new (T.calls tools.new))) }
+        ensures begun { BeginsWith (T.calls tools.old) (T.calls tools.new) }
+    {
+        self.enter(alloc, found, &bucket)?;
+        match self.lists(alloc, &*site, &bucket, &*journal) {
+            Ok(lists) => self.piece(alloc, site, bucket, lists, tools, journal),
+            Err(fault) => {
+                self.note_fault(alloc, &fault)?;
+                self.add_decision(Decision::Failed)?;
+                Ok(Step::Over(Ending::Faulted))
+            }
+        }
+    }
+
+    // The lists of a target that has both Inputs and Outputs. (How to build incrementally.)
+    fn lists<'x>(
+        &'x self,
+        alloc: Global,
+        site: &'x Site<'x>,
+        bucket: &'x Bucket,
+        journal: &'x Journal,
+    ) -> Result<Option<Lists>, EvalFault>
+        ensures { GivesFault (option_map seen_lists) result (lists_at (seen_run site.entry.now) bucket.entry.now (seen_state self.entry.now journal.entry.now)) }
+    {
+        let view = FileView::of(&site.world.tree, journal);
+        let place = place_of(&view, site.id.instance.path.as_str(), &self.scope);
+        let target = PlacedElement::of(&site.target.at);
+        Lists::of(alloc, &place, bucket, &target)
+    }
+
+    fn piece<T: CountedTools>(
+        &mut self,
+        alloc: Global,
+        site: &Site<'_>,
+        bucket: Bucket,
+        lists: Option<Lists>,
+        tools: &mut T,
+        journal: &mut Journal,
+    ) -> Result<Step<AtBucket>, NoMemory>
+        ensures plays { IfOk result (λ step. let run = seen_run site.now in
+            Plays (bucket_frames run) (player site.now.id.now T.answer) (λ s. followed_by (piece_or_run run bucket s (option_map seen_lists lists)) (λ end. done (or_failed end))) (moment self.old journal.old (T.calls tools.old)) step (moment self.new journal.new (T.calls tools.new))) }
+        ensures begun { BeginsWith (T.calls tools.old) (T.calls tools.new) }
+    {
+        match lists {
+            Some(lists) => {
+                let choice = choice_of(alloc, site, &lists, journal)?;
+                self.decided(alloc, site, bucket, choice, lists.items, tools, journal)
+            }
+            None => self.decided(alloc, site, bucket, Choice::Run, None, tools, journal),
+        }
+    }
+
+    fn decided<T: CountedTools>(
+        &mut self,
+        alloc: Global,
+        site: &Site<'_>,
+        bucket: Bucket,
+        choice: Choice,
+        items: Option<(Name, List<Item>)>,
+        tools: &mut T,
+        journal: &mut Journal,
+    ) -> Result<Step<AtBucket>, NoMemory>
+        ensures plays { IfOk result (λ step. let run = seen_run site.now in
+            Plays (bucket_frames run) (player site.now.id.now T.answer) (λ s. followed_by (decided run bucket choice items s) (λ end. done (or_failed end))) (moment self.old journal.old (T.calls tools.old)) step (moment self.new journal.new (T.calls tools.new))) }
+        ensures begun { BeginsWith (T.calls tools.old) (T.calls tools.new) }
+    {
+        let step = self.treat(alloc, site, &choice, &items, tools, journal)?;
+        self.bucket_on(alloc, site, bucket, choice, items, step, journal)
+    }
+
+    // The children under what is decided: where there is nothing to do they are passed over.
+    fn treat<T: CountedTools>(
+        &mut self,
+        alloc: Global,
+        site: &Site<'_>,
+        choice: &Choice,
+        items: &Option<(Name, List<Item>)>,
+        tools: &mut T,
+        journal: &mut Journal,
+    ) -> Result<Step<AtTask>, NoMemory>
+        ensures plays { IfOk result (λ step. let run = seen_run site.now in
+            Plays (children_frames run choice.now) (player site.now.id.now T.answer) (treated run choice.now items.now) (moment self.old journal.old (T.calls tools.old)) step (moment self.new journal.new (T.calls tools.new))) }
+        ensures begun { BeginsWith (T.calls tools.old) (T.calls tools.new) }
+    {
+        match choice {
+            Choice::Run | Choice::Skip => self.children(alloc, site, choice, 0, tools, journal),
+            Choice::Nothing => Ok(Step::Over(Ending::Fine)),
+            Choice::Part(old) => {
+                self.narrow(items, old)?;
+                self.children(alloc, site, choice, 0, tools, journal)
+            }
+        }
+    }
+
+    // Tasks see of the type its items that are out of date.
+    fn narrow(
+        &mut self,
+        items: &Option<(Name, List<Item>)>,
+        old: &List<Item>,
+    ) -> Result<(), NoMemory>
+        ensures narrowed { OnOk result ((journal : Files) → seen_state self.new journal ≡ on_old items.now old.now (seen_state self.old journal)) }
+        ensures kept { OnOk result (self.new.segments ≡ self.old.segments) }
+    {
+        if let Some((kind, _)) = items {
+            self.part = Some((kind.copy()?, old.copy()?));
+        }
+        Ok(())
+    }
+
+    // Goes on behind the children of a bucket.
+    fn bucket_on(
+        &mut self,
+        alloc: Global,
+        site: &Site<'_>,
+        bucket: Bucket,
+        choice: Choice,
+        items: Option<(Name, List<Item>)>,
+        step: Step<AtTask>,
+        journal: &Journal,
+    ) -> Result<Step<AtBucket>, NoMemory>
+        ensures { (answer : List ℕ → ToolInput → ToolAnswer) (tools : List (List ℕ × ToolInput)) → IfOk result (λ step_then. let run = seen_run site.now in
+            GoesOn (children_frames run choice) (bucket_frames run) (player site.now.id.now answer) (λ end. followed_by (unless_stopped end (λ s. done (map_ok (with_decision (word_of choice items)) (returned run bucket s)))) (λ end. done (or_failed end))) step (moment self.old journal.now tools) step_then (moment self.new journal.now tools)) }
+    {
+        match step {
+            Step::Over(ending) => {
+                let word = word_of(&choice, &items);
+                Ok(Step::Over(self.end_bucket(alloc, site, &bucket, word, ending, journal)?))
+            }
+            Step::Waits(task) => Ok(Step::Waits(AtBucket {
+                bucket,
+                choice,
+                items,
+                task,
+            })),
+        }
+    }
+
+    // What the bucket returns, unless the run stops in it, and the word for it.
+    fn end_bucket(
+        &mut self,
+        alloc: Global,
+        site: &Site<'_>,
+        bucket: &Bucket,
+        word: Decision,
+        ending: Ending,
+        journal: &Journal,
+    ) -> Result<Ending, NoMemory>
+        ensures ended { IfOk result (λ ending_then. ended ending_then (seen_state self.new journal.now) ≡ or_failed (and_then (ended ending (seen_state self.old journal.now)) (λ s. map_ok (with_decision word) (returned (seen_run site.now) bucket.now s)))) }
+        ensures kept { OnOk result (self.new.segments ≡ self.old.segments) }
+    {
+        match ending {
+            Ending::Fine => self.return_items(alloc, site, bucket, word, journal),
+            Ending::Faulted | Ending::Failed => {
+                self.add_decision(Decision::Failed)?;
+                Ok(ending)
+            }
+        }
+    }
+
+    fn return_items(
+        &mut self,
+        alloc: Global,
+        site: &Site<'_>,
+        bucket: &Bucket,
+        word: Decision,
+        journal: &Journal,
+    ) -> Result<Ending, NoMemory>
+        ensures ended { IfOk result (λ ending. ended ending (seen_state self.new journal.now) ≡ or_failed (map_ok (with_decision word) (returned (seen_run site.now) bucket.now (seen_state self.old journal.now)))) }
+        ensures kept { OnOk result (self.new.segments ≡ self.old.segments) }
+    {
+        match self.returned(alloc, &*site, &*bucket, &*journal) {
+            Ok(items) => {
+                self.items.append(items)?;
+                self.add_decision(word)?;
+                Ok(Ending::Fine)
+            }
+            Err(fault) => {
+                self.note_fault(alloc, &fault)?;
+                self.add_decision(Decision::Failed)?;
+                Ok(Ending::Faulted)
+            }
+        }
+    }
+
+    fn returned<'x>(
+        &'x self,
+        alloc: Global,
+        site: &'x Site<'x>,
+        bucket: &'x Bucket,
+        journal: &'x Journal,
+    ) -> Result<List<Item>, EvalFault>
+        ensures { GivesFault (λ items. items) result (items_if (seen_run site.entry.now) bucket.entry.now (seen_state self.entry.now journal.entry.now) (returns_of (seen_run site.entry.now).target)) }
+    {
+        let Some(written) = returns_of(site.target) else {
+            return Ok(List::new(alloc));
+        };
+        let view = FileView::of(&site.world.tree, journal);
+        let place = place_of(&view, site.id.instance.path.as_str(), &self.scope);
+        let target = PlacedElement::of(&site.target.at);
+        returned_items(
+            alloc,
+            &place,
+            bucket,
+            &target,
+            self.items.as_slice(),
+            written,
+        )
+    }
+
+    /// Goes on with a bucket of the target when the results of calls have come. (MSBuild task.)
+    pub(crate) fn resume_bucket<T: CountedTools>(
+        &mut self,
+        alloc: Global,
+        site: &Site<'_>,
+        at: AtBucket,
+        results: List<RequestResult>,
+        tools: &mut T,
+        journal: &mut Journal,
+    ) -> Result<Step<AtBucket>, NoMemory>
+        requires waits { 0 < length (waiting_bucket at) }
+        requires fits { length results ≡ length (waiting_bucket at) }
+        ensures plays { IfOk result (λ step. let run = seen_run site.now in
+            Plays (bucket_frames run) (player site.now.id.now T.answer) (λ s. bucket_left run at s results journal.old) (moment self.old journal.old (T.calls tools.old)) step (moment self.new journal.new (T.calls tools.new))) }
+        ensures begun { BeginsWith (T.calls tools.old) (T.calls tools.new) }
+    {
+        let AtBucket {
+            bucket,
+            choice,
+            items,
+            task,
+        } = at;
+        let step = self.resume_children(alloc, site, &choice, task, results, tools, journal)?;
+        self.bucket_on(alloc, site, bucket, choice, items, step, journal)
+    }
+}
+
+fn choice_of(
+    alloc: Global,
+    site: &Site<'_>,
+    lists: &Lists,
+    journal: &Journal,
+) -> Result<Choice, NoMemory>
+    ensures { IfOk result (λ choice. choice ≡ decision (record { files = site.now.world.now.tree.files; journal = journal.now }) lists.now.inputs lists.now.outputs (option_map (λ typed. typed.1) lists.now.items) site.now.world.now.mode) }
+{
+    let view = FileView::of(&site.world.tree, journal);
+    let mode = site.world.mode;
+    decide(
+        alloc,
+        &view,
+        &lists.inputs,
+        &lists.outputs,
+        typed_items(lists),
+        mode,
+    )
+}
+
+fn typed_items(lists: &Lists) -> Option<&List<Item>>
+    ensures { option_copied result ≡ option_map (λ typed. typed.1) lists.now.items }
+{
+    match &lists.items {
+        Some((_, items)) => Some(items),
+        None => None,
+    }
+}
+
+fn word_of(choice: &Choice, items: &Option<(Name, List<Item>)>) -> Decision
+    ensures { result ≡ word_of choice.now items.now }
+{
+    match choice {
+        Choice::Run => Decision::Ran,
+        Choice::Skip => Decision::UpToDate,
+        Choice::Nothing => Decision::NothingToDo,
+        Choice::Part(old) => Decision::Part(old.len() as u64, number_of(items)),
+    }
+}
+
+fn number_of(items: &Option<(Name, List<Item>)>) -> u64
+    ensures { result ≡ number_of items.now }
+{
+    match items {
+        Some((_, items)) => items.len() as u64,
+        None => 0,
+    }
+}

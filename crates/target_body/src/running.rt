@@ -1,0 +1,136 @@
+//! The buckets of a target, one after the other. (Target element; MSBuild batching.)
+
+ghost use Rattle.std.specs.Prelude.{◌≡◌, ◌<◌, List, length, IfOk, OnOk};
+ghost use Rattle.build_world.specs.Answers.{GivesFault};
+ghost use Rattle.task_trait.specs.Tools.{BeginsWith};
+ghost use Rattle.target_texts.specs.Batched.{target_buckets};
+ghost use Rattle.target_body.specs.Bodies.{buckets};
+ghost use Rattle.target_body.specs.Left.{bucket_frames, buckets_frames, buckets_left, waiting_run};
+ghost use Rattle.target_body.specs.Moments.{GoesOn, Plays, moment, player};
+ghost use Rattle.target_body.specs.Pieces.{bucket_of};
+ghost use Rattle.target_body.specs.Seen.{seen_run, seen_state};
+ghost use Rattle.target_body.specs.States.{place_in};
+ghost use Rattle.target_body.specs.Work.{each_in_turn, unless_stopped};
+
+use crate::frames::{AtBucket, AtRun};
+use crate::later::Buckets;
+use crate::site::{Site, place_of};
+use crate::state::State;
+use crate::steps::{Ending, Step};
+use build_world::{EvalFault, PlacedElement};
+use msb_expand::Bucket;
+use msb_files::{FileView, Journal};
+use msb_values::{List, NoMemory, Scope};
+use result_cache::{Decision, RequestResult};
+use std::alloc::Global;
+use target_texts::target_buckets;
+use task_trait::CountedTools;
+
+impl State {
+    /// Takes the target bucket by bucket, or notes why there is none to form. (MSBuild batching.)
+    pub(crate) fn begin<T: CountedTools>(
+        &mut self,
+        alloc: Global,
+        site: &Site<'_>,
+        found: Scope,
+        tools: &mut T,
+        journal: &mut Journal,
+    ) -> Result<Step<AtRun>, NoMemory>
+        ensures plays { IfOk result (λ step. let run = seen_run site.now in
+            Plays (buckets_frames run) (player site.now.id.now T.answer) (buckets run found) (moment self.old journal.old (T.calls tools.old)) step (moment self.new journal.new (T.calls tools.new))) }
+        ensures begun { BeginsWith (T.calls tools.old) (T.calls tools.new) }
+    {
+        match self.target_buckets(alloc, &*site, &*journal) {
+            Ok(buckets) => {
+                self.buckets(alloc, site, found, Buckets::of(buckets), tools, journal)
+            }
+            Err(fault) => {
+                self.note_fault(alloc, &fault)?;
+                self.add_decision(Decision::Failed)?;
+                Ok(Step::Over(Ending::Faulted))
+            }
+        }
+    }
+
+    fn target_buckets<'x>(
+        &'x self,
+        alloc: Global,
+        site: &'x Site<'x>,
+        journal: &'x Journal,
+    ) -> Result<List<Bucket>, EvalFault>
+        ensures { GivesFault (λ buckets. buckets) result (target_buckets (place_in (seen_run site.entry.now) (seen_state self.entry.now journal.entry.now) self.entry.now.scope) (seen_run site.entry.now).target.element) }
+    {
+        let view = FileView::of(&site.world.tree, journal);
+        let place = place_of(&view, site.id.instance.path.as_str(), &self.scope);
+        let target = PlacedElement::of(&site.target.at);
+        target_buckets(alloc, &place, &target)
+    }
+
+    fn buckets<T: CountedTools>(
+        &mut self,
+        alloc: Global,
+        site: &Site<'_>,
+        found: Scope,
+        later: Buckets,
+        tools: &mut T,
+        journal: &mut Journal,
+    ) -> Result<Step<AtRun>, NoMemory>
+        ensures plays { IfOk result (λ step. let run = seen_run site.now in
+            Plays (buckets_frames run) (player site.now.id.now T.answer) (λ s. each_in_turn (bucket_of run found) later s) (moment self.old journal.old (T.calls tools.old)) step (moment self.new journal.new (T.calls tools.new))) }
+        ensures begun { BeginsWith (T.calls tools.old) (T.calls tools.new) }
+    {
+        let mut later = later;
+        while let Some(bucket) = later.next() {
+            match self.bucket(alloc, site, &found, bucket, tools, journal)? {
+                Step::Over(Ending::Fine) => {}
+                Step::Over(Ending::Faulted) => return Ok(Step::Over(Ending::Faulted)),
+                Step::Over(Ending::Failed) => return Ok(Step::Over(Ending::Failed)),
+                Step::Waits(at) => return Ok(Step::Waits(AtRun { found, at, later })),
+            }
+        }
+        Ok(Step::Over(Ending::Fine))
+    }
+
+    fn buckets_on<T: CountedTools>(
+        &mut self,
+        alloc: Global,
+        site: &Site<'_>,
+        found: Scope,
+        later: Buckets,
+        step: Step<AtBucket>,
+        tools: &mut T,
+        journal: &mut Journal,
+    ) -> Result<Step<AtRun>, NoMemory>
+        ensures goes { IfOk result (λ step_then. let run = seen_run site.now in
+            GoesOn (bucket_frames run) (buckets_frames run) (player site.now.id.now T.answer) (λ end. unless_stopped end (each_in_turn (bucket_of run found) later)) step (moment self.old journal.old (T.calls tools.old)) step_then (moment self.new journal.new (T.calls tools.new))) }
+        ensures begun { BeginsWith (T.calls tools.old) (T.calls tools.new) }
+    {
+        match step {
+            Step::Over(Ending::Fine) => self.buckets(alloc, site, found, later, tools, journal),
+            Step::Over(Ending::Faulted) => Ok(Step::Over(Ending::Faulted)),
+            Step::Over(Ending::Failed) => Ok(Step::Over(Ending::Failed)),
+            Step::Waits(at) => Ok(Step::Waits(AtRun { found, at, later })),
+        }
+    }
+
+    /// Goes on when the results of calls have come. (MSBuild task.)
+    pub(crate) fn resume<T: CountedTools>(
+        &mut self,
+        alloc: Global,
+        site: &Site<'_>,
+        at: AtRun,
+        results: List<RequestResult>,
+        tools: &mut T,
+        journal: &mut Journal,
+    ) -> Result<Step<AtRun>, NoMemory>
+        requires waits { 0 < length (waiting_run at) }
+        requires fits { length results ≡ length (waiting_run at) }
+        ensures plays { IfOk result (λ step. let run = seen_run site.now in
+            Plays (buckets_frames run) (player site.now.id.now T.answer) (λ s. buckets_left run at s results journal.old) (moment self.old journal.old (T.calls tools.old)) step (moment self.new journal.new (T.calls tools.new))) }
+        ensures begun { BeginsWith (T.calls tools.old) (T.calls tools.new) }
+    {
+        let AtRun { found, at, later } = at;
+        let step = self.resume_bucket(alloc, site, at, results, tools, journal)?;
+        self.buckets_on(alloc, site, found, later, step, tools, journal)
+    }
+}

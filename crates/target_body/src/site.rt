@@ -1,0 +1,54 @@
+ghost use Rattle.std.specs.Prelude.{◌≡◌};
+ghost use Rattle.msb_expand.specs.Reserved.{folder_of};
+ghost use Rattle.build_world.specs.Elements.{seen_element};
+ghost use Rattle.msb_files.specs.Views.{paths};
+ghost use Rattle.msb_items.specs.Places.{item_place};
+ghost use Rattle.target_texts.specs.Seen.{seen_place};
+ghost use Rattle.target_body.specs.Seen.{child_at, seen_run};
+
+use build_world::{PlacedElement, UsedTarget, World};
+use msb_expand::folder_of;
+use msb_files::FileView;
+use msb_values::Scope;
+use result_cache::RunId;
+use target_texts::Place;
+
+/// The run at hand: the world that it is part of, its name, and the element that is used of its target.
+#[derive(Clone, Copy)]
+pub(crate) struct Site<'a> {
+    pub(crate) world: &'a World,
+    pub(crate) id: &'a RunId,
+    pub(crate) target: &'a UsedTarget,
+}
+
+impl<'a> Site<'a> {
+    /// The folder of the project, from which paths start.
+    pub(crate) fn folder(&self) -> &'a str
+        ensures { result.now ≡ folder_of self.now.id.now.instance.path }
+    {
+        folder_of(self.id.instance.path.as_str())
+    }
+
+    /// A child of the target by its place; at no child's place, the target itself.
+    pub(crate) fn child(&self, place: usize) -> PlacedElement<'a>
+        ensures { seen_element result ≡ child_at (seen_run self.now) place }
+    {
+        let target = PlacedElement::of(&self.target.at);
+        match target.element.child(place) {
+            Some(child) => target.child(child),
+            None => target,
+        }
+    }
+}
+
+/// What a text of a project sees that stands in no bucket.
+pub(crate) fn place_of<'x>(files: &'x FileView<'x>, project: &'x str, scope: &'x Scope) -> Place<'x>
+    ensures { seen_place result ≡ item_place (paths files.entry.now) project.entry.now scope.entry.now }
+{
+    Place {
+        files,
+        project,
+        scope,
+        bucket: None,
+    }
+}

@@ -1,0 +1,219 @@
+ghost use Rattle.std.specs.Prelude.{◌≡◌, ◌++◌, ◌∷◌, [], None, IfOk, OnOk, fold};
+ghost use Rattle.msb_values.specs.Changes.{applied};
+ghost use Rattle.msb_values.specs.Pairs.{all_put};
+ghost use Rattle.msb_values.specs.declared.cause.Cause.TheVariants.{Memory};
+ghost use Rattle.msb_values.specs.declared.note.Note.TheVariants.{Fail};
+ghost use Rattle.build_meaning.specs.SoFar.{called};
+ghost use Rattle.build_world.specs.Faults.{fault_text};
+ghost use Rattle.result_cache.specs.Journal.{Journal};
+ghost use Rattle.target_texts.specs.Answered.{Pushes};
+ghost use Rattle.target_texts.specs.Made.{Made};
+ghost use Rattle.target_body.specs.Seen.{call_segment, ended, seen_state};
+ghost use Rattle.target_body.specs.States.{begun, part_after, settled, taken, with_change};
+
+use crate::frames::typed_copy;
+use crate::part::part_after;
+use crate::steps::Ending;
+use build_world::EvalFault;
+use msb_expand::Bucket;
+use msb_values::{Cause, Change, Copied, Item, List, Lists, Name, NoMemory, Note, Scope};
+use result_cache::{Decision, RequestKey, RequestResult, Segment};
+use std::alloc::Global;
+use std::mem;
+
+/// What a run has come to, besides the journal of files. (Target element.)
+#[derive(Drop)]
+pub(crate) struct State {
+    /// The scope of the bucket at hand.
+    pub(crate) scope: Scope,
+    /// Where its tasks run on a part of a list, the type and the items that they see of it.
+    pub(crate) part: Option<(Name, List<Item>)>,
+    /// The changes of the child at hand, which the scope has not yet.
+    pub(crate) unseen: List<Change>,
+    /// How many bytes the run itself has written.
+    pub(crate) written: u64,
+    pub(crate) decisions: List<Decision>,
+    /// The items that are returned.
+    pub(crate) items: List<Item>,
+    pub(crate) changes: List<Change>,
+    pub(crate) notes: List<Note>,
+    /// The run's own writes and its calls, in order.
+    pub(crate) segments: List<Segment>,
+}
+
+// After want of memory nothing is claimed of a state.
+impl State {
+    /// At the beginning of a run.
+    pub(crate) fn begun(alloc: Global, scope: Scope) -> State
+        ensures state { (journal : Journal) → seen_state result journal ≡ begun scope journal }
+        ensures segments { result.segments ≡ [] }
+    {
+        State {
+            scope,
+            part: None,
+            unseen: List::new(alloc),
+            written: 0,
+            decisions: List::new(alloc),
+            items: List::new(alloc),
+            changes: List::new(alloc),
+            notes: List::new(alloc),
+            segments: List::new(alloc),
+        }
+    }
+
+    /// A bucket begins: it sees of the batched lists only its own items, in the scope as the target found it.
+    /// (MSBuild batching.)
+    pub(crate) fn enter(
+        &mut self,
+        alloc: Global,
+        found: &Scope,
+        bucket: &Bucket,
+    ) -> Result<(), NoMemory>
+        ensures { OnOk result (self.new ≡ record self.old { scope = record found.now { items = all_put found.now.items bucket.now.lists }; part = None; unseen = [] }) }
+    {
+        let mut scope = found.copy()?;
+        put_lists(&mut scope.items, &bucket.lists)?;
+        self.scope = scope;
+        self.part = None;
+        self.unseen = List::new(alloc);
+        Ok(())
+    }
+
+    /// Changes of the child at hand, which stay out of the scope until it is over.
+    pub(crate) fn add_changes(&mut self, made: List<Change>) -> Result<(), NoMemory>
+        ensures { OnOk result (self.new ≡ record self.old { unseen = self.old.unseen ++ made; changes = self.old.changes ++ made }) }
+    {
+        self.unseen.append(made.copy()?)?;
+        self.changes.append(made)
+    }
+
+    pub(crate) fn add_notes(&mut self, notes: List<Note>) -> Result<(), NoMemory>
+        ensures { OnOk result (self.new ≡ record self.old { notes = self.old.notes ++ notes }) }
+    {
+        self.notes.append(notes)
+    }
+
+    pub(crate) fn add_decision(&mut self, decision: Decision) -> Result<(), NoMemory>
+        ensures { OnOk result (self.new ≡ record self.old { decisions = self.old.decisions ++ decision ∷ [] }) }
+    {
+        self.decisions.push(decision)
+    }
+
+    /// The calls that have been made, with the runs of their results.
+    pub(crate) fn add_calls(
+        &mut self,
+        keys: &[RequestKey],
+        results: &[RequestResult],
+    ) -> Result<(), NoMemory>
+        ensures { OnOk result (self.new ≡ record self.old { segments = self.old.segments ++ called keys.now results.now }) }
+    {
+        push_calls(&mut self.segments, keys, results)
+    }
+
+    /// A fault is noted as an error; one that is want of memory is no fault.
+    pub(crate) fn note_fault(&mut self, alloc: Global, fault: &EvalFault) -> Result<(), NoMemory>
+        ensures noted { OnOk result (self.new ≡ record self.old { notes = self.old.notes ++ Fail (fault_text fault.now) ∷ [] }) }
+        ensures told { OnOk result (fault.now.cause ≡ Memory → ⊥) }
+    {
+        match &fault.cause {
+            Cause::Memory => Err(NoMemory),
+            _ => self.notes.push(Note::Fail(fault.shown(alloc)?)),
+        }
+    }
+
+    /// What was made is kept, also up to a fault, which is noted and stops the run.
+    pub(crate) fn take(
+        &mut self,
+        alloc: Global,
+        made: List<Change>,
+        end: Result<(), EvalFault>,
+    ) -> Result<Ending, NoMemory>
+        ensures taken { IfOk result (λ ending. (journal : Journal) (all : Made) → Pushes end [] made all → ended ending (seen_state self.new journal) ≡ taken all (seen_state self.old journal)) }
+        ensures kept { OnOk result (self.new.segments ≡ self.old.segments) }
+    {
+        self.add_changes(made)?;
+        match end {
+            Ok(()) => Ok(Ending::Fine),
+            Err(fault) => {
+                self.note_fault(alloc, &fault)?;
+                Ok(Ending::Faulted)
+            }
+        }
+    }
+
+    /// The child at hand is over: the scope gets its changes.
+    pub(crate) fn settle(&mut self, alloc: Global) -> Result<(), NoMemory>
+        ensures settled { OnOk result ((journal : Journal) → seen_state self.new journal ≡ settled (seen_state self.old journal)) }
+        ensures kept { OnOk result (self.new.segments ≡ self.old.segments) }
+    {
+        let unseen = mem::replace(&mut self.unseen, List::new(alloc));
+        self.see_all(alloc, unseen.as_slice())
+    }
+
+    fn see_all(&mut self, alloc: Global, changes: &[Change]) -> Result<(), NoMemory>
+        ensures seen { OnOk result ((journal : Journal) → seen_state self.new journal ≡ fold with_change (seen_state self.old journal) changes.now) }
+        ensures kept { OnOk result (self.new.segments ≡ self.old.segments) }
+    {
+        for change in changes {
+            self.see(alloc, change)?;
+        }
+        Ok(())
+    }
+
+    // A change is made in the scope, and in what tasks see of a list.
+    fn see(&mut self, alloc: Global, change: &Change) -> Result<(), NoMemory>
+        ensures { OnOk result (self.new ≡ record self.old { scope = applied change.now self.old.scope; part = part_after change.now self.old.scope self.old.part }) }
+    {
+        part_after(alloc, &self.scope, &mut self.part, change)?;
+        self.scope.apply(alloc, change)
+    }
+}
+
+fn push_calls(
+    segments: &mut List<Segment>,
+    keys: &[RequestKey],
+    results: &[RequestResult],
+) -> Result<(), NoMemory>
+    ensures { OnOk result (segments.new ≡ segments.old ++ called keys.now results.now) }
+{
+    for (key, given) in keys.iter().zip(results) {
+        push_call(segments, key, given)?;
+    }
+    Ok(())
+}
+
+fn push_call(
+    segments: &mut List<Segment>,
+    key: &RequestKey,
+    given: &RequestResult,
+) -> Result<(), NoMemory>
+    ensures { OnOk result (segments.new ≡ segments.old ++ call_segment (key.now, given.now)) }
+{
+    segments.push(Segment::Call(key.copy()?, given.runs.copy()?))
+}
+
+// Puts lists into others, in place of those of the same types.
+fn put_lists(lists: &mut Lists, more: &Lists) -> Result<(), NoMemory>
+    ensures { OnOk result (lists.new ≡ all_put lists.old more.now) }
+{
+    for (kind, items) in more.iter() {
+        lists.insert(kind.copy()?, items.copy()?)?;
+    }
+    Ok(())
+}
+
+impl Copied for State {
+    fn copy(&self) -> Result<State, NoMemory> {
+        Ok(State {
+            scope: self.scope.copy()?,
+            part: typed_copy(&self.part)?,
+            unseen: self.unseen.copy()?,
+            written: self.written,
+            decisions: self.decisions.copy()?,
+            items: self.items.copy()?,
+            changes: self.changes.copy()?,
+            notes: self.notes.copy()?,
+            segments: self.segments.copy()?,
+        })
+    }
+}

@@ -1,0 +1,358 @@
+//! A task element: it is called bucket by bucket, or its Outputs are inferred. (Task element; MSBuild batching; How to build
+//! incrementally.)
+
+ghost use Rattle.std.specs.Prelude.{◌≡◌, ◌<◌, ℕ, List, length, IfOk, OnOk};
+ghost use Rattle.build_world.specs.Answers.{GivesFault};
+ghost use Rattle.build_world.specs.Elements.{At, seen_element};
+ghost use Rattle.msb_laws.specs.Results.{map_ok};
+ghost use Rattle.result_cache.specs.Journal.{Journal as Files};
+ghost use Rattle.task_trait.specs.Tools.{BeginsWith};
+ghost use Rattle.task_trait.specs.declared.tools.ToolAnswer.{ToolAnswer};
+ghost use Rattle.task_trait.specs.declared.tools.ToolInput.{ToolInput};
+ghost use Rattle.msb_files.specs.Views.{paths};
+ghost use Rattle.msb_items.specs.Places.{item_place};
+ghost use Rattle.target_texts.specs.Answered.{Pushes};
+ghost use Rattle.target_texts.specs.Inferred.{inferred_at};
+ghost use Rattle.target_texts.specs.Parameters.{task_buckets};
+ghost use Rattle.target_texts.specs.Seen.{seen_place};
+ghost use Rattle.target_body.specs.Left.{IsOfChild, IsOfTask, calls_frames, calls_left, call_frames, child_frames, child_left, inferred_unless, waiting};
+ghost use Rattle.target_body.specs.Moments.{GoesOn, Plays, moment, player};
+ghost use Rattle.target_body.specs.Seen.{child_at, ended, seen_run, seen_state};
+ghost use Rattle.target_body.specs.States.{State as Now, place_in, settled, task_scope};
+ghost use Rattle.target_body.specs.Tasks.{call, called, inferred, task, then_inferred};
+ghost use Rattle.target_body.specs.Work.{done, each_in_turn, followed_by, unless_stopped};
+
+use crate::calling::TaskCall;
+use crate::frames::{AtCall, AtTask};
+use crate::later::Buckets;
+use crate::part::{own_or, scope_of_part};
+use crate::site::{Site, place_of};
+use crate::state::State;
+use crate::steps::{Ending, Step};
+use build_world::{EvalFault, PlacedElement};
+use msb_expand::Bucket;
+use msb_files::{FileView, Journal};
+use msb_values::{Change, List, NoMemory, Scope};
+use result_cache::RequestResult;
+use std::alloc::Global;
+use target_incremental::Choice;
+use target_texts::{Place, TaskElement, push_inferred, task_of};
+use task_trait::CountedTools;
+
+/// A task element, a child of the target.
+#[derive(Clone, Copy)]
+pub(crate) struct TaskChild<'a> {
+    pub(crate) site: Site<'a>,
+    pub(crate) element: PlacedElement<'a>,
+    /// Its place among the children.
+    pub(crate) child: usize,
+    /// Whether its Outputs are what the task gives; else others are inferred in their place.
+    pub(crate) gives: bool,
+}
+
+impl<'a> TaskChild<'a> {
+    fn of(site: &Site<'a>, child: usize, gives: bool) -> TaskChild<'a>
+        ensures site { result.site ≡ site.now }
+        ensures element { seen_element result.element ≡ child_at (seen_run site.now) child }
+        ensures child { result.child ≡ child }
+        ensures gives { result.gives ≡ gives }
+    {
+        TaskChild {
+            site: *site,
+            element: site.child(child),
+            child,
+            gives,
+        }
+    }
+}
+
+impl State {
+    /// Takes a task element by what is decided of the target's bucket. (How to build incrementally.)
+    pub(crate) fn task<T: CountedTools>(
+        &mut self,
+        alloc: Global,
+        site: &Site<'_>,
+        child: usize,
+        choice: &Choice,
+        tools: &mut T,
+        journal: &mut Journal,
+    ) -> Result<Step<AtTask>, NoMemory>
+        ensures plays { IfOk result (λ step. let run = seen_run site.now in
+            Plays (child_frames run) (player site.now.id.now T.answer) (λ s. followed_by (task run choice.now (child_at run child) s) (λ end. done (map_ok settled end))) (moment self.old journal.old (T.calls tools.old)) step (moment self.new journal.new (T.calls tools.new))) }
+        ensures child { IfOk result (λ step. IsOfChild child step) }
+        ensures begun { BeginsWith (T.calls tools.old) (T.calls tools.new) }
+    {
+        match choice {
+            Choice::Run => self.called(alloc, &TaskChild::of(site, child, true), tools, journal),
+            Choice::Part(_) => {
+                self.called(alloc, &TaskChild::of(site, child, false), tools, journal)
+            }
+            Choice::Skip => {
+                let ending = self.infer(alloc, &TaskChild::of(site, child, false), journal)?;
+                Ok(Step::Over(self.settle_after(alloc, ending)?))
+            }
+            Choice::Nothing => Ok(Step::Over(self.settle_after(alloc, Ending::Fine)?)),
+        }
+    }
+
+    fn called<T: CountedTools>(
+        &mut self,
+        alloc: Global,
+        at: &TaskChild<'_>,
+        tools: &mut T,
+        journal: &mut Journal,
+    ) -> Result<Step<AtTask>, NoMemory>
+        requires { seen_element at.now.element ≡ child_at (seen_run at.now.site) at.now.child }
+        ensures plays { IfOk result (λ step. let run = seen_run at.now.site in let e = seen_element at.now.element in
+            Plays (child_frames run) (player at.now.site.id.now T.answer) (λ s. followed_by (called run e at.now.gives s) (λ end. done (map_ok settled (inferred_unless at.now.gives run e end)))) (moment self.old journal.old (T.calls tools.old)) step (moment self.new journal.new (T.calls tools.new))) }
+        ensures child { IfOk result (λ step. IsOfChild at.now.child step) }
+        ensures begun { BeginsWith (T.calls tools.old) (T.calls tools.new) }
+    {
+        match self.task_buckets(alloc, &*at, &*journal) {
+            Ok(buckets) => {
+                let later = Buckets::of(buckets);
+                let step = self.calls(alloc, at, later, tools, journal)?;
+                self.child_on(alloc, at, step, journal)
+            }
+            Err(fault) => {
+                self.note_fault(alloc, &fault)?;
+                Ok(Step::Over(Ending::Faulted))
+            }
+        }
+    }
+
+    // The buckets of a task element, in the scope that tasks see. (MSBuild batching.)
+    fn task_buckets<'x>(
+        &'x self,
+        alloc: Global,
+        at: &'x TaskChild<'x>,
+        journal: &'x Journal,
+    ) -> Result<List<Bucket>, EvalFault>
+        ensures { GivesFault (λ buckets. buckets) result (task_buckets (place_in (seen_run at.entry.now.site) (seen_state self.entry.now journal.entry.now) (task_scope (seen_state self.entry.now journal.entry.now))) (seen_element at.entry.now.element)) }
+    {
+        let Ok(own) = scope_of_part(&self.scope, &self.part) else {
+            return Err(EvalFault::memory(alloc));
+        };
+        let view = FileView::of(&at.site.world.tree, journal);
+        let place = place_of(
+            &view,
+            at.site.id.instance.path.as_str(),
+            own_or(&own, &self.scope),
+        );
+        buckets_of(alloc, &place, &at.element)
+    }
+
+    // Calls the task in each of these buckets.
+    fn calls<T: CountedTools>(
+        &mut self,
+        alloc: Global,
+        at: &TaskChild<'_>,
+        later: Buckets,
+        tools: &mut T,
+        journal: &mut Journal,
+    ) -> Result<Step<AtTask>, NoMemory>
+        requires { seen_element at.now.element ≡ child_at (seen_run at.now.site) at.now.child }
+        ensures plays { IfOk result (λ step. let run = seen_run at.now.site in let e = seen_element at.now.element in
+            Plays (calls_frames run) (player at.now.site.id.now T.answer) (λ s. each_in_turn (call run e at.now.gives) later s) (moment self.old journal.old (T.calls tools.old)) step (moment self.new journal.new (T.calls tools.new))) }
+        ensures task { IfOk result (λ step. IsOfTask at.now.child at.now.gives step) }
+        ensures begun { BeginsWith (T.calls tools.old) (T.calls tools.new) }
+    {
+        let mut later = later;
+        while let Some(bucket) = later.next() {
+            let call = TaskCall {
+                site: at.site,
+                element: at.element,
+                gives: at.gives,
+                bucket: &bucket,
+            };
+            match self.call(alloc, &call, tools, journal)? {
+                Step::Over(Ending::Fine) => {}
+                Step::Over(Ending::Faulted) => return Ok(Step::Over(Ending::Faulted)),
+                Step::Over(Ending::Failed) => return Ok(Step::Over(Ending::Failed)),
+                Step::Waits(call) => {
+                    return Ok(Step::Waits(AtTask {
+                        child: at.child,
+                        gives: at.gives,
+                        bucket,
+                        later,
+                        call,
+                    }));
+                }
+            }
+        }
+        Ok(Step::Over(Ending::Fine))
+    }
+
+    // Goes on behind a call in a bucket.
+    fn calls_on<T: CountedTools>(
+        &mut self,
+        alloc: Global,
+        at: &TaskChild<'_>,
+        bucket: Bucket,
+        later: Buckets,
+        step: Step<AtCall>,
+        tools: &mut T,
+        journal: &mut Journal,
+    ) -> Result<Step<AtTask>, NoMemory>
+        requires { seen_element at.now.element ≡ child_at (seen_run at.now.site) at.now.child }
+        ensures goes { IfOk result (λ step_then. let run = seen_run at.now.site in let e = seen_element at.now.element in
+            GoesOn (call_frames run e at.now.gives bucket) (calls_frames run) (player at.now.site.id.now T.answer) (λ end. unless_stopped end (each_in_turn (call run e at.now.gives) later)) step (moment self.old journal.old (T.calls tools.old)) step_then (moment self.new journal.new (T.calls tools.new))) }
+        ensures task { IfOk result (λ step. IsOfTask at.now.child at.now.gives step) }
+        ensures begun { BeginsWith (T.calls tools.old) (T.calls tools.new) }
+    {
+        match step {
+            Step::Over(ending) => match ending {
+                Ending::Fine => self.calls(alloc, at, later, tools, journal),
+                Ending::Faulted | Ending::Failed => Ok(Step::Over(ending)),
+            },
+            Step::Waits(call) => Ok(Step::Waits(AtTask {
+                child: at.child,
+                gives: at.gives,
+                bucket,
+                later,
+                call,
+            })),
+        }
+    }
+
+    // Goes on behind the calls of an element.
+    fn child_on(
+        &mut self,
+        alloc: Global,
+        at: &TaskChild<'_>,
+        step: Step<AtTask>,
+        journal: &Journal,
+    ) -> Result<Step<AtTask>, NoMemory>
+        requires element { seen_element at.now.element ≡ child_at (seen_run at.now.site) at.now.child }
+        requires task { IsOfTask at.now.child at.now.gives step }
+        ensures goes { (answer : List ℕ → ToolInput → ToolAnswer) (tools : List (List ℕ × ToolInput)) → IfOk result (λ step_then. let run = seen_run at.now.site in
+            GoesOn (calls_frames run) (child_frames run) (player at.now.site.id.now answer) (λ end. done (map_ok settled (inferred_unless at.now.gives run (seen_element at.now.element) end))) step (moment self.old journal.now tools) step_then (moment self.new journal.now tools)) }
+        ensures child { IfOk result (λ step. IsOfChild at.now.child step) }
+    {
+        match step {
+            Step::Over(ending) => {
+                let ending = self.infer_unless(alloc, at, ending, journal)?;
+                Ok(Step::Over(self.settle_after(alloc, ending)?))
+            }
+            Step::Waits(task) => Ok(Step::Waits(task)),
+        }
+    }
+
+    // Where the Outputs of an element are not its own, they are inferred after its calls, also after one that stops the body.
+    fn infer_unless(
+        &mut self,
+        alloc: Global,
+        at: &TaskChild<'_>,
+        ending: Ending,
+        journal: &Journal,
+    ) -> Result<Ending, NoMemory>
+        ensures ended { IfOk result (λ ending_then. ended ending_then (seen_state self.new journal.now) ≡ inferred_unless at.now.gives (seen_run at.now.site) (seen_element at.now.element) (ended ending (seen_state self.old journal.now))) }
+        ensures kept { OnOk result (self.new.segments ≡ self.old.segments) }
+    {
+        match ending {
+            Ending::Fine if !at.gives => self.infer(alloc, at, journal),
+            Ending::Failed if !at.gives => {
+                self.infer(alloc, at, journal)?;
+                Ok(Ending::Failed)
+            }
+            _ => Ok(ending),
+        }
+    }
+
+    fn infer(
+        &mut self,
+        alloc: Global,
+        at: &TaskChild<'_>,
+        journal: &Journal,
+    ) -> Result<Ending, NoMemory>
+        ensures ended { IfOk result (λ ending. ended ending (seen_state self.new journal.now) ≡ inferred (seen_run at.now.site) (seen_element at.now.element) (seen_state self.old journal.now)) }
+        ensures kept { OnOk result (self.new.segments ≡ self.old.segments) }
+    {
+        let mut made = List::new(alloc);
+        let end = push_inferred_in(alloc, &*at, &self.scope, &*journal, &mut made);
+        self.take(alloc, made, end)
+    }
+
+    /// A child is over, and unless it stops the run, the scope gets its changes.
+    pub(crate) fn settle_after(&mut self, alloc: Global, ending: Ending) -> Result<Ending, NoMemory>
+        ensures ended { IfOk result (λ ending_then. (journal : Files) → ended ending_then (seen_state self.new journal) ≡ map_ok settled (ended ending (seen_state self.old journal))) }
+        ensures kept { OnOk result (self.new.segments ≡ self.old.segments) }
+    {
+        match ending {
+            Ending::Fine => {
+                self.settle(alloc)?;
+                Ok(Ending::Fine)
+            }
+            Ending::Faulted | Ending::Failed => Ok(ending),
+        }
+    }
+
+    /// Goes on with a task element when the results of calls have come. (MSBuild task.)
+    pub(crate) fn resume_task<T: CountedTools>(
+        &mut self,
+        alloc: Global,
+        site: &Site<'_>,
+        task: AtTask,
+        results: List<RequestResult>,
+        tools: &mut T,
+        journal: &mut Journal,
+    ) -> Result<Step<AtTask>, NoMemory>
+        requires waits { 0 < length (waiting task.call) }
+        requires fits { length results ≡ length (waiting task.call) }
+        ensures plays { IfOk result (λ step. let run = seen_run site.now in
+            Plays (child_frames run) (player site.now.id.now T.answer) (λ s. child_left run task s results journal.old) (moment self.old journal.old (T.calls tools.old)) step (moment self.new journal.new (T.calls tools.new))) }
+        ensures child { IfOk result (λ step. IsOfChild task.child step) }
+        ensures begun { BeginsWith (T.calls tools.old) (T.calls tools.new) }
+    {
+        let AtTask {
+            child,
+            gives,
+            bucket,
+            later,
+            call,
+        } = task;
+        let at = TaskChild::of(site, child, gives);
+        let in_bucket = TaskCall {
+            site: at.site,
+            element: at.element,
+            gives: at.gives,
+            bucket: &bucket,
+        };
+        let step = self.call_on(alloc, &in_bucket, call, results, journal)?;
+        let step = self.calls_on(alloc, &at, bucket, later, step, tools, journal)?;
+        self.child_on(alloc, &at, step, journal)
+    }
+}
+
+fn buckets_of(
+    alloc: Global,
+    place: &Place<'_>,
+    element: &PlacedElement<'_>,
+) -> Result<List<Bucket>, EvalFault>
+    ensures { GivesFault (λ buckets. buckets) result (task_buckets (seen_place place.now) (seen_element element.now)) }
+{
+    let Ok(task) = task_of(alloc, element) else {
+        return Err(EvalFault::memory(alloc));
+    };
+    let task = TaskElement {
+        place: *place,
+        element: *element,
+        task: task.as_str(),
+    };
+    task.buckets(alloc)
+}
+
+// The Outputs of a task that is not called see the scope of the bucket.
+fn push_inferred_in<'x>(
+    alloc: Global,
+    at: &'x TaskChild<'x>,
+    scope: &'x Scope,
+    journal: &'x Journal,
+    made: &mut List<Change>,
+) -> Result<(), EvalFault>
+    ensures { Pushes result made.old made.new (inferred_at (item_place (paths (record { files = at.entry.now.site.world.now.tree.files; journal = journal.entry.now })) at.entry.now.site.id.now.instance.path scope.entry.now) (seen_element at.entry.now.element)) }
+{
+    let view = FileView::of(&at.site.world.tree, journal);
+    let place = place_of(&view, at.site.id.instance.path.as_str(), scope);
+    push_inferred(alloc, &place, &at.element, made)
+}
