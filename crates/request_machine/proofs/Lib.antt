@@ -1,0 +1,16 @@
+pub mod Answering
+pub mod Alike
+pub mod Errors
+pub mod Finding
+pub mod Learned
+pub mod Names
+pub mod Placing
+pub mod Followed
+pub mod Starting
+pub mod Stopping
+pub mod PlacesAnswered
+pub mod RunsMade
+pub mod RecordsNeeded
+pub mod RunsReplayed
+pub mod StagesTaken
+pub mod WalksAnswered

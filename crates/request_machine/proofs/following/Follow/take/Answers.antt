@@ -1,0 +1,12 @@
+use Rattle.std.proofs.Common.{sym, subst}
+use Rattle.request_machine.specs.Taken.{TakenOn}
+use Rattle.request_machine.proofs.StagesTaken.{over_taken}
+use Rattle.request_machine.proofs.following.Follow.take.Goals as goal
+
+pub returns-in-Wants : goal.returns-in-Wants
+returns-in-Wants g c =
+    let f = c.args.self in
+    subst (λ stand. TakenOn c.args.stage.now (record { standing = f.standing; order = f.order; stand = stand }) c.want.new.stage) (sym c.in-Wants.is) c.want.ensures
+
+pub returns-in-Over : goal.returns-in-Over
+returns-in-Over g c = over_taken c.args.stage.now c.over.new.stage c.args.self c.in-Over.reply c.in-Over.is c.over.ensures

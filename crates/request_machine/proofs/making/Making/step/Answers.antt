@@ -1,0 +1,35 @@
+use Rattle.std.proofs.Common.{◌≡◌, sym, ap, ◌∙◌, subst, IfSome}
+use Rattle.std.proofs.lemmas.Result.{IfOk-weaker}
+use Rattle.build_world.specs.Instances.{seen_instance}
+use Rattle.target_body.specs.Standings.{Goes, run_with, standing, target_named}
+use Rattle.request_machine.specs.Making.{IsStep, Plays}
+use Rattle.request_machine.specs.Runs.{run_in}
+use Rattle.request_machine.proofs.RunsMade.{step_run}
+use Rattle.request_machine.proofs.Stopping.{all_play, noted_uses}
+use Rattle.request_machine.proofs.making.Making.step.Goals as goal
+
+pub returns : goal.returns
+returns g c =
+    let answer = g.T.CountedTools.answer in
+    let calls = g.T.CountedTools.calls in
+    let w = c.args.self.now.world.now in
+    let run = c.args.self.now.run.now in
+    let targets = (seen_instance c.args.self.now.instance.now).targets in
+    let results = c.args.results.now in
+    let before = c.args.journal.now in
+    let after = c.advance.new.journal in
+    let old = c.args.tools.now in
+    let new = c.advance.new.tools in
+    let log = c.args.uses.now in
+    let then_log = c.and-uses.result in
+    let body = c.args.body in
+    let then_body = c.advance.new.self in
+    let ask = c.in_ok-ask.ask in
+    let goes = subst (λ id. IfSome (target_named targets id.target) (λ target. Goes answer id (run_with w id target) (standing (run_with w id target) body) results before after (calls old) (calls new) ask (standing (run_with w id target) then_body)))
+    c.requires.run c.in_ok-ask.ensures.goes in
+    record {
+      goes = IfOk-weaker c.stopped.result (IsStep run then_body then_log ask) (λ step. IfSome (target_named targets run.target) (λ target. Plays answer calls w run target (standing (run_with w run target) body) results before after old new log step))
+          (λ step is. all_play answer calls w run results before after old new log then_log body then_body ask step (target_named targets run.target)
+          (λ uses called. noted_uses calls log then_log c.noted-before.result c.noted.result old new uses c.and-uses.ensures c.noted-before.ensures c.noted.ensures called) is goes) c.stopped.ensures;
+      run = IfOk-weaker c.stopped.result (IsStep run then_body then_log ask) (λ step. run_in run step.at ≡ run) (λ step is. step_run run then_body then_log ask step (c.advance.ensures.run ∙ c.requires.run) is) c.stopped.ensures;
+    }

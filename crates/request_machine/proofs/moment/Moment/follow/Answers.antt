@@ -1,0 +1,36 @@
+use Rattle.std.proofs.Common.{◌≡◌, sym, ap, ◌∙◌}
+use Rattle.target_order.specs.Left.{left}
+use Rattle.request_machine.specs.Seen.{seen_project}
+use Rattle.request_machine.specs.Stands.{Bodies}
+use Rattle.request_machine.specs.Walk.{answer_of, or_failed, walk}
+use Rattle.request_machine.proofs.Followed.{run_fits, run_goes, run_ready}
+use Rattle.request_machine.proofs.moment.Moment.follow.Goals as goal
+
+pub follow_turn-requires : goal.follow_turn-requires
+follow_turn-requires c =
+    let m = c.args.self.now in
+    record {
+      asked = ap (λ o. o.asked) c.in_ok-order.ensures ∙ c.requires;
+      fits = run_fits (seen_project m.project) c.args.made.now.ok c.in_ok-standing.standing m.journal.now c.args.name.now c.in_ok-turn.turn c.in_ok-turn.ensures;
+    }
+
+pub returns : goal.returns
+returns c =
+    let m = c.args.self.now in
+    let p = seen_project m.project in
+    let key = m.key.now in
+    let journal = m.journal.now in
+    let name = c.args.name.now in
+    let ok = c.args.made.now.ok in
+    let s = c.in_ok-standing.standing in
+    let copy = c.in_ok-order.order in
+    let now = c.follow_turn.new.order in
+    let stand = c.in_ok-stand.stand in
+    let turn = c.in_ok-turn.turn in
+    record {
+      ready = run_ready p key s journal copy now stand (answer_of p ok s journal name) turn c.in_ok-turn.ensures c.in_ok-stand.ensures;
+      goes = λ (bodies : Bodies).
+          ap (λ x. or_failed (answer_of p ok x journal name) (λ answer. walk p key bodies (left c.args.order.now answer) x journal)) (sym c.in_ok-standing.ensures)
+          ∙ (ap (λ o. or_failed (answer_of p ok s journal name) (λ answer. walk p key bodies (left o answer) s journal)) (sym c.in_ok-order.ensures)
+          ∙ run_goes p key s journal copy now stand (answer_of p ok s journal name) turn c.in_ok-turn.ensures c.in_ok-stand.ensures bodies);
+    }

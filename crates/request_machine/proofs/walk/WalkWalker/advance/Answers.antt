@@ -1,0 +1,38 @@
+use Rattle.std.proofs.Common.{Result, Ok, Err, OnErr, refl, sym, ap, ◌∙◌}
+use Rattle.request_machine.specs.Begun.{has_begun}
+use Rattle.request_machine.specs.WalkPosition.{request_position}
+use Rattle.request_machine.specs.Worlds.{world_of}
+use Rattle.request_machine.proofs.WalksAnswered.{in_turn, one_more}
+use Rattle.request_machine.proofs.walk.WalkWalker.advance.Goals as goal
+
+pub advance-requires : goal.advance-requires
+advance-requires g c =
+    let walk = c.args.self.now in
+    record { fits = c.requires.fits; turn = in_turn walk.asked (has_begun walk.request.stage) c.args.answer.now walk.begun c.requires.turn }
+
+pub invariant_of-self : goal.invariant_of-self
+invariant_of-self g c = record { begun = ap (λ r. has_begun r.stage) c.in_err-ask.ensures.err ∙ c.args.self.now.begun }
+
+pub invariant_of-self-2 : goal.invariant_of-self-2
+invariant_of-self-2 g c = record { begun = c.in_ok-ask.ensures.begun ∙ sym (one_more c.args.self.now.asked) }
+
+always : {X E : Type 0} (r : Result X E) (P : Type 0) → P → OnErr r P
+always (Ok x) P p = tt
+always (Err e) P p = p
+
+pub returns-in_err-ask-clause-stays : goal.returns-in_err-ask-clause-stays
+returns-in_err-ask-clause-stays g c = always c.from_residual.result _ (ap (request_position g.T.CountedTools.calls) c.in_err-ask.ensures.err)
+
+pub returns : goal.returns
+returns g c =
+    let goes = c.in_ok-ask.ensures.goes in
+    record {
+      asks = goes.asks;
+      goes_on = goes.goes_on;
+      asked = refl;
+      used = c.in_ok-ask.ensures.used;
+      stays = tt;
+      asked_err = tt;
+      world = ap (λ world. world_of g.T.CountedTools.answer world.now) c.advance.ensures.world;
+      learnt = refl;
+    }

@@ -1,0 +1,17 @@
+use Rattle.std.proofs.Common.{ap, ◌∙◌}
+use Rattle.build_scheduler.specs.Position.{begins}
+use Rattle.request_machine.specs.Worlds.{world_of}
+use Rattle.request_machine.proofs.RecordsNeeded.{empty_part}
+use Rattle.request_machine.proofs.walk.WalkWalker.child.Goals as goal
+
+pub returns : goal.returns
+returns g c =
+    let answer = g.T.CountedTools.answer in
+    let r = c.args.self.now.request in
+    let w = r.world.now in
+    record {
+      world = ap (world_of answer) c.of.ensures.world;
+      begins = c.of.ensures.begins ∙ (ap (λ k. begins (world_of answer w) k c.in_ok-journal.journal) c.in_ok-key.ensures ∙ ap (begins (world_of answer w) c.args.key.now) c.in_ok-journal.ensures);
+      asked = c.of.ensures.asked;
+      learnt = empty_part c.args.self.now.learnt.finished c.of.result.learnt.finished c.of.ensures.learnt;
+    }

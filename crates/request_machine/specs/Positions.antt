@@ -1,0 +1,91 @@
+-- Where the walk of a request stands, by what the code holds of it. (Target build order; MSBuild task)
+use Rattle.std.specs.Prelude.{ℕ, List, [], ◌∷◌, ◌++◌, length, drop, map, Option, Some, None}
+use Rattle.std.specs.List.{flat_map}
+use Rattle.msb_laws.specs.Asking.{asks as asks_of}
+use Rattle.target_order.specs.Left.{left}
+use Rattle.target_order.specs.Visit.{body as body_of}
+use Rattle.build_world.specs.Instances.{UsedTarget, seen_instance}
+use Rattle.build_world.specs.declared.world.World.{World as Given}
+use Rattle.result_cache.specs.Journal.{Journal}
+use Rattle.result_cache.specs.declared.record.Record.{Record}
+use Rattle.result_cache.specs.declared.request.RequestKey.{RequestKey}
+use Rattle.result_cache.specs.declared.run.RunId.{RunId}
+use Rattle.task_trait.specs.declared.tools.ToolAnswer.{ToolAnswer}
+use Rattle.task_trait.specs.declared.tools.ToolInput.{ToolInput}
+use Rattle.build_meaning.specs.SoFar.{SoFar}
+use Rattle.build_meaning.specs.State.{Place, walking, within}
+use Rattle.build_meaning.specs.Stop.{Stop, ends, asks}
+use Rattle.build_meaning.specs.Walk.{Outcome, gives}
+use Rattle.build_scheduler.specs.Position.{Position}
+use Rattle.target_body.specs.declared.body.Body.{Body}
+use Rattle.target_body.specs.Standings.{Standing, begins, waits, over, standing, run_with, tool_use}
+use Rattle.request_machine.specs.Requests.{Project, target_at, failed}
+use Rattle.request_machine.specs.Walk.{walk, after_target}
+use Rattle.request_machine.specs.Worlds.{bodies_of, project_of, walk_of}
+use Rattle.request_machine.specs.declared.log.Log.{Log}
+use Rattle.request_machine.specs.declared.visit.At.{At}
+use Rattle.request_machine.specs.declared.visit.At.TheVariants.{Wanted, Called, Made}
+use Rattle.request_machine.specs.declared.visit.Visit.{Visit}
+use Rattle.request_machine.specs.declared.stage.Stage.{Stage}
+use Rattle.request_machine.specs.declared.stage.Stage.TheVariants.{Begins, Visits, Over}
+
+-- what the record of a run says besides its segments
+abbrev pub outcome_in : Record → Outcome
+outcome_in made = record { ok = made.ok; decisions = made.decisions; items = made.items; changes = made.changes; notes = made.notes }
+
+-- what a run has written and called so far, and where it has stopped
+abbrev pub Halt : Type 0
+Halt = SoFar ToolInput × Stop ToolInput ToolAnswer
+
+abbrev pub halt_by : List (List ℕ × ToolInput) → Standing → Option Halt
+halt_by uses (begins scope) = None
+halt_by uses (waits segments key keys go) = Some (record { segments = segments; tools = map tool_use uses }, asks key keys go)
+halt_by uses over = None
+
+module _ {T : Type 0} (calls : T → List (List ℕ × ToolInput)) where
+  -- the calls of tools up to a moment that was noted
+  abbrev pub calls_at : List (T × ℕ) → List (List ℕ × ToolInput)
+  calls_at [] = []
+  calls_at (noted ∷ others) = calls noted.0
+
+  -- the calls of tools between two moments that were noted, for each of some pairs
+  abbrev pub uses_between : Log T ℕ × Log T ℕ → List (List ℕ × ToolInput)
+  uses_between pair = drop (length (calls_at pair.0.items)) (calls_at pair.1.items)
+
+  abbrev pub uses_in : Log (Log T ℕ) (Log T ℕ) → List (List ℕ × ToolInput)
+  uses_in log = flat_map uses_between log.items
+
+-- where the body of a run has stopped; it is there where the project has its target
+module _ (w : Given) where
+  abbrev pub halt_of : RunId → Body → List (List ℕ × ToolInput) → Option UsedTarget → Option Halt
+  halt_of run body uses None = None
+  halt_of run body uses (Some target) = halt_by uses (standing (run_with w run target) body)
+
+module _ {T : Type 0} (calls : T → List (List ℕ × ToolInput)) (w : Given) where
+  -- by what a request holds of the body
+  abbrev pub halt_at : RunId → Option UsedTarget → At T → Option Halt
+  halt_at run target Wanted = None
+  halt_at run target (Called body log) = halt_of w run body (uses_in calls log) target
+  halt_at run target (Made made log) = Some (record { segments = made.segments; tools = map tool_use (uses_in calls log) }, ends (outcome_in made))
+
+  abbrev pub project_at : RequestKey → Visit T → Project
+  project_at key v = project_of w key (seen_instance v.instance)
+
+  -- in the body of a run
+  abbrev pub in_body : RequestKey → Visit T → Option Halt → Place ToolInput ToolAnswer
+  in_body key v None = walking (gives (failed None))
+  in_body key v (Some halt) =
+      let p : Project = project_at key v in
+      within (record { run = v.run; so_far = halt.0; go = after_target p (λ answer. walk p key (bodies_of w p) (left v.order answer)) v.standing v.run.target }) halt.1
+
+  abbrev pub place_at : RequestKey → Visit T → Journal → At T → Place ToolInput ToolAnswer
+  place_at key v journal Wanted = let p : Project = project_at key v in walking (walk p key (bodies_of w p) (asks_of (body_of v.run.target) (left v.order)) v.standing journal)
+  place_at key v journal at = in_body key v (halt_at v.run (target_at (project_at key v) v.run.target) at)
+
+  abbrev pub place_of : RequestKey → Journal → Stage T → Place ToolInput ToolAnswer
+  place_of key journal Begins = walking (walk_of w key journal)
+  place_of key journal (Visits v) = place_at key v journal v.at
+  place_of key journal (Over reply) = walking (gives reply)
+
+  abbrev pub position_of : RequestKey → Journal → List RunId → Stage T → Position ToolInput ToolAnswer
+  position_of key journal runs stage = record { journal = journal; runs = runs; place = place_of key journal stage }

@@ -1,0 +1,81 @@
+-- One request of a build, as a tree of the runs that it wants: the order of targets, answered by the project. (Target build order; OnError element)
+use Rattle.std.specs.Prelude.{ℕ, List, [], ◌∷◌, ◌++◌, Bool, true, false, Option, Some, None, Result, Ok, Err, codes}
+use Rattle.std.specs.List.{flat_map}
+use Rattle.msb_laws.specs.Asking.{Asking, gives as ends, asks}
+use Rattle.msb_laws.specs.Results.{map_ok}
+use Rattle.msb_values.specs.declared.key.InstanceKey.{InstanceKey}
+use Rattle.msb_values.specs.declared.scope.Scope.{Scope}
+use Rattle.target_order.specs.Visit.{Question, condition, depends, body, End, finished, stopped, circle, unknown, order}
+use Rattle.target_order.specs.declared.asks.OrderAnswer.{OrderAnswer}
+use Rattle.target_order.specs.declared.asks.OrderAnswer.TheVariants.{Truth, Names, Ok as Ran, Failed}
+use Rattle.build_world.specs.Faults.{fault_text}
+use Rattle.build_world.specs.declared.fault.EvalFault.{EvalFault}
+use Rattle.msb_items.specs.TargetGroups.{all_applied}
+use Rattle.result_cache.specs.Journal.{Journal}
+use Rattle.result_cache.specs.declared.run.RunId.{RunId}
+use Rattle.result_cache.specs.declared.record.Record.{Record}
+use Rattle.result_cache.specs.declared.request.RequestKey.{RequestKey}
+use Rattle.build_meaning.specs.Walk.{Walk, gives, wants, Body, Reply}
+use Rattle.request_machine.specs.declared.standing.Standing.{Standing}
+use Rattle.request_machine.specs.Requests.{Project, holds_of, depends_of, on_error, target_at, all_targets, succeeded, failed, has_no_targets}
+
+-- a target has run
+abbrev pub after_run : Standing → List ℕ → Record → Standing
+after_run s name made = record { scope = all_applied made.changes s.scope; returned = s.returned ++ record { target = name; items = made.items } ∷ [] }
+
+-- the one run of a target of an instance
+abbrev pub run_of : InstanceKey → List ℕ → RunId
+run_of key name = record { instance = key; target = name }
+
+-- the error texts of a circle of targets, and of a name without a target
+abbrev pub circle_text : List (List ℕ) → List ℕ
+circle_text names = codes "circular targets" ++ flat_map (λ name. 32 ∷ name) names
+
+abbrev pub unknown_text : List ℕ → List ℕ
+unknown_text name = codes "unknown target " ++ name
+
+-- a fault in a Condition or a list is the request's error
+abbrev pub faulted : EvalFault → Reply
+faulted fault = failed (Some (fault_text fault))
+
+abbrev pub or_failed : {I A X : Type 0} → Result X EvalFault → (X → Walk I A) → Walk I A
+or_failed (Ok x) next = next x
+or_failed (Err fault) next = gives (faulted fault)
+
+-- how the order has ended
+abbrev pub reply_of : Project → RequestKey → End → Standing → Reply
+reply_of p key finished s = succeeded p.instance key s.returned
+reply_of p key stopped s = failed None
+reply_of p key (circle names) s = failed (Some (circle_text names))
+reply_of p key (unknown name) s = failed (Some (unknown_text name))
+
+-- a run has succeeded, or has failed: then the OnError elements of its target are read in the scope that it leaves
+abbrev pub answer_of : Project → Bool → Standing → Journal → List ℕ → Result OrderAnswer EvalFault
+answer_of p true s journal name = Ok Ran
+answer_of p false s journal name = map_ok Failed (on_error p s.scope journal (target_at p name))
+
+-- what follows a run, by its record and the journal then, where the order goes on so
+abbrev pub after_target : {I A : Type 0} → Project → (OrderAnswer → Standing → Journal → Walk I A) → Standing → List ℕ → Record → Journal → Walk I A
+after_target p next s name made journal =
+    let after : Standing = after_run s name made in or_failed (answer_of p made.ok after journal name) (λ answer. next answer after journal)
+
+module _ {I A : Type 0} (p : Project) (key : RequestKey) (body_of : List ℕ → Scope → Journal → Body I A) where
+  -- what the order asks is answered in the scope and by the files of that moment; a body is a run that is wanted
+  abbrev pub walk : Asking Question OrderAnswer End → Standing → Journal → Walk I A
+  walk (ends end) s journal = gives (reply_of p key end s)
+  walk (asks (condition name) go) s journal = or_failed (holds_of p s.scope journal (target_at p name)) (λ holds. walk (go (Truth holds)) s journal)
+  walk (asks (depends name) go) s journal = or_failed (depends_of p s.scope (target_at p name)) (λ names. walk (go (Names names)) s journal)
+  walk (asks (body name) go) s journal =
+      wants (run_of p.key name) (body_of name s.scope journal) (after_target p (λ answer. walk (go answer)) s name)
+
+-- at the beginning nothing has run
+abbrev pub nothing_ran : Project → Standing
+nothing_ran p = record { scope = p.instance.scope; returned = [] }
+
+abbrev pub walk_unless : {I A : Type 0} → (no_targets : Bool) → Project → RequestKey → (List ℕ → Scope → Journal → Body I A) → Journal → Walk I A
+walk_unless true p key body_of journal = gives (failed (Some (codes "no targets")))
+walk_unless false p key body_of journal = walk p key body_of (order p.instance.rows (all_targets p.instance key)) (nothing_ran p) journal
+
+-- a request of a project that was evaluated
+abbrev pub walk_in : {I A : Type 0} → Project → RequestKey → (List ℕ → Scope → Journal → Body I A) → Journal → Walk I A
+walk_in p key body_of journal = walk_unless (has_no_targets p.instance key) p key body_of journal

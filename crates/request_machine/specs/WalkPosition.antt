@@ -1,0 +1,30 @@
+-- Of which world a walk is, and where it stands. (Target build order; MSBuild task)
+use Rattle.std.specs.Prelude.{ℕ, List, map}
+use Rattle.task_trait.specs.declared.tools.ToolAnswer.{ToolAnswer}
+use Rattle.task_trait.specs.declared.tools.ToolInput.{ToolInput}
+use Rattle.build_meaning.specs.SoFar.{ToolUse}
+use Rattle.build_meaning.specs.World.{World}
+use Rattle.build_scheduler.specs.Position.{Position}
+use Rattle.target_body.specs.Standings.{tool_use}
+use Rattle.request_machine.specs.Positions.{position_of}
+use Rattle.request_machine.specs.Worlds.{world_of}
+use Rattle.request_machine.specs.declared.request.Request.{Request}
+use Rattle.request_machine.specs.declared.walk.Site.{Site}
+use Rattle.request_machine.specs.declared.walk.Walk.{Walk}
+
+module _ {T : Type 0} (calls : T → List (List ℕ × ToolInput)) where
+  -- where a request stands
+  abbrev pub request_position : Request T → Position ToolInput ToolAnswer
+  request_position r = position_of calls r.world.now r.key r.journal r.runs r.stage
+
+  -- where a walk stands
+  abbrev pub walk_position : Walk T → Position ToolInput ToolAnswer
+  walk_position w = request_position w.request
+
+  -- the tools that were used at a site
+  abbrev pub site_uses : Site T → List (ToolUse ToolInput)
+  site_uses s = map tool_use (calls s.tools)
+
+-- the world of a walk, by what its tools answer
+abbrev pub walk_world : {T : Type 0} → (List ℕ → ToolInput → ToolAnswer) → Walk T → World ToolInput ToolAnswer
+walk_world answer w = world_of answer w.request.world.now

@@ -1,0 +1,148 @@
+ghost use Rattle.std.specs.Prelude.{◌≡◌, ◌≢◌, ◌++◌, IfOk, Some, codes};
+ghost use Rattle.msb_values.specs.declared.cause.Cause.TheVariants.{Memory};
+ghost use Rattle.build_world.specs.Faults.{fault_text};
+ghost use Rattle.build_world.specs.Instances.{seen_instance};
+ghost use Rattle.request_machine.specs.Requests.{failed, has_no_targets, unevaluated};
+ghost use Rattle.request_machine.specs.Walk.{walk_in};
+ghost use Rattle.request_machine.specs.Worlds.{bodies_of, project_of, walk_of};
+ghost use Rattle.request_machine.specs.Begun.{IsReady, StandsAt, StandsBy};
+ghost use Rattle.target_order.specs.declared.visits.Asked.TheVariants.{Body as ForBody};
+ghost use Rattle.request_machine.specs.declared.stage.Stage.TheVariants.{Over};
+ghost use Rattle.request_machine.specs.declared.visit.At.TheVariants.{Wanted};
+
+use crate::moment::Moment;
+use crate::project::Project;
+use crate::reply::Reply;
+use crate::returned::all_targets;
+use crate::stage::Stage;
+use crate::standing::Standing;
+use crate::turn::Stand;
+use crate::visit::{At, Visit};
+use build_world::{EvalFault, Instance, World};
+use msb_files::Journal;
+use msb_instance::evaluate;
+use msb_values::{Cause, Copied, List, NoMemory, Text};
+use result_cache::{RequestKey, RunId};
+use std::alloc::Global;
+use target_order::{OrderAnswer, OrderWalk};
+
+/// Where a request stands when it begins: its project is evaluated, and the order is answered until it wants the run of a
+/// target, or the request is over. (How MSBuild builds projects, evaluation phase; Target build order.)
+pub fn begin<T>(
+    alloc: Global,
+    world: &World,
+    key: &RequestKey,
+    journal: &Journal,
+) -> Result<Stage<T>, NoMemory>
+    ensures { IfOk result (StandsAt world.now key.now journal.now (walk_of world.now key.now journal.now)) }
+{
+    if world.tree.find(key.instance.path.as_str()).is_none() {
+        return not_found(alloc, key.instance.path.as_str());
+    }
+    match evaluate(alloc, &world.tree, &key.instance) {
+        Ok(instance) => begin_visit(alloc, world, key, journal, instance),
+        Err(fault) => refused(alloc, &fault),
+    }
+}
+
+fn not_found<T>(alloc: Global, path: &str) -> Result<Stage<T>, NoMemory>
+    ensures { IfOk result (λ stage. stage ≡ Over (unevaluated (path.now ++ codes ": not found"))) }
+{
+    let text = Text::from(format!(in alloc; "{path}: not found")?);
+    Ok(Stage::Over(Reply::unevaluated(alloc, text)))
+}
+
+fn refused<T>(alloc: Global, fault: &EvalFault) -> Result<Stage<T>, NoMemory>
+    ensures told { IfOk result (λ stage. stage ≡ Over (unevaluated (fault_text fault.now))) }
+    ensures cause { IfOk result (λ _. fault.now.cause ≢ Memory) }
+{
+    if let Cause::Memory = fault.cause {
+        return Err(NoMemory);
+    }
+    Ok(Stage::Over(Reply::unevaluated(alloc, fault.shown(alloc)?)))
+}
+
+fn begin_visit<T>(
+    alloc: Global,
+    world: &World,
+    key: &RequestKey,
+    journal: &Journal,
+    instance: Instance,
+) -> Result<Stage<T>, NoMemory>
+    ensures { IfOk result (let p = project_of world.now key.now (seen_instance instance) in StandsAt world.now key.now journal.now (walk_in p key.now (bodies_of world.now p) journal.now)) }
+{
+    if has_no_targets(&instance, key) {
+        return no_targets(alloc);
+    }
+    let standing = Standing {
+        scope: instance.scope.copy()?,
+        returned: List::new(alloc),
+    };
+    let targets = all_targets(&instance, key)?;
+    let mut order = OrderWalk::start(alloc, &instance.rows, &targets)?;
+    let moment = Moment {
+        project: Project {
+            tree: &world.tree,
+            key: &key.instance,
+            instance: &instance,
+        },
+        key,
+        standing: &standing,
+        journal,
+    };
+    let stand = moment.go_on(alloc, &mut order, OrderAnswer::First)?;
+    stage_by(key, instance, standing, order, stand)
+}
+
+fn no_targets<T>(alloc: Global) -> Result<Stage<T>, NoMemory>
+    ensures { IfOk result (λ stage. stage ≡ Over (failed (Some (codes "no targets")))) }
+{
+    let text = Text::of(alloc, "no targets")?;
+    Ok(Stage::Over(Reply::failed(alloc, Some(text))))
+}
+
+// Whether nothing is named, and the project has no target.
+fn has_no_targets(instance: &Instance, key: &RequestKey) -> bool
+    ensures { result ≡ has_no_targets (seen_instance instance.now) key.now }
+{
+    instance.targets.is_empty() && !key.named
+}
+
+fn stage_by<T>(
+    key: &RequestKey,
+    instance: Instance,
+    standing: Standing,
+    order: OrderWalk,
+    stand: Stand,
+) -> Result<Stage<T>, NoMemory>
+    requires { IsReady stand order }
+    ensures { IfOk result (StandsBy key.now (seen_instance instance) standing order stand) }
+{
+    match stand {
+        Stand::Wants(target) => {
+            let run = RunId {
+                instance: key.instance.copy()?,
+                target,
+            };
+            Ok(Stage::Visits(wanted(instance, standing, order, run)))
+        }
+        Stand::Over(reply) => Ok(Stage::Over(reply)),
+    }
+}
+
+fn wanted<T>(instance: Instance, standing: Standing, order: OrderWalk, run: RunId) -> Visit<T>
+    requires { order.asked ≡ ForBody }
+    ensures instance { result.instance ≡ instance }
+    ensures standing { result.standing ≡ standing }
+    ensures order { result.order ≡ order }
+    ensures run { result.run ≡ run }
+    ensures at { result.at ≡ Wanted }
+{
+    Visit {
+        instance,
+        standing,
+        order,
+        run,
+        at: At::Wanted,
+    }
+}

@@ -1,0 +1,184 @@
+ghost use Rattle.std.specs.Prelude.{◌≡◌, IfOk, OnOk};
+ghost use Rattle.msb_items.specs.TargetGroups.{all_applied};
+ghost use Rattle.target_order.specs.declared.visits.Asked.TheVariants.{Body as ForBody};
+ghost use Rattle.request_machine.specs.Asks.{asked_by};
+ghost use Rattle.request_machine.specs.Begun.{IsReady};
+ghost use Rattle.request_machine.specs.Following.{FitsBody, Follows, FollowsTurn};
+ghost use Rattle.request_machine.specs.Taken.{IsVisit, TakenOn};
+ghost use Rattle.request_machine.specs.declared.stage.Stage.TheVariants.{Over};
+ghost use Rattle.request_machine.specs.declared.turn.Stand.TheVariants.{Wants};
+ghost use Rattle.request_machine.specs.declared.visit.At.TheVariants.{Wanted};
+ghost use Rattle.request_machine.specs.Walk.{after_run};
+ghost use Rattle.request_machine.specs.Seen.{seen_project};
+
+use crate::moment::Moment;
+use crate::reply::Reply;
+use crate::stage::Stage;
+use crate::standing::Standing;
+use crate::turn::{Stand, Turn};
+use crate::visit::{At, Visit};
+use build_scheduler::Ask;
+use msb_files::Journal;
+use msb_values::{Change, Copied, InstanceKey, List, Name, NoMemory, Scope};
+use result_cache::{Record, Returned, RunId};
+use std::alloc::Global;
+use target_order::OrderWalk;
+
+/// What follows the run of a target: the scope with its changes and what has been returned, and how the order goes on.
+#[derive(Drop)]
+pub struct Follow {
+    pub standing: Standing,
+    pub order: OrderWalk,
+    pub stand: Stand,
+}
+
+/// A request after the run of a target: what follows, the journal and the runs then, and what it asks.
+#[derive(Drop)]
+pub struct After {
+    pub follow: Follow,
+    pub journal: Journal,
+    pub runs: List<RunId>,
+    pub ask: Ask,
+}
+
+impl Follow {
+    /// What the request asks then, with the runs that it has made or used.
+    pub fn ask(&self, instance: &InstanceKey, runs: &List<RunId>) -> Result<Ask, NoMemory>
+        ensures { IfOk result (λ ask. ask ≡ asked_by instance.now runs.now self.now.stand) }
+    {
+        match &self.stand {
+            Stand::Wants(target) => Ok(Ask::Want(RunId {
+                instance: instance.copy()?,
+                target: target.copy()?,
+            })),
+            Stand::Over(reply) => Ok(Ask::Done(reply.result(runs)?)),
+        }
+    }
+
+    /// Takes a request on that has visited the target. This takes no memory.
+    pub fn take<T>(self, stage: &mut Stage<T>)
+        requires visits { IsVisit stage.old }
+        requires ready { IsReady self.stand self.order }
+        ensures { TakenOn stage.old self stage.new }
+    {
+        let Follow {
+            standing,
+            order,
+            stand,
+        } = self;
+        match stand {
+            Stand::Wants(target) => want(stage, standing, order, target),
+            Stand::Over(reply) => over(stage, reply),
+        }
+    }
+}
+
+// The request is over.
+fn over<T>(stage: &mut Stage<T>, reply: Reply)
+    ensures { stage.new ≡ Over reply }
+{
+    *stage = Stage::Over(reply);
+}
+
+// The request wants the run of another target.
+fn want<T>(stage: &mut Stage<T>, standing: Standing, order: OrderWalk, target: Name)
+    requires visits { IsVisit stage.old }
+    requires ready { order.asked ≡ ForBody }
+    ensures { TakenOn stage.old (record { standing = standing; order = order; stand = Wants target }) stage.new }
+{
+    match stage {
+        Stage::Visits(visit) => want_at(visit, standing, order, target),
+        Stage::Begins | Stage::Over(_) => unreachable!(),
+    }
+}
+
+fn want_at<T>(visit: &mut Visit<T>, standing: Standing, order: OrderWalk, target: Name)
+    requires { order.asked ≡ ForBody }
+    ensures instance { visit.new.instance ≡ visit.old.instance }
+    ensures standing { visit.new.standing ≡ standing }
+    ensures order { visit.new.order ≡ order }
+    ensures own { visit.new.run.instance ≡ visit.old.run.instance }
+    ensures target { visit.new.run.target ≡ target }
+    ensures at { visit.new.at ≡ Wanted }
+{
+    visit.standing = standing;
+    visit.order = order;
+    visit.run.target = target;
+    visit.at = At::Wanted;
+}
+
+impl<'a> Moment<'a> {
+    /// What follows the run of a target that was wanted here, by its record and the journal then. (Target build order;
+    /// OnError element.)
+    pub fn follow(
+        &self,
+        alloc: Global,
+        order: &OrderWalk,
+        name: &Name,
+        made: &Record,
+    ) -> Result<Follow, NoMemory>
+        requires { order.now.asked ≡ ForBody }
+        ensures { IfOk result (Follows (seen_project self.now.project) self.now.key.now self.now.standing.now self.now.journal.now order.now name.now made.now) }
+    {
+        let standing = after_run(alloc, self.standing, name, made)?;
+        let moment = Moment {
+            project: self.project,
+            key: self.key,
+            standing: &standing,
+            journal: self.journal,
+        };
+        let turn = moment.run_turn(alloc, made.ok, name)?;
+        let mut order = order.copy()?;
+        let stand = moment.follow_turn(alloc, &mut order, turn)?;
+        Ok(Follow {
+            standing,
+            order,
+            stand,
+        })
+    }
+
+    // The order goes on by what came of the body that it asked for.
+    fn follow_turn(
+        &self,
+        alloc: Global,
+        order: &mut OrderWalk,
+        turn: Turn,
+    ) -> Result<Stand, NoMemory>
+        requires asked { order.old.asked ≡ ForBody }
+        requires fits { FitsBody turn }
+        ensures { IfOk result (λ stand. FollowsTurn (seen_project self.now.project) self.now.key.now self.now.standing.now self.now.journal.now order.old turn stand order.new) }
+    {
+        match turn {
+            Turn::Answer(answer) => self.go_on(alloc, order, answer),
+            Turn::Stop(stand) => Ok(stand),
+        }
+    }
+}
+
+/// The scope with the changes of a run, and with what its target has returned.
+fn after_run(
+    alloc: Global,
+    standing: &Standing,
+    name: &Name,
+    made: &Record,
+) -> Result<Standing, NoMemory>
+    ensures { IfOk result (λ s. s ≡ after_run standing.now name.now made.now) }
+{
+    let mut scope = standing.scope.copy()?;
+    apply_all(alloc, &mut scope, made.changes.as_slice())?;
+    let mut returned = standing.returned.copy()?;
+    returned.push(Returned {
+        target: name.copy()?,
+        items: made.items.copy()?,
+    })?;
+    Ok(Standing { scope, returned })
+}
+
+fn apply_all(alloc: Global, scope: &mut Scope, changes: &[Change]) -> Result<(), NoMemory>
+    ensures { OnOk result (scope.new ≡ all_applied changes.now scope.old) }
+{
+    for change in changes {
+        scope.apply(alloc, change)?;
+    }
+    Ok(())
+}

@@ -1,0 +1,31 @@
+//! The walk of one request of a build: the order of its targets, answered by the evaluated project, and the runs that it
+//! wants. (Target build order; MSBuild task.)
+//!
+//! What a request does is one tree, `walk_of` in `specs/Worlds.antt`.
+#![tactic(auto)]
+
+mod beginning;
+mod following;
+mod held;
+mod learning;
+mod log;
+mod making;
+mod moment;
+mod needed;
+mod on_error;
+mod project;
+mod reply;
+mod request;
+mod results;
+mod returned;
+mod root;
+mod running;
+mod stage;
+mod standing;
+mod turn;
+mod visit;
+mod visiting;
+mod walk;
+
+pub use root::root_key;
+pub use walk::{Site, Walk, WorldRef};

@@ -1,0 +1,34 @@
+ghost use Rattle.std.specs.Prelude.{◌≡◌, option_map, option_copied};
+ghost use Rattle.std.specs.List.{find};
+ghost use Rattle.std.specs.Str.{bytes_eq};
+ghost use Rattle.build_world.specs.Instances.{seen_target};
+ghost use Rattle.request_machine.specs.Requests.{target_at};
+ghost use Rattle.request_machine.specs.Seen.{seen_project};
+
+use build_world::{Instance, UsedTarget};
+use file_store::Tree;
+use msb_values::{InstanceKey, Name};
+
+/// An instance of a project as it was evaluated, with the files of the build as they stood at the start. (How MSBuild
+/// builds projects, execution phase.)
+#[derive(Clone, Copy)]
+pub struct Project<'a> {
+    pub tree: &'a Tree,
+    pub key: &'a InstanceKey,
+    pub instance: &'a Instance,
+}
+
+impl<'a> Project<'a> {
+    /// The target of this name.
+    pub fn target(&self, name: &Name) -> Option<&'a UsedTarget>
+        ensures { option_map seen_target (option_copied result) ≡ target_at (seen_project self.now) name.now }
+    {
+        target_from(self.instance.targets.as_slice(), name)
+    }
+}
+
+fn target_from<'a>(targets: &'a [UsedTarget], name: &Name) -> Option<&'a UsedTarget>
+    ensures { option_copied result ≡ find (λ t. bytes_eq t.name name.now) targets.entry.now }
+{
+    targets.iter().find(|target| target.name == *name)
+}

@@ -1,0 +1,304 @@
+ghost use Rattle.std.specs.Prelude.{◌≡◌};
+ghost use Rattle.request_machine.specs.Begun.{instance_in};
+
+use crate::beginning::begin;
+use crate::following::{After, Follow};
+use crate::making::Step;
+use crate::moment::Moment;
+use crate::project::Project;
+use crate::results::replay_results;
+use crate::stage::Stage;
+use crate::visit::Visit;
+use build_scheduler::{Answer, Ask};
+use build_world::World;
+use msb_files::Journal;
+use msb_values::{Copied, List, NoMemory};
+use result_cache::{Record, RequestKey, RequestResult, RunId, Table};
+use std::alloc::Global;
+use task_trait::CountedTools;
+
+/// A request of a build, with what it knows of files and runs.
+#[derive(Drop)]
+pub struct Request<'a, T> {
+    pub alloc: Global,
+    pub world: &'a World,
+    pub key: RequestKey,
+    pub journal: Journal,
+    /// The runs that it has made or used, in order.
+    pub runs: List<RunId>,
+    pub stage: Stage<T>,
+    ghost own_run: { instance_in key.instance stage ≡ key.instance },
+}
+
+/// A request that begins, and what it asks.
+#[derive(Drop)]
+struct Begun<T> {
+    stage: Stage<T>,
+    ask: Ask,
+}
+
+/// Where the body of its run has stopped, and the journal then.
+#[derive(Drop)]
+struct Halted<T> {
+    step: Step<T>,
+    journal: Journal,
+}
+
+impl<'a, T> Request<'a, T> {
+    ghost use Rattle.std.specs.Prelude.{[], IfOk};
+    ghost use Rattle.build_world.specs.Instances.{seen_instance};
+    ghost use Rattle.request_machine.specs.Answered.{HasMade, HasRecord};
+    ghost use Rattle.request_machine.specs.Asks.{AsksAt};
+    ghost use Rattle.request_machine.specs.Begun.{StandsAt};
+    ghost use Rattle.request_machine.specs.Following.{Follows};
+    ghost use Rattle.request_machine.specs.Taken.{ComesAfter, IsAfter};
+    ghost use Rattle.request_machine.specs.declared.stage.Stage.TheVariants.{Begins};
+    ghost use Rattle.request_machine.specs.Worlds.{project_of, walk_of};
+
+    /// A request that begins with this journal.
+    pub fn new(alloc: Global, world: &'a World, key: RequestKey, journal: Journal) -> Request<'a, T>
+        ensures world { result.world ≡ world.entry }
+        ensures key { result.key ≡ key }
+        ensures journal { result.journal ≡ journal }
+        ensures runs { result.runs ≡ [] }
+        ensures stage { result.stage ≡ Begins }
+    {
+        Request {
+            alloc,
+            world,
+            key,
+            journal,
+            runs: List::new(alloc),
+            stage: Stage::Begins,
+        }
+    }
+
+    // Where it stands when it begins, and what it asks then.
+    fn begun(&self) -> Result<Begun<T>, NoMemory>
+        ensures stands { IfOk result (λ begun. StandsAt self.now.world.now self.now.key self.now.journal (walk_of self.now.world.now self.now.key self.now.journal) begun.stage) }
+        ensures asks { IfOk result (λ begun. AsksAt self.now.runs begun.stage begun.ask) }
+    {
+        let stage = begin(self.alloc, self.world, &self.key, &self.journal)?;
+        let ask = stage.ask(&self.runs)?;
+        Ok(Begun { stage, ask })
+    }
+
+    // What comes after its run.
+    fn after_run(&self, learnt: &Table) -> Result<After, NoMemory>
+        requires { HasMade learnt.now.finished self.now.journal self.now.stage }
+        ensures { IfOk result (IsAfter self.now.world.now self.now.key learnt.now.finished self.now.journal self.now.runs self.now.stage) }
+    {
+        match &self.stage {
+            Stage::Visits(visit) => self.after_visit(learnt, visit),
+            Stage::Begins | Stage::Over(_) => unreachable!(),
+        }
+    }
+
+    fn after_visit(&self, learnt: &Table, visit: &Visit<T>) -> Result<After, NoMemory>
+        requires { HasRecord learnt.now.finished visit.now.run self.now.journal visit.now.at }
+        ensures { IfOk result (ComesAfter self.now.world.now self.now.key learnt.now.finished self.now.journal self.now.runs visit.now) }
+    {
+        let mut journal = self.journal.copy()?;
+        let made = visit.record(self.alloc, learnt, &mut journal)?;
+        let mut runs = self.runs.copy()?;
+        runs.push(visit.run.copy()?)?;
+        let follow = self.follow(visit, &journal, made.get())?;
+        let ask = follow.ask(&self.key.instance, &runs)?;
+        Ok(After {
+            follow,
+            journal,
+            runs,
+            ask,
+        })
+    }
+
+    // What follows the run of a visit, by its record and the journal then.
+    fn follow(&self, visit: &Visit<T>, journal: &Journal, made: &Record) -> Result<Follow, NoMemory>
+        ensures { IfOk result (Follows (project_of self.now.world.now self.now.key (seen_instance visit.now.instance)) self.now.key visit.now.standing journal.now visit.now.order visit.now.run.target made.now) }
+    {
+        let moment = Moment {
+            project: Project {
+                tree: &self.world.tree,
+                key: &self.key.instance,
+                instance: &visit.instance,
+            },
+            key: &self.key,
+            standing: &visit.standing,
+            journal,
+        };
+        moment.follow(self.alloc, &visit.order, &visit.run.target, made)
+    }
+}
+
+impl<'a, T: CountedTools> Request<'a, T> {
+    ghost use Rattle.std.specs.Prelude.{◌++◌, [], false, true, map, IfOk, IsSome, OnErr, OnOk};
+    ghost use Rattle.build_meaning.specs.SoFar.{runs_of};
+    ghost use Rattle.build_scheduler.specs.Position.{answered, used_between};
+    ghost use Rattle.build_scheduler.specs.declared.walker.Answer.TheVariants.{First, Go, Use, Results};
+    ghost use Rattle.result_cache.specs.Replay.{replay_all};
+    ghost use Rattle.result_cache.specs.Table.{Records};
+    ghost use Rattle.build_world.specs.Instances.{seen_instance};
+    ghost use Rattle.target_body.specs.Standings.{target_named, tool_use};
+    ghost use Rattle.request_machine.specs.Answered.{GoesOn, HasMade, IsNext, WaitsFor, WantsRun};
+    ghost use Rattle.request_machine.specs.Begun.{has_begun};
+    ghost use Rattle.request_machine.specs.Halted.{HasMadeRun, HasResumedRun, IsMade, IsResumed};
+    ghost use Rattle.request_machine.specs.Making.{IsWaiting};
+    ghost use Rattle.request_machine.specs.Positions.{halt_at};
+    ghost use Rattle.request_machine.specs.WalkPosition.{request_position};
+    ghost use Rattle.request_machine.specs.Worlds.{world_of};
+
+    /// Goes on with an answer to the next ask. Where there is no memory, the request is as it was. (Target build order; MSBuild
+    /// task.)
+    pub fn advance(
+        &mut self,
+        learnt: &Table,
+        tools: &mut T,
+        answer: &Answer,
+    ) -> Result<Ask, NoMemory>
+        requires fits { IsSome (answered (world_of T.answer self.old.world.now) learnt.now.finished (request_position T.calls self.old) answer.now) }
+        requires turn { IsNext (has_begun self.old.stage) answer.now }
+        ensures goes { IfOk result (GoesOn (world_of T.answer self.old.world.now) learnt.now.finished (request_position T.calls self.old) (request_position T.calls self.new) answer.now) }
+        ensures used { OnOk result (map tool_use (T.calls tools.new) ≡ map tool_use (T.calls tools.old) ++ used_between (request_position T.calls self.old).place (request_position T.calls self.new).place) }
+        ensures begun { OnOk result (has_begun self.new.stage ≡ true) }
+        ensures world { self.new.world ≡ self.old.world }
+        ensures err { OnErr result (self.new ≡ self.old) }
+    {
+        match answer {
+            Answer::First => self.begin(),
+            Answer::Go => self.go(tools),
+            Answer::Use => self.use_record(learnt),
+            Answer::Results(results) => self.take_results(learnt, tools, results),
+        }
+    }
+
+    // It begins: its project is evaluated, and its order is answered. (Target build order.)
+    fn begin(&mut self) -> Result<Ask, NoMemory>
+        requires { has_begun self.old.stage ≡ false }
+        ensures goes { (table : Records) → IfOk result (GoesOn (world_of T.answer self.old.world.now) table (request_position T.calls self.old) (request_position T.calls self.new) First) }
+        ensures used { OnOk result (used_between (request_position T.calls self.old).place (request_position T.calls self.new).place ≡ []) }
+        ensures begun { OnOk result (has_begun self.new.stage ≡ true) }
+        ensures world { self.new.world ≡ self.old.world }
+        ensures err { OnErr result (self.new ≡ self.old) }
+    {
+        let Begun { stage, ask } = self.begun()?;
+        self.stage = stage;
+        Ok(ask)
+    }
+
+    // It makes the run that it wants. (Target element.)
+    fn go(&mut self, tools: &mut T) -> Result<Ask, NoMemory>
+        requires { WantsRun self.old.stage }
+        ensures goes { (table : Records) → IfOk result (GoesOn (world_of T.answer self.old.world.now) table (request_position T.calls self.old) (request_position T.calls self.new) Go) }
+        ensures used { OnOk result (map tool_use (T.calls tools.new) ≡ map tool_use (T.calls tools.old) ++ used_between (request_position T.calls self.old).place (request_position T.calls self.new).place) }
+        ensures begun { OnOk result (has_begun self.new.stage ≡ true) }
+        ensures world { self.new.world ≡ self.old.world }
+        ensures err { OnErr result (self.new ≡ self.old) }
+    {
+        let Halted { step, journal } = self.made(tools)?;
+        let Step { at, ask } = step;
+        match &mut self.stage {
+            Stage::Visits(visit) => visit.at = at,
+            Stage::Begins | Stage::Over(_) => unreachable!(),
+        }
+        self.journal = journal;
+        Ok(ask)
+    }
+
+    fn made(&self, tools: &mut T) -> Result<Halted<T>, NoMemory>
+        requires { WantsRun self.now.stage }
+        ensures { IfOk result (λ halted. IsMade T.answer T.calls self.now.world.now self.now.stage self.now.journal halted.journal tools.old tools.new halted.step) }
+    {
+        match &self.stage {
+            Stage::Visits(visit) => self.made_at(visit, tools),
+            Stage::Begins | Stage::Over(_) => unreachable!(),
+        }
+    }
+
+    fn made_at(&self, visit: &Visit<T>, tools: &mut T) -> Result<Halted<T>, NoMemory>
+        ensures { IfOk result (λ halted. HasMadeRun T.answer T.calls self.now.world.now visit.now self.now.journal halted.journal tools.old tools.new halted.step) }
+    {
+        let mut journal = self.journal.copy()?;
+        let step = visit.make(self.alloc, self.world, tools, &mut journal)?;
+        Ok(Halted { step, journal })
+    }
+
+    // The body of its run goes on by the results of its calls, whose runs are replayed first, in call order. (MSBuild task.)
+    fn take_results(
+        &mut self,
+        learnt: &Table,
+        tools: &mut T,
+        results: &List<RequestResult>,
+    ) -> Result<Ask, NoMemory>
+        requires waits { WaitsFor T.calls self.old.world.now results.now self.old.stage }
+        requires replays { IsSome (replay_all learnt.now.finished (runs_of results.now) self.old.journal) }
+        ensures goes { IfOk result (GoesOn (world_of T.answer self.old.world.now) learnt.now.finished (request_position T.calls self.old) (request_position T.calls self.new) (Results results.now)) }
+        ensures used { OnOk result (map tool_use (T.calls tools.new) ≡ map tool_use (T.calls tools.old) ++ used_between (request_position T.calls self.old).place (request_position T.calls self.new).place) }
+        ensures begun { OnOk result (has_begun self.new.stage ≡ true) }
+        ensures world { self.new.world ≡ self.old.world }
+        ensures err { OnErr result (self.new ≡ self.old) }
+    {
+        let Halted { step, journal } = self.resumed(learnt, tools, results)?;
+        let Step { at, ask } = step;
+        match &mut self.stage {
+            Stage::Visits(visit) => visit.at = at,
+            Stage::Begins | Stage::Over(_) => unreachable!(),
+        }
+        self.journal = journal;
+        Ok(ask)
+    }
+
+    fn resumed(
+        &self,
+        learnt: &Table,
+        tools: &mut T,
+        results: &List<RequestResult>,
+    ) -> Result<Halted<T>, NoMemory>
+        requires waits { WaitsFor T.calls self.now.world.now results.now self.now.stage }
+        requires replays { IsSome (replay_all learnt.now.finished (runs_of results.now) self.now.journal) }
+        ensures { IfOk result (λ halted. IsResumed T.answer T.calls self.now.world.now learnt.now.finished results.now self.now.stage self.now.journal halted.journal tools.old tools.new halted.step) }
+    {
+        match &self.stage {
+            Stage::Visits(visit) => self.resumed_at(visit, learnt, tools, results),
+            Stage::Begins | Stage::Over(_) => unreachable!(),
+        }
+    }
+
+    fn resumed_at(
+        &self,
+        visit: &Visit<T>,
+        learnt: &Table,
+        tools: &mut T,
+        results: &List<RequestResult>,
+    ) -> Result<Halted<T>, NoMemory>
+        requires waits { IsWaiting (halt_at T.calls self.now.world.now visit.now.run (target_named (seen_instance visit.now.instance).targets visit.now.run.target) visit.now.at) results.now }
+        requires replays { IsSome (replay_all learnt.now.finished (runs_of results.now) self.now.journal) }
+        ensures { IfOk result (λ halted. HasResumedRun T.answer T.calls self.now.world.now learnt.now.finished results.now visit.now self.now.journal halted.journal tools.old tools.new halted.step) }
+    {
+        let mut journal = self.journal.copy()?;
+        replay_results(self.alloc, &mut journal, learnt, results.as_slice())?;
+        let step = visit.go_on(self.alloc, self.world, tools, &mut journal, results)?;
+        Ok(Halted { step, journal })
+    }
+
+    // It goes on with the record of its run, which another request has made, or its own body. (Target build order; OnError
+    // element.)
+    fn use_record(&mut self, learnt: &Table) -> Result<Ask, NoMemory>
+        requires { HasMade learnt.now.finished self.old.journal self.old.stage }
+        ensures goes { IfOk result (GoesOn (world_of T.answer self.old.world.now) learnt.now.finished (request_position T.calls self.old) (request_position T.calls self.new) Use) }
+        ensures used { OnOk result (used_between (request_position T.calls self.old).place (request_position T.calls self.new).place ≡ []) }
+        ensures begun { OnOk result (has_begun self.new.stage ≡ true) }
+        ensures world { self.new.world ≡ self.old.world }
+        ensures err { OnErr result (self.new ≡ self.old) }
+    {
+        let After {
+            follow,
+            journal,
+            runs,
+            ask,
+        } = self.after_run(learnt)?;
+        follow.take(&mut self.stage);
+        self.journal = journal;
+        self.runs = runs;
+        Ok(ask)
+    }
+}

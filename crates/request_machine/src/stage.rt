@@ -1,0 +1,32 @@
+use crate::reply::Reply;
+use crate::visit::Visit;
+use build_scheduler::Ask;
+use msb_values::{Copied, List, NoMemory};
+use result_cache::RunId;
+
+/// How far a request has come.
+#[derive(Drop)]
+pub enum Stage<T> {
+    /// Nothing was answered yet.
+    Begins,
+    Visits(Visit<T>),
+    Over(Reply),
+}
+
+impl<T> Stage<T> {
+    ghost use Rattle.std.specs.Prelude.{◌≡◌, IfOk, true};
+    ghost use Rattle.request_machine.specs.Begun.{is_fresh};
+    ghost use Rattle.request_machine.specs.Asks.{AsksAt};
+
+    /// What a request asks that has made or used these runs, and wants another one or is over.
+    pub fn ask(&self, runs: &List<RunId>) -> Result<Ask, NoMemory>
+        requires { is_fresh self.now ≡ true }
+        ensures { IfOk result (AsksAt runs.now self.now) }
+    {
+        match self {
+            Stage::Visits(visit) => Ok(Ask::Want(visit.run.copy()?)),
+            Stage::Over(reply) => Ok(Ask::Done(reply.result(runs)?)),
+            Stage::Begins => unreachable!(),
+        }
+    }
+}

@@ -1,0 +1,9 @@
+use msb_values::{List, Scope};
+use result_cache::Returned;
+
+/// Where a request stands between its runs: the scope with their changes, and what they have returned.
+#[derive(Drop)]
+pub struct Standing {
+    pub scope: Scope,
+    pub returned: List<Returned>,
+}
