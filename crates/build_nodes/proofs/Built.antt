@@ -1,0 +1,57 @@
+-- What the closed board gives: the events continue those of the start, they are legal in its world, and an end is told.
+use Rattle.std.proofs.Common.{◌≡◌, ℕ, zero, suc, true, List, [], ◌∷◌, ◌++◌, length, take, drop, Option, Some, None, refl, ap, sym, ◌∙◌, subst, arith}
+use Rattle.std.proofs.lemmas.List.{append-nil}
+use Rattle.std.proofs.Math.Logic.{∥∥₁_elim, ∥∥₁_map₂, ∥∥₁_prop}
+use Rattle.std.specs.Prelude.{IsSome}
+use mathlib.Core.List.{IsPrefix}
+use Rattle.result_cache.specs.declared.run.RunId.{RunId}
+use Rattle.result_cache.specs.Table.{TableRuns}
+use Rattle.build_meaning.specs.declared.event.Event.{Event}
+use Rattle.build_meaning.specs.World.{World}
+use Rattle.build_meaning.specs.History.{IsHistory}
+use Rattle.build_scheduler.specs.declared.slot.End.{End}
+use Rattle.build_scheduler.specs.declared.slot.End.TheVariants.{Root, Circular, TooDeep, TooMany, NoMemory}
+use Rattle.build_scheduler.specs.declared.slot.Origin.{Origin}
+use Rattle.build_scheduler.specs.declared.slot.Slot.{Slot}
+use Rattle.build_scheduler.specs.Ends.{IsEnd, IsRootOver}
+use Rattle.build_scheduler.specs.Log.{Logged}
+use Rattle.build_scheduler.specs.Own.{Seen}
+use Rattle.build_scheduler.specs.Shown.{Shown}
+use Rattle.build_nodes.specs.Driven.{Continues, IsLegal}
+use Rattle.build_nodes.specs.Marked.{marked, has_mark}
+use Rattle.build_nodes.proofs.Marks.{continues-of, mark-told}
+
+-- the last seat saw the history of the closed board, which continues that of the opening seat
+pub built-continues : (before after : List Event) (b a : Option End) (first last : List (Option Event)) → first ≡ marked before b → IsPrefix first last → marked after a ≡ last → ∥ Continues before after ∥₁
+built-continues before after b a first last f p l = ∣ continues-of before after b a (subst (λ x. IsPrefix x (marked after a)) f (subst (IsPrefix first) (sym l) p)) ∣₁
+
+pub built-ended : (after : List Event) (a : Option End) (last : List (Option Event)) → marked after a ≡ last → has_mark last ≡ true → IsSome a
+built-ended after a last l e = mark-told after a (ap has_mark l ∙ e)
+
+pub built-legal : {W I A : Type 0} (seen : W → Seen I A) (w v : World I A) {log : Logged} {origins : List Origin} {slots : List (Slot W)} {making : List (Option RunId)} {table : TableRuns} {end : Option End} →
+    ∥ Shown seen w log origins slots making table end ∥₁ → ∥ w ≡ v ∥₁ → ∥ IsLegal v log.events ∥₁
+built-legal seen w v {log} legal same = ∥∥₁_map₂ legal same (λ x e. (x.state, subst (λ (v : World _ _). IsHistory v log.events x.state) e x.history))
+
+pub built-told : {I A : Type 0} (w v : World I A) (events : List Event) (end : Option End) → ∥ w ≡ v ∥₁ → IsEnd w events end → IsEnd v events end
+built-told w v events None e h = λ result r. ∥∥₁_elim e (λ p q. absurd p) (λ e. h result (subst (λ (v : World _ _). ∥ IsRootOver v events result ∥₁) (sym e) r))
+built-told w v events (Some (Root result)) e h = ∥∥₁_elim e ∥∥₁_prop (λ e. subst (λ (v : World _ _). IsEnd v events (Some (Root result))) e h)
+built-told w v events (Some (Circular runs)) e h = ∥∥₁_elim e ∥∥₁_prop (λ e. subst (λ (v : World _ _). IsEnd v events (Some (Circular runs))) e h)
+built-told w v events (Some (TooDeep keys)) e h = ∥∥₁_elim e ∥∥₁_prop (λ e. subst (λ (v : World _ _). IsEnd v events (Some (TooDeep keys))) e h)
+built-told w v events (Some (TooMany instance)) e h = ∥∥₁_elim e ∥∥₁_prop (λ e. subst (λ (v : World _ _). IsEnd v events (Some (TooMany instance))) e h)
+built-told w v events (Some NoMemory) e h = tt
+
+-- a slice that was lent whole comes back whole
+drop-short : {X : Type 0} (ys : List X) (n : ℕ) → length ys ≡ n → drop n ys ≡ []
+drop-short [] zero e = refl
+drop-short [] (suc n) e = refl
+drop-short (y ∷ ys) zero e = absurd (omega arith)
+drop-short (y ∷ ys) (suc n) e = drop-short ys n (omega arith)
+
+take-all : {X : Type 0} (xs : List X) (n : ℕ) → n ≡ length xs → take n xs ≡ xs
+take-all [] zero e = refl
+take-all [] (suc n) e = refl
+take-all (x ∷ xs) zero e = absurd (omega arith)
+take-all (x ∷ xs) (suc n) e = ap (λ l. x ∷ l) (take-all xs n (omega arith))
+
+pub lent-whole : {X : Type 0} (xs ys : List X) (n : ℕ) → length xs ≡ length ys → n ≡ length ys → take n (xs ++ drop (length xs) ys) ≡ xs
+lent-whole xs ys n e f = ap (λ l. take n (xs ++ l)) (drop-short ys (length xs) (sym e)) ∙ (ap (take n) (append-nil xs) ∙ take-all xs n (f ∙ sym e))

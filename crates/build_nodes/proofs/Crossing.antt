@@ -1,0 +1,181 @@
+-- What requests and records are made of may cross threads.
+use denote.RattleType.{RattleType}
+use denote.Struct.Declared as Struct
+use denote.Enum.Declared as Enum
+use denote.Param.Send.{IsSend, IsSync, sendable, recorded_send, recorded_sync, struct_send, struct_sync, enum_send, enum_sync}
+use Rattle.std.proofs.Crossing.{crosses as owned}
+use Rattle.std.proofs.MapsCrossing.{crosses as maps}
+use Rattle.msb_values.specs.contracts.change.Change as Change
+use Rattle.msb_values.specs.contracts.item.Item as Item
+use Rattle.msb_values.specs.contracts.key.InstanceKey as InstanceKey
+use Rattle.msb_values.specs.contracts.list.List as Entries
+use Rattle.msb_values.specs.contracts.name.Name as Name
+use Rattle.msb_values.specs.contracts.named.Named as Named
+use Rattle.msb_values.specs.contracts.note.Note as Note
+use Rattle.msb_values.specs.contracts.put.Put as Put
+use Rattle.msb_values.specs.contracts.text.Text as Text
+use Rattle.msb_values.specs.contracts.text8.Text8 as Bytes
+use Rattle.result_cache.specs.contracts.record.Decision as Decision
+use Rattle.result_cache.specs.contracts.record.Record as Record
+use Rattle.result_cache.specs.contracts.record.Segment as Segment
+use Rattle.result_cache.specs.contracts.record_ref.RecordRef as RecordRef
+use Rattle.result_cache.specs.contracts.request.RequestKey as RequestKey
+use Rattle.result_cache.specs.contracts.request.RequestResult as RequestResult
+use Rattle.result_cache.specs.contracts.request.Returned as Returned
+use Rattle.result_cache.specs.contracts.run.RunId as RunId
+use Rattle.result_cache.specs.contracts.table.Slot as TableSlot
+use Rattle.result_cache.specs.contracts.table.Table as Table
+
+pub Text-send : IsSend Text.the_row
+Text-send = search (owned, maps, sendable) depth 20
+
+Text-sync : IsSync Text.the_row
+Text-sync = search (owned, maps, sendable) depth 20
+
+pub Name-send : IsSend Name.the_row
+Name-send = search (Text-send, sendable) depth 20
+
+Name-sync : IsSync Name.the_row
+Name-sync = search (Text-sync, sendable) depth 20
+
+Bytes-send : IsSend Bytes.the_row
+Bytes-send = search (owned, sendable) depth 20
+
+Bytes-sync : IsSync Bytes.the_row
+Bytes-sync = search (owned, sendable) depth 20
+
+pub Entries-send : (T : RattleType) → IsSend T → IsSend (Entries.the_row T)
+Entries-send T s = search (owned, sendable) depth 20
+
+Entries-sync : (T : RattleType) → IsSync T → IsSync (Entries.the_row T)
+Entries-sync T s = search (owned, sendable) depth 20
+
+Named-send : (T : RattleType) → IsSend T → IsSend (Named.the_row T)
+Named-send T s = search (Name-send, owned, maps, sendable) depth 20
+
+Named-sync : (T : RattleType) → IsSync T → IsSync (Named.the_row T)
+Named-sync T s = search (Name-sync, owned, maps, sendable) depth 20
+
+-- a struct or an enum as a field, by its own fields, and alone
+pub key-send : IsSend InstanceKey.the_field.row
+key-send = struct_send (Struct.shape InstanceKey.the_type) (Text-send, (Named-send Text.the_row Text-send, tt))
+
+key-sync : IsSync InstanceKey.the_field.row
+key-sync = struct_sync (Struct.shape InstanceKey.the_type) (Text-sync, (Named-sync Text.the_row Text-sync, tt))
+
+pub InstanceKey-send : IsSend InstanceKey.the_row
+InstanceKey-send = recorded_send _ _ _ InstanceKey.the_type.to_one key-send
+
+pub run-send : IsSend RunId.the_field.row
+run-send = struct_send (Struct.shape RunId.the_type) (key-send, (Name-send, tt))
+
+run-sync : IsSync RunId.the_field.row
+run-sync = struct_sync (Struct.shape RunId.the_type) (key-sync, (Name-sync, tt))
+
+pub RunId-send : IsSend RunId.the_row
+RunId-send = recorded_send _ _ _ RunId.the_type.to_one run-send
+
+RunId-sync : IsSync RunId.the_row
+RunId-sync = recorded_sync _ _ _ RunId.the_type.to_one run-sync
+
+pub request-send : IsSend RequestKey.the_field.row
+request-send = struct_send (Struct.shape RequestKey.the_type) (key-send, (Entries-send Name.the_row Name-send, (search sendable, tt)))
+
+request-sync : IsSync RequestKey.the_field.row
+request-sync = struct_sync (Struct.shape RequestKey.the_type) (key-sync, (Entries-sync Name.the_row Name-sync, (search sendable, tt)))
+
+pub RequestKey-send : IsSend RequestKey.the_row
+RequestKey-send = recorded_send _ _ _ RequestKey.the_type.to_one request-send
+
+item-send : IsSend Item.the_field.row
+item-send = struct_send (Struct.shape Item.the_type) (Text-send, (Text-send, (Named-send Text.the_row Text-send, tt)))
+
+item-sync : IsSync Item.the_field.row
+item-sync = struct_sync (Struct.shape Item.the_type) (Text-sync, (Text-sync, (Named-sync Text.the_row Text-sync, tt)))
+
+Item-send : IsSend Item.the_row
+Item-send = recorded_send _ _ _ Item.the_type.to_one item-send
+
+Item-sync : IsSync Item.the_row
+Item-sync = recorded_sync _ _ _ Item.the_type.to_one item-sync
+
+put-send : IsSend Put.the_field.row
+put-send = struct_send (Struct.shape Put.the_type) (Text-send, (Bytes-send, tt))
+
+put-sync : IsSync Put.the_field.row
+put-sync = struct_sync (Struct.shape Put.the_type) (Text-sync, (Bytes-sync, tt))
+
+Note-send : IsSend Note.the_row
+Note-send = recorded_send _ _ _ Note.the_type.to_one (enum_send (Enum.shape Note.the_type) ((Text-send, tt), ((Text-send, tt), ((Text-send, tt), ((Text-send, tt), tt)))))
+
+Note-sync : IsSync Note.the_row
+Note-sync = recorded_sync _ _ _ Note.the_type.to_one (enum_sync (Enum.shape Note.the_type) ((Text-sync, tt), ((Text-sync, tt), ((Text-sync, tt), ((Text-sync, tt), tt)))))
+
+Change-send : IsSend Change.the_row
+Change-send = recorded_send _ _ _ Change.the_type.to_one (enum_send (Enum.shape Change.the_type) (
+  (Name-send, (Text-send, tt)),
+  (
+    (Name-send, (Entries-send Item.the_row Item-send, tt)),
+    ((Name-send, (Entries-send Text.the_row Text-send, tt)), ((Name-send, (Entries-send Item.the_row Item-send, (Named-send Text.the_row Text-send, tt))), tt)),
+  ),
+))
+
+Change-sync : IsSync Change.the_row
+Change-sync = recorded_sync _ _ _ Change.the_type.to_one (enum_sync (Enum.shape Change.the_type) (
+  (Name-sync, (Text-sync, tt)),
+  (
+    (Name-sync, (Entries-sync Item.the_row Item-sync, tt)),
+    ((Name-sync, (Entries-sync Text.the_row Text-sync, tt)), ((Name-sync, (Entries-sync Item.the_row Item-sync, (Named-sync Text.the_row Text-sync, tt))), tt)),
+  ),
+))
+
+Decision-send : IsSend Decision.the_row
+Decision-send = search sendable depth 20
+
+Decision-sync : IsSync Decision.the_row
+Decision-sync = search sendable depth 20
+
+Segment-send : IsSend Segment.the_row
+Segment-send = recorded_send _ _ _ Segment.the_type.to_one (enum_send (Enum.shape Segment.the_type) ((put-send, tt), ((request-send, (Entries-send RunId.the_row RunId-send, tt)), tt)))
+
+Segment-sync : IsSync Segment.the_row
+Segment-sync = recorded_sync _ _ _ Segment.the_type.to_one (enum_sync (Enum.shape Segment.the_type) ((put-sync, tt), ((request-sync, (Entries-sync RunId.the_row RunId-sync, tt)), tt)))
+
+Record-send : IsSend Record.the_row
+Record-send = recorded_send _ _ _ Record.the_type.to_one (struct_send (Struct.shape Record.the_type) (
+  search sendable,
+  (
+    Entries-send Decision.the_row Decision-send,
+    (Entries-send Item.the_row Item-send, (Entries-send Change.the_row Change-send, (Entries-send Note.the_row Note-send, (Entries-send Segment.the_row Segment-send, tt)))),
+  ),
+))
+
+Record-sync : IsSync Record.the_row
+Record-sync = recorded_sync _ _ _ Record.the_type.to_one (struct_sync (Struct.shape Record.the_type) (
+  search sendable,
+  (
+    Entries-sync Decision.the_row Decision-sync,
+    (Entries-sync Item.the_row Item-sync, (Entries-sync Change.the_row Change-sync, (Entries-sync Note.the_row Note-sync, (Entries-sync Segment.the_row Segment-sync, tt)))),
+  ),
+))
+
+pub RecordRef-send : IsSend RecordRef.the_row
+RecordRef-send = search (Record-send, Record-sync, owned, sendable) depth 20
+
+Returned-send : IsSend Returned.the_row
+Returned-send = recorded_send _ _ _ Returned.the_type.to_one (struct_send (Struct.shape Returned.the_type) (Name-send, (Entries-send Item.the_row Item-send, tt)))
+
+pub told-send : IsSend RequestResult.the_field.row
+told-send = struct_send (Struct.shape RequestResult.the_type) (
+  search sendable,
+  (search sendable, (Entries-send Returned.the_row Returned-send, (Entries-send RunId.the_row RunId-send, (search (Text-send, owned, sendable) depth 20, tt)))),
+)
+
+pub RequestResult-send : IsSend RequestResult.the_row
+RequestResult-send = recorded_send _ _ _ RequestResult.the_type.to_one told-send
+
+TableSlot-send : IsSend TableSlot.the_row
+TableSlot-send = recorded_send _ _ _ TableSlot.the_type.to_one (enum_send (Enum.shape TableSlot.the_type) ((search sendable, tt), ((RecordRef-send, tt), tt)))
+
+pub Table-send : IsSend Table.the_row
+Table-send = search (RunId-send, TableSlot-send, owned, sendable) depth 30

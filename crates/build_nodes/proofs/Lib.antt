@@ -1,0 +1,9 @@
+pub mod Marks
+pub mod OthersBehind
+pub mod Away
+pub mod Stops
+pub mod Turning
+pub mod Crossing
+pub mod CoreCrossing
+pub mod Seated
+pub mod Built

@@ -1,0 +1,64 @@
+use Rattle.std.proofs.Common.{◌≡◌, All, arith, length, ap, subst, sym, ◌∙◌}
+use Rattle.std.proofs.Math.Logic.{∥∥₁_map}
+use Rattle.build_meaning.proofs.EventsKeepLawful.{some-is}
+use Rattle.build_scheduler.specs.Own.{seen_by}
+use Rattle.build_scheduler.proofs.Stopping.{end-told}
+use Rattle.build_nodes.specs.Marked.{marked}
+use Rattle.build_nodes.specs.Seats.{HasSeenEnd, IsSeated}
+use Rattle.build_nodes.proofs.Built.{built-continues, built-ended, built-legal, built-told, lent-whole}
+use Rattle.build_nodes.proofs.CoreCrossing.{shared-crosses}
+use Rattle.build_nodes.proofs.nodes.build_with.Goals as goal
+
+pub run_all-requires-clause-seated : goal.run_all-requires-clause-seated
+run_all-requires-clause-seated g c κs within = subst (All (λ n. IsSeated c.in_ok-board.board n.seat)) (sym c.as_mut_slice.ensures.value) c.split_all.ensures.nodes.1
+
+pub join_all-requires-clause-seated : goal.join_all-requires-clause-seated
+join_all-requires-clause-seated g c κs within =
+    let items = c.split_all.new.all.items in
+    let kept : length c.run_all.new.all ≡ length items = c.run_all.auto.all ∙ ap length c.as_mut_slice.ensures.value in
+    subst (All (λ n. IsSeated c.in_ok-board.board n.seat)) (sym (lent-whole c.run_all.new.all items c.split_all.new.all.len kept (omega (arith, c.split_all.new.all.ok.0)))) c.run_all.ensures.seated
+
+pub join_all-requires-clause-ended : goal.join_all-requires-clause-ended
+join_all-requires-clause-ended g c κs within =
+    let items = c.split_all.new.all.items in
+    let kept : length c.run_all.new.all ≡ length items = c.run_all.auto.all ∙ ap length c.as_mut_slice.ensures.value in
+    subst (All (λ n. HasSeenEnd n.seat)) (sym (lent-whole c.run_all.new.all items c.split_all.new.all.len kept (omega (arith, c.split_all.new.all.ok.0)))) c.run_all.ensures.ended
+
+pub close-requires-send-S : goal.close-requires-send-S
+close-requires-send-S g c κs within = shared-crosses _ _ _ g.W.Walker c.type_bounds.send-W c.type_bounds.send-W-Origin _
+
+pub returns-clause-continues : goal.returns-clause-continues
+returns-clause-continues g c =
+    let core = c.args.core in
+    let built = c.into_core.result in
+    let begun = ap (λ s. s.seen) c.split_all.ensures.seat ∙ ap (λ s. s.seen) c.in_ok-board.ensures in
+    let seen = ap (λ k. marked k.history.events k.end) c.into_core.ensures ∙ c.close.ensures.history in
+    built-continues core.history.events built.history.events core.end built.end c.split_all.new.seat.seen c.join_all.new.seat.seen begun c.join_all.ensures.continues seen
+
+pub returns-clause-legal : goal.returns-clause-legal
+returns-clause-legal g c =
+    let m = g.W.Walker in
+    let core = c.args.core in
+    let built = c.into_core.result in
+    let shared = c.close.result in
+    let first : shared.first.value ≡ core =
+    some-is _ _ (sym c.close.ensures.world ∙ (c.join_all.ensures.kept.1 ∙ (ap (λ s. s.world) c.split_all.ensures.seat ∙ ap (λ s. s.world) c.in_ok-board.ensures))) in
+    let same = ∥∥₁_map shared.same (λ e. ap (λ k. m.world_of k.world) c.into_core.ensures ∙ (e ∙ ap (λ k. m.world_of k.world) first)) in
+    built-legal (seen_by m.world m.position m.asked m.learnt) (m.world_of built.world) (m.world_of core.world) built.legal same
+
+pub returns-clause-told : goal.returns-clause-told
+returns-clause-told g c =
+    let m = g.W.Walker in
+    let core = c.args.core in
+    let built = c.into_core.result in
+    let shared = c.close.result in
+    let first : shared.first.value ≡ core =
+    some-is _ _ (sym c.close.ensures.world ∙ (c.join_all.ensures.kept.1 ∙ (ap (λ s. s.world) c.split_all.ensures.seat ∙ ap (λ s. s.world) c.in_ok-board.ensures))) in
+    let same = ∥∥₁_map shared.same (λ e. ap (λ k. m.world_of k.world) c.into_core.ensures ∙ (e ∙ ap (λ k. m.world_of k.world) first)) in
+    built-told (m.world_of built.world) (m.world_of core.world) built.history.events built.end same (end-told (seen_by m.world m.position m.asked m.learnt) (m.world_of built.world) built.end built.legal built.stops)
+
+pub returns-clause-end : goal.returns-clause-end
+returns-clause-end g c =
+    let built = c.into_core.result in
+    let seen = ap (λ k. marked k.history.events k.end) c.into_core.ensures ∙ c.close.ensures.history in
+    built-ended built.history.events built.end c.join_all.new.seat.seen seen c.join_all.ensures.ended

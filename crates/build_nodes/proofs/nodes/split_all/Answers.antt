@@ -1,0 +1,30 @@
+use Rattle.std.proofs.Common.{◌≡◌, ◌-◌, arith, vec_len, ap, ◌∙◌}
+use Rattle.std.specs.Prelude.{is_some}
+use Rattle.turn_board.specs.Seats.{SeatFacts}
+use Rattle.build_nodes.specs.Seats.{IsSeated}
+use Rattle.build_nodes.proofs.CoreCrossing.{shared-crosses}
+use Rattle.build_nodes.proofs.Seated.{all-more}
+use Rattle.build_nodes.proofs.nodes.split_all.Goals as goal
+
+pub split-requires-send-S : goal.split-requires-send-S
+split-requires-send-S g c κs within = shared-crosses _ _ _ g.W.Walker c.type_bounds.send-W c.type_bounds.send-W-Origin _
+
+pub loop-place-preserved : goal.loop-place-preserved
+loop-place-preserved g c =
+    let first = c.args.seat.now in
+    let was = c.loop-place.invariant in
+    let loop = c.loop-place in
+    let new = c.split.ensures.new in
+    let len = c.push_reserved.ensures.len in
+    let left = c.in-Some.ensures.len in
+    let less : first.share - vec_len loop.all - 1 ≡ first.share - vec_len c.push_reserved.new.self = omega arith in (
+      c.split.ensures.kept ∙ (ap {A = SeatFacts _ _} (λ s. record s { share = s.share - 1 }) was.0 ∙ ap (λ n. record first { share = n }) less),
+      omega (arith, was.1),
+      c.push_reserved.ensures.capacity ∙ was.2,
+      all-more (λ n. IsSeated first.board n.seat) c.push_reserved.new.self.items loop.all.items _ c.push_reserved.ensures.items was.3 (
+        ap (λ s. s.board) new ∙ ap (λ s. s.board) was.0,
+        ap (λ s. s.has_state) new ∙ (ap (λ s. s.has_state) was.0 ∙ c.requires.seat.0),
+        ap (λ s. s.share) new,
+        ap (λ s. is_some s.world) new ∙ (ap (λ s. is_some s.world) was.0 ∙ c.requires.seat.3),
+      ),
+    )

@@ -1,0 +1,11 @@
+use Rattle.std.proofs.Common.{◌≡◌, ◌+◌, ◌-◌, vec_len, vec_capacity, All}
+use Rattle.build_nodes.specs.Seats.{IsSeated}
+use Rattle.build_nodes.proofs.nodes.split_all.Given as goal
+
+abbrev pub decreases-loop-place : goal.decreases-loop-place
+decreases-loop-place g l = vec_len l.places
+
+abbrev pub invariant-loop-place : goal.invariant-loop-place
+invariant-loop-place g l = (l.seat ≡ record l.initial.seat { share = l.initial.seat.share - vec_len l.all })
+    × (vec_len l.all + vec_len l.places ≡ vec_len l.initial.places) × (vec_capacity l.all ≡ vec_capacity l.initial.all)
+    × All (λ n. IsSeated l.initial.seat.board n.seat) l.all.items

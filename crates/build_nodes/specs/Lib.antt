@@ -1,0 +1,4 @@
+pub mod Driven
+pub mod Marked
+pub mod Seats
+pub mod Turns

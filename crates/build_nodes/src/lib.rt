@@ -1,0 +1,13 @@
+//! Builds on several nodes: each takes the scheduler's core in turns, by a board, and advances the walks of requests while others
+//! have it. (MSBuild documentation: "Build multiple projects in parallel with MSBuild", for the nodes that do so.)
+//!
+//! A node takes the core, brings back the walk that it has advanced, takes the least request that is ready, and gives the core
+//! back before it advances that request's walk. `specs/Turns.antt` says what it knows of the walk meanwhile.
+#![tactic(auto)]
+
+mod core_turns;
+mod nodes;
+mod shared;
+mod turn;
+
+pub use nodes::build_with;

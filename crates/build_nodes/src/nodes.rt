@@ -1,0 +1,280 @@
+ghost use Rattle.std.specs.Prelude.{◌≡◌, ◌+◌, ◌-◌, ◌<◌, ◌≤◌, [], All, true, false, is_some, vec_len, vec_capacity, length, IfOk, IsSome, IsSomeAnd};
+ghost use mathlib.Core.List.{IsPrefix};
+ghost use Rattle.build_scheduler.specs.Ends.{IsEnd};
+ghost use Rattle.build_scheduler.specs.Own.{seen_by};
+ghost use Rattle.build_nodes.specs.Driven.{Continues, IsLegal, NoneAssigned};
+ghost use Rattle.build_nodes.specs.Marked.{has_mark, marked};
+ghost use Rattle.turn_board.specs.Seats.{opening_seat};
+ghost use Rattle.build_nodes.specs.Seats.{HasSeenEnd, IsSeated};
+ghost use Rattle.build_nodes.specs.Turns.{IsAnswered, IsBrought, IsNext};
+
+use crate::shared::Shared;
+use crate::turn::{Answered, Asking, Brought, Next};
+use build_scheduler::{Core, Walker};
+use msb_values::NoMemory;
+use std::alloc::Global;
+use std::sync::Wait;
+use std::thread;
+use std::thread::Threads;
+use turn_board::{Board, Histories, Seat, Taken};
+
+/// One node of several.
+#[derive(Drop)]
+struct Node<W: Walker>
+where
+    W::Place: Drop,
+{
+    number: u32,
+    seat: Seat<Shared<W>>,
+    place: W::Place,
+}
+
+/// Takes the core, does what the node is to do while it has it, gives it back, and says what the node does next. There is
+/// nothing to do next once the end is told.
+fn take_turn<W: Walker + Send>(
+    board: &Board<Shared<W>>,
+    seat: &mut Seat<Shared<W>>,
+    number: u32,
+    brought: Brought<W>,
+) -> Option<Next<W>>
+where
+    W::Place: Send,
+    W::Origin: Send,
+    requires board { seat.old.board ≡ board.now }
+    requires home { seat.old.has_state ≡ false }
+    requires brought { IsSomeAnd seat.old.world (λ first. IsBrought (seen_by W.world W.position W.asked W.learnt) (W.world_of first.world) seat.old.seen brought) }
+    ensures home { seat.new.has_state ≡ false }
+    ensures kept { (seat.new.board ≡ seat.old.board) × (seat.new.share ≡ seat.old.share) × (seat.new.world ≡ seat.old.world) }
+    ensures next { IsSomeAnd seat.new.world (λ first. IsNext (seen_by W.world W.position W.asked W.learnt) (W.world_of first.world) seat.new.seen result) }
+{
+    let mut shared = match board.take(seat) {
+        Taken::State(shared) => shared,
+        Taken::Held => return Some(Next::Missed(brought)),
+    };
+    let before = shared.events();
+    let next = shared.turn(number, brought);
+    let after = shared.events();
+    board.give(seat, shared);
+    if after != before {
+        board.wake_one();
+    }
+    next
+}
+
+/// Advances a walk, while others may have the core.
+fn advance<W: Walker + Send>(node: &mut Node<W>, answered: Answered<W>) -> Brought<W>
+where
+    W::Place: Send + Drop,
+    W::Origin: Send,
+    requires answered { IsSomeAnd node.old.seat.world (λ first. ∥ IsAnswered (seen_by W.world W.position W.asked W.learnt) (W.world_of first.world) node.old.seat.seen answered ∥₁) }
+    ensures seat { node.new.seat ≡ node.old.seat }
+    ensures brought { IsSomeAnd node.old.seat.world (λ first. IsBrought (seen_by W.world W.position W.asked W.learnt) (W.world_of first.world) node.old.seat.seen result) }
+{
+    let Answered {
+        id,
+        mut walk,
+        answer,
+        number,
+    } = answered;
+    match walk.advance(&mut node.place, &answer) {
+        Ok(ask) => Brought::Walk(Asking {
+            id,
+            walk,
+            ask,
+            number,
+        }),
+        Err(NoMemory) => Brought::NoMemory,
+    }
+}
+
+/// What a node does between two of its turns.
+fn go_on<R: Wait, W: Walker + Send>(
+    rt: &R,
+    board: &Board<Shared<W>>,
+    node: &mut Node<W>,
+    next: Next<W>,
+) -> Brought<W>
+where
+    W::Place: Send + Drop,
+    W::Origin: Send,
+    requires next { IsSomeAnd node.old.seat.world (λ first. IsNext (seen_by W.world W.position W.asked W.learnt) (W.world_of first.world) node.old.seat.seen (Some next)) }
+    ensures seat { node.new.seat ≡ node.old.seat }
+    ensures brought { IsSomeAnd node.old.seat.world (λ first. IsBrought (seen_by W.world W.position W.asked W.learnt) (W.world_of first.world) node.old.seat.seen result) }
+{
+    match next {
+        Next::Missed(brought) => {
+            thread::yield_now();
+            brought
+        }
+        Next::Advance(answered) => advance(node, answered),
+        Next::Park(number) => {
+            board.park_idle(rt, number);
+            Brought::Nothing
+        }
+    }
+}
+
+/// Takes turns until the end is told.
+fn work<R: Wait, W: Walker + Send>(rt: &R, board: &Board<Shared<W>>, node: &mut Node<W>)
+where
+    W::Place: Send + Drop,
+    W::Origin: Send,
+    requires { IsSeated board.now node.old.seat }
+    ensures seated { IsSeated board.now node.new.seat }
+    ensures ended { HasSeenEnd node.new.seat }
+{
+    let mut brought = Brought::Nothing;
+    for _ in rt.forever() {
+        match take_turn(board, &mut node.seat, node.number, brought) {
+            Some(next) => brought = go_on(rt, board, node, next),
+            None => break,
+        }
+    }
+    // Each node that leaves wakes another, so all leave.
+    board.wake_one();
+}
+
+/// A board for the nodes of a core, with the core at home. Where there is no memory, the core is let go.
+fn open_board<W: Walker + Send>(
+    alloc: Global,
+    core: Core<W>,
+) -> Result<(Board<Shared<W>>, Seat<Shared<W>>), NoMemory>
+where
+    W::Place: Send,
+    W::Origin: Send,
+    ensures { IfOk result (λ b. b.1 ≡ opening_seat b.0 core (marked core.history.events core.end)) }
+{
+    match Board::open(alloc, Shared::new(core)) {
+        Ok(opened) => Ok(opened),
+        Err(refused) => {
+            drop(refused);
+            Err(NoMemory)
+        }
+    }
+}
+
+/// A node for each place.
+fn split_all<W: Walker + Send>(
+    board: &Board<Shared<W>>,
+    seat: &mut Seat<Shared<W>>,
+    mut places: Vec<W::Place>,
+    all: &mut Vec<Node<W>>,
+)
+where
+    W::Place: Send + Drop,
+    W::Origin: Send,
+    requires board { seat.old.board ≡ board.now }
+    requires seat { (seat.old.has_state ≡ false) × (vec_len places < seat.old.share) × (seat.old.share ≤ 128) × (is_some seat.old.world ≡ true) }
+    requires room { (all.old.items ≡ []) × (vec_len places ≤ vec_capacity all.old) }
+    ensures nodes { (vec_len all.new ≡ vec_len places) × All (λ n. IsSeated board.now n.seat) all.new.items }
+    ensures seat { seat.new ≡ record seat.old { share = seat.old.share - vec_len places } }
+{
+    while let Some(place) = places.pop() {
+        let node = Node {
+            number: places.len() as u32,
+            seat: board.split(seat),
+            place,
+        };
+        all.push_reserved(node);
+    }
+}
+
+/// Runs all nodes, each in a thread of its own, to the end.
+fn run_all<R: Threads + Wait + Sync, W: Walker + Send>(
+    rt: &R,
+    board: &Board<Shared<W>>,
+    all: &mut [Node<W>],
+)
+where
+    W::Place: Send + Drop,
+    W::Origin: Send,
+    requires some { 0 < length all.old }
+    requires seated { All (λ n. IsSeated board.now n.seat) all.old }
+    ensures seated { All (λ n. IsSeated board.now n.seat) all.new }
+    ensures ended { All (λ n. HasSeenEnd n.seat) all.new }
+{
+    let nodes = all.len();
+    thread::for_each_mut(
+        rt,
+        all,
+        nodes,
+        &|_, node: &mut Node<W>|
+            requires { IsSeated board.now node.now.seat }
+            ensures { IsSeated board.entry.now node.exit.now.seat × HasSeenEnd node.exit.now.seat }
+        { work(rt, board, node) },
+    );
+}
+
+/// Joins the seat of a node that has seen the end.
+fn join_one<W: Walker + Send>(board: &Board<Shared<W>>, seat: &mut Seat<Shared<W>>, node: Node<W>)
+where
+    W::Place: Send + Drop,
+    W::Origin: Send,
+    requires board { seat.old.board ≡ board.now }
+    requires home { seat.old.has_state ≡ false }
+    requires seated { IsSeated board.now node.seat }
+    requires ended { HasSeenEnd node.seat }
+    ensures kept { (seat.new.board ≡ seat.old.board) × (seat.new.world ≡ seat.old.world) × (seat.new.has_state ≡ false) }
+    ensures share { seat.new.share ≡ seat.old.share + 1 }
+    ensures continues { IsPrefix seat.old.seen seat.new.seen }
+    ensures ended { has_mark seat.new.seen ≡ true }
+{
+    let Node {
+        number: _,
+        seat: other,
+        place: _,
+    } = node;
+    board.join(seat, other);
+}
+
+/// Joins the seats of all nodes to one.
+fn join_all<W: Walker + Send>(
+    board: &Board<Shared<W>>,
+    seat: &mut Seat<Shared<W>>,
+    mut all: Vec<Node<W>>,
+)
+where
+    W::Place: Send + Drop,
+    W::Origin: Send,
+    requires board { seat.old.board ≡ board.now }
+    requires home { seat.old.has_state ≡ false }
+    requires some { 0 < vec_len all }
+    requires seated { All (λ n. IsSeated board.now n.seat) all.items }
+    requires ended { All (λ n. HasSeenEnd n.seat) all.items }
+    ensures kept { (seat.new.board ≡ seat.old.board) × (seat.new.world ≡ seat.old.world) × (seat.new.has_state ≡ false) }
+    ensures share { seat.new.share ≡ seat.old.share + vec_len all }
+    ensures continues { IsPrefix seat.old.seen seat.new.seen }
+    ensures ended { has_mark seat.new.seen ≡ true }
+{
+    while let Some(node) = all.pop() {
+        join_one(board, seat, node);
+    }
+}
+
+/// Builds on several nodes, one for each place and each in a thread of its own, until the core's end is told. Each node takes
+/// the least request that is ready. Want of memory, a cycle of runs and a limit that is passed end the build. Where there is no
+/// memory to begin with, nothing has run. (Building projects in parallel.)
+pub fn build_with<R: Threads + Wait + Sync, W: Walker + Send>(
+    rt: &R,
+    alloc: Global,
+    core: Core<W>,
+    places: Vec<W::Place>,
+) -> Result<Core<W>, NoMemory>
+where
+    W::Place: Send + Drop,
+    W::Origin: Send,
+    requires places { (0 < vec_len places) × (vec_len places ≤ 64) }
+    requires core { NoneAssigned (W.world_of core.world) core.history.events }
+    ensures world { IfOk result (λ built. ∥ W.world_of built.world ≡ W.world_of core.world ∥₁) }
+    ensures continues { IfOk result (λ built. ∥ Continues core.history.events built.history.events ∥₁) }
+    ensures legal { IfOk result (λ built. ∥ IsLegal (W.world_of core.world) built.history.events ∥₁) }
+    ensures end { IfOk result (λ built. IsSome built.end) }
+    ensures told { IfOk result (λ built. IsEnd (W.world_of core.world) built.history.events built.end) }
+{
+    let mut all = Vec::with_capacity(alloc, places.len())?;
+    let (board, mut seat) = open_board(alloc, core)?;
+    split_all(&board, &mut seat, places, &mut all);
+    run_all(rt, &board, all.as_mut_slice());
+    join_all(&board, &mut seat, all);
+    Ok(board.close(seat).into_core())
+}
