@@ -1,5 +1,6 @@
 pub mod Turns
 pub mod Cuts
+pub mod Digits
 pub mod Rows
 pub mod Steps
 pub mod Endings

@@ -1,16 +1,17 @@
 -- What the contract of a parse says of the words.
-use Rattle.std.proofs.Common.{◌≡◌, ◌⊎◌, inl, inr, List, [], ◌∷◌, ℕ, true, false, Option, Some, None, Err, refl, sym, ap, subst, ◌∙◌}
+use Rattle.std.proofs.Common.{◌≡◌, ◌⊎◌, inl, inr, List, [], ◌∷◌, ℕ, Bool, true, false, Option, Some, None, Err, refl, sym, ap, subst, ◌∙◌}
 use Rattle.std.specs.Prelude.{codes, is_some, option_and_then}
 use Rattle.std.specs.List.{list_all}
-use Rattle.clap.specs.Walk.{first_of, idle, nothing_held}
+use Rattle.clap.specs.Values.{bool_text}
+use Rattle.clap.specs.Walk.{first_of, idle, nothing_held, one_of}
 use Rattle.clap.specs.Simple.{built, entered}
 use Rattle.clap.specs.Faults.{entered_fault, level_fault}
-use Rattle.clap.specs.Words.{Kinds, IsAmong, fault_of, first_value, is_simple, is_simple_and_free, matches_of, rows_of}
+use Rattle.clap.specs.Words.{Kinds, IsAmong, fault_of, first_value, is_simple, is_simple_and_free, matches_of, one_text, rows_of}
 use Rattle.clap.specs.declared.error.kind.ErrorKind.{ErrorKind}
 use Rattle.clap.specs.declared.error.kind.ErrorKind.TheVariants.{OutOfMemory}
 use Rattle.clap.specs.declared.parser.matches.Found.{Found}
 use Rattle.clap.proofs.OnLiterals.{clap_on_literals}
-use Rattle.clap.proofs.WalkLemmas.{first_value-rows}
+use Rattle.clap.proofs.WalkLemmas.{first_value-rows, one_text-rows}
 use Rattle.msb_words.specs.Answers.{ReadsAs, fault_of_kind}
 use Rattle.msb_words.specs.Grammar.{grammar}
 use Rattle.msb_words.specs.Given.{Given, given_by, given_in, seen, names_in, names_of, at_start}
@@ -58,9 +59,28 @@ pub refused : (words : List (List ℕ)) (k : ErrorKind) → list_all is_word wor
 refused words k good (inl out) = rw (out) tt
 refused words k good (inr among) = none_read (given_in words) (fault_of_kind k) ((agree words good).fails (some_kind k (fault_of grammar words) among))
 
+-- what the matches have: the flag's value, and by it the whole
+pub record IsFound (f : Found) (given : Option Given) : Type 0 where
+  pub clean : Bool
+  pub flag : one_text f (codes "clean") ≡ Some (bool_text clean)
+  pub all : given_by (first_value f) clean ≡ given
+
+same_given : (f : Found) (clean : Bool) → given_by (first_value f) clean ≡ given_by (λ id. first_of id (rows_of f)) clean
+same_given f clean =
+    rw (
+      first_value-rows f (codes "action"),
+      first_value-rows f (codes "project"),
+      first_value-rows f (codes "target"),
+      first_value-rows f (codes "property"),
+      first_value-rows f (codes "nodes"),
+      first_value-rows f (codes "show"),
+    ) refl
+
 -- a parse that has matches
-pub parsed : (words : List (List ℕ)) (f : Found) → list_all is_word words ≡ true → fault_of grammar words ≡ [] → rows_of f ≡ matches_of grammar words → given_by (first_value f) ≡ given_in words
+pub parsed : (words : List (List ℕ)) (f : Found) → list_all is_word words ≡ true → fault_of grammar words ≡ [] → rows_of f ≡ matches_of grammar words → IsFound f (given_in words)
 parsed words f good none are =
-    let all : given_by (first_value f) ≡ given_by (λ id. first_of id (rows_of f)) =
-    rw (first_value-rows f (codes "action"), first_value-rows f (codes "project"), first_value-rows f (codes "target"), first_value-rows f (codes "property"), first_value-rows f (codes "show")) refl in
-    all ∙ ap (λ rs. given_by (λ id. first_of id rs)) are ∙ (agree words good).whole none
+    let own = (agree words good).whole none in record {
+      clean = own.clean;
+      flag = one_text-rows f (codes "clean") ∙ ap (one_of (codes "clean")) are ∙ own.flag;
+      all = same_given f own.clean ∙ ap (λ rs. given_by (λ id. first_of id rs) own.clean) are ∙ own.all;
+    }

@@ -2,22 +2,27 @@
 use Rattle.std.proofs.Common.{ap, ◌≡◌, ℕ, List, [], ◌∷◌, Bool, true, false, cond, Option, Some, None, refl, true≢false}
 use Rattle.std.specs.Prelude.{option_and_then, ◌&&◌}
 use Rattle.std.specs.List.{list_all}
-use Rattle.msb_words.specs.Given.{Names, Taken, is_option, is_value, opened, option_of, optioned, taken, taken_all}
+use Rattle.msb_words.specs.Given.{Names, Taken, flagged, is_flag, is_option, is_value, opened, option_of, optioned, taken, taken_all}
 use Rattle.msb_words.specs.Words.{is_option_word, is_value_if, is_word}
 use Rattle.msb_words.proofs.Rows.{split_or}
 
-no_choice : (b : Bool) (o : Option Taken) → o ≡ None → cond b o None ≡ None
-no_choice true o none = none
-no_choice false o none = refl
+no_choice : (b : Bool) (o p : Option Taken) → o ≡ None → p ≡ None → cond b o p ≡ None
+no_choice true o p none other = none
+no_choice false o p none other = other
 
 -- an option whose value is none
 bad_opening : (places : List (List ℕ)) (names : Names) (name : List ℕ) (value : Option (List ℕ)) → is_value_if value ≡ false → opened places names name value ≡ None
 bad_opening places names name None bad = absurd (true≢false bad)
 bad_opening places names name (Some value) bad = rw (bad) refl
 
+bad_flag : (places : List (List ℕ)) (names : Names) (name : List ℕ) (value : Option (List ℕ)) → is_value_if value ≡ false → flagged places names name value ≡ None
+bad_flag places names name None bad = absurd (true≢false bad)
+bad_flag places names name (Some value) bad = refl
+
 bad_option : (places : List (List ℕ)) (names : Names) (cut : Option (List ℕ × Option (List ℕ))) → is_option_word cut ≡ false → optioned places names cut ≡ None
 bad_option places names None bad = refl
-bad_option places names (Some cut) bad = no_choice (is_option cut.0) _ (bad_opening places names cut.0 cut.1 bad)
+bad_option places names (Some cut) bad =
+    no_choice (is_option cut.0) _ _ (bad_opening places names cut.0 cut.1 bad) (no_choice (is_flag cut.0) _ _ (bad_flag places names cut.0 cut.1 bad) refl)
 
 -- a word that is neither
 bad_word : (word : List ℕ) → is_word word ≡ false → (places : List (List ℕ)) (waiting : Option (List ℕ)) (names : Names) → taken places waiting names word ≡ None

@@ -24,11 +24,17 @@ option_of [] = None
 option_of (a ∷ []) = None
 option_of (a ∷ b ∷ text) = if a == 45 && b == 45 then option_in text else None
 
--- the names of the options, as they have to be written
+-- the names of the options that have a value, as they have to be written
 abbrev pub is_option : List ℕ → Bool
-is_option name = bytes_eq (codes "target") name || bytes_eq (codes "property") name || bytes_eq (codes "show") name
+is_option name =
+    bytes_eq (codes "target") name || bytes_eq (codes "property") name
+    || bytes_eq (codes "nodes") name || bytes_eq (codes "show") name
 
--- names with the values that they have, in the order of the words
+-- the name of the one that has none
+abbrev pub is_flag : List ℕ → Bool
+is_flag name = bytes_eq (codes "clean") name
+
+-- names with the values that they have, in the order of the words; a flag has the value `true`
 abbrev pub Names : Type 0
 Names = List (List ℕ × List ℕ)
 
@@ -61,8 +67,17 @@ abbrev pub opened : List (List ℕ) → Names → List ℕ → Option (List ℕ)
 opened places names name (Some value) = valued places names name value
 opened places names name None = Some (record { places = places; waiting = Some name; names = names })
 
+-- a flag comes once, and without a value
+abbrev pub flagged : List (List ℕ) → Names → List ℕ → Option (List ℕ) → Option Taken
+flagged places names name (Some value) = None
+flagged places names name None =
+    if has name names then None
+    else Some (record { places = places; waiting = None; names = with name (codes "true") names })
+
 abbrev pub optioned : List (List ℕ) → Names → Option (List ℕ × Option (List ℕ)) → Option Taken
-optioned places names (Some cut) = if is_option cut.0 then opened places names cut.0 cut.1 else None
+optioned places names (Some cut) =
+    if is_option cut.0 then opened places names cut.0 cut.1 else
+    if is_flag cut.0 then flagged places names cut.0 cut.1 else None
 optioned places names None = None
 
 -- one word more
@@ -94,6 +109,8 @@ pub record Given : Type 0 where
   pub project : List ℕ
   pub target : Option (List ℕ)
   pub property : Option (List ℕ)
+  pub nodes : Option (List ℕ)
+  pub clean : Bool
   pub show : Option (List ℕ)
 
 -- what a contract sees of them
@@ -103,22 +120,37 @@ seen g = record {
   project = g.project.now;
   target = option_map (λ t. t.now) g.target;
   property = option_map (λ t. t.now) g.property;
+  nodes = option_map (λ t. t.now) g.nodes;
+  clean = g.clean;
   show = option_map (λ t. t.now) g.show;
 }
 
 -- both words are there
-abbrev pub given_with : Option (List ℕ) → Option (List ℕ) → Option (List ℕ) → Option (List ℕ) → Option (List ℕ) → Option Given
-given_with (Some action) (Some project) target property show =
-    Some (record { action = action; project = project; target = target; property = property; show = show })
-given_with action project target property show = None
+abbrev pub given_with : Option (List ℕ) → Option (List ℕ) → Option (List ℕ) → Option (List ℕ) → Option (List ℕ) → Bool → Option (List ℕ) → Option Given
+given_with (Some action) (Some project) target property nodes clean show = Some (record {
+  action = action;
+  project = project;
+  target = target;
+  property = property;
+  nodes = nodes;
+  clean = clean;
+  show = show;
+})
+given_with action project target property nodes clean show = None
 
--- by what a name has
-abbrev pub given_by : (List ℕ → Option (List ℕ)) → Option Given
-given_by value = given_with (value (codes "action")) (value (codes "project")) (value (codes "target")) (value (codes "property")) (value (codes "show"))
+-- by what a name has, and whether the flag is there
+abbrev pub given_by : (List ℕ → Option (List ℕ)) → Bool → Option Given
+given_by value clean =
+    given_with (value (codes "action")) (value (codes "project")) (value (codes "target")) (value (codes "property"))
+    (value (codes "nodes")) clean (value (codes "show"))
 
 abbrev pub value_in : Names → List ℕ → Option (List ℕ)
 value_in names name = option_map (λ n. n.1) (find (λ n. bytes_eq n.0 name) names)
 
+-- by the names and their values
+abbrev pub given_of : Names → Option Given
+given_of names = given_by (value_in names) (has (codes "clean") names)
+
 -- none where the words are outside the grammar
 abbrev pub given_in : List (List ℕ) → Option Given
-given_in words = option_and_then (λ names. given_by (value_in names)) (names_in words)
+given_in words = option_and_then given_of (names_in words)

@@ -1,7 +1,8 @@
 -- What the values of options say. (MSBuild command-line reference; MSBuild global properties.)
-use Rattle.std.specs.Prelude.{ℕ, List, [], ◌∷◌, ◌==◌, Bool, true, false, Option, Some, None, if◌then◌else◌, codes, option_map, option_and_then}
+use Rattle.std.specs.Prelude.{ℕ, List, [], ◌∷◌, ◌==◌, ◌&&◌, nat_lt, length, Bool, true, false, Option, Some, None, if◌then◌else◌, codes, option_map, option_and_then}
 use Rattle.std.specs.List.{list_any, before_first, after_first}
-use Rattle.std.specs.Str.{bytes_eq}
+use Rattle.std.specs.Str.{all_ascii_digits, bytes_eq}
+use Rattle.std.specs.Str.Parse.{digits_value}
 use Rattle.std.specs.Ordering.{nat_cmp}
 use Rattle.std.specs.BTreeMap.{insert_entry}
 use Rattle.std.specs.Cmp.Lexicographic.{slice_cmp}
@@ -63,6 +64,25 @@ globals_in value = option_and_then (globals_after []) (entries_in value)
 abbrev pub globals_if : Option (List ℕ) → Option (List (List ℕ × List ℕ))
 globals_if None = Some []
 globals_if (Some value) = globals_in value
+
+-- one or two decimal digits
+abbrev pub are_digits : List ℕ → Bool
+are_digits value = nat_lt 0 (length value) && nat_lt (length value) 3 && all_ascii_digits value
+
+abbrev pub number_of : List ℕ → Option ℕ
+number_of value = if are_digits value then Some (digits_value 10 value) else None
+
+-- from 1 to 64 nodes
+abbrev pub if_within : ℕ → Option ℕ
+if_within number = if nat_lt 0 number && nat_lt number 65 then Some number else None
+
+abbrev pub nodes_in : List ℕ → Option ℕ
+nodes_in value = option_and_then if_within (number_of value)
+
+-- one node where the option is left out
+abbrev pub nodes_if : Option (List ℕ) → Option ℕ
+nodes_if None = Some 1
+nodes_if (Some value) = nodes_in value
 
 -- the one value is `low`
 abbrev pub low_in : List ℕ → Option Bool

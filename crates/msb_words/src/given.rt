@@ -1,6 +1,7 @@
-ghost use Rattle.std.specs.Prelude.{◌≡◌, map, string_bytes};
+ghost use Rattle.std.specs.Prelude.{◌≡◌, Bool, Some, codes, map, string_bytes};
 ghost use Rattle.std.specs.List.{list_all};
-ghost use Rattle.clap.specs.Words.{first_value, found_of};
+ghost use Rattle.clap.specs.Values.{bool_text};
+ghost use Rattle.clap.specs.Words.{first_value, found_of, one_text};
 ghost use Rattle.msb_words.specs.Answers.{ReadsAs, fault_of_kind};
 ghost use Rattle.msb_words.specs.Given.{is_value, given_by, given_in, option_in, seen};
 ghost use Rattle.msb_words.specs.Words.{is_option_word, is_word};
@@ -18,6 +19,8 @@ pub(crate) struct Given<'a> {
     pub(crate) project: &'a str,
     pub(crate) target: Option<&'a str>,
     pub(crate) property: Option<&'a str>,
+    pub(crate) nodes: Option<&'a str>,
+    pub(crate) clean: bool,
     pub(crate) show: Option<&'a str>,
 }
 
@@ -35,8 +38,10 @@ impl<'a> Given<'a> {
         }
     }
 
+    // The value of the flag is `true`, or else its default, `false`.
     fn among(matches: &ArgMatches<'a>) -> Result<Given<'a>, WordFault>
-        ensures { ReadsAs seen (given_by (first_value (found_of matches.now))) result }
+        ensures { (clean : Bool) → one_text (found_of matches.now) (codes "clean") ≡ Some (bool_text clean)
+            → ReadsAs seen (given_by (first_value (found_of matches.now)) clean) result }
     {
         let Some(action) = matches.get_str("action") else {
             return Err(WordFault::Usage);
@@ -49,6 +54,8 @@ impl<'a> Given<'a> {
             project,
             target: matches.get_str("target"),
             property: matches.get_str("property"),
+            nodes: matches.get_str("nodes"),
+            clean: matches.get_flag("clean"),
             show: matches.get_str("show"),
         })
     }

@@ -1,12 +1,12 @@
 ghost use Rattle.std.specs.Prelude.{◌≡◌, IfOk, false, codes};
 ghost use Rattle.clap.specs.Words.{app_of, rule_of, new_app};
 ghost use Rattle.clap.specs.Simple.{on_top};
-ghost use Rattle.msb_words.specs.Grammar.{grammar, plain, positional, option};
+ghost use Rattle.msb_words.specs.Grammar.{flag, grammar, plain, positional, option};
 
-use clap::{Arg, Command};
+use clap::{Arg, ArgAction, Command};
 use std::alloc::{AllocError, Global};
 
-/// The command: an action, a project, and options with a value each.
+/// The command: an action, a project, options with a value each, and a flag.
 pub(crate) fn grammar<'a>(alloc: Global) -> Result<Command<'a>, AllocError>
     ensures { IfOk result (λ command. app_of command ≡ grammar) }
 {
@@ -15,7 +15,9 @@ pub(crate) fn grammar<'a>(alloc: Global) -> Result<Command<'a>, AllocError>
         .arg(positional(alloc, "project"))?
         .arg(option(alloc, "target"))?
         .arg(option(alloc, "property"))?
-        .arg(option(alloc, "show"))
+        .arg(option(alloc, "nodes"))?
+        .arg(option(alloc, "show"))?
+        .arg(flag(alloc, "clean"))
 }
 
 // The words are those behind the program's name, and none of them asks for help.
@@ -39,4 +41,11 @@ fn option<'a>(alloc: Global, name: &'a str) -> Arg<'a>
     ensures local { result.global ≡ false }
 {
     Arg::new(alloc, name).long(name)
+}
+
+fn flag<'a>(alloc: Global, name: &'a str) -> Arg<'a>
+    ensures rule { rule_of result ≡ flag name.entry.now }
+    ensures local { result.global ≡ false }
+{
+    Arg::new(alloc, name).long(name).action(ArgAction::SetTrue)
 }

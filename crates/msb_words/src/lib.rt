@@ -9,6 +9,7 @@ mod faults;
 mod given;
 mod globals;
 mod grammar;
+mod nodes;
 mod options;
 mod targets;
 

@@ -7,6 +7,7 @@ ghost use Rattle.msb_words.specs.Values.{low_if};
 use crate::WordFault;
 use crate::given::Given;
 use crate::globals::globals;
+use crate::nodes::nodes;
 use crate::targets::targets;
 use msb_values::{List, Name, Pairs, Text};
 use std::alloc::Global;
@@ -32,6 +33,10 @@ pub struct Options {
     pub targets: List<Name>,
     /// The global properties, with their values as they are written.
     pub globals: Pairs,
+    /// How many worker nodes build, from 1 to 64.
+    pub nodes: u32,
+    /// Whether no target is skipped for being up to date.
+    pub clean: bool,
     /// Whether messages of low importance are shown.
     pub low: bool,
 }
@@ -39,13 +44,14 @@ pub struct Options {
 /// Reads the words behind the program's name:
 ///
 /// ```text
-/// build PROJECT [--target LIST] [--property LIST] [--show low]
+/// build PROJECT [--target LIST] [--property LIST] [--nodes N] [--clean] [--show low]
 /// eval PROJECT [--property LIST]
 /// targets PROJECT [--property LIST]
 /// ```
 ///
 /// Options may stand anywhere, each once. A value stands behind `=` or is the next word; it is not empty and does not
-/// begin with `-`. Nothing is shortened. Other words are [`WordFault::Usage`]. (MSBuild command-line reference.)
+/// begin with `-`. N is one or two digits, and from 1 to 64. Nothing is shortened. Other words are
+/// [`WordFault::Usage`]. (MSBuild command-line reference.)
 pub fn read_words(alloc: Global, words: &[String]) -> Result<Options, WordFault>
     ensures { Reads (options_in (map string_bytes words.now)) result }
 {
@@ -83,19 +89,26 @@ fn options_for(alloc: Global, given: &Given<'_>, action: Action) -> Result<Optio
         action,
         targets: targets(alloc, given.target)?,
         globals: globals(alloc, given.property)?,
+        nodes: nodes(given.nodes)?,
+        clean: given.clean,
         low: is_low(given.show)?,
         project: Text::of(alloc, given.project)?,
     })
 }
 
 impl Action {
-    // Each action has `--property`, and a build alone has `--target` and `--show`.
+    // Each action has `--property`, and a build alone has the others.
     fn has_options(self, given: &Given<'_>) -> bool
         ensures { result ≡ has_options self (seen given.now) }
     {
         match self {
             Action::Build => true,
-            Action::Eval | Action::Targets => given.target.is_none() && given.show.is_none(),
+            Action::Eval | Action::Targets => {
+                given.target.is_none()
+                    && given.nodes.is_none()
+                    && !given.clean
+                    && given.show.is_none()
+            }
         }
     }
 }

@@ -4,7 +4,7 @@ use std::fmt::Write;
 use std::test::Fail;
 
 /// The words, with `|` between them, and what they ask for: the action and the project, `@` before each target, the
-/// global properties, and `low`.
+/// global properties, the nodes if there are more than one, `clean` and `low`.
 const ROWS: &str = " => usage
 build => usage
 build|a.proj => Build a.proj
@@ -21,8 +21,6 @@ build|- => usage
 build|a.proj|-- => usage
 build|a.proj|-h => usage
 build|a.proj|--help => usage
-build|a.proj|--clean => usage
-build|a.proj|--nodes|2 => usage
 build|a.proj|--targ|x => usage
 build|a.proj|-t|x => usage
 build|a.proj|--target => usage
@@ -39,6 +37,40 @@ eval|a.proj|--target|x => usage
 targets|a.proj|--show|low => usage
 build|a.proj|--show|low => Build a.proj low
 build|a.proj|--show|high => usage
+build|a.proj|--clean => Build a.proj clean
+--clean|build|a.proj => Build a.proj clean
+build|--clean|a.proj|--target=x => Build a.proj @x clean
+build|a.proj|--clean=x => usage
+build|a.proj|--clean= => usage
+build|a.proj|--clean|x => usage
+build|a.proj|--clean|--clean => usage
+build|a.proj|--target|--clean => usage
+build|a.proj|--cleane => usage
+eval|a.proj|--clean => usage
+targets|a.proj|--clean => usage
+build|a.proj|--nodes|1 => Build a.proj
+build|a.proj|--nodes|2 => Build a.proj 2 nodes
+build|a.proj|--nodes|64 => Build a.proj 64 nodes
+build|a.proj|--nodes=07 => Build a.proj 7 nodes
+build|a.proj|--nodes|0 => usage
+build|a.proj|--nodes|00 => usage
+build|a.proj|--nodes|65 => usage
+build|a.proj|--nodes|100 => usage
+build|a.proj|--nodes|007 => usage
+build|a.proj|--nodes|+7 => usage
+build|a.proj|--nodes|-7 => usage
+build|a.proj|--nodes|x => usage
+build|a.proj|--nodes|7x => usage
+build|a.proj|--nodes| 7 => usage
+build|a.proj|--nodes= => usage
+build|a.proj|--nodes => usage
+build|a.proj|--nodes|2|--nodes|2 => usage
+build|a.proj|--nodes|--clean => usage
+eval|a.proj|--nodes|2 => usage
+targets|a.proj|--nodes=2 => usage
+build|--nodes|8|a.proj|--clean|--show=low => Build a.proj 8 nodes clean low
+trial|7|--size|2 => usage
+build|a.proj|--size|2 => usage
 --show=low|build|--property|A=1;B=2|a.proj|--target|x => Build a.proj @x a=1 b=2 low
 eval|--property=A=x|a.proj => Eval a.proj a=x
 targets|a.proj|--property|A= => Targets a.proj a=
@@ -67,6 +99,12 @@ fn push_options(shown: &mut String, options: &Options) -> Result<(), Fail> {
     }
     for (name, value) in options.globals.iter() {
         write!(shown, " {}={}", name.key(), value.as_str())?;
+    }
+    if options.nodes != 1 {
+        write!(shown, " {} nodes", options.nodes)?;
+    }
+    if options.clean {
+        shown.push_str(" clean")?;
     }
     if options.low {
         shown.push_str(" low")?;

@@ -16,7 +16,8 @@ returns-in-Ok c =
     let are : list_all is_word words ≡ true = sym c.are_words.ensures ∙ c.if-not-are_words.false in
     let none : fault_of grammar words ≡ [] = ap (λ a. fault_of a words) (sym is) ∙ c.in-Ok.ensures.kinds (ap is_simple_and_free is ∙ grammar_is_simple) in
     let rows : rows_of (found_of c.in-Ok.matches) ≡ matches_of grammar words = (c.in-Ok.ensures.matches (ap is_simple is ∙ grammar_is_simple_itself)).0 ∙ ap (λ a. matches_of a words) is in
-    rw (← parsed words (found_of c.in-Ok.matches) are none rows) c.among.ensures
+    let is_found = parsed words (found_of c.in-Ok.matches) are none rows in
+    rw (← is_found.all) (c.among.ensures is_found.clean is_found.flag)
 
 pub returns-in-Err : goal.returns-in-Err
 returns-in-Err c =
