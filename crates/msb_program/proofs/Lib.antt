@@ -1,6 +1,7 @@
-pub mod Each
-pub mod Walking
-pub mod Telling
-pub mod Saying
-pub mod Finding
-pub mod Naming
+pub mod Building
+pub mod Claims
+pub mod Committing
+pub mod Ended
+pub mod Meant
+pub mod Unloaded
+pub mod Working

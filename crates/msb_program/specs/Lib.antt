@@ -1,9 +1,5 @@
-pub mod Projects
-pub mod Named
-pub mod Bodies
-pub mod Requests
-pub mod Report
-pub mod Asked
-pub mod Outcomes
-pub mod Seen
 pub mod Answers
+pub mod Endings
+pub mod Gates
+pub mod Meanings
+pub mod Outcomes

@@ -1,10 +1,10 @@
--- What the program does: from the words and the files to a status, a text and the files that are written.
-use Rattle.std.specs.Prelude.{ℕ, List, [], ◌++◌, Bool, true, false, Option, Some, None, Result, Ok, Err, codes}
+-- What the program does: which outcomes the words have over the files.
+use Rattle.std.specs.Prelude.{◌≡◌, ◌⊎◌, ℕ, List, [], ◌++◌, Bool, true, false, Option, Some, None, Result, Ok, Err, codes}
 use Rattle.std.specs.Fmt.{decimal}
-use Rattle.msb_values.specs.InstanceKeys.{key_text}
 use Rattle.msb_values.specs.declared.key.InstanceKey.{InstanceKey}
-use Rattle.msb_values.specs.declared.put.Put.{Put}
-use Rattle.file_store.specs.Files.{file_at, paths_of}
+use Rattle.msb_values.specs.declared.mode.Mode.{Mode}
+use Rattle.msb_values.specs.declared.mode.Mode.TheVariants.{Incremental, Clean}
+use Rattle.file_store.specs.Files.{file_at}
 use Rattle.file_store.specs.Entries.{entries_of}
 use Rattle.file_store.specs.Limits.{limit_fault}
 use Rattle.file_store.specs.declared.tree.File.{File}
@@ -12,24 +12,31 @@ use Rattle.file_store.specs.declared.loading.LoadFault.{LoadFault}
 use Rattle.file_store.specs.declared.loading.LoadFault.TheVariants.{Listing, Reading, Files, Bytes, Large, BadPath, Memory}
 use Rattle.msb_paths.specs.Refused.{normal_path}
 use Rattle.msb_paths.specs.declared.errors.NormalFault.{NormalFault}
+use Rattle.task_trait.specs.declared.tools.ToolAnswer.{ToolAnswer}
+use Rattle.task_trait.specs.declared.tools.ToolInput.{ToolInput}
 use Rattle.build_world.specs.Faults.{fault_text}
 use Rattle.build_world.specs.declared.fault.EvalFault.{EvalFault}
+use Rattle.build_world.specs.declared.world.World.{World}
 use Rattle.msb_instance.specs.Evaluated.{Instance, evaluated}
 use Rattle.build_report.specs.Eval.{eval_text}
+use Rattle.build_report.specs.Line.{line}
 use Rattle.build_report.specs.Targets.{targets_text}
+use Rattle.request_machine.specs.Worlds.{world_of}
+use Rattle.build_outcome.specs.Outcomes.{IsOutcome}
+use Rattle.build_outcome.specs.declared.outcome.Outcome.{Outcome}
+use Rattle.msb_program.specs.declared.work.Work.{Work}
+use Rattle.msb_program.specs.declared.work.Work.TheVariants.{Told, Build}
 use Rattle.msb_words.specs.declared.options.Options.{Options}
 use Rattle.msb_words.specs.declared.options.Action.{Action}
-use Rattle.msb_words.specs.declared.options.Action.TheVariants.{Build, Eval, Targets}
-use Rattle.msb_program.specs.Projects.{project}
-use Rattle.msb_program.specs.Report.{line, report_of}
-use Rattle.msb_program.specs.Requests.{has_failed, request_of}
-use Rattle.msb_program.specs.declared.request.Request.{Request}
+use Rattle.msb_words.specs.declared.options.Action.TheVariants.{Build as ToBuild, Eval, Targets}
 
--- the status, the text that is printed, and the files that are written, in order
-pub record Outcome : Type 0 where
-  pub status : ℕ
-  pub text : List ℕ
-  pub commit : List Put
+-- the status where the work was done, or the request failed: the files are written, and then the text is printed
+abbrev pub IsCompletion : ℕ → Type 0
+IsCompletion status = (status ≡ 0) ⊎ (status ≡ 1)
+
+-- the status where the project or its build is refused: no file is written
+abbrev pub IsRefusal : ℕ → Type 0
+IsRefusal status = (status ≡ 3) ⊎ (status ≡ 4)
 
 -- a project that is refused for this reason
 abbrev pub refused : List ℕ → Outcome
@@ -42,36 +49,22 @@ not_found word = refused (word ++ codes ": not found")
 abbrev pub shown : List ℕ → Outcome
 shown text = record { status = 0; text = text; commit = [] }
 
--- a request succeeds or fails
-abbrev pub status_of : Bool → ℕ
-status_of false = 0
-status_of true = 1
+-- whether a build skips what is up to date (How to build incrementally)
+abbrev pub mode_of : Bool → Mode
+mode_of true = Clean
+mode_of false = Incremental
 
-abbrev pub outcome_of_request : List ℕ → Request → Outcome
-outcome_of_request key request = record { status = status_of (has_failed request); text = report_of key request; commit = [] }
-
--- an evaluated project is built, or it or its targets are shown
-abbrev pub outcome_by_action : Action → List (List ℕ) → InstanceKey → List (List ℕ) → Instance → Outcome
-outcome_by_action Build named key files instance = outcome_of_request (key_text key) (request_of (project key.path files instance) named)
-outcome_by_action Eval named key files instance = shown (eval_text instance.scope instance.duplicates)
-outcome_by_action Targets named key files instance = shown (targets_text instance.rows instance.initial instance.default)
-
-abbrev pub outcome_if_evaluated : Options → InstanceKey → List (List ℕ) → Result Instance EvalFault → Outcome
-outcome_if_evaluated options key files (Ok instance) = outcome_by_action options.action options.targets key files instance
-outcome_if_evaluated options key files (Err fault) = refused (fault_text fault)
-
-abbrev pub outcome_at : Options → InstanceKey → List File → Option File → Outcome
-outcome_at options key files None = not_found options.project
-outcome_at options key files (Some file) = outcome_if_evaluated options key (paths_of files) (evaluated files key)
+-- what a build is given: the files, the root project, and what the words say of it
+pub record IsAsked (options : Options) (key : InstanceKey) (files : List File) (given : World) : Type 0 where
+  pub tree : given.tree.files ≡ files
+  pub root : given.root ≡ key.path
+  pub globals : given.globals ≡ key.globals
+  pub targets : given.targets ≡ options.targets
+  pub mode : given.mode ≡ mode_of options.clean
 
 -- the project at a path, with the global properties of the words
 abbrev pub key_at : List ℕ → Options → InstanceKey
 key_at path options = record { path = path; globals = options.globals }
-
--- the project's file is the one at the normal path that the word gives from the root of the store
-abbrev pub outcome_by : Options → List File → Result (List ℕ) NormalFault → Outcome
-outcome_by options files (Ok path) = outcome_at options (key_at path options) files (file_at path files)
-outcome_by options files (Err fault) = not_found options.project
 
 -- how a load failed, or which limit the listing passes
 abbrev pub load_fault_text : LoadFault → List ℕ
@@ -93,10 +86,51 @@ fault_status (Large path) = 8
 fault_status (BadPath path) = 8
 fault_status Memory = 7
 
-abbrev pub outcome_within : Options → List File → Option LoadFault → Outcome
-outcome_within options files (Some fault) = record { status = fault_status fault; text = line (load_fault_text fault); commit = [] }
-outcome_within options files None = outcome_by options files (normal_path [] options.project)
+-- the files are not loaded
+abbrev pub unloaded : LoadFault → Outcome
+unloaded fault = record { status = fault_status fault; text = line (load_fault_text fault); commit = [] }
 
--- what the words come to over these files
-abbrev pub outcome_of : Options → List File → Outcome
-outcome_of options files = outcome_within options files (limit_fault (entries_of files))
+-- how tools answer, by their names and what they are handed
+abbrev pub Answering : Type 0
+Answering = List ℕ → ToolInput → ToolAnswer
+
+-- what is given is built
+abbrev pub IsBuildOf : Options → InstanceKey → List File → Work → Type 0
+IsBuildOf options key files (Told outcome) = ⊥
+IsBuildOf options key files (Build given) = IsAsked options key files given
+
+-- an evaluated project is built, or it or its targets are shown
+abbrev pub IsWorkOfAction : Action → Options → InstanceKey → List File → Instance → Work → Type 0
+IsWorkOfAction ToBuild options key files instance work = IsBuildOf options key files work
+IsWorkOfAction Eval options key files instance work = work ≡ Told (shown (eval_text instance.scope instance.duplicates))
+IsWorkOfAction Targets options key files instance work = work ≡ Told (shown (targets_text instance.rows instance.initial instance.default))
+
+abbrev pub IsWorkOfInstance : Options → InstanceKey → List File → Result Instance EvalFault → Work → Type 0
+IsWorkOfInstance options key files (Ok instance) work = IsWorkOfAction options.action options key files instance work
+IsWorkOfInstance options key files (Err fault) work = work ≡ Told (refused (fault_text fault))
+
+abbrev pub IsWorkOfFile : Options → InstanceKey → List File → Option File → Work → Type 0
+IsWorkOfFile options key files None work = work ≡ Told (not_found options.project)
+IsWorkOfFile options key files (Some file) work = IsWorkOfInstance options key files (evaluated files key) work
+
+-- the project's file is the one at the normal path that the word gives from the root of the store
+abbrev pub IsWorkAt : Options → List File → Result (List ℕ) NormalFault → Work → Type 0
+IsWorkAt options files (Ok path) work = IsWorkOfFile options (key_at path options) files (file_at path files) work
+IsWorkAt options files (Err fault) work = work ≡ Told (not_found options.project)
+
+module _ (tools : Answering) where
+  -- what may come of the work: of a build, what some legal history of its requests leads to
+  abbrev pub ComesOf : Bool → Work → Outcome → Type 0
+  ComesOf low (Told outcome) told = told ≡ outcome
+  ComesOf low (Build given) outcome = ∥ IsOutcome (world_of tools given) low outcome ∥₁
+
+  abbrev pub IsOutcomeAt : Options → List File → Result (List ℕ) NormalFault → Outcome → Type 0
+  IsOutcomeAt options files path outcome = (work : Work) × IsWorkAt options files path work × ComesOf options.low work outcome
+
+  abbrev pub IsOutcomeWithin : Options → List File → Option LoadFault → Outcome → Type 0
+  IsOutcomeWithin options files (Some fault) outcome = outcome ≡ unloaded fault
+  IsOutcomeWithin options files None outcome = IsOutcomeAt options files (normal_path [] options.project) outcome
+
+  -- an outcome of what the words ask for over these files
+  abbrev pub IsOutcomeOf : Options → List File → Outcome → Type 0
+  IsOutcomeOf options files outcome = IsOutcomeWithin options files (limit_fault (entries_of files)) outcome

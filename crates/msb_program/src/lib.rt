@@ -1,17 +1,19 @@
-//! The top calls of the build engine: from the words of the command line to the bytes that are printed.
+//! The top calls of the build engine: from the words of the command line to the files that are written and the bytes that are
+//! printed.
 //!
-//! The way in is [`run`], which hands the work to [`run_alone`]: words to options, the store's files to a tree,
-//! options and tree to an outcome, and the outcome's text to the sink. What the outcome is stands in one definition,
-//! `outcome_of` in `specs/Outcomes.antt`; what each status says of it stands in `specs/Answers.antt`.
+//! The way in is [`run`], which hands the work to [`run_alone`]: words to options, the store's files to a tree, options and tree
+//! to what is left to do, a build to its outcome, the outcome's files to the store, and then its text to the sink. Which outcomes
+//! there are stands in one definition, `IsOutcomeOf` in `specs/Outcomes.antt`; how one ends, in `specs/Endings.antt`; what each
+//! status says, in `specs/Answers.antt`; and what it says where the world of a build is whole and steady, in
+//! `specs/Meanings.antt`.
 #![tactic(auto)]
 
-mod body;
-mod message;
+mod alone;
+mod builder;
+mod gate;
 mod outcome;
-mod project;
-mod report;
-mod request;
-mod targets;
 mod top;
+mod work;
 
+pub use gate::Gate;
 pub use top::{run, run_alone};

@@ -1,15 +1,24 @@
-ghost use Rattle.std.specs.Prelude.{◌≡◌, ◌++◌, ◌⊎◌, ◌≤◌, map, string_bytes, IfOk, codes};
+ghost use Rattle.std.specs.Prelude.{◌≡◌, ◌++◌, ◌⊎◌, None, map, string_bytes, IfOk, codes};
 ghost use Rattle.msb_laws.specs.Faults.{Rose};
-ghost use Rattle.msb_laws.specs.Gains.{Appends, AppendsFront, Prints};
+ghost use Rattle.msb_laws.specs.Gains.{Prints};
+ghost use Rattle.file_store.specs.Entries.{entries_of};
+ghost use Rattle.file_store.specs.Limits.{limit_fault};
 ghost use Rattle.file_store.specs.declared.loading.LoadFault.TheVariants.{Memory};
-ghost use Rattle.msb_program.specs.Report.{line};
-ghost use Rattle.msb_program.specs.Outcomes.{load_fault_text, fault_status};
-ghost use Rattle.msb_program.specs.Answers.{Answers, loading, printing};
+ghost use Rattle.msb_words.specs.Options.{options_in};
+ghost use Rattle.msb_words.specs.declared.options.Action.TheVariants.{Build};
+ghost use Rattle.build_report.specs.Line.{line};
+ghost use Rattle.msb_program.specs.Outcomes.{IsCompletion, IsRefusal, load_fault_text, fault_status};
+ghost use Rattle.msb_program.specs.Endings.{Ends, EndsOver, Printed, PrintedAll, PrintedFront, Silent, printing, saving};
+ghost use Rattle.msb_program.specs.Answers.{Answers, AsksForBuild, loading};
+ghost use Rattle.msb_program.specs.Meanings.{AnswersMeant, Means};
+ghost use Rattle.build_outcome.specs.declared.outcome.Outcome.{Outcome as TheOutcome};
 
-use crate::outcome::Outcome;
-use file_store::{LoadFault, Sink, Store, load};
+use crate::builder::Builder;
+use crate::outcome::outcome_within;
+use build_outcome::Outcome;
+use file_store::{CommitFault, LoadFault, Sink, SinkError, Store, Tree, commit, load};
 use msb_values::{NoMemory, Text};
-use msb_words::{WordFault, read_words};
+use msb_words::{Options, WordFault, read_words};
 use std::alloc::Global;
 use std::sync::Wait;
 use std::thread::Threads;
@@ -18,13 +27,13 @@ use task_trait::{Counted, CountedTools, Tools};
 const USAGE: &str =
     "usage: msb ACTION PROJECT [--target LIST] [--property LIST] [--nodes N] [--clean] [--show low] [--size N]\n";
 
-/// Does what the words ask for: reads them, loads the store's files, evaluates the project, builds or shows it, and
-/// prints to the sink.
+/// Does what the words ask for: reads them, loads the store's files, evaluates the project, builds or shows it, writes
+/// files to the store, and prints to the sink.
 ///
 /// `words` are those after the program's name. The answer is the program's status: 0 where it was done, 1 where the
-/// build failed, 2 where the words are outside the grammar, 3 where the project is refused, 5 where the store failed, 6
-/// where the sink failed and nothing else did, 7 for want of memory, and 8 where the files pass a limit. Nothing is
-/// written to the store yet.
+/// build failed, 2 where the words are outside the grammar, 3 where the project is refused, 4 where its build is, 5
+/// where the store failed, 6 where the sink failed and nothing else did, 7 for want of memory, and 8 where the files
+/// pass a limit. Files are written with status 0, 1 and 6, and those up to some place of the list with 5 and 7.
 pub fn run<R: Threads + Wait + Sync, S: Store, K: Sink, T: Tools + Sync>(
     _rt: &R,
     alloc: Global,
@@ -33,8 +42,8 @@ pub fn run<R: Threads + Wait + Sync, S: Store, K: Sink, T: Tools + Sync>(
     sink: &mut K,
     tools: &T,
 ) -> u8
-    ensures answer { Answers (map string_bytes words.now) (loading (S.tree store.old) (S.fault_count store.old) (S.fault_count store.new) (S.failures store.old) (S.failures store.new)) (printing (K.fault_count sink.old) (K.fault_count sink.new) (K.told sink.old) (K.told sink.new)) result }
-    ensures kept { S.tree store.new ≡ S.tree store.old }
+    ensures answer { Answers T.answer (map string_bytes words.now) (loading (S.tree store.old) (S.fault_count store.old) (S.fault_count store.new) (S.failures store.old) (S.failures store.new)) (saving (S.tree store.old) (S.tree store.new)) (printing (K.fault_count sink.old) (K.fault_count sink.new) (K.told sink.old) (K.told sink.new)) result }
+    ensures meaning { (meant : TheOutcome) → Means T.answer (map string_bytes words.now) (S.tree store.old) meant → AnswersMeant (map string_bytes words.now) (loading (S.tree store.old) (S.fault_count store.old) (S.fault_count store.new) (S.failures store.old) (S.failures store.new)) (saving (S.tree store.old) (S.tree store.new)) (printing (K.fault_count sink.old) (K.fault_count sink.new) (K.told sink.old) (K.told sink.new)) meant result }
 {
     match Counted::new(alloc, tools) {
         Ok(mut counted) => run_alone(alloc, words, store, sink, &mut counted),
@@ -50,9 +59,23 @@ pub fn run_alone<S: Store, K: Sink, T: CountedTools>(
     sink: &mut K,
     tools: &mut T,
 ) -> u8
-    ensures answer { Answers (map string_bytes words.now) (loading (S.tree store.old) (S.fault_count store.old) (S.fault_count store.new) (S.failures store.old) (S.failures store.new)) (printing (K.fault_count sink.old) (K.fault_count sink.new) (K.told sink.old) (K.told sink.new)) result }
-    ensures kept { S.tree store.new ≡ S.tree store.old }
-    ensures uncalled { T.calls tools.new ≡ T.calls tools.old }
+    ensures answer { Answers T.answer (map string_bytes words.now) (loading (S.tree store.old) (S.fault_count store.old) (S.fault_count store.new) (S.failures store.old) (S.failures store.new)) (saving (S.tree store.old) (S.tree store.new)) (printing (K.fault_count sink.old) (K.fault_count sink.new) (K.told sink.old) (K.told sink.new)) result }
+    ensures meaning { (meant : TheOutcome) → Means T.answer (map string_bytes words.now) (S.tree store.old) meant → AnswersMeant (map string_bytes words.now) (loading (S.tree store.old) (S.fault_count store.old) (S.fault_count store.new) (S.failures store.old) (S.failures store.new)) (saving (S.tree store.old) (S.tree store.new)) (printing (K.fault_count sink.old) (K.fault_count sink.new) (K.told sink.old) (K.told sink.new)) meant result }
+    ensures uncalled { (AsksForBuild (options_in (map string_bytes words.now)) → ⊥) → T.calls tools.new ≡ T.calls tools.old }
+{
+    answered(alloc, words, store, sink, tools)
+}
+
+// What the words come to, by a builder.
+fn answered<S: Store, K: Sink, B: Builder>(
+    alloc: Global,
+    words: &[String],
+    store: &mut S,
+    sink: &mut K,
+    builder: &mut B,
+) -> u8
+    ensures answer { Answers B.answer (map string_bytes words.now) (loading (S.tree store.old) (S.fault_count store.old) (S.fault_count store.new) (S.failures store.old) (S.failures store.new)) (saving (S.tree store.old) (S.tree store.new)) (printing (K.fault_count sink.old) (K.fault_count sink.new) (K.told sink.old) (K.told sink.new)) result }
+    ensures uncalled { (AsksForBuild (options_in (map string_bytes words.now)) → ⊥) → B.calls builder.new ≡ B.calls builder.old }
 {
     let options = match read_words(alloc, words) {
         Ok(options) => options,
@@ -63,17 +86,60 @@ pub fn run_alone<S: Store, K: Sink, T: CountedTools>(
         Err(WordFault::Memory) => return 7,
     };
     match load(alloc, store) {
-        Ok(tree) => match Outcome::of(alloc, &options, &tree) {
-            Ok(outcome) => tell(sink, outcome.status, outcome.text.as_bytes()),
-            Err(NoMemory) => 7,
-        },
-        Err(fault) => match fault_text(alloc, &fault) {
-            Ok(text) => {
-                print(sink, text.as_bytes());
-                fault_status(&fault)
-            }
-            Err(NoMemory) => 7,
-        },
+        Ok(tree) => complete(alloc, &options, tree, store, sink, builder),
+        Err(fault) => print_load_fault(alloc, &fault, sink),
+    }
+}
+
+// What the words come to over the files of a tree.
+fn complete<S: Store, K: Sink, B: Builder>(
+    alloc: Global,
+    options: &Options,
+    tree: Tree,
+    store: &mut S,
+    sink: &mut K,
+    builder: &mut B,
+) -> u8
+    requires { limit_fault (entries_of tree.files) ≡ None }
+    ensures uncalled { (options.now.action ≡ Build → ⊥) → B.calls builder.new ≡ B.calls builder.old }
+    ensures ends { EndsOver B.answer options.now tree.files (S.fault_count store.old) (S.fault_count store.new) (saving (S.tree store.old) (S.tree store.new)) (printing (K.fault_count sink.old) (K.fault_count sink.new) (K.told sink.old) (K.told sink.new)) result }
+{
+    match outcome_within(alloc, options, tree, builder) {
+        Ok(outcome) => commit_and_print(alloc, &outcome, store, sink),
+        Err(NoMemory) => 7,
+    }
+}
+
+// Writes the files of an outcome, and then prints its text; a refusal is printed alone.
+fn commit_and_print<S: Store, K: Sink>(
+    alloc: Global,
+    outcome: &Outcome,
+    store: &mut S,
+    sink: &mut K,
+) -> u8
+    requires { IsCompletion outcome.now.status ⊎ IsRefusal outcome.now.status }
+    ensures { Ends outcome.now (S.fault_count store.old) (S.fault_count store.new) (saving (S.tree store.old) (S.tree store.new)) (printing (K.fault_count sink.old) (K.fault_count sink.new) (K.told sink.old) (K.told sink.new)) result }
+{
+    if outcome.status > 1 {
+        print(sink, outcome.text.as_bytes());
+        return outcome.status;
+    }
+    match commit(alloc, store, &outcome.commit) {
+        Ok(()) => tell(sink, outcome.status, outcome.text.as_bytes()),
+        Err(CommitFault::Writing(place)) => {
+            print_write_fault(alloc, &outcome.commit.as_slice()[place as usize].path, sink)
+        }
+        Err(CommitFault::Memory(_)) => 7,
+    }
+}
+
+// Prints the text of an outcome whose files are written.
+fn tell<K: Sink>(sink: &mut K, status: u8, text: &[u8]) -> u8
+    ensures { ((result ≡ status) × PrintedAll (printing (K.fault_count sink.old) (K.fault_count sink.new) (K.told sink.old) (K.told sink.new)) text.now) ⊎ ((result ≡ 6) × Rose (K.fault_count sink.old) (K.fault_count sink.new) × PrintedFront (printing (K.fault_count sink.old) (K.fault_count sink.new) (K.told sink.old) (K.told sink.new)) text.now) }
+{
+    match sink.write(text) {
+        Ok(()) => status,
+        Err(SinkError::Failed) => 6,
     }
 }
 
@@ -84,19 +150,30 @@ fn print<K: Sink>(sink: &mut K, text: &[u8])
     let _ = sink.write(text);
 }
 
-// Prints an outcome's text; a failed sink changes the statuses 0 and 1.
-fn tell<K: Sink>(sink: &mut K, status: u8, text: &[u8]) -> u8
-    requires { (status ≡ 0) ⊎ (status ≡ 1) ⊎ (status ≡ 3) }
-    ensures whole { (result ≡ status) ⊎ ((result ≡ 6) × Rose (K.fault_count sink.old) (K.fault_count sink.new)) }
-    ensures done { result ≡ 0 → (status ≡ 0) × Appends (K.told sink.old) (K.told sink.new) text.now }
-    ensures unsuccessful { result ≡ 1 → (status ≡ 1) × Appends (K.told sink.old) (K.told sink.new) text.now }
-    ensures refused { result ≡ 3 → (status ≡ 3) × Prints (K.fault_count sink.old) (K.fault_count sink.new) (K.told sink.old) (K.told sink.new) text.now }
-    ensures failed { result ≡ 6 → ((status ≡ 0) ⊎ (status ≡ 1)) × Rose (K.fault_count sink.old) (K.fault_count sink.new) × AppendsFront (K.told sink.old) (K.told sink.new) text.now }
+// Prints which file the store failed to write.
+fn print_write_fault<K: Sink>(alloc: Global, path: &Text, sink: &mut K) -> u8
+    ensures { ((result ≡ 5) × Printed (printing (K.fault_count sink.old) (K.fault_count sink.new) (K.told sink.old) (K.told sink.new)) (line (codes "store fault " ++ path.now))) ⊎ ((result ≡ 7) × Silent (printing (K.fault_count sink.old) (K.fault_count sink.new) (K.told sink.old) (K.told sink.new))) }
 {
-    if sink.write(text).is_err() && status != 3 {
-        return 6;
+    match path_line(alloc, "store fault ", path) {
+        Ok(text) => {
+            print(sink, text.as_bytes());
+            5
+        }
+        Err(NoMemory) => 7,
     }
-    status
+}
+
+// Prints why the store's files are not loaded.
+fn print_load_fault<K: Sink>(alloc: Global, fault: &LoadFault, sink: &mut K) -> u8
+    ensures { ((result ≡ fault_status fault.now) × (fault.now ≡ Memory → ⊥) × Printed (printing (K.fault_count sink.old) (K.fault_count sink.new) (K.told sink.old) (K.told sink.new)) (line (load_fault_text fault.now))) ⊎ ((result ≡ 7) × Silent (printing (K.fault_count sink.old) (K.fault_count sink.new) (K.told sink.old) (K.told sink.new))) }
+{
+    match fault_text(alloc, fault) {
+        Ok(text) => {
+            print(sink, text.as_bytes());
+            fault_status(fault)
+        }
+        Err(NoMemory) => 7,
+    }
 }
 
 // How a load failed, or which limit the listing passes.

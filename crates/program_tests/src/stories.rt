@@ -135,41 +135,74 @@ a.proj : d ran
 error: unknown target nope
 returned 0
 build failed
-## A run fails at the first part that is not there yet, and what it said before stands.
+## A target returns items.
 {"e":"Project","c":[{"e":"Target","a":{"Name":"T","Returns":"a"},"c":[
 {"e":"Message","a":{"Text":"a"}},{"e":"Message"}]}]}
-$ build a.proj => 1
-a.proj : t failed
-  error: a.proj /0: 0 NotYet
-returned 0
-build failed
-## Another task is not there yet.
+$ build a.proj => 0
+a.proj : t ran
+  a
+  
+returned 1
+  a
+build succeeded
+## A task fails, and what was said before stands.
 {"e":"Project","c":[{"e":"Target","a":{"Name":"T"},"c":[
-{"e":"Message","a":{"Text":"a"}},{"e":"Error"}]}]}
+{"e":"Message","a":{"Text":"a"}},{"e":"Error"},{"e":"Message","a":{"Text":"b"}}]}]}
 $ build a.proj => 1
 a.proj : t failed
   a
-  error: a.proj /0/1: 0 NotYet
+  error: 
 returned 0
 build failed
-## Another parameter is not there yet.
+## Messages of low importance are shown where they are asked for.
 {"e":"Project","c":[{"e":"Target","a":{"Name":"T"},"c":[
 {"e":"Message","a":{"Text":"a"}},{"e":"Message","a":{"Importance":"low","Text":"b"}}]}]}
-$ build a.proj => 1
-a.proj : t failed
+$ build a.proj => 0
+a.proj : t ran
   a
-  error: a.proj /0/1: 0 NotYet
 returned 0
-build failed
-## Batched metadata is not there yet.
+build succeeded
+$ build a.proj --show low => 0
+a.proj : t ran
+  a
+  b
+returned 0
+build succeeded
+## Metadata are batched, and only those of a list.
 {"e":"Project","c":[{"e":"Target","a":{"Name":"T"},"c":[
 {"e":"Message","a":{"Text":"a"}},{"e":"Message","a":{"Text":"%(M)"}}]}]}
 $ build a.proj => 1
 a.proj : t failed
   a
-  error: a.proj /0/1: 0 NotYet
+  error: a.proj /0/1: 24 NoList m
 returned 0
 build failed
+## Files are written, and a target with Inputs and Outputs runs where these are not there.
+{"e":"Project","c":[{"e":"ItemGroup","c":[{"e":"C","a":{"Include":"src/**/*.c"}}]},
+{"e":"Target","a":{"Name":"T","Inputs":"@(C)","Outputs":"@(C->'o/%(Filename).o')"},"c":[
+{"e":"Copy","a":{"SourceFiles":"@(C)","DestinationFiles":"@(C->'o/%(Filename).o')"}}]}]}
+$ build a.proj => 0
+a.proj : t ran
+returned 3
+  o/a.o
+  o/b.o
+  o/skip.o
+build succeeded
+## A target calls another one of its project, and one calls itself.
+{"e":"Project","c":[{"e":"Target","a":{"Name":"T"},"c":[
+{"e":"MSBuild","a":{"Projects":"a.proj","Targets":"U"}}]},
+{"e":"Target","a":{"Name":"U","Returns":"x;y"},"c":[{"e":"Message","a":{"Text":"u"}}]},
+{"e":"Target","a":{"Name":"V"},"c":[{"e":"MSBuild","a":{"Projects":"a.proj","Targets":"V"}}]}]}
+$ build a.proj => 0
+a.proj : u ran
+  u
+a.proj : t ran
+returned 0
+build succeeded
+$ build a.proj --target V => 4
+circular request
+  a.proj : v
+  a.proj : v
 ## A text that is no expression fails the run.
 {"e":"Project","c":[{"e":"Target","a":{"Name":"T"},"c":[
 {"e":"Message","a":{"Text":"a"}},{"e":"Message","a":{"Text":"%(M"}}]}]}

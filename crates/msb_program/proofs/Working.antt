@@ -1,0 +1,68 @@
+-- What is told without a build, and when there is one.
+use Rattle.std.proofs.Common.{◌≡◌, ◌⊎◌, ℕ, List, Option, Some, None, Result, Ok, Err, inl, inr, refl, ap, ◌∙◌, []}
+use Rattle.msb_values.specs.declared.key.InstanceKey.{InstanceKey}
+use Rattle.file_store.specs.declared.tree.File.{File}
+use Rattle.msb_paths.specs.declared.errors.NormalFault.{NormalFault}
+use Rattle.build_world.specs.declared.fault.EvalFault.{EvalFault}
+use Rattle.build_world.specs.declared.world.World.{World}
+use Rattle.msb_instance.specs.Evaluated.{Instance, evaluated}
+use Rattle.file_store.specs.Files.{file_at}
+use Rattle.build_outcome.specs.declared.outcome.Outcome.{Outcome}
+use Rattle.msb_words.specs.declared.options.Options.{Options}
+use Rattle.msb_words.specs.declared.options.Action.{Action}
+use Rattle.msb_words.specs.declared.options.Action.TheVariants.{Build as ToBuild, Eval, Targets}
+use Rattle.msb_program.specs.declared.work.Work.{Work}
+use Rattle.msb_program.specs.declared.work.Work.TheVariants.{Told, Build}
+use Rattle.msb_program.specs.Outcomes.{IsCompletion, IsRefusal, IsWorkAt, IsWorkOfAction, IsWorkOfFile, IsWorkOfInstance, key_at}
+
+-- the status of what is told
+abbrev status_in : Work → ℕ
+status_in (Told outcome) = outcome.status
+status_in (Build given) = 0
+
+shown_status : (o : Outcome) (work : Work) → status_in work ≡ 0 → Told o ≡ work → IsCompletion o.status ⊎ IsRefusal o.status
+shown_status o work zero_is is = inl (inl (ap status_in is ∙ zero_is))
+
+refused_status : (o : Outcome) (work : Work) → status_in work ≡ 3 → Told o ≡ work → IsCompletion o.status ⊎ IsRefusal o.status
+refused_status o work three_is is = inr (inl (ap status_in is ∙ three_is))
+
+module _ (options : Options) (key : InstanceKey) (files : List File) where
+  told_of_action : (action : Action) (instance : Instance) (o : Outcome) → IsWorkOfAction action options key files instance (Told o) → IsCompletion o.status ⊎ IsRefusal o.status
+  told_of_action ToBuild instance o is = absurd is
+  told_of_action Eval instance o is = shown_status o _ refl is
+  told_of_action Targets instance o is = shown_status o _ refl is
+
+  told_of_instance : (result : Result Instance EvalFault) (o : Outcome) → IsWorkOfInstance options key files result (Told o) → IsCompletion o.status ⊎ IsRefusal o.status
+  told_of_instance (Ok instance) o is = told_of_action options.action instance o is
+  told_of_instance (Err fault) o is = refused_status o _ refl is
+
+  told_of_file : (file : Option File) (o : Outcome) → IsWorkOfFile options key files file (Told o) → IsCompletion o.status ⊎ IsRefusal o.status
+  told_of_file None o is = refused_status o _ refl is
+  told_of_file (Some file) o is = told_of_instance (evaluated files key) o is
+
+  apart : (given : World) (o : Outcome) → Build given ≡ Told o → ⊥
+  apart given o is = cc
+
+  built_of_action : (action : Action) (instance : Instance) (given : World) → IsWorkOfAction action options key files instance (Build given) → action ≡ ToBuild
+  built_of_action ToBuild instance given is = refl
+  built_of_action Eval instance given is = absurd (apart given _ is)
+  built_of_action Targets instance given is = absurd (apart given _ is)
+
+  built_of_instance : (result : Result Instance EvalFault) (given : World) → IsWorkOfInstance options key files result (Build given) → options.action ≡ ToBuild
+  built_of_instance (Ok instance) given is = built_of_action options.action instance given is
+  built_of_instance (Err fault) given is = absurd (apart given _ is)
+
+  built_of_file : (file : Option File) (given : World) → IsWorkOfFile options key files file (Build given) → options.action ≡ ToBuild
+  built_of_file None given is = absurd (apart given _ is)
+  built_of_file (Some file) given is = built_of_instance (evaluated files key) given is
+
+module _ (options : Options) (files : List File) where
+  -- what is told without a build is done, or the project is refused
+  pub told_status : (path : Result (List ℕ) NormalFault) (o : Outcome) → IsWorkAt options files path (Told o) → IsCompletion o.status ⊎ IsRefusal o.status
+  told_status (Ok path) o is = let key : InstanceKey = key_at path options in told_of_file options key files (file_at path files) o is
+  told_status (Err fault) o is = refused_status o _ refl is
+
+  -- there is a build only where one is asked for
+  pub build_is_asked : (path : Result (List ℕ) NormalFault) (given : World) → IsWorkAt options files path (Build given) → options.action ≡ ToBuild
+  build_is_asked (Ok path) given is = let key : InstanceKey = key_at path options in built_of_file options key files (file_at path files) given is
+  build_is_asked (Err fault) given is = let key : InstanceKey = key_at [] options in absurd (apart options key files given _ is)

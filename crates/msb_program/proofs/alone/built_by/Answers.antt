@@ -1,0 +1,26 @@
+use Rattle.std.proofs.Common.{List, IfOk, sym, subst, ◌∙◌}
+use Rattle.build_meaning.specs.World.{World}
+use Rattle.build_meaning.specs.declared.event.Event.{Event}
+use Rattle.build_outcome.specs.Outcomes.{IsOutcome}
+use Rattle.build_plain.specs.Driven.{NoneAssigned}
+use Rattle.msb_program.proofs.Building.{known_statuses, none_at_first, outcomes_are}
+use Rattle.msb_program.proofs.alone.built_by.Goals as goal
+
+pub build_alone-requires : goal.build_alone-requires
+build_alone-requires g c =
+    let core = c.in_ok-core.core in
+    subst (λ (events : List Event). NoneAssigned (g.W.Walker.world_of core.world) events) (sym c.in_ok-core.ensures.history) (none_at_first (g.W.Walker.world_of core.world))
+
+pub invariant_of-core : goal.invariant_of-core
+invariant_of-core g c =
+    let core = c.build_alone.new.core in
+    record { legal = core.legal; indexed = core.indexed; counted = core.counted; few = core.few; nested = core.nested; stops = core.stops }
+
+pub returns-clause-outcome : goal.returns-clause-outcome
+returns-clause-outcome g c =
+    let core = c.build_alone.new.core in
+    subst (λ (w : World g.W.Walker.Input g.W.Walker.Output). IfOk c.of.result (λ o. ∥ IsOutcome w c.args.low o ∥₁)) (c.build_alone.ensures.world ∙ c.in_ok-core.ensures.world)
+    (outcomes_are (g.W.Walker.world_of core.world) c.args.low core.history.events core.end c.of.result c.build_alone.ensures.legal c.of.ensures.outcome)
+
+pub returns-clause-status : goal.returns-clause-status
+returns-clause-status g c = known_statuses c.of.result c.of.ensures.status

@@ -1,0 +1,103 @@
+-- How an outcome ends: what becomes of the files of its commit list, and of its text.
+use Rattle.std.specs.Prelude.{◌≡◌, ◌⊎◌, ◌++◌, ◌<◌, ℕ, List, length, slice_get, Option, IfSome, IsSomeAnd, codes}
+use Rattle.msb_laws.specs.Faults.{Rose}
+use Rattle.msb_laws.specs.Gains.{Appends, AppendsFront, Prints}
+use Rattle.msb_values.specs.declared.put.Put.{Put}
+use Rattle.file_store.specs.Commits.{AreWritten, AreWrittenTo, HasContents}
+use Rattle.file_store.specs.declared.tree.File.{File}
+use Rattle.build_report.specs.Line.{line}
+use Rattle.msb_program.specs.Outcomes.{Answering, IsCompletion, IsRefusal, IsOutcomeOf}
+use Rattle.build_outcome.specs.declared.outcome.Outcome.{Outcome}
+use Rattle.msb_words.specs.declared.options.Options.{Options}
+
+-- the files that a store tells, before and after the call
+pub record Saving : Type 0 where
+  pub before : Option (List File)
+  pub after : Option (List File)
+
+abbrev pub saving : Option (List File) → Option (List File) → Saving
+saving before after = record { before = before; after = after }
+
+-- the files are as they were
+abbrev pub Kept : Saving → Type 0
+Kept s = s.after ≡ s.before
+
+-- the whole list was written in order, and every path has the bytes that come of that
+pub record SavedAll (s : Saving) (list : List Put) : Type 0 where
+  pub written : IfSome s.before (λ files. IsSomeAnd s.after (AreWritten list files))
+  pub contents : IfSome s.before (λ files. IsSomeAnd s.after (HasContents list files))
+
+-- those before a place of the list were written, and the one there was or was not
+pub record SavedTo (s : Saving) (list : List Put) (place : ℕ) : Type 0 where
+  pub within : place < length list
+  pub written : IfSome s.before (λ files. IsSomeAnd s.after (AreWrittenTo place list files))
+
+-- a sink's count of faults and the bytes that it tells, before and after the call
+pub record Printing : Type 0 where
+  pub faults_before : ℕ
+  pub faults_after : ℕ
+  pub before : Option (List ℕ)
+  pub after : Option (List ℕ)
+
+abbrev pub printing : ℕ → ℕ → Option (List ℕ) → Option (List ℕ) → Printing
+printing faults_before faults_after before after = record { faults_before = faults_before; faults_after = faults_after; before = before; after = after }
+
+-- the whole text was printed
+abbrev pub PrintedAll : Printing → List ℕ → Type 0
+PrintedAll p text = Appends p.before p.after text
+
+-- a front of the text was printed
+abbrev pub PrintedFront : Printing → List ℕ → Type 0
+PrintedFront p text = AppendsFront p.before p.after text
+
+-- the whole text was printed, or a front of it where the sink failed
+abbrev pub Printed : Printing → List ℕ → Type 0
+Printed p text = Prints p.faults_before p.faults_after p.before p.after text
+
+-- nothing was printed
+abbrev pub Silent : Printing → Type 0
+Silent p = p.after ≡ p.before
+
+-- all its files were written, and its text was printed whole
+abbrev pub EndsWhole : Saving → Printing → Outcome → Type 0
+EndsWhole s p o = SavedAll s o.commit × PrintedAll p o.text
+
+-- no file was written, and its text was printed
+abbrev pub EndsRefused : Saving → Printing → Outcome → Type 0
+EndsRefused s p o = Kept s × Printed p o.text
+
+-- all its files were written, and then the sink failed
+pub record EndsUnprinted (s : Saving) (p : Printing) (o : Outcome) : Type 0 where
+  pub completion : IsCompletion o.status
+  pub saved : SavedAll s o.commit
+  pub rose : Rose p.faults_before p.faults_after
+  pub printed : PrintedFront p o.text
+
+-- its files were written to a place where the store failed, whose path was printed
+pub record EndsUnwritten (faults_before faults_after : ℕ) (s : Saving) (p : Printing) (o : Outcome) : Type 0 where
+  pub completion : IsCompletion o.status
+  pub place : ℕ
+  pub saved : SavedTo s o.commit place
+  pub rose : Rose faults_before faults_after
+  pub printed : IsSomeAnd (slice_get o.commit place) (λ put. Printed p (line (codes "store fault " ++ put.path)))
+
+-- its files were written to a place where no memory was found, or where that the store failed could not be told
+pub record EndsHalfway (s : Saving) (o : Outcome) : Type 0 where
+  pub completion : IsCompletion o.status
+  pub place : ℕ
+  pub saved : SavedTo s o.commit place
+
+-- how an outcome ends where a store's count of faults was and is this, and the status that comes of it
+abbrev pub Ends : Outcome → ℕ → ℕ → Saving → Printing → ℕ → Type 0
+Ends o faults_before faults_after s p status =
+    ((status ≡ o.status) × IsCompletion o.status × EndsWhole s p o)
+    ⊎ ((status ≡ o.status) × IsRefusal o.status × EndsRefused s p o)
+    ⊎ ((status ≡ 6) × EndsUnprinted s p o)
+    ⊎ ((status ≡ 5) × EndsUnwritten faults_before faults_after s p o)
+    ⊎ ((status ≡ 7) × Silent p × EndsHalfway s o)
+
+-- how an outcome of these files ends, where it is made
+abbrev pub EndsOver : Answering → Options → List File → ℕ → ℕ → Saving → Printing → ℕ → Type 0
+EndsOver tools options files faults_before faults_after s p status =
+    ((outcome : Outcome) × IsOutcomeOf tools options files outcome × Ends outcome faults_before faults_after s p status)
+    ⊎ ((status ≡ 7) × Kept s × Silent p)

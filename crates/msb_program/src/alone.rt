@@ -1,0 +1,85 @@
+//! Builds on one node.
+
+ghost use Rattle.std.specs.Prelude.{◌≡◌, ◌⊎◌, [], IfOk};
+ghost use Rattle.build_outcome.specs.Outcomes.{IsOutcome};
+ghost use Rattle.build_scheduler.specs.Position.{begins};
+ghost use Rattle.request_machine.specs.Worlds.{world_of};
+ghost use Rattle.msb_program.specs.Outcomes.{IsCompletion, IsRefusal};
+
+use crate::builder::Builder;
+use build_outcome::Outcome;
+use build_plain::build_alone;
+use build_scheduler::{Core, Walker};
+use build_world::World;
+use msb_values::NoMemory;
+use msb_words::Options;
+use request_machine::{Site, Walk, root_key};
+use result_cache::RequestKey;
+use std::alloc::Global;
+use task_trait::CountedTools;
+
+// Tools whose calls are listed build on one node.
+impl<T: CountedTools> Builder for T {
+    ghost answer = { T.answer };
+
+    ghost calls = { T.calls };
+
+    fn build(
+        &mut self,
+        alloc: Global,
+        options: &Options,
+        world: &World,
+    ) -> Result<Outcome, NoMemory> {
+        built(alloc, options.low, world, self)
+    }
+}
+
+fn built<T: CountedTools>(
+    alloc: Global,
+    low: bool,
+    world: &World,
+    tools: &mut T,
+) -> Result<Outcome, NoMemory>
+    ensures outcome { IfOk result (λ o. ∥ IsOutcome (world_of T.answer world.now) low o ∥₁) }
+    ensures status { IfOk result (λ o. IsCompletion o.status ⊎ IsRefusal o.status) }
+{
+    let mut site = Site {
+        world,
+        tools: &mut *tools,
+    };
+    built_at(alloc, low, &mut site)
+}
+
+// What the site is given is built.
+fn built_at<'a, T: CountedTools>(
+    alloc: Global,
+    low: bool,
+    site: &mut Site<'a, T>,
+) -> Result<Outcome, NoMemory>
+    ensures outcome { IfOk result (λ o. ∥ IsOutcome (world_of T.answer site.old.world.now) low o ∥₁) }
+    ensures status { IfOk result (λ o. IsCompletion o.status ⊎ IsRefusal o.status) }
+{
+    let key = root_key(site.world)?;
+    let walk = Walk::start(alloc, site.world)?;
+    built_by(alloc, key, walk, site, low)
+}
+
+// The request of a walk that had no answer yet is built. Of any walk, since it is dear to drop a core of real ones.
+fn built_by<W: Walker>(
+    alloc: Global,
+    key: RequestKey,
+    walk: W,
+    place: &mut W::Place,
+    low: bool,
+) -> Result<Outcome, NoMemory>
+    requires key { key ≡ (W.world walk).root }
+    requires begins { W.position walk ≡ begins (W.world walk) key [] }
+    requires asked { W.asked walk ≡ 0 }
+    requires learnt { W.learnt walk ≡ [] }
+    ensures outcome { IfOk result (λ o. ∥ IsOutcome (W.world walk) low o ∥₁) }
+    ensures status { IfOk result (λ o. IsCompletion o.status ⊎ IsRefusal o.status) }
+{
+    let mut core = Core::new(alloc, key, walk)?;
+    build_alone(&mut core, place);
+    Outcome::of(alloc, &core, low)
+}
