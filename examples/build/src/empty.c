@@ -1,0 +1,3 @@
+#include "list.h"
+
+struct list empty(void) { struct list l = { 0 }; return l; }

@@ -1,0 +1,3 @@
+#include "list.h"
+
+int length(struct list l) { return l.count; }

@@ -1,0 +1,1 @@
+int get(int key) { return key; }

@@ -1,0 +1,1 @@
+int put(int key, int value) { return key + value; }
