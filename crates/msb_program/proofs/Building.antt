@@ -1,6 +1,6 @@
 -- A build of a world, from its first state to its outcome.
-use Rattle.std.proofs.Common.{◌≡◌, ◌⊎◌, ℕ, zero, suc, List, [], Bool, Option, None, Some, Result, Ok, Err, IfOk, inl, inr, ap, ◌∙◌}
-use Rattle.std.proofs.Math.Logic.{∥∥₁_elim, ∥∥₁_map₂}
+use Rattle.std.proofs.Common.{◌≡◌, ◌⊎◌, ℕ, zero, suc, List, [], Bool, Option, None, Some, Result, Ok, Err, IfOk, inl, inr, ap, sym, subst, ◌∙◌}
+use Rattle.std.proofs.Math.Logic.{∥∥₁_elim, ∥∥₁_map₂, ∥∥₁_prop}
 use Rattle.msb_values.specs.declared.errors.NoMemory.{NoMemory}
 use Rattle.build_meaning.specs.declared.event.Event.{Event}
 use Rattle.build_meaning.specs.Lists.{at}
@@ -37,6 +37,20 @@ module _ {I A : Type 0} (w : World I A) where
       → IfOk made (λ outcome. ∥ IsOutcome w low outcome ∥₁)
   outcomes_are low events end (Ok outcome) legal is = outcome_is low events end outcome legal is
   outcomes_are low events end (Err none) legal is = tt
+
+-- a core with no event yet has no request with a node
+pub none_in_core : {I A : Type 0} (w : World I A) (events : List Event) → events ≡ [] → NoneAssigned w events
+none_in_core w events none = subst (NoneAssigned w) (sym none) (none_at_first w)
+
+module _ {I A : Type 0} (low : Bool) (events : List Event) (end : Option End) where
+  outcomes_in : (v u : World I A) (made : Result Outcome NoMemory) → ∥ u ≡ v ∥₁ → ∥ IsLegal v events ∥₁ → IfOk made (λ o. ∥ IsOutcomeAt u low events end o ∥₁) → IfOk made (λ o. ∥ IsOutcome v low o ∥₁)
+  outcomes_in v u (Ok o) same legal is = ∥∥₁_elim same ∥∥₁_prop (λ e. outcome_is v low events end o legal (subst (λ (x : World I A). ∥ IsOutcomeAt x low events end o ∥₁) e is))
+  outcomes_in v u (Err none) same legal is = tt
+
+-- what has come of a core whose world is that of a walk
+pub outcome_of_core : {I A : Type 0} (w v u : World I A) (low : Bool) (events : List Event) (end : Option End) (made : Result Outcome NoMemory) →
+    v ≡ w → ∥ u ≡ v ∥₁ → ∥ IsLegal v events ∥₁ → IfOk made (λ o. ∥ IsOutcomeAt u low events end o ∥₁) → IfOk made (λ o. ∥ IsOutcome w low o ∥₁)
+outcome_of_core {I} {A} w v u low events end made of same legal is = subst (λ (x : World I A). IfOk made (λ o. ∥ IsOutcome x low o ∥₁)) of (outcomes_in low events end v u made same legal is)
 
 -- the status of a build is that of a completion, or of a refusal
 pub known_status : (status : ℕ) → IsStatus status → IsCompletion status ⊎ IsRefusal status

@@ -13,7 +13,7 @@ use Rattle.msb_words.specs.declared.options.Action.{Action}
 use Rattle.msb_words.specs.declared.options.Action.TheVariants.{Build as ToBuild, Eval, Targets}
 use Rattle.msb_program.specs.declared.work.Work.{Work}
 use Rattle.msb_program.specs.declared.work.Work.TheVariants.{Told, Build}
-use Rattle.msb_program.specs.Outcomes.{IsCompletion, IsRefusal, IsWorkAt, IsWorkOfAction, IsWorkOfFile, IsWorkOfInstance, key_at}
+use Rattle.msb_program.specs.Outcomes.{HasStatus, IsBuild, IsCompletion, IsRefusal, IsWorkAt, IsWorkOfAction, IsWorkOfFile, IsWorkOfInstance, key_at}
 
 -- the status of what is told
 abbrev status_in : Work → ℕ
@@ -66,3 +66,11 @@ module _ (options : Options) (files : List File) where
   pub build_is_asked : (path : Result (List ℕ) NormalFault) (given : World) → IsWorkAt options files path (Build given) → options.action ≡ ToBuild
   build_is_asked (Ok path) given is = let key : InstanceKey = key_at path options in built_of_file options key files (file_at path files) given is
   build_is_asked (Err fault) given is = let key : InstanceKey = key_at [] options in absurd (apart options key files given _ is)
+
+  pub has_status : (path : Result (List ℕ) NormalFault) (work : Work) → IsWorkAt options files path work → HasStatus work
+  has_status path (Told o) is = told_status path o is
+  has_status path (Build given) is = tt
+
+  pub build_asked : (path : Result (List ℕ) NormalFault) (work : Work) → IsWorkAt options files path work → IsBuild work → options.action ≡ ToBuild
+  build_asked path (Told o) is build = absurd build
+  build_asked path (Build given) is build = build_is_asked path given is

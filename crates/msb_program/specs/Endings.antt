@@ -1,7 +1,8 @@
 -- How an outcome ends: what becomes of the files of its commit list, and of its text.
-use Rattle.std.specs.Prelude.{◌≡◌, ◌⊎◌, ◌++◌, ◌<◌, ℕ, List, length, slice_get, Option, IfSome, IsSomeAnd, codes}
+use Rattle.std.specs.Prelude.{◌≡◌, ◌⊎◌, ◌++◌, ◌<◌, ℕ, List, length, slice_get, Option, IfSome, IsSomeAnd, Result, Ok, Err, codes}
 use Rattle.msb_laws.specs.Faults.{Rose}
 use Rattle.msb_laws.specs.Gains.{Appends, AppendsFront, Prints}
+use Rattle.msb_values.specs.declared.errors.NoMemory.{NoMemory}
 use Rattle.msb_values.specs.declared.put.Put.{Put}
 use Rattle.file_store.specs.Commits.{AreWritten, AreWrittenTo, HasContents}
 use Rattle.file_store.specs.declared.tree.File.{File}
@@ -95,6 +96,11 @@ Ends o faults_before faults_after s p status =
     ⊎ ((status ≡ 6) × EndsUnprinted s p o)
     ⊎ ((status ≡ 5) × EndsUnwritten faults_before faults_after s p o)
     ⊎ ((status ≡ 7) × Silent p × EndsHalfway s o)
+
+-- how what was made ends; for want of memory nothing was
+abbrev pub EndsMade : Result Outcome NoMemory → ℕ → ℕ → Saving → Printing → ℕ → Type 0
+EndsMade (Ok o) faults_before faults_after s p status = Ends o faults_before faults_after s p status
+EndsMade (Err none) faults_before faults_after s p status = (status ≡ 7) × Kept s × Silent p
 
 -- how an outcome of these files ends, where it is made
 abbrev pub EndsOver : Answering → Options → List File → ℕ → ℕ → Saving → Printing → ℕ → Type 0

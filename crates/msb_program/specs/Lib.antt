@@ -3,3 +3,4 @@ pub mod Endings
 pub mod Gates
 pub mod Meanings
 pub mod Outcomes
+pub mod Prepared

@@ -118,6 +118,16 @@ abbrev pub IsWorkAt : Options → List File → Result (List ℕ) NormalFault �
 IsWorkAt options files (Ok path) work = IsWorkOfFile options (key_at path options) files (file_at path files) work
 IsWorkAt options files (Err fault) work = work ≡ Told (not_found options.project)
 
+-- what is told without a build is done, or the project is refused
+abbrev pub HasStatus : Work → Type 0
+HasStatus (Told outcome) = IsCompletion outcome.status ⊎ IsRefusal outcome.status
+HasStatus (Build given) = Unit {0}
+
+-- the work is a build
+abbrev pub IsBuild : Work → Type 0
+IsBuild (Told outcome) = ⊥
+IsBuild (Build given) = Unit {0}
+
 module _ (tools : Answering) where
   -- what may come of the work: of a build, what some legal history of its requests leads to
   abbrev pub ComesOf : Bool → Work → Outcome → Type 0

@@ -6,35 +6,18 @@ ghost use Rattle.build_scheduler.specs.Position.{begins};
 ghost use Rattle.request_machine.specs.Worlds.{world_of};
 ghost use Rattle.msb_program.specs.Outcomes.{IsCompletion, IsRefusal};
 
-use crate::builder::Builder;
 use build_outcome::Outcome;
 use build_plain::build_alone;
 use build_scheduler::{Core, Walker};
 use build_world::World;
 use msb_values::NoMemory;
-use msb_words::Options;
 use request_machine::{Site, Walk, root_key};
 use result_cache::RequestKey;
 use std::alloc::Global;
 use task_trait::CountedTools;
 
-// Tools whose calls are listed build on one node.
-impl<T: CountedTools> Builder for T {
-    ghost answer = { T.answer };
-
-    ghost calls = { T.calls };
-
-    fn build(
-        &mut self,
-        alloc: Global,
-        options: &Options,
-        world: &World,
-    ) -> Result<Outcome, NoMemory> {
-        built(alloc, options.low, world, self)
-    }
-}
-
-fn built<T: CountedTools>(
+/// What is given is built on one node.
+pub fn built<T: CountedTools>(
     alloc: Global,
     low: bool,
     world: &World,

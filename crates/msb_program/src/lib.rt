@@ -9,8 +9,8 @@
 #![tactic(auto)]
 
 mod alone;
-mod builder;
 mod gate;
+mod on_nodes;
 mod outcome;
 mod top;
 mod work;

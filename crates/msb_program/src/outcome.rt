@@ -1,32 +1,56 @@
-//! What the words come to over the files of a tree.
+//! What is made of the work that is left.
 
-ghost use Rattle.std.specs.Prelude.{◌≡◌, ◌⊎◌, [], IfOk};
-ghost use Rattle.msb_paths.specs.Refused.{normal_path};
-ghost use Rattle.msb_words.specs.declared.options.Action.TheVariants.{Build};
-ghost use Rattle.msb_program.specs.Outcomes.{IsCompletion, IsOutcomeAt, IsRefusal};
+ghost use Rattle.std.specs.Prelude.{◌≡◌, ◌⊎◌, ◌<◌, ◌≤◌, IfOk};
+ghost use Rattle.msb_program.specs.Outcomes.{ComesOf, HasStatus, IsBuild, IsCompletion, IsRefusal};
 
-use crate::builder::Builder;
-use crate::work::{Work, work_within};
+use crate::alone::built;
+use crate::on_nodes::built_on;
+use crate::work::Work;
 use build_outcome::Outcome;
-use file_store::Tree;
 use msb_values::NoMemory;
 use msb_words::Options;
 use std::alloc::Global;
+use std::sync::Wait;
+use std::thread::Threads;
+use task_trait::{Counted, CountedTools, Tools};
 
-/// What the words come to over the files of a tree that is within the limits: a build, or what is shown, or why the project
-/// is refused.
-pub fn outcome_within<B: Builder>(
+/// What comes of the work, where a build takes one node.
+pub fn outcome_alone<T: CountedTools>(
     alloc: Global,
     options: &Options,
-    tree: Tree,
-    builder: &mut B,
+    work: Work,
+    tools: &mut T,
 ) -> Result<Outcome, NoMemory>
-    ensures outcome { IfOk result (IsOutcomeAt B.answer options.now tree.files (normal_path [] options.now.project)) }
+    requires { HasStatus work }
+    ensures outcome { IfOk result (ComesOf T.answer options.now.low work) }
     ensures status { IfOk result (λ o. IsCompletion o.status ⊎ IsRefusal o.status) }
-    ensures uncalled { (options.now.action ≡ Build → ⊥) → B.calls builder.new ≡ B.calls builder.old }
+    ensures uncalled { (IsBuild work → ⊥) → T.calls tools.new ≡ T.calls tools.old }
 {
-    match work_within(alloc, options, tree)? {
+    match work {
         Work::Told(outcome) => Ok(outcome),
-        Work::Build(world) => builder.build(alloc, options, &world),
+        Work::Build(world) => built(alloc, options.low, &world, tools),
+    }
+}
+
+/// What comes of the work, where a build takes as many nodes as the words tell. One node needs no thread.
+pub fn outcome_on<R: Threads + Wait + Sync, T: Tools + Sync>(
+    rt: &R,
+    alloc: Global,
+    options: &Options,
+    work: Work,
+    tools: &T,
+) -> Result<Outcome, NoMemory>
+    requires status { HasStatus work }
+    requires nodes { (0 < options.now.nodes) × (options.now.nodes ≤ 64) }
+    ensures outcome { IfOk result (ComesOf T.answer options.now.low work) }
+    ensures status { IfOk result (λ o. IsCompletion o.status ⊎ IsRefusal o.status) }
+{
+    if options.nodes == 1 {
+        let mut counted = Counted::new(alloc, tools)?;
+        return outcome_alone(alloc, options, work, &mut counted);
+    }
+    match work {
+        Work::Told(outcome) => Ok(outcome),
+        Work::Build(world) => built_on(rt, alloc, options.low, options.nodes, &world, tools),
     }
 }

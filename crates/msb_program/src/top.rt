@@ -1,20 +1,18 @@
-ghost use Rattle.std.specs.Prelude.{◌≡◌, ◌++◌, ◌⊎◌, None, map, string_bytes, IfOk, codes};
+ghost use Rattle.std.specs.Prelude.{◌≡◌, ◌++◌, ◌⊎◌, ◌<◌, ◌≤◌, None, map, string_bytes, IfOk, codes};
 ghost use Rattle.msb_laws.specs.Faults.{Rose};
 ghost use Rattle.msb_laws.specs.Gains.{Prints};
-ghost use Rattle.file_store.specs.Entries.{entries_of};
-ghost use Rattle.file_store.specs.Limits.{limit_fault};
 ghost use Rattle.file_store.specs.declared.loading.LoadFault.TheVariants.{Memory};
 ghost use Rattle.msb_words.specs.Options.{options_in};
-ghost use Rattle.msb_words.specs.declared.options.Action.TheVariants.{Build};
 ghost use Rattle.build_report.specs.Line.{line};
 ghost use Rattle.msb_program.specs.Outcomes.{IsCompletion, IsRefusal, load_fault_text, fault_status};
-ghost use Rattle.msb_program.specs.Endings.{Ends, EndsOver, Printed, PrintedAll, PrintedFront, Silent, printing, saving};
+ghost use Rattle.msb_program.specs.Endings.{Ends, EndsMade, Printed, PrintedAll, PrintedFront, Silent, printing, saving};
 ghost use Rattle.msb_program.specs.Answers.{Answers, AsksForBuild, loading};
+ghost use Rattle.msb_program.specs.Prepared.{IsLeft, IsPrepared};
 ghost use Rattle.msb_program.specs.Meanings.{AnswersMeant, Means};
 ghost use Rattle.build_outcome.specs.declared.outcome.Outcome.{Outcome as TheOutcome};
 
-use crate::builder::Builder;
-use crate::outcome::outcome_within;
+use crate::outcome::{outcome_alone, outcome_on};
+use crate::work::{Work, work_within};
 use build_outcome::Outcome;
 use file_store::{CommitFault, LoadFault, Sink, SinkError, Store, Tree, commit, load};
 use msb_values::{NoMemory, Text};
@@ -22,7 +20,7 @@ use msb_words::{Options, WordFault, read_words};
 use std::alloc::Global;
 use std::sync::Wait;
 use std::thread::Threads;
-use task_trait::{Counted, CountedTools, Tools};
+use task_trait::{CountedTools, Tools};
 
 const USAGE: &str =
     "usage: msb ACTION PROJECT [--target LIST] [--property LIST] [--nodes N] [--clean] [--show low] [--size N]\n";
@@ -34,8 +32,11 @@ const USAGE: &str =
 /// build failed, 2 where the words are outside the grammar, 3 where the project is refused, 4 where its build is, 5
 /// where the store failed, 6 where the sink failed and nothing else did, 7 for want of memory, and 8 where the files
 /// pass a limit. Files are written with status 0, 1 and 6, and those up to some place of the list with 5 and 7.
+///
+/// A build takes as many nodes as the words tell, each in a thread of its own, and waits for them; over one node it starts no
+/// thread. (MSBuild command-line reference, -maxCpuCount.)
 pub fn run<R: Threads + Wait + Sync, S: Store, K: Sink, T: Tools + Sync>(
-    _rt: &R,
+    rt: &R,
     alloc: Global,
     words: &[String],
     store: &mut S,
@@ -45,13 +46,10 @@ pub fn run<R: Threads + Wait + Sync, S: Store, K: Sink, T: Tools + Sync>(
     ensures answer { Answers T.answer (map string_bytes words.now) (loading (S.tree store.old) (S.fault_count store.old) (S.fault_count store.new) (S.failures store.old) (S.failures store.new)) (saving (S.tree store.old) (S.tree store.new)) (printing (K.fault_count sink.old) (K.fault_count sink.new) (K.told sink.old) (K.told sink.new)) result }
     ensures meaning { (meant : TheOutcome) → Means T.answer (map string_bytes words.now) (S.tree store.old) meant → AnswersMeant (map string_bytes words.now) (loading (S.tree store.old) (S.fault_count store.old) (S.fault_count store.new) (S.failures store.old) (S.failures store.new)) (saving (S.tree store.old) (S.tree store.new)) (printing (K.fault_count sink.old) (K.fault_count sink.new) (K.told sink.old) (K.told sink.new)) meant result }
 {
-    match Counted::new(alloc, tools) {
-        Ok(mut counted) => run_alone(alloc, words, store, sink, &mut counted),
-        Err(NoMemory) => 7,
-    }
+    answered_on(rt, alloc, words, store, sink, tools)
 }
 
-/// The same on one node. It starts no thread and always returns.
+/// The same on one node, whatever the number of nodes that the words tell. It starts no thread and always returns.
 pub fn run_alone<S: Store, K: Sink, T: CountedTools>(
     alloc: Global,
     words: &[String],
@@ -63,48 +61,102 @@ pub fn run_alone<S: Store, K: Sink, T: CountedTools>(
     ensures meaning { (meant : TheOutcome) → Means T.answer (map string_bytes words.now) (S.tree store.old) meant → AnswersMeant (map string_bytes words.now) (loading (S.tree store.old) (S.fault_count store.old) (S.fault_count store.new) (S.failures store.old) (S.failures store.new)) (saving (S.tree store.old) (S.tree store.new)) (printing (K.fault_count sink.old) (K.fault_count sink.new) (K.told sink.old) (K.told sink.new)) meant result }
     ensures uncalled { (AsksForBuild (options_in (map string_bytes words.now)) → ⊥) → T.calls tools.new ≡ T.calls tools.old }
 {
-    answered(alloc, words, store, sink, tools)
+    answered_alone(alloc, words, store, sink, tools)
 }
 
-// What the words come to, by a builder.
-fn answered<S: Store, K: Sink, B: Builder>(
+// What the words come to, on one node.
+fn answered_alone<S: Store, K: Sink, T: CountedTools>(
     alloc: Global,
     words: &[String],
     store: &mut S,
     sink: &mut K,
-    builder: &mut B,
+    tools: &mut T,
 ) -> u8
-    ensures answer { Answers B.answer (map string_bytes words.now) (loading (S.tree store.old) (S.fault_count store.old) (S.fault_count store.new) (S.failures store.old) (S.failures store.new)) (saving (S.tree store.old) (S.tree store.new)) (printing (K.fault_count sink.old) (K.fault_count sink.new) (K.told sink.old) (K.told sink.new)) result }
-    ensures uncalled { (AsksForBuild (options_in (map string_bytes words.now)) → ⊥) → B.calls builder.new ≡ B.calls builder.old }
+    ensures answer { Answers T.answer (map string_bytes words.now) (loading (S.tree store.old) (S.fault_count store.old) (S.fault_count store.new) (S.failures store.old) (S.failures store.new)) (saving (S.tree store.old) (S.tree store.new)) (printing (K.fault_count sink.old) (K.fault_count sink.new) (K.told sink.old) (K.told sink.new)) result }
+    ensures uncalled { (AsksForBuild (options_in (map string_bytes words.now)) → ⊥) → T.calls tools.new ≡ T.calls tools.old }
+{
+    match prepare(alloc, words, store, sink) {
+        Prepared::Ended(status) => status,
+        Prepared::Ready(options, work) => {
+            let made = outcome_alone(alloc, &options, work, tools);
+            end(alloc, made, store, sink)
+        }
+    }
+}
+
+// What the words come to, on as many nodes as they tell.
+fn answered_on<R: Threads + Wait + Sync, S: Store, K: Sink, T: Tools + Sync>(
+    rt: &R,
+    alloc: Global,
+    words: &[String],
+    store: &mut S,
+    sink: &mut K,
+    tools: &T,
+) -> u8
+    ensures { Answers T.answer (map string_bytes words.now) (loading (S.tree store.old) (S.fault_count store.old) (S.fault_count store.new) (S.failures store.old) (S.failures store.new)) (saving (S.tree store.old) (S.tree store.new)) (printing (K.fault_count sink.old) (K.fault_count sink.new) (K.told sink.old) (K.told sink.new)) result }
+{
+    match prepare(alloc, words, store, sink) {
+        Prepared::Ended(status) => status,
+        Prepared::Ready(options, work) => {
+            let made = outcome_on(rt, alloc, &options, work, tools);
+            end(alloc, made, store, sink)
+        }
+    }
+}
+
+/// What is left to do once the words are read, the files loaded and the project evaluated.
+#[derive(Drop)]
+enum Prepared {
+    /// Nothing: this is the status.
+    Ended(u8),
+    /// This work.
+    Ready(Options, Work),
+}
+
+// Reads the words, loads the files and evaluates the project. What fails is printed.
+fn prepare<S: Store, K: Sink>(
+    alloc: Global,
+    words: &[String],
+    store: &mut S,
+    sink: &mut K,
+) -> Prepared
+    ensures { IsPrepared (map string_bytes words.now) (loading (S.tree store.old) (S.fault_count store.old) (S.fault_count store.new) (S.failures store.old) (S.failures store.new)) (saving (S.tree store.old) (S.tree store.new)) (printing (K.fault_count sink.old) (K.fault_count sink.new) (K.told sink.old) (K.told sink.new)) result }
 {
     let options = match read_words(alloc, words) {
         Ok(options) => options,
         Err(WordFault::Usage) => {
             print(sink, USAGE.as_bytes());
-            return 2;
+            return Prepared::Ended(2);
         }
-        Err(WordFault::Memory) => return 7,
+        Err(WordFault::Memory) => return Prepared::Ended(7),
     };
     match load(alloc, store) {
-        Ok(tree) => complete(alloc, &options, tree, store, sink, builder),
-        Err(fault) => print_load_fault(alloc, &fault, sink),
+        Ok(tree) => work_left(alloc, options, tree),
+        Err(fault) => Prepared::Ended(print_load_fault(alloc, &fault, sink)),
     }
 }
 
-// What the words come to over the files of a tree.
-fn complete<S: Store, K: Sink, B: Builder>(
+// What is left to do over the files of a tree.
+fn work_left(alloc: Global, options: Options, tree: Tree) -> Prepared
+    ensures { IsLeft options tree.files result }
+{
+    match work_within(alloc, &options, tree) {
+        Ok(work) => Prepared::Ready(options, work),
+        Err(NoMemory) => Prepared::Ended(7),
+    }
+}
+
+// Ends what was made: its files are written, and then its text is printed.
+fn end<S: Store, K: Sink>(
     alloc: Global,
-    options: &Options,
-    tree: Tree,
+    made: Result<Outcome, NoMemory>,
     store: &mut S,
     sink: &mut K,
-    builder: &mut B,
 ) -> u8
-    requires { limit_fault (entries_of tree.files) ≡ None }
-    ensures uncalled { (options.now.action ≡ Build → ⊥) → B.calls builder.new ≡ B.calls builder.old }
-    ensures ends { EndsOver B.answer options.now tree.files (S.fault_count store.old) (S.fault_count store.new) (saving (S.tree store.old) (S.tree store.new)) (printing (K.fault_count sink.old) (K.fault_count sink.new) (K.told sink.old) (K.told sink.new)) result }
+    requires { IfOk made (λ o. IsCompletion o.status ⊎ IsRefusal o.status) }
+    ensures { EndsMade made (S.fault_count store.old) (S.fault_count store.new) (saving (S.tree store.old) (S.tree store.new)) (printing (K.fault_count sink.old) (K.fault_count sink.new) (K.told sink.old) (K.told sink.new)) result }
 {
-    match outcome_within(alloc, options, tree, builder) {
+    match made {
         Ok(outcome) => commit_and_print(alloc, &outcome, store, sink),
         Err(NoMemory) => 7,
     }

@@ -47,12 +47,7 @@ pub fn work_within(alloc: Global, options: &Options, tree: Tree) -> Result<Work,
     }
 }
 
-fn work_at(
-    alloc: Global,
-    options: &Options,
-    key: InstanceKey,
-    tree: Tree,
-) -> Result<Work, NoMemory>
+fn work_at(alloc: Global, options: &Options, key: InstanceKey, tree: Tree) -> Result<Work, NoMemory>
     ensures { IfOk result (IsWorkOfFile options.now key tree.files (file_at key.path tree.files)) }
 {
     if tree.find(key.path.as_str()).is_none() {

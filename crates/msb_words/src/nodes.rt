@@ -1,4 +1,4 @@
-ghost use Rattle.std.specs.Prelude.{◌≡◌, option_map};
+ghost use Rattle.std.specs.Prelude.{◌≡◌, ◌<◌, ◌≤◌, IfOk, option_map};
 ghost use Rattle.msb_words.specs.Answers.{Reads};
 ghost use Rattle.msb_words.specs.Values.{nodes_if, nodes_in, number_of};
 
@@ -6,7 +6,8 @@ use crate::WordFault;
 
 /// How many worker nodes build, or one where the option is left out. (MSBuild parallel builds.)
 pub(crate) fn nodes(value: Option<&str>) -> Result<u32, WordFault>
-    ensures { Reads (nodes_if (option_map (λ v. v.now) value.entry)) result }
+    ensures reads { Reads (nodes_if (option_map (λ v. v.now) value.entry)) result }
+    ensures range { IfOk result (λ nodes. (0 < nodes) × (nodes ≤ 64)) }
 {
     match value {
         Some(value) => nodes_in(value),
@@ -15,7 +16,8 @@ pub(crate) fn nodes(value: Option<&str>) -> Result<u32, WordFault>
 }
 
 fn nodes_in(value: &str) -> Result<u32, WordFault>
-    ensures { Reads (nodes_in value.now) result }
+    ensures reads { Reads (nodes_in value.now) result }
+    ensures range { IfOk result (λ nodes. (0 < nodes) × (nodes ≤ 64)) }
 {
     match number_of(value) {
         Some(nodes @ 1..=64) => Ok(nodes),

@@ -1,4 +1,4 @@
-ghost use Rattle.std.specs.Prelude.{◌≡◌, map, string_bytes, option_map};
+ghost use Rattle.std.specs.Prelude.{◌≡◌, ◌<◌, ◌≤◌, IfOk, map, string_bytes, option_map};
 ghost use Rattle.msb_words.specs.Answers.{Reads};
 ghost use Rattle.msb_words.specs.Given.{seen};
 ghost use Rattle.msb_words.specs.Options.{action_of, has_options, options_in, options_for, options_of};
@@ -53,14 +53,16 @@ pub struct Options {
 /// begin with `-`. N is one or two digits, and from 1 to 64. Nothing is shortened. Other words are
 /// [`WordFault::Usage`]. (MSBuild command-line reference.)
 pub fn read_words(alloc: Global, words: &[String]) -> Result<Options, WordFault>
-    ensures { Reads (options_in (map string_bytes words.now)) result }
+    ensures reads { Reads (options_in (map string_bytes words.now)) result }
+    ensures nodes { IfOk result (λ options. (0 < options.nodes) × (options.nodes ≤ 64)) }
 {
     let given = Given::of(alloc, words)?;
     options_of(alloc, &given)
 }
 
 fn options_of(alloc: Global, given: &Given<'_>) -> Result<Options, WordFault>
-    ensures { Reads (options_of (seen given.now)) result }
+    ensures reads { Reads (options_of (seen given.now)) result }
+    ensures nodes { IfOk result (λ options. (0 < options.nodes) × (options.nodes ≤ 64)) }
 {
     match action_of(given.action) {
         Some(action) => options_for(alloc, given, action),
@@ -80,7 +82,8 @@ fn action_of(word: &str) -> Option<Action>
 }
 
 fn options_for(alloc: Global, given: &Given<'_>, action: Action) -> Result<Options, WordFault>
-    ensures { Reads (options_for (seen given.now) action) result }
+    ensures reads { Reads (options_for (seen given.now) action) result }
+    ensures nodes { IfOk result (λ options. (0 < options.nodes) × (options.nodes ≤ 64)) }
 {
     if !action.has_options(given) {
         return Err(WordFault::Usage);

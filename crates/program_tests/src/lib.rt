@@ -7,6 +7,8 @@ mod calls;
 #[cfg(test)]
 mod comparisons;
 #[cfg(test)]
+mod nodes;
+#[cfg(test)]
 mod reports;
 #[cfg(test)]
 mod runs;

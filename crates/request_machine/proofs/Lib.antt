@@ -14,3 +14,4 @@ pub mod RecordsNeeded
 pub mod RunsReplayed
 pub mod StagesTaken
 pub mod WalksAnswered
+pub mod Crossing

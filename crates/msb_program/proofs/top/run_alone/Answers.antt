@@ -2,4 +2,4 @@ use Rattle.msb_program.proofs.Meant.{answers_meant}
 use Rattle.msb_program.proofs.top.run_alone.Goals as goal
 
 pub returns-clause-meaning : goal.returns-clause-meaning
-returns-clause-meaning g c = answers_meant g.T.CountedTools.answer _ _ _ _ _ c.answered.ensures.answer
+returns-clause-meaning g c = answers_meant g.T.CountedTools.answer _ _ _ _ _ c.answered_alone.ensures.answer

@@ -1,0 +1,38 @@
+-- The answer of the program where work was left once the project was evaluated.
+use Rattle.std.proofs.Common.{◌≡◌, ℕ, List, [], Option, Some, Result, Ok, Err, IfOk, inl, inr, sym, subst}
+use Rattle.file_store.specs.Failed.{Failures}
+use Rattle.file_store.specs.declared.loading.LoadFault.{LoadFault}
+use Rattle.file_store.specs.declared.tree.File.{File}
+use Rattle.msb_paths.specs.Refused.{normal_path}
+use Rattle.msb_values.specs.declared.errors.NoMemory.{NoMemory}
+use Rattle.msb_words.specs.Options.{options_in}
+use Rattle.msb_words.specs.declared.options.Options.{Options}
+use Rattle.build_outcome.specs.declared.outcome.Outcome.{Outcome}
+use Rattle.msb_program.specs.Answers.{Answers, AsksForBuild, AreLoaded, loading}
+use Rattle.msb_program.specs.Endings.{EndsMade, EndsOver, Printing, Saving, printing, saving}
+use Rattle.msb_program.specs.Outcomes.{Answering, ComesOf, IsBuild, IsOutcomeWithin, IsWorkAt}
+use Rattle.msb_program.specs.Prepared.{IsReady}
+use Rattle.msb_program.specs.declared.work.Work.{Work}
+use Rattle.msb_program.proofs.Ended.{loaded_answers}
+use Rattle.msb_program.proofs.Working.{build_asked}
+
+module _ (tools : Answering) (told : Option (List File)) (options : Options) (files : List File) (work : Work) (loaded : AreLoaded told files) (is : IsWorkAt options files (normal_path [] options.project) work) where
+  -- what was made of the work is an outcome of the files
+  over : (made : Result Outcome NoMemory) → IfOk made (ComesOf tools options.low work) → (before after : ℕ) (s : Saving) (p : Printing) (status : ℕ) → EndsMade made before after s p status → EndsOver tools options files before after s p status
+  over (Ok o) comes before after s p status ends = inl (o, subst (λ (limit : Option LoadFault). IsOutcomeWithin tools options files limit o) (sym loaded.within) (work, is, comes), ends)
+  over (Err none) comes before after s p status ends = inr ends
+
+pub ready_answers :
+    (tools : Answering) {words : List (List ℕ)} {told : Option (List File)} {faults mid faults_after : ℕ} {failed failed_mid failed_after : Failures} {before between after : Option (List File)} {pf pm pa : ℕ} {t tm ta : Option (List ℕ)}
+    (options : Options) (work : Work) → IsReady words (loading told faults mid failed failed_mid) (saving before between) (printing pf pm t tm) options work → (made : Result Outcome NoMemory) → IfOk made (ComesOf tools options.low work) → (status : ℕ)
+    → EndsMade made mid faults_after (saving between after) (printing pm pa tm ta) status → Answers tools words (loading told faults faults_after failed failed_after) (saving before after) (printing pf pa t ta) status
+ready_answers tools {words} {told} {faults} {mid} {faults_after} {failed} {failed_mid} {failed_after} {before} {between} {after} {pf} {pm} {pa} {t} {tm} {ta} options work ready made comes status ends =
+    let whole : EndsMade made mid faults_after (saving between after) (printing pf pa t ta) status =
+    subst (λ (old : Option (List ℕ)). EndsMade made mid faults_after (saving between after) (printing pf pa old ta) status) ready.silent
+    (subst (λ (count : ℕ). EndsMade made mid faults_after (saving between after) (printing count pa tm ta) status) ready.unfailing ends) in
+    loaded_answers tools words (loading told faults faults_after failed failed_after) (saving before after) (printing pf pa t ta) options ready.files ready.asked ready.loaded status mid between ready.kept ready.later
+    (over tools told options ready.files work ready.loaded ready.is made comes mid faults_after (saving between after) (printing pf pa t ta) status whole)
+
+-- a build is made only where the words ask for one
+pub build_of_words : (words : List (List ℕ)) (files : List File) (options : Options) (work : Work) → options_in words ≡ Some options → IsWorkAt options files (normal_path [] options.project) work → IsBuild work → AsksForBuild (options_in words)
+build_of_words words files options work asked is build = subst AsksForBuild (sym asked) (build_asked options files (normal_path [] options.project) work is build)

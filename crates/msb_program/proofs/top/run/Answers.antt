@@ -1,0 +1,5 @@
+use Rattle.msb_program.proofs.Meant.{answers_meant}
+use Rattle.msb_program.proofs.top.run.Goals as goal
+
+pub returns-clause-meaning : goal.returns-clause-meaning
+returns-clause-meaning g c = answers_meant g.T.Tools.answer _ _ _ _ _ c.answered_on.ensures

@@ -1,0 +1,96 @@
+//! Builds on several nodes.
+
+ghost use Rattle.std.specs.Prelude.{◌≡◌, ◌⊎◌, ◌<◌, ◌≤◌, [], IfOk, vec_len};
+ghost use Rattle.build_outcome.specs.Outcomes.{IsOutcome};
+ghost use Rattle.build_scheduler.specs.Position.{begins};
+ghost use Rattle.request_machine.specs.Worlds.{world_of};
+ghost use Rattle.msb_program.specs.Outcomes.{IsCompletion, IsRefusal};
+
+use build_nodes::build_with;
+use build_outcome::Outcome;
+use build_scheduler::{Core, Walker};
+use build_world::World;
+use msb_values::NoMemory;
+use request_machine::{Site, Walk, root_key};
+use result_cache::RequestKey;
+use std::alloc::Global;
+use std::sync::Wait;
+use std::thread::Threads;
+use task_trait::{Counted, CountedTools, Tools};
+
+/// What is given is built on several nodes, each in a thread of its own. They share tools, which each of them counts by itself.
+pub fn built_on<R: Threads + Wait + Sync, T: Tools + Sync>(
+    rt: &R,
+    alloc: Global,
+    low: bool,
+    nodes: u32,
+    world: &World,
+    tools: &T,
+) -> Result<Outcome, NoMemory>
+    requires { (0 < nodes) × (nodes ≤ 64) }
+    ensures outcome { IfOk result (λ o. ∥ IsOutcome (world_of T.answer world.now) low o ∥₁) }
+    ensures status { IfOk result (λ o. IsCompletion o.status ⊎ IsRefusal o.status) }
+{
+    let places = sites(alloc, nodes, world, tools)?;
+    built_at(rt, alloc, low, world, places)
+}
+
+// What is given is built, on a node for each site.
+fn built_at<'a, R: Threads + Wait + Sync, T: CountedTools + Send + Drop>(
+    rt: &R,
+    alloc: Global,
+    low: bool,
+    world: &'a World,
+    places: Vec<Site<'a, T>>,
+) -> Result<Outcome, NoMemory>
+    requires { (0 < vec_len places) × (vec_len places ≤ 64) }
+    ensures outcome { IfOk result (λ o. ∥ IsOutcome (world_of T.answer world.entry.now) low o ∥₁) }
+    ensures status { IfOk result (λ o. IsCompletion o.status ⊎ IsRefusal o.status) }
+{
+    let key = root_key(world)?;
+    let walk = Walk::start(alloc, world)?;
+    built_with(rt, alloc, key, walk, places, low)
+}
+
+// A site for each node.
+fn sites<'a, T: Tools>(
+    alloc: Global,
+    nodes: u32,
+    world: &'a World,
+    tools: &'a T,
+) -> Result<Vec<Site<'a, Counted<'a, T>>>, NoMemory>
+    ensures { IfOk result (λ sites. vec_len sites ≡ nodes) }
+{
+    let mut sites = Vec::new(alloc);
+    for _ in 0..nodes {
+        let tools = Counted::new(alloc, tools)?;
+        sites.push(Site { world, tools })?;
+    }
+    Ok(sites)
+}
+
+// The request of a walk that had no answer yet is built, on a node for each place. Of any walk, since it is dear to drop a core
+// of real ones.
+fn built_with<R: Threads + Wait + Sync, W: Walker + Send>(
+    rt: &R,
+    alloc: Global,
+    key: RequestKey,
+    walk: W,
+    places: Vec<W::Place>,
+    low: bool,
+) -> Result<Outcome, NoMemory>
+where
+    W::Place: Send + Drop,
+    W::Origin: Send,
+    requires key { key ≡ (W.world walk).root }
+    requires begins { W.position walk ≡ begins (W.world walk) key [] }
+    requires asked { W.asked walk ≡ 0 }
+    requires learnt { W.learnt walk ≡ [] }
+    requires places { (0 < vec_len places) × (vec_len places ≤ 64) }
+    ensures outcome { IfOk result (λ o. ∥ IsOutcome (W.world walk) low o ∥₁) }
+    ensures status { IfOk result (λ o. IsCompletion o.status ⊎ IsRefusal o.status) }
+{
+    let core = Core::new(alloc, key, walk)?;
+    let built = build_with(rt, alloc, core, places)?;
+    Outcome::of(alloc, &built, low)
+}

@@ -1,0 +1,82 @@
+-- The walk of a request may go to another thread where its tools may. What holds elements is shown here, since they hold one another.
+use denote.RattleType.{RattleType}
+use denote.Ref.{NamedLft}
+use denote.Struct.Declared as Struct
+use denote.Enum.Declared as Enum
+use denote.Param.Send.{IsSend, sendable, recorded_send, struct_send, enum_send}
+use Rattle.std.proofs.Crossing.{crosses as owned}
+use Rattle.std.proofs.alloc.Global.TheSendSync as heap
+use Rattle.msb_values.proofs.list.List.TheSendSync as list
+use Rattle.msb_values.proofs.name.Name.TheSendSync as name
+use Rattle.msb_values.proofs.scope.Scope.TheSendSync as scope
+use Rattle.msb_values.proofs.text.Text.TheSendSync as text
+use Rattle.msb_values.specs.contracts.name.Name as Name
+use Rattle.msb_values.specs.contracts.text.Text as Text
+use Rattle.msb_elements.proofs.element.Element.TheLaws.TheKnot as knot
+use Rattle.msb_elements.specs.contracts.element.Element as Element
+use Rattle.target_order.proofs.row.TargetRow.TheSendSync as row
+use Rattle.target_order.proofs.walk.OrderWalk.TheSendSync as order
+use Rattle.target_order.specs.contracts.row.TargetRow as TargetRow
+use Rattle.build_world.proofs.world.World.TheSendSync as world
+use Rattle.build_world.specs.contracts.instance.Instance as Instance
+use Rattle.build_world.specs.contracts.instance.UsedTarget as UsedTarget
+use Rattle.build_world.specs.contracts.laid_out.Placed as Placed
+use Rattle.msb_files.proofs.journal.Journal.TheSendSync as journal
+use Rattle.result_cache.proofs.request.RequestKey.TheSendSync as key
+use Rattle.result_cache.proofs.run.RunId.TheSendSync as run
+use Rattle.result_cache.proofs.table.Table.TheSendSync as table
+use Rattle.result_cache.specs.contracts.run.RunId as RunId
+use Rattle.request_machine.proofs.visit.At.TheSendSync as at
+use Rattle.request_machine.proofs.reply.Reply.TheSendSync as reply
+use Rattle.request_machine.proofs.standing.Standing.TheSendSync as standing
+use Rattle.request_machine.specs.contracts.request.Request as Request
+use Rattle.request_machine.specs.contracts.stage.Stage as Stage
+use Rattle.request_machine.specs.contracts.visit.Visit as Visit
+use Rattle.request_machine.specs.contracts.walk.Walk as Walk
+
+element-send : IsSend Element.the_field.row
+element-send = search (owned, knot.crosses, sendable) depth 60 fits 20000
+
+placed-send : IsSend Placed.the_field.row
+placed-send = struct_send (Struct.shape Placed.the_type) (text.the_send, (element-send, tt))
+
+used-send : IsSend UsedTarget.the_field.row
+used-send = struct_send (Struct.shape UsedTarget.the_type) (name.the_send, (placed-send, (search sendable, tt)))
+
+UsedTarget-send : IsSend UsedTarget.the_row
+UsedTarget-send = recorded_send _ _ _ UsedTarget.the_type.to_one used-send
+
+instance-send : IsSend Instance.the_field.row
+instance-send = struct_send (Struct.shape Instance.the_type) (
+  scope.the_field_send,
+  (
+    list.the_send TargetRow.the_row row.the_send,
+    (
+      list.the_send UsedTarget.the_row UsedTarget-send,
+      (list.the_send Name.the_row name.the_send, (list.the_send Name.the_row name.the_send, (list.the_send Text.the_row text.the_send, tt))),
+    ),
+  ),
+)
+
+module _ (T : RattleType) (s : IsSend T) where
+  visit-send : IsSend (Visit.the_field T).row
+  visit-send = struct_send (Struct.shape (Visit.the_type T)) (
+    instance-send,
+    (standing.the_field_send, (order.the_send, (run.the_field_send, (at.the_field_send T s, tt)))),
+  )
+
+  stage-send : IsSend (Stage.the_field T).row
+  stage-send = enum_send (Enum.shape (Stage.the_type T)) (tt, ((visit-send, tt), ((reply.the_send, tt), tt)))
+
+  module _ (a : NamedLft) where
+    request-send : IsSend (Request.the_field a T).row
+    request-send = struct_send (Struct.shape (Request.the_type a T)) (
+      heap.the_field_send,
+      (
+        search (world.the_sync, sendable),
+        (key.the_field_send, (journal.the_send, (list.the_send RunId.the_row run.the_send, (stage-send, tt)))),
+      ),
+    )
+
+    pub Walk-send : IsSend (Walk.the_row a T)
+    Walk-send = recorded_send _ _ _ (Walk.the_type a T).to_one (struct_send (Struct.shape (Walk.the_type a T)) (request-send, (table.the_send, (search sendable, tt))))
