@@ -1,0 +1,310 @@
+//! Small targets over a tree of files, and what their runs come to, written out.
+
+ghost use Rattle.std.specs.Prelude.{◌≡◌, [], IfOk, IfSome, IsSome, length, option_copied};
+ghost use Rattle.std.specs.List.{find};
+ghost use Rattle.std.specs.Str.{bytes_eq};
+ghost use Rattle.build_world.specs.Instances.{seen_instance};
+ghost use Rattle.target_body.specs.Standings.{target_named};
+ghost use Rattle.body_tests.specs.Readiness.{IsReady};
+
+use crate::echo::Echo;
+use crate::shown::{push_ask, push_record, push_uses};
+use build_world::{Instance, UsedTarget, World};
+use file_store::{File, Tree};
+use msb_files::Journal;
+use msb_instance::evaluate;
+use msb_values::{Copied, InstanceKey, Item, List, Mode, Name, Pairs, Put, Text, Text8};
+use result_cache::{RequestKey, RequestResult, Returned, RunId};
+use std::alloc::Global;
+use std::test::Fail;
+use target_body::{Body, BodyAsk};
+use task_trait::{Counted, CountedTools};
+
+/// The project `app/a.proj`, up to the attributes of its target T.
+const FRONT: &str = r#"{"e":"Project","c":[
+{"e":"PropertyGroup","c":[{"e":"P","t":"p"}]},
+{"e":"ItemGroup","c":[
+{"e":"X","a":{"Include":"a","K":"red"}},{"e":"X","a":{"Include":"b","K":"RED"}},{"e":"X","a":{"Include":"c","K":"blue"}},
+{"e":"Y","a":{"Include":"d","K":"Red","N":"1"}},
+{"e":"C","a":{"Include":"one.c;two.c;three.c"}}]},
+{"e":"Target","a":{"Name":"T""#;
+
+/// Another one, whose target stands in a file that it imports.
+const IMPORTING: &str = r#"{"e":"Project","c":[{"e":"Import","a":{"Project":"sub/t.targets"}}]}"#;
+
+const IMPORTED: &str = r#"{"e":"Project","c":[{"e":"Target","a":{"Name":"T""#;
+
+/// The other files with their stamps. `one.o` is older than `one.c`, `two.o` is newer than `two.c`, and `three.o` is as old
+/// as `three.c`.
+const FILES: &[(&str, &str, u64)] = &[
+    ("app/b.proj", "", 1),
+    ("app/c.proj", "", 1),
+    ("app/d.proj", "", 1),
+    ("app/e.proj", "", 1),
+    ("app/one.c", "1", 2),
+    ("app/one.o", "", 1),
+];
+
+/// Those behind the file that may be imported.
+const LATER_FILES: &[(&str, &str, u64)] = &[
+    ("app/three.c", "3", 1),
+    ("app/three.o", "", 1),
+    ("app/two.c", "2", 1),
+    ("app/two.o", "", 2),
+];
+
+/// What the run of a target comes to that has these attributes besides its Name and these children.
+pub fn told(alloc: Global, attributes: &str, children: &str) -> Result<Text, Fail> {
+    told_in(alloc, Mode::Incremental, attributes, children)
+}
+
+/// The same in this mode.
+pub fn told_in(alloc: Global, mode: Mode, attributes: &str, children: &str) -> Result<Text, Fail> {
+    let project = format!(in alloc; "{FRONT}{attributes}}},\"c\":[{children}]}}]}}")?;
+    told_of(alloc, mode, project.as_str(), "")
+}
+
+/// The same where the target stands in an imported file.
+pub fn told_imported(alloc: Global, attributes: &str, children: &str) -> Result<Text, Fail> {
+    let imported = format!(in alloc; "{IMPORTED}{attributes}}},\"c\":[{children}]}}]}}")?;
+    told_of(alloc, Mode::Incremental, IMPORTING, imported.as_str())
+}
+
+fn told_of(alloc: Global, mode: Mode, project: &str, imported: &str) -> Result<Text, Fail> {
+    let key = key(alloc, "app/a.proj")?;
+    let world = World {
+        tree: tree(alloc, project, imported)?,
+        root: key.path.copy()?,
+        globals: key.globals.copy()?,
+        targets: List::new(alloc),
+        mode,
+    };
+    if world.tree.find(key.path.as_str()).is_none() {
+        return Err(Fail::from("the project is there"));
+    }
+    let Ok(instance) = evaluate(alloc, &world.tree, &key) else {
+        return Err(Fail::from("the project has no fault"));
+    };
+    let run = RunId {
+        instance: key,
+        target: Name::read(alloc, "T")?,
+    };
+    played(alloc, &world, &instance, &run)
+}
+
+/// The requests that the run asks for, its record and its uses of tools.
+fn played(alloc: Global, world: &World, instance: &Instance, run: &RunId) -> Result<Text, Fail> {
+    let Some(_) = target_named(instance.targets.as_slice(), run.target.key()) else {
+        return Err(Fail::from("the target is there"));
+    };
+    let mut told = String::new(alloc);
+    let mut tools = Counted::new(alloc, &Echo)?;
+    push_run(&mut told, alloc, world, instance, run, &mut tools)?;
+    push_uses(&mut told, tools.calls())?;
+    Ok(Text::from(told))
+}
+
+fn target_named<'t>(targets: &'t [UsedTarget], name: &str) -> Option<&'t UsedTarget>
+    ensures { option_copied result ≡ find (λ target. bytes_eq target.name name.now) targets.entry.now }
+{
+    targets.iter().find(|target| target.name.key() == name)
+}
+
+fn push_run<T: CountedTools>(
+    told: &mut String,
+    alloc: Global,
+    world: &World,
+    instance: &Instance,
+    run: &RunId,
+    tools: &mut T,
+) -> Result<(), Fail>
+    requires { IsSome (target_named (seen_instance instance.now).targets run.now.target) }
+{
+    let mut journal = journal(alloc)?;
+    let mut body = Body::start(alloc, run, &instance.scope)?;
+    push_steps(told, alloc, world, instance, &mut body, tools, &mut journal)
+}
+
+/// The steps of the body up to its end.
+fn push_steps<T: CountedTools>(
+    told: &mut String,
+    alloc: Global,
+    world: &World,
+    instance: &Instance,
+    body: &mut Body,
+    tools: &mut T,
+    journal: &mut Journal,
+) -> Result<(), Fail>
+    requires { IsReady world.now (seen_instance instance.now) body.old [] }
+{
+    let mut results = List::new(alloc);
+    for _ in 0..9 {
+        match step(
+            told,
+            alloc,
+            world,
+            instance,
+            &mut *body,
+            &mut *tools,
+            &mut *journal,
+            &results,
+        )? {
+            Some(next) => results = next,
+            None => return Ok(()),
+        }
+    }
+    Err(Fail::from("the run finishes"))
+}
+
+/// One step of the body, and the results of the requests that it asks for. At its end there are none.
+fn step<T: CountedTools>(
+    told: &mut String,
+    alloc: Global,
+    world: &World,
+    instance: &Instance,
+    body: &mut Body,
+    tools: &mut T,
+    journal: &mut Journal,
+    results: &List<RequestResult>,
+) -> Result<Option<List<RequestResult>>, Fail>
+    requires { IsReady world.now (seen_instance instance.now) body.old results.now }
+    ensures { IfOk result (λ next. IfSome next (λ given. IsReady world.now (seen_instance instance.now) body.new given)) }
+{
+    let ask = body.advance(alloc, world, tools, instance, journal, results)?;
+    match ask {
+        BodyAsk::Call(keys) => {
+            let given = asked(told, alloc, &keys)?;
+            Ok(Some(given))
+        }
+        BodyAsk::Finished(record) => {
+            push_record(told, alloc, &record)?;
+            Ok(None)
+        }
+    }
+}
+
+/// Writes out the requests that a body asks for, and gives what they give.
+fn asked(
+    told: &mut String,
+    alloc: Global,
+    keys: &List<RequestKey>,
+) -> Result<List<RequestResult>, Fail>
+    ensures { IfOk result (λ results. length results ≡ length keys.now) }
+{
+    push_ask(told, alloc, keys)?;
+    answers(alloc, keys)
+}
+
+fn answers(alloc: Global, keys: &List<RequestKey>) -> Result<List<RequestResult>, Fail>
+    ensures { IfOk result (λ results. length results ≡ length keys.now) }
+{
+    let mut results = List::new(alloc);
+    for key in keys.as_slice() {
+        results.push(answer(alloc, key)?)?;
+    }
+    Ok(results)
+}
+
+/// What a request gives: that of `b.proj` succeeds with an item and a run, that of `c.proj` fails, that of `d.proj` is not
+/// evaluated, and any other fails with an error text.
+fn answer(alloc: Global, key: &RequestKey) -> Result<RequestResult, Fail> {
+    match key.instance.path.as_str() {
+        "app/b.proj" => succeeded(alloc, key),
+        "app/c.proj" => failed(alloc, true, None),
+        "app/d.proj" => failed(
+            alloc,
+            false,
+            Some(Text::of(alloc, "app/d.proj /: 1 NotJson")?),
+        ),
+        _ => failed(alloc, true, Some(Text::of(alloc, "unknown target nope")?)),
+    }
+}
+
+fn succeeded(alloc: Global, key: &RequestKey) -> Result<RequestResult, Fail> {
+    let target = match key.targets.get(0) {
+        Some(target) => target.copy()?,
+        None => Name::read(alloc, "Build")?,
+    };
+    let mut items = List::new(alloc);
+    items.push(Item {
+        ident: Text::of(alloc, "b.out")?,
+        recursive: Text::of(alloc, "")?,
+        meta: Pairs::new(alloc),
+    })?;
+    let mut runs = List::new(alloc);
+    runs.push(RunId {
+        instance: key.instance.copy()?,
+        target: target.copy()?,
+    })?;
+    let mut returned = List::new(alloc);
+    returned.push(Returned { target, items })?;
+    Ok(RequestResult {
+        ok: true,
+        evaluated: true,
+        returned,
+        runs,
+        error: None,
+    })
+}
+
+fn failed(alloc: Global, evaluated: bool, error: Option<Text>) -> Result<RequestResult, Fail> {
+    Ok(RequestResult {
+        ok: false,
+        evaluated,
+        returned: List::new(alloc),
+        runs: List::new(alloc),
+        error,
+    })
+}
+
+fn tree(alloc: Global, project: &str, imported: &str) -> Result<Tree, Fail> {
+    let mut files = List::new(alloc);
+    files.push(file(alloc, "app/a.proj", project, 1)?)?;
+    push_files(alloc, &mut files, FILES)?;
+    files.push(file(alloc, "app/sub/t.targets", imported, 1)?)?;
+    push_files(alloc, &mut files, LATER_FILES)?;
+    Ok(Tree::of(files).ok_or("the paths are in order")?)
+}
+
+fn push_files(
+    alloc: Global,
+    files: &mut List<File>,
+    more: &[(&str, &str, u64)],
+) -> Result<(), Fail> {
+    for (path, text, stamp) in more {
+        files.push(file(alloc, path, text, *stamp)?)?;
+    }
+    Ok(())
+}
+
+fn file(alloc: Global, path: &str, text: &str, stamp: u64) -> Result<File, Fail> {
+    Ok(File {
+        path: Text::of(alloc, path)?,
+        bytes: Text8::of(alloc, text.as_bytes())?,
+        stamp,
+    })
+}
+
+fn key(alloc: Global, path: &str) -> Result<InstanceKey, Fail> {
+    let mut globals = Pairs::new(alloc);
+    globals.insert(Name::read(alloc, "G")?, Text::of(alloc, "g")?)?;
+    Ok(InstanceKey {
+        path: Text::of(alloc, path)?,
+        globals,
+    })
+}
+
+/// A run ahead of this one has written `app/new.c`.
+fn journal(alloc: Global) -> Result<Journal, Fail> {
+    let mut journal = Journal::new(alloc)?;
+    let run = RunId {
+        instance: key(alloc, "app/a.proj")?,
+        target: Name::read(alloc, "Before")?,
+    };
+    let put = Put {
+        path: Text::of(alloc, "app/new.c")?,
+        bytes: Text8::of(alloc, b"")?,
+    };
+    journal.wrote(alloc, &run, 0, put)?;
+    Ok(journal)
+}
