@@ -24,6 +24,7 @@ pub struct Gate {
 }
 
 impl Gate {
+    /// Tools of which none was called yet.
     pub fn new() -> Gate {
         Gate {
             gates: AtomicU64::new(0),
