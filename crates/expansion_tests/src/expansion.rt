@@ -3,7 +3,7 @@ use msb_expand::{
     Bucket, Entry, Lens, Use, expand_entries, expand_list, expand_names, expand_text, metadata,
     with_defaults,
 };
-use msb_values::{Cause, Copied, Item, List, Lists, Name, Pairs, Scope, Text};
+use msb_values::{Cause, Copied, Item, List, Lists, Name, Pairs, Scope, SharedItems, Text};
 use std::alloc::Global;
 use std::test::Fail;
 
@@ -122,6 +122,7 @@ impl Scene {
         put(alloc, &mut scope.items, "Up", "../../x")?;
         put(alloc, &mut scope.items, "G", "a  G=src/*.c")?;
         let included = included(alloc, &scope)?;
+        let included = SharedItems::of(alloc, included)?;
         scope.items.insert(name(alloc, "X")?, included)?;
         let defaults = pairs(alloc, "K=none\nD=def")?;
         scope.defaults.insert(name(alloc, "C")?, defaults)?;

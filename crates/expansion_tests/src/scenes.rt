@@ -1,6 +1,6 @@
 //! What tests are set in: names, items and scopes from tables.
 
-use msb_values::{Defaults, Item, List, Lists, Name, Pairs, Scope, Text};
+use msb_values::{Defaults, Item, List, Lists, Name, Pairs, Scope, SharedItems, Text};
 use std::alloc::Global;
 use std::test::Fail;
 
@@ -45,7 +45,7 @@ pub fn put(alloc: Global, lists: &mut Lists, kind: &str, rows: &str) -> Result<(
             items.push(item(alloc, row)?)?;
         }
     }
-    lists.insert(name(alloc, kind)?, items)?;
+    lists.insert(name(alloc, kind)?, SharedItems::of(alloc, items)?)?;
     Ok(())
 }
 

@@ -5,7 +5,7 @@ ghost use Rattle.msb_batching.specs.Filling.{bucket_begun, put_beside, with_item
 
 use crate::reference::Reference;
 use msb_expand::Bucket;
-use msb_values::{Copied, Item, List, Name, Named, NoMemory, Text};
+use msb_values::{Copied, Item, List, Name, Named, NoMemory, SharedItems, Text};
 use std::alloc::Global;
 
 /// The empty value for each reference.
@@ -77,17 +77,23 @@ pub(crate) fn with_list(
     let mut filled = Vec::with_capacity(alloc, buckets.len())?;
     let mut lists = lists.into_iter();
     for bucket in buckets {
-        filled.push(with_items(bucket, kind, lists.next())?)?;
+        filled.push(with_items(alloc, bucket, kind, lists.next())?)?;
     }
     Ok(filled)
 }
 
-fn with_items(bucket: Bucket, kind: &Name, items: Option<List<Item>>) -> Result<Bucket, NoMemory>
+fn with_items(
+    alloc: Global,
+    bucket: Bucket,
+    kind: &Name,
+    items: Option<List<Item>>,
+) -> Result<Bucket, NoMemory>
     ensures { IfOk result (λ filled. filled ≡ with_items kind.now bucket items) }
 {
     let mut bucket = bucket;
     match items {
         Some(items) => {
+            let items = SharedItems::of(alloc, items)?;
             bucket.lists.insert(kind.copy()?, items)?;
             Ok(bucket)
         }

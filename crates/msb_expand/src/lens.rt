@@ -3,7 +3,7 @@ ghost use Rattle.msb_expand.specs.Scenes.{scene_of, scene_at, with_own, with_buc
 ghost use Rattle.msb_expand.specs.Reserved.{folder_of};
 
 use crate::parts::folder_of;
-use msb_values::{Item, List, Lists, Name, Scope, Text};
+use msb_values::{Item, List, Lists, Name, Scope, SharedItems, Text};
 
 /// Where an expression stands, which says what its references are.
 #[derive(Clone, Copy, Debug, PartialEq, Eq)]
@@ -97,7 +97,7 @@ impl<'a> Lens<'a> {
     }
 }
 
-fn items_or<'a>(list: Option<&'a List<Item>>, other: &'a [Item]) -> &'a [Item]
+fn items_or<'a>(list: Option<&'a SharedItems>, other: &'a [Item]) -> &'a [Item]
     ensures { result.now ≡ list_or (option_copied list.entry) other.now }
 {
     match list {

@@ -8,7 +8,9 @@ ghost use Rattle.msb_items.specs.TargetGroups.{all_applied};
 use crate::pairs::put_all;
 use crate::sets::set_of;
 use crate::unnamed::keep_unless;
-use msb_values::{Change, Folded, Item, List, Lists, Name, NoMemory, Pairs, Scope, Text};
+use msb_values::{
+    Change, Folded, Item, List, Lists, Name, NoMemory, Pairs, Scope, SharedItems, Text,
+};
 use std::alloc::Global;
 
 /// Does what some changes say, one after another. Where there is no memory, nothing is said of the scope.
@@ -48,9 +50,11 @@ fn remove_items(
 ) -> Result<(), NoMemory>
     ensures { OnOk result (lists.new ≡ changed_at kind.now (without_named texts.now) lists.old) }
 {
-    let items = lists.replace(kind, List::new(alloc));
+    let shared = lists.replace(kind, SharedItems::none());
+    let items = shared.into_list(alloc)?;
     let kept = without_named(alloc, items.into_vec(), texts)?;
-    lists.replace(kind, List::from(kept));
+    let kept = SharedItems::of(alloc, List::from(kept))?;
+    lists.replace(kind, kept);
     Ok(())
 }
 
@@ -86,9 +90,11 @@ fn set_metadata(
 ) -> Result<(), NoMemory>
     ensures { OnOk result (lists.new ≡ changed_at kind.now (with_metadata_on given.now pairs.now) lists.old) }
 {
-    let items = lists.replace(kind, List::new(alloc));
+    let shared = lists.replace(kind, SharedItems::none());
+    let items = shared.into_list(alloc)?;
     let changed = with_metadata_on(alloc, items.into_vec(), given, pairs)?;
-    lists.replace(kind, List::from(changed));
+    let changed = SharedItems::of(alloc, List::from(changed))?;
+    lists.replace(kind, changed);
     Ok(())
 }
 

@@ -18,7 +18,7 @@ use crate::unnamed::unnamed;
 use build_world::{EvalFault, LaidOut, Placed, PlacedElement};
 use file_store::Tree;
 use msb_paths::Present;
-use msb_values::{Copied, Item, List, Name, NoMemory, Scope};
+use msb_values::{Copied, Item, List, Name, NoMemory, Scope, SharedItems};
 use std::alloc::Global;
 
 /// Takes the items of a laid-out project in order, with the properties and the defaults of the scope; or the first fault,
@@ -211,9 +211,12 @@ fn remove_named(
 ) -> Result<(), NoMemory>
     ensures { OnOk result (scope.new ≡ with_list scope.old kind.now (unnamed_by project.now (seen_names names.now) (list_of scope.old kind.now))) }
 {
-    let list = scope.items.replace(kind, List::new(alloc));
+    let list = scope
+        .items
+        .replace(kind, SharedItems::none())
+        .into_list(alloc)?;
     let kept = unnamed(alloc, project, names, list.into_vec())?;
-    scope.items.insert(kind.copy()?, List::from(kept))
+    put_list(alloc, scope, kind, List::from(kept))
 }
 
 fn update<F: Present>(
@@ -243,9 +246,26 @@ fn replace_in(
 ) -> Result<(), NoMemory>
     ensures { OnOk result (scope.new ≡ with_list scope.old kind.now (replaced (list_of scope.old kind.now) replacements.items)) }
 {
-    let mut items = scope.items.replace(kind, List::new(alloc)).into_vec();
+    let list = scope
+        .items
+        .replace(kind, SharedItems::none())
+        .into_list(alloc)?;
+    let mut items = list.into_vec();
     put_all(&mut items, replacements);
-    scope.items.insert(kind.copy()?, List::from(items))
+    put_list(alloc, scope, kind, List::from(items))
+}
+
+/// Puts items in the place of those of their type.
+fn put_list(
+    alloc: Global,
+    scope: &mut Scope,
+    kind: &Name,
+    items: List<Item>,
+) -> Result<(), NoMemory>
+    ensures { OnOk result (scope.new ≡ with_list scope.old kind.now items) }
+{
+    let items = SharedItems::of(alloc, items)?;
+    scope.items.insert(kind.copy()?, items)
 }
 
 fn put_all(items: &mut [Item], replacements: Vec<Option<Item>>)
@@ -270,16 +290,7 @@ fn put(item: &mut Item, replacement: Option<Option<Item>>)
 fn append(alloc: Global, scope: &mut Scope, kind: &Name, new: Vec<Item>) -> Result<(), NoMemory>
     ensures { OnOk result (scope.new ≡ with_list scope.old kind.now (list_of scope.old kind.now ++ new.items)) }
 {
-    let mut list = scope.items.replace(kind, List::new(alloc));
-    push_all(&mut list, new)?;
-    scope.items.insert(kind.copy()?, list)
-}
-
-fn push_all(list: &mut List<Item>, new: Vec<Item>) -> Result<(), NoMemory>
-    ensures { OnOk result (list.new ≡ list.old ++ new.items) }
-{
-    for item in new {
-        list.push(item)?;
-    }
-    Ok(())
+    let mut items = scope.items.replace(kind, SharedItems::none());
+    items.append(alloc, List::from(new))?;
+    scope.items.insert(kind.copy()?, items)
 }

@@ -3,7 +3,7 @@ ghost use Rattle.msb_values.specs.Pairs.{changed_at};
 ghost use Rattle.msb_values.specs.Changes.{applied, with_added, without_named, with_metadata_on};
 
 use crate::changed_items::{with_metadata_on, without_named};
-use crate::{Change, Copied, Item, List, Lists, Name, NoMemory, Pairs, Scope, Text};
+use crate::{Change, Copied, Item, List, Lists, Name, NoMemory, Pairs, Scope, SharedItems, Text};
 use std::alloc::Global;
 
 impl Scope {
@@ -66,7 +66,7 @@ fn add_items(
     let more = items.copy()?;
     match lists.get(kind) {
         Some(_) => append(alloc, lists, kind, more),
-        None => lists.insert(kind.copy()?, more),
+        None => lists.insert(kind.copy()?, SharedItems::of(alloc, more)?),
     }
 }
 
@@ -75,9 +75,9 @@ fn append(alloc: Global, lists: &mut Lists, kind: &Name, more: List<Item>) -> Re
     ensures ok { OnOk result (lists.new ≡ changed_at kind.now (λ items. items ++ more) lists.old) }
     ensures err { OnErr result (lists.new ≡ lists.old) }
 {
-    let mut list = lists.replace(kind, List::new(alloc));
-    let appended = list.append(more);
-    lists.replace(kind, list);
+    let mut items = lists.replace(kind, SharedItems::none());
+    let appended = items.append(alloc, more);
+    lists.replace(kind, items);
     appended
 }
 
@@ -94,7 +94,7 @@ fn remove_items(
         None => Ok(()),
         Some(items) => {
             let kept = without_named(alloc, items.as_slice(), texts.as_slice())?;
-            lists.replace(kind, kept);
+            lists.replace(kind, SharedItems::of(alloc, kept)?);
             Ok(())
         }
     }
@@ -114,7 +114,7 @@ fn set_metadata(
         None => Ok(()),
         Some(items) => {
             let changed = with_metadata_on(alloc, items.as_slice(), given.as_slice(), pairs)?;
-            lists.replace(kind, changed);
+            lists.replace(kind, SharedItems::of(alloc, changed)?);
             Ok(())
         }
     }

@@ -1,4 +1,4 @@
-ghost use Rattle.std.specs.Prelude.{◌≡◌, ◌==◌, [], ◌∷◌, ◌++◌, length, IfOk, OnOk, OnErr, slice_get, option_copied};
+ghost use Rattle.std.specs.Prelude.{◌≡◌, ◌==◌, ◌<◌, ◌↔◌, [], ◌∷◌, ◌++◌, length, IfOk, IsSome, OnOk, OnErr, slice_get, option_copied, option_to_list};
 
 use crate::NoMemory;
 use std::alloc::{AllocError, Global};
@@ -82,6 +82,14 @@ impl<T: Drop> List<T> {
     {
         self.entries.push(entry)?;
         Ok(())
+    }
+
+    /// Takes the last entry away, if there is one. This takes no memory.
+    pub fn pop(&mut self) -> Option<T>
+        ensures entries { self.old ≡ self.new ++ option_to_list result }
+        ensures is_there { IsSome result ↔ (0 < length self.old) }
+    {
+        self.entries.pop()
     }
 
     /// Adds entries at the end; where there is no memory, the list stays as it was, and the entries are dropped.

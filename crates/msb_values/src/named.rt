@@ -4,7 +4,7 @@ ghost use Rattle.std.specs.BTreeMap.{insert_entry};
 ghost use Rattle.std.specs.Cmp.Lexicographic.{slice_cmp};
 ghost use Rattle.msb_values.specs.Pairs.{value_at, AreRising, changed_at, without_name, all_put};
 
-use crate::{Copied, Item, List, Name, NoMemory, Text};
+use crate::{Copied, Name, NoMemory, SharedItems, Text};
 use std::alloc::{AllocError, Global};
 use std::collections::{BTreeMap, btree_map};
 use std::marker::Model;
@@ -19,8 +19,8 @@ pub struct Named<T> {
 /// Names with texts, as properties or metadata are.
 pub type Pairs = Named<Text>;
 
-/// Item types with their items.
-pub type Lists = Named<List<Item>>;
+/// Item types with their items, which copies share.
+pub type Lists = Named<SharedItems>;
 
 /// Item types with the metadata that their items have by default.
 pub type Defaults = Named<Pairs>;
@@ -140,8 +140,8 @@ impl Copied for Named<Text> {
     }
 }
 
-impl Copied for Named<List<Item>> {
-    fn copy(&self) -> Result<Named<List<Item>>, NoMemory> {
+impl Copied for Named<SharedItems> {
+    fn copy(&self) -> Result<Named<SharedItems>, NoMemory> {
         Ok(Named {
             map: self.map.clone()?,
         })

@@ -1,5 +1,5 @@
 use build_report::{shown_eval, shown_targets};
-use msb_values::{Defaults, Item, List, Lists, Name, Pairs, Scope, Text, split_list};
+use msb_values::{Defaults, Item, List, Lists, Name, Pairs, Scope, SharedItems, Text, split_list};
 use std::alloc::Global;
 use std::test::Fail;
 use target_order::TargetRow;
@@ -66,14 +66,14 @@ fn item(alloc: Global, rows: &str) -> Result<Item, Fail> {
     })
 }
 
-fn items(alloc: Global, rows: &str) -> Result<List<Item>, Fail> {
+fn items(alloc: Global, rows: &str) -> Result<SharedItems, Fail> {
     let mut items = List::new(alloc);
     for rows in rows.split('>') {
         if !rows.is_empty() {
             items.push(item(alloc, rows)?)?;
         }
     }
-    Ok(items)
+    Ok(SharedItems::of(alloc, items)?)
 }
 
 fn scope(alloc: Global) -> Result<Scope, Fail> {

@@ -5,7 +5,7 @@ ghost use Rattle.msb_values.specs.Changes.{applied};
 ghost use Rattle.msb_items.specs.Items.{list_of, with_list};
 ghost use Rattle.target_body.specs.States.{part_after, with_part};
 
-use msb_values::{Change, Copied, Item, List, Name, NoMemory, Scope};
+use msb_values::{Change, Copied, Item, List, Name, NoMemory, Scope, SharedItems};
 use std::alloc::Global;
 
 /// A change is made in the part too.
@@ -35,16 +35,19 @@ fn list_after(
     ensures { IfOk result (λ after. after ≡ list_of (applied change.now (with_list scope.now kind.now items.now)) kind.now) }
 {
     let mut scope = scope.copy()?;
-    scope.items.insert(kind.copy()?, items.copy()?)?;
+    scope
+        .items
+        .insert(kind.copy()?, SharedItems::of(alloc, items.copy()?)?)?;
     scope.apply(alloc, change)?;
     match scope.items.take(kind) {
-        Some(items) => Ok(items),
+        Some(items) => items.into_list(alloc),
         None => Ok(List::new(alloc)),
     }
 }
 
 /// The scope that tasks see, where it is another one than that of the bucket.
 pub(crate) fn scope_of_part(
+    alloc: Global,
     scope: &Scope,
     part: &Option<(Name, List<Item>)>,
 ) -> Result<Option<Scope>, NoMemory>
@@ -53,7 +56,9 @@ pub(crate) fn scope_of_part(
     match part {
         Some((kind, items)) => {
             let mut scope = scope.copy()?;
-            scope.items.insert(kind.copy()?, items.copy()?)?;
+            scope
+                .items
+                .insert(kind.copy()?, SharedItems::of(alloc, items.copy()?)?)?;
             Ok(Some(scope))
         }
         None => Ok(None),

@@ -177,7 +177,7 @@ fn items_of(alloc: Global, scope: &Scope, kind: &Name) -> Result<List<Item>, NoM
     ensures { IfOk result (λ items. items ≡ list_of scope.now kind.now) }
 {
     match scope.items.get(kind) {
-        Some(items) => items.copy(),
+        Some(items) => List::of(alloc, items.as_slice()),
         None => Ok(List::new(alloc)),
     }
 }

@@ -11,10 +11,10 @@ returns-clause-ok c =
     let after = c.append-appended.new.self in
     on_ok_weaker c.append-appended.result
     (λ grown. c.replace.ensures.left
-    ∙ ap (changed_at kind (λ _. after)) c.replace-list.ensures.left
-    ∙ changed-twice kind (λ _. c.new.result) (λ _. after) old
-    ∙ ap (λ value. changed_at kind (λ _. value) old) (grown ∙ ap (λ items. items ++ c.args.more) c.replace-list.ensures.had)
-    ∙ changed-by kind (λ items. items ++ c.args.more) c.new.result old)
+    ∙ ap (changed_at kind (λ _. after)) c.replace-items.ensures.left
+    ∙ changed-twice kind (λ _. c.none.result) (λ _. after) old
+    ∙ ap (λ value. changed_at kind (λ _. value) old) (grown ∙ ap (λ items. items ++ c.args.more) c.replace-items.ensures.had)
+    ∙ changed-by kind (λ items. items ++ c.args.more) c.none.result old)
     c.append-appended.ensures.ok
 
 pub returns-clause-err : goal.returns-clause-err
@@ -24,9 +24,9 @@ returns-clause-err c =
     let after = c.append-appended.new.self in
     on_err_weaker c.append-appended.result
     (λ same. c.replace.ensures.left
-    ∙ ap (changed_at kind (λ _. after)) c.replace-list.ensures.left
-    ∙ changed-twice kind (λ _. c.new.result) (λ _. after) old
-    ∙ ap (λ value. changed_at kind (λ _. value) old) (same ∙ c.replace-list.ensures.had)
-    ∙ changed-by kind (λ items. items) c.new.result old
+    ∙ ap (changed_at kind (λ _. after)) c.replace-items.ensures.left
+    ∙ changed-twice kind (λ _. c.none.result) (λ _. after) old
+    ∙ ap (λ value. changed_at kind (λ _. value) old) (same ∙ c.replace-items.ensures.had)
+    ∙ changed-by kind (λ items. items) c.none.result old
     ∙ changed-same kind old)
     c.append-appended.ensures.err
