@@ -1,16 +1,15 @@
 -- What merges and replays make of a journal, entry by entry.
-use Rattle.std.proofs.Common.{◌≡◌, ℕ, List, [], ◌∷◌, ◌++◌, Bool, true, false, not, ◌||◌, Option, Some, None, cond, refl, ap, ◌∙◌, sym, subst, append_assoc}
+use Rattle.std.proofs.Common.{◌≡◌, List, [], ◌∷◌, ◌++◌, Bool, true, false, not, ◌||◌, Option, Some, None, cond, refl, ap, ◌∙◌, sym, subst}
 use Rattle.std.specs.List.{filter}
-use Rattle.std.specs.Option.{option_or}
 use Rattle.msb_laws.specs.Asking.{and_then}
 use Rattle.result_cache.specs.declared.run.RunId.{RunId}
-use Rattle.result_cache.specs.Journal.{Journal, Entry, wrote, ended, end_of, Mark, mark, same_mark, has, add, add_unless, merge, content}
+use Rattle.result_cache.specs.Journal.{Journal, Entry, wrote, ended, end_of, Mark, mark, same_mark, has, add, add_unless, merge}
 use Rattle.result_cache.specs.Replay.{Effect, puts_file, replays_run, effects_of, replays, replay_by, replay, unless_there}
 use Rattle.result_cache.specs.Same.{same_run}
 use Rattle.result_cache.specs.Table.{FinishedRun, Records}
 use Rattle.result_cache.proofs.RunTests.{or_neither, and_then-some}
 use Rattle.msb_files.specs.Growth.{AreOnce, news, AreNew, Grows}
-use Rattle.msb_files.proofs.Contents.{has-append, content-append}
+use Rattle.msb_files.proofs.Contents.{has-append}
 
 -- ---- what every entry that is added keeps, merges and replays keep
 

@@ -3,8 +3,8 @@ pub mod Contents
 pub mod Defined
 pub mod Growing
 pub mod Indexed
+pub mod IndexSteps
 pub mod LayerSteps
-pub mod MarkOrder
 pub mod MergeSteps
 pub mod PathLaws
 pub mod Paths

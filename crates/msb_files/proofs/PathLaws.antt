@@ -1,5 +1,5 @@
 -- The paths of a view stand in byte order, and are those that have content.
-use Rattle.std.proofs.Common.{◌≡◌, ℕ, List, [], ◌∷◌, ◌++◌, map, Bool, true, false, ◌&&◌, ◌||◌, Option, Some, None, option_map, is_some, cond, refl, ap, ◌∙◌, sym}
+use Rattle.std.proofs.Common.{◌≡◌, ℕ, List, [], ◌∷◌, map, Bool, true, false, ◌||◌, Option, Some, None, option_map, is_some, cond, refl, ap, ◌∙◌, sym}
 use Rattle.std.specs.BTreeSet.{insert_key}
 use Rattle.std.specs.Cmp.Lexicographic.{slice_cmp}
 use Rattle.std.specs.List.{find, list_any, list_all}
@@ -10,12 +10,11 @@ use Rattle.std.specs.declared.cmp.Ordering.TheVariants.{Less, Equal, Greater}
 use Rattle.std.specs.Str.{bytes_eq}
 use Rattle.std.proofs.Math.Bool.{or-true, or-false}
 use Rattle.std.proofs.lemmas.Cmp.{nat_list_cmp_total, nat_list_eq_equiv}
-use Rattle.std.proofs.lemmas.Slice.Eq.{bytes_eq-Decides}
 use Rattle.msb_values.specs.declared.put.Put.{Put}
 use Rattle.file_store.specs.Files.{paths_of, file_at}
 use Rattle.file_store.specs.Paths.{is_before, are_rising}
 use Rattle.file_store.specs.declared.tree.File.{File}
-use Rattle.file_store.proofs.Order.{and_true, both_true, not_true, chain}
+use Rattle.file_store.proofs.Order.{and_true, both_true, chain}
 use Rattle.result_cache.specs.Journal as journals
 use Rattle.msb_files.specs.Indices.{has_path}
 use Rattle.msb_files.specs.Views.{View, content, puts_of, with_paths, paths}

@@ -1,6 +1,6 @@
 -- The effects of a record, one segment on, and the runs of a call, one run on.
-use Rattle.std.proofs.Common.{◌≡◌, ℕ, suc, ◌+◌, ◌<◌, ◌≤◌, List, [], ◌∷◌, ◌++◌, length, map, drop, get_or, Bool, true, Option, Some, None, IsSome, is_some, refl, ap, ◌∙◌, sym, subst, arith}
-use Rattle.std.proofs.lemmas.List.{drop_more, drop_all}
+use Rattle.std.proofs.Common.{◌≡◌, ℕ, suc, ◌+◌, ◌<◌, List, [], ◌∷◌, ◌++◌, length, map, drop, get_or, Option, Some, None, IsSome, refl, ap, ◌∙◌, sym, subst, arith}
+use Rattle.std.proofs.lemmas.List.{drop_more}
 use Rattle.msb_laws.specs.Asking.{and_then}
 use Rattle.msb_values.specs.declared.put.Put.{Put}
 use Rattle.result_cache.specs.declared.run.RunId.{RunId}

@@ -1,5 +1,5 @@
 -- How a run's record is replayed by the records before it.
-use Rattle.std.proofs.Common.{◌≡◌, ℕ, ◌+◌, ◌<◌, ◌≤◌, List, [], ◌∷◌, length, map, Bool, true, false, ◌||◌, Option, Some, None, IsSome, IfSome, is_some, Result, Ok, Err, OnOk, get_or, ◌⊎◌, inl, inr, refl, ap, ◌∙◌, sym, subst, arith}
+use Rattle.std.proofs.Common.{◌≡◌, ℕ, ◌<◌, List, [], ◌∷◌, length, map, Bool, true, false, ◌||◌, Option, Some, None, IsSome, IfSome, is_some, Result, Ok, Err, OnOk, get_or, ◌⊎◌, inl, inr, refl, ap, ◌∙◌, sym, subst, arith}
 use Rattle.std.proofs.lemmas.Option.{slice_get-get_or}
 use Rattle.msb_laws.specs.Asking.{and_then}
 use Rattle.msb_values.specs.declared.errors.NoMemory.{NoMemory}
@@ -9,7 +9,7 @@ use Rattle.result_cache.specs.declared.record.Record.{Record}
 use Rattle.result_cache.specs.Found.{FoundIn}
 use Rattle.result_cache.specs.Journal.{Journal, Entry, wrote, ended, end_of, has, add}
 use Rattle.result_cache.specs.Lists.{this_or}
-use Rattle.result_cache.specs.Replay.{Effect, effects_of, replays, replay_by, replay, unless_there}
+use Rattle.result_cache.specs.Replay.{effects_of, replays, replay_by, replay, unless_there}
 use Rattle.result_cache.specs.Same.{same_run, is_in, AreDistinct}
 use Rattle.result_cache.specs.Table.{FinishedRun, Records, TableRuns, found}
 use Rattle.result_cache.specs.declared.record.Segment.{Segment}

@@ -5,7 +5,7 @@ use Rattle.msb_values.specs.declared.put.Put.{Put}
 use Rattle.file_store.specs.Files.{file_at}
 use Rattle.file_store.specs.declared.tree.File.{File}
 use Rattle.result_cache.specs.Journal.{Journal}
-use Rattle.msb_files.specs.Views.{View, content, puts_of}
+use Rattle.msb_files.specs.Views.{content, puts_of}
 
 -- files of which the newest stands first, without those whose path was written again later
 abbrev pub last_puts : List Put → List Put

@@ -1,5 +1,5 @@
 -- What a journal gains when another one is merged, or a run is replayed.
-use Rattle.std.specs.Prelude.{◌≡◌, Bool, false, not, List, [], ◌∷◌, ◌++◌, filter}
+use Rattle.std.specs.Prelude.{◌≡◌, false, not, [], ◌∷◌, ◌++◌, filter}
 use Rattle.result_cache.specs.Journal.{Journal, mark, has}
 
 -- each entry is there once, by its mark

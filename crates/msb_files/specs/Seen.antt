@@ -1,5 +1,5 @@
 -- How entries and their marks are held and shown, as what they are.
-use Rattle.std.specs.Prelude.{ℕ, Option, Some, None}
+use Rattle.std.specs.Prelude.{Option, Some, None}
 use Rattle.msb_values.specs.declared.put.Put.{Put}
 use Rattle.result_cache.specs.Journal.{Entry, wrote, ended, Mark, write_of, end_of}
 use Rattle.msb_files.specs.declared.entry.JView.{JView}

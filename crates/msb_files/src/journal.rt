@@ -17,8 +17,8 @@ use std::marker::Model;
 /// What a request knows of the files that runs have written and of the runs that have ended. (MSBuild targets; MSBuild
 /// task.)
 ///
-/// A copy takes a time and room that grow with the logarithm of the number of entries, and shares the rest. A look by path,
-/// or for a run, takes no memory, and a time that grows with the square of that logarithm.
+/// A copy takes a time and room that grow with the logarithm of the number of entries, and shares the rest. So does the time
+/// of a look by path, or for a run, which takes no memory.
 #[derive(Drop)]
 pub struct Journal {
     /// The newest first.

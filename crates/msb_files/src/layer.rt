@@ -5,23 +5,28 @@ ghost use Rattle.msb_files.specs.Seen.{mark_shown};
 ghost use Rattle.msb_files.specs.Views.{puts_of, with_paths};
 
 use crate::entry::Entry;
+use crate::hashed::{has_mark, newest_by_path, runs_by_number};
 use crate::mark::Mark;
 use crate::shared::PutRef;
-use crate::sorted::{by_mark, by_path, first_of, has_below, has_mark};
+use crate::sorted::{by_path, has_below};
 use msb_values::{Copied, NoMemory, Text};
+use result_cache::RunId;
 use std::alloc::Global;
-use std::collections::BTreeSet;
+use std::collections::{BTreeSet, HashMap, HashSet};
 use std::marker::Model;
 use std::sync::Arc;
 
-/// Entries that stand together in a journal, with an index by path and one by mark.
+/// Entries that stand together in a journal, with an index by path and one by mark, both by hash, and the files in order.
 #[derive(Drop)]
 pub(crate) struct Layer {
     /// The newest first.
     entries: Vec<Entry>,
-    /// The files that are written, in byte order of their paths, of one path the newest first.
+    /// The files that are written, in byte order of their paths.
     by_path: Vec<PutRef>,
-    by_mark: Vec<Entry>,
+    /// The newest file of each path.
+    newest: HashMap<String, PutRef>,
+    /// Of each number the runs whose entries have it.
+    runs: HashMap<Option<u64>, HashSet<RunId>>,
 }
 
 impl Model for Layer {
@@ -33,7 +38,7 @@ impl Model for Layer {
 
     ghost view = { λ l. l.entries.items };
 
-    ghost invariant = { λ l. IsIndexed l.entries.items l.by_path.items l.by_mark.items };
+    ghost invariant = { λ l. IsIndexed l.entries.items l.by_path.items l.newest l.runs };
 }
 
 impl Layer {
@@ -42,11 +47,13 @@ impl Layer {
         ensures { IfOk result (λ l. l ≡ entries.items) }
     {
         let by_path = by_path(alloc, &entries)?;
-        let by_mark = by_mark(alloc, &entries)?;
+        let newest = newest_by_path(alloc, &entries)?;
+        let runs = runs_by_number(alloc, &entries)?;
         Ok(Layer {
             entries,
             by_path,
-            by_mark,
+            newest,
+            runs,
         })
     }
 
@@ -70,8 +77,8 @@ impl Layer {
     pub(crate) fn content(&self, path: &str) -> Option<&[u8]>
         ensures { option_copied result ≡ content self.now path.now }
     {
-        match first_of(&self.by_path, path) {
-            Some(put) => Some(put.bytes.as_bytes()),
+        match self.newest.get(path) {
+            Some(put) => Some(put.get().bytes.as_bytes()),
             None => None,
         }
     }
@@ -79,14 +86,14 @@ impl Layer {
     pub(crate) fn has(&self, mark: Mark<'_>) -> bool
         ensures { result ≡ has (mark_shown mark.entry) self.now }
     {
-        has_mark(&self.by_mark, mark)
+        has_mark(&self.runs, mark)
     }
 
     /// Whether a file is written here at a path or below it.
     pub(crate) fn there(&self, path: &str) -> bool
         ensures { result ≡ is_there (map (λ put. put.path) (puts_of self.now)) path.now }
     {
-        first_of(&self.by_path, path).is_some() || has_below(&self.by_path, path)
+        self.newest.contains_key(path) || has_below(&self.by_path, path)
     }
 }
 

@@ -7,6 +7,7 @@
 
 mod committing;
 mod entry;
+mod hashed;
 mod journal;
 mod laws;
 mod layer;

@@ -1,22 +1,19 @@
-//! Files in byte order of their paths, and entries in the order of their marks, which are searched by halves.
+//! Files in byte order of their paths, which are searched by halves.
 
-ghost use Rattle.std.specs.Prelude.{◌≡◌, [], ◌∷◌, ◌++◌, IfOk, map, nat_eq, option_copied};
-ghost use Rattle.std.specs.List.{find, list_any, starts_with};
+ghost use Rattle.std.specs.Prelude.{◌≡◌, [], ◌∷◌, ◌++◌, IfOk, nat_eq};
+ghost use Rattle.std.specs.List.{list_any, starts_with};
 ghost use Rattle.std.specs.List.Sorted.{IsSorted};
 ghost use Rattle.file_store.specs.Paths.{is_before};
-ghost use Rattle.result_cache.specs.Journal.{has};
-ghost use Rattle.msb_files.specs.Indices.{IsByPath, IsByMark, path_cmp, entry_cmp, has_path};
-ghost use Rattle.msb_files.specs.Seen.{mark_shown};
+ghost use Rattle.msb_files.specs.Indices.{IsByPath, path_cmp};
 ghost use Rattle.msb_files.specs.Views.{puts_of};
 
 use crate::entry::Entry;
-use crate::mark::Mark;
 use crate::shared::PutRef;
-use msb_values::{Copied, NoMemory, Put};
+use msb_values::{Copied, NoMemory};
 use std::alloc::Global;
 use std::iter::once;
 
-/// The files that are written, in byte order of their paths, of one path in the order of the entries.
+/// The files that are written, in byte order of their paths.
 pub(crate) fn by_path(alloc: Global, entries: &[Entry]) -> Result<Vec<PutRef>, NoMemory>
     ensures { IfOk result (λ puts. IsByPath (puts_of entries.now) puts.items) }
 {
@@ -36,43 +33,6 @@ fn puts_of(alloc: Global, entries: &[Entry]) -> Result<Vec<PutRef>, NoMemory>
         }
     }
     Ok(puts)
-}
-
-/// The entries in the order of their marks.
-pub(crate) fn by_mark(alloc: Global, entries: &[Entry]) -> Result<Vec<Entry>, NoMemory>
-    ensures { IfOk result (λ marked. IsByMark entries.now marked.items) }
-{
-    let mut marked = Vec::with_capacity(alloc, entries.len())?;
-    for entry in entries {
-        marked.push(entry.copy()?)?;
-    }
-    marked.sort_by(|a, b| a.mark().compare(b.mark()))?;
-    Ok(marked)
-}
-
-/// The first file with this path.
-pub(crate) fn first_of<'a>(puts: &'a [PutRef], path: &str) -> Option<&'a Put>
-    requires { IsSorted path_cmp puts.now }
-    ensures { option_copied result ≡ find (has_path path.now) puts.now }
-{
-    let first = puts.partition_point(|put| put.get().path.as_str() < path);
-    if first < puts.len() {
-        let put = puts[first].get();
-        if put.path.as_str() == path {
-            return Some(put);
-        }
-    }
-    None
-}
-
-/// Whether one of the entries has this mark.
-pub(crate) fn has_mark(entries: &[Entry], mark: Mark<'_>) -> bool
-    requires { IsSorted entry_cmp entries.now }
-    ensures { result ≡ has (mark_shown mark.entry) entries.now }
-{
-    entries
-        .binary_search_by(|entry| entry.mark().compare(mark))
-        .is_ok()
 }
 
 /// Whether a file lies below a folder: if any does, so does the first that does not stand ahead of all these.

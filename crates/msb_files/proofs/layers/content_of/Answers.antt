@@ -1,4 +1,4 @@
-use Rattle.std.proofs.Common.{ap, ◌∙◌, rules}
+use Rattle.std.proofs.Common.{ap, ◌∙◌}
 use Rattle.result_cache.specs.Journal.{content}
 use Rattle.msb_files.proofs.LayerSteps.{content_here, content_later}
 use Rattle.msb_files.proofs.layers.content_of.Goals as goal

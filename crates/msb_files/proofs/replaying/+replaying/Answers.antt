@@ -1,10 +1,9 @@
-use Rattle.std.proofs.Common.{◌≡◌, ◌+◌, ◌<◌, Some, length, map, drop, get_or, true, false, IsSome, ap, ◌∙◌, sym, subst, rules, arith, tests}
-use Rattle.result_cache.specs.Found.{FoundIn}
+use Rattle.std.proofs.Common.{◌≡◌, ◌+◌, ◌<◌, Some, length, map, drop, get_or, false, IsSome, ap, ◌∙◌, sym, subst, rules, arith, tests}
 use Rattle.result_cache.specs.Journal.{ended, end_of, has, add}
 use Rattle.result_cache.specs.Replay.{replay, replays, replays_run}
 use Rattle.result_cache.proofs.Closed.{replay-has}
 use Rattle.msb_files.specs.Before.{before}
-use Rattle.msb_files.proofs.Replays.{runs_of, replays_before, before_fewer, replayed_in, taken_defined, taken_gives, not_found, never, if_ok, recorded_is}
+use Rattle.msb_files.proofs.Replays.{replays_before, before_fewer, replayed_in, taken_defined, taken_gives, not_found, never, if_ok, recorded_is}
 use Rattle.msb_files.proofs.ReplaySteps.{left, write_step, call_step, call_defined, run_step, run_defined}
 use Rattle.msb_files.proofs.replaying.+replaying.Goals as goal
 use Rattle.msb_files.proofs.replaying.+replaying.Goals.{take_record-in-Write+in_ok-recorded-in-Write+in_ok-add-in-Write, take_record-in-Call+in_ok-take_runs-in-Call, take_runs-then-not-has_ended+in_ok-take_run, take_runs-else-not-has_ended}

@@ -13,5 +13,4 @@ returns c =
     subst (λ puts. IsByPath puts c.sort_by.new.self.items) c.in_ok-puts.ensures (record {
       same = c.sort_by.ensures.permutation;
       sorted = c.in_ok-sort_by.ensures.sorted (λ p q. is_lt (path_cmp p q)) order (always_returns_same _ _ _ (λ a r f k. (search rules, search rules)));
-      stable = c.sort_by.ensures.stable (λ p q. is_lt (path_cmp p q)) order (always_returns_same _ _ _ (λ a r f k. (search rules, search rules)));
     })

@@ -7,4 +7,5 @@ use Rattle.msb_files.proofs.layer.Layer.has.Goals as goal
 pub returns : goal.returns
 returns c =
     let m = mark_shown c.args.mark in
-    c.has_mark.ensures ∙ (ap (has m) c.deref.ensures.value ∙ (index_has m c.self.inside.entries.items c.self.inside.by_path.items c.self.inside.by_mark.items c.self.invariant ∙ ap (has m) c.self.view_is))
+    let inside = c.self.inside in
+    c.has_mark.ensures ∙ (index_has inside.entries.items inside.by_path.items inside.newest inside.runs c.self.invariant m ∙ ap (has m) c.self.view_is)
