@@ -28,6 +28,7 @@ use Rattle.result_cache.proofs.table.Table.TheSendSync as table
 use Rattle.result_cache.specs.contracts.run.RunId as RunId
 use Rattle.request_machine.proofs.visit.At.TheSendSync as at
 use Rattle.request_machine.proofs.reply.Reply.TheSendSync as reply
+use Rattle.request_machine.proofs.shared.SharedList.TheSendSync as shared
 use Rattle.request_machine.proofs.standing.Standing.TheSendSync as standing
 use Rattle.request_machine.specs.contracts.request.Request as Request
 use Rattle.request_machine.specs.contracts.stage.Stage as Stage
@@ -74,7 +75,7 @@ module _ (T : RattleType) (s : IsSend T) where
       heap.the_field_send,
       (
         search (world.the_sync, sendable),
-        (key.the_field_send, (journal.the_send, (list.the_send RunId.the_row run.the_send, (stage-send, tt)))),
+        (key.the_field_send, (journal.the_send, (shared.the_send RunId.the_row run.the_send run.the_sync, (stage-send, tt)))),
       ),
     )
 

@@ -1,3 +1,4 @@
+pub mod Joining
 pub mod Answering
 pub mod Alike
 pub mod Errors

@@ -1,3 +1,4 @@
+pub mod Layers
 pub mod Requests
 pub mod Walk
 pub mod Each

@@ -14,6 +14,7 @@ use crate::moment::Moment;
 use crate::project::Project;
 use crate::reply::Reply;
 use crate::returned::all_targets;
+use crate::shared::SharedList;
 use crate::stage::Stage;
 use crate::standing::Standing;
 use crate::turn::Stand;
@@ -21,7 +22,7 @@ use crate::visit::{At, Visit};
 use build_world::{EvalFault, Instance, World};
 use msb_files::Journal;
 use msb_instance::evaluate;
-use msb_values::{Cause, Copied, List, NoMemory, Text};
+use msb_values::{Cause, Copied, NoMemory, Text};
 use result_cache::{RequestKey, RunId};
 use std::alloc::Global;
 use target_order::{OrderAnswer, OrderWalk};
@@ -76,7 +77,7 @@ fn begin_visit<T>(
     }
     let standing = Standing {
         scope: instance.scope.copy()?,
-        returned: List::new(alloc),
+        returned: SharedList::new(alloc),
     };
     let targets = all_targets(&instance, key)?;
     let mut order = OrderWalk::start(alloc, &instance.rows, &targets)?;

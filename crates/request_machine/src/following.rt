@@ -13,13 +13,14 @@ ghost use Rattle.request_machine.specs.Seen.{seen_project};
 
 use crate::moment::Moment;
 use crate::reply::Reply;
+use crate::shared::SharedList;
 use crate::stage::Stage;
 use crate::standing::Standing;
 use crate::turn::{Stand, Turn};
 use crate::visit::{At, Visit};
 use build_scheduler::Ask;
 use msb_files::Journal;
-use msb_values::{Change, Copied, InstanceKey, List, Name, NoMemory, Scope};
+use msb_values::{Change, Copied, InstanceKey, Name, NoMemory, Scope};
 use result_cache::{Record, Returned, RunId};
 use std::alloc::Global;
 use target_order::OrderWalk;
@@ -37,13 +38,18 @@ pub struct Follow {
 pub struct After {
     pub follow: Follow,
     pub journal: Journal,
-    pub runs: List<RunId>,
+    pub runs: SharedList<RunId>,
     pub ask: Ask,
 }
 
 impl Follow {
     /// What the request asks then, with the runs that it has made or used.
-    pub fn ask(&self, instance: &InstanceKey, runs: &List<RunId>) -> Result<Ask, NoMemory>
+    pub fn ask(
+        &self,
+        alloc: Global,
+        instance: &InstanceKey,
+        runs: &SharedList<RunId>,
+    ) -> Result<Ask, NoMemory>
         ensures { IfOk result (λ ask. ask ≡ asked_by instance.now runs.now self.now.stand) }
     {
         match &self.stand {
@@ -51,7 +57,7 @@ impl Follow {
                 instance: instance.copy()?,
                 target: target.copy()?,
             })),
-            Stand::Over(reply) => Ok(Ask::Done(reply.result(runs)?)),
+            Stand::Over(reply) => Ok(Ask::Done(reply.result(alloc, runs)?)),
         }
     }
 
@@ -167,10 +173,14 @@ fn after_run(
     let mut scope = standing.scope.copy()?;
     apply_all(alloc, &mut scope, made.changes.as_slice())?;
     let mut returned = standing.returned.copy()?;
-    returned.push(Returned {
-        target: name.copy()?,
-        items: made.items.copy()?,
-    })?;
+    let items = made.items.copy()?;
+    returned.push(
+        alloc,
+        Returned {
+            target: name.copy()?,
+            items,
+        },
+    )?;
     Ok(Standing { scope, returned })
 }
 

@@ -20,6 +20,7 @@ mod results;
 mod returned;
 mod root;
 mod running;
+mod shared;
 mod stage;
 mod standing;
 mod turn;

@@ -3,6 +3,7 @@ ghost use Rattle.request_machine.specs.Requests.{failed, unevaluated};
 ghost use Rattle.request_machine.specs.Walk.{circle_text, unknown_text};
 ghost use Rattle.build_meaning.specs.SoFar.{result_of};
 
+use crate::shared::SharedList;
 use msb_values::{Copied, List, Name, NoMemory, Text};
 use result_cache::{RequestResult, Returned, RunId};
 use std::alloc::Global;
@@ -69,14 +70,14 @@ impl Reply {
     }
 
     /// The result of a request that answers so, by the runs that it made or used.
-    pub fn result(&self, runs: &List<RunId>) -> Result<RequestResult, NoMemory>
+    pub fn result(&self, alloc: Global, runs: &SharedList<RunId>) -> Result<RequestResult, NoMemory>
         ensures { IfOk result (λ r. r ≡ result_of self.now runs.now) }
     {
         Ok(RequestResult {
             ok: self.ok,
             evaluated: self.evaluated,
             returned: self.returned.copy()?,
-            runs: runs.copy()?,
+            runs: runs.to_list(alloc)?,
             error: copied(&self.error)?,
         })
     }

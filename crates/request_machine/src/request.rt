@@ -7,6 +7,7 @@ use crate::making::Step;
 use crate::moment::Moment;
 use crate::project::Project;
 use crate::results::replay_results;
+use crate::shared::SharedList;
 use crate::stage::Stage;
 use crate::visit::Visit;
 use build_scheduler::{Answer, Ask};
@@ -25,7 +26,7 @@ pub struct Request<'a, T> {
     pub key: RequestKey,
     pub journal: Journal,
     /// The runs that it has made or used, in order.
-    pub runs: List<RunId>,
+    pub runs: SharedList<RunId>,
     pub stage: Stage<T>,
     ghost own_run: { instance_in key.instance stage ≡ key.instance },
 }
@@ -68,7 +69,7 @@ impl<'a, T> Request<'a, T> {
             world,
             key,
             journal,
-            runs: List::new(alloc),
+            runs: SharedList::new(alloc),
             stage: Stage::Begins,
         }
     }
@@ -79,7 +80,7 @@ impl<'a, T> Request<'a, T> {
         ensures asks { IfOk result (λ begun. AsksAt self.now.runs begun.stage begun.ask) }
     {
         let stage = begin(self.alloc, self.world, &self.key, &self.journal)?;
-        let ask = stage.ask(&self.runs)?;
+        let ask = stage.ask(self.alloc, &self.runs)?;
         Ok(Begun { stage, ask })
     }
 
@@ -101,9 +102,9 @@ impl<'a, T> Request<'a, T> {
         let mut journal = self.journal.copy()?;
         let made = visit.record(self.alloc, learnt, &mut journal)?;
         let mut runs = self.runs.copy()?;
-        runs.push(visit.run.copy()?)?;
+        runs.push(self.alloc, visit.run.copy()?)?;
         let follow = self.follow(visit, &journal, made.get())?;
-        let ask = follow.ask(&self.key.instance, &runs)?;
+        let ask = follow.ask(self.alloc, &self.key.instance, &runs)?;
         Ok(After {
             follow,
             journal,

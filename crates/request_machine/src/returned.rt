@@ -8,6 +8,7 @@ ghost use Rattle.request_machine.specs.Seen.{seen_project};
 
 use crate::moment::Moment;
 use crate::reply::Reply;
+use crate::shared::Shared;
 use build_world::Instance;
 use msb_values::{Copied, List, Name, NoMemory};
 use result_cache::{RequestKey, Returned};
@@ -20,10 +21,11 @@ impl<'a> Moment<'a> {
         ensures { IfOk result (λ reply. reply ≡ succeeded (seen_project self.now.project).instance self.now.key.now self.now.standing.now.returned) }
     {
         let names = asked_targets(self.project.instance, self.key);
+        let returned = self.standing.returned.entries(alloc)?;
         Ok(Reply {
             ok: true,
             evaluated: true,
-            returned: returned_by(alloc, self.standing.returned.as_slice(), names)?,
+            returned: returned_by(alloc, returned.as_slice(), names)?,
             error: None,
         })
     }
@@ -61,7 +63,7 @@ pub fn add_all(names: &mut List<Name>, more: &[Name]) -> Result<(), NoMemory>
 // What the targets of these names have returned, each name once.
 fn returned_by(
     alloc: Global,
-    returned: &[Returned],
+    returned: &[Shared<Returned>],
     names: &[Name],
 ) -> Result<List<Returned>, NoMemory>
     ensures { IfOk result (λ by. by ≡ flat_map (returned_of returned.now) (once names.now)) }
@@ -76,7 +78,7 @@ fn returned_by(
 // What the target of a name has returned, unless the name is among those ahead of it.
 fn push_returned(
     by: &mut List<Returned>,
-    returned: &[Returned],
+    returned: &[Shared<Returned>],
     ahead: &[Name],
     name: &Name,
 ) -> Result<(), NoMemory>
@@ -94,17 +96,17 @@ fn is_among(names: &[Name], name: &Name) -> bool
     names.iter().any(|other| *name == *other)
 }
 
-fn push_found(by: &mut List<Returned>, found: Option<&Returned>) -> Result<(), NoMemory>
+fn push_found(by: &mut List<Returned>, found: Option<&Shared<Returned>>) -> Result<(), NoMemory>
     ensures { OnOk result (by.new ≡ by.old ++ if_returned (option_copied found.entry)) }
 {
     if let Some(found) = found {
-        by.push(found.copy()?)?;
+        by.push(found.get().copy()?)?;
     }
     Ok(())
 }
 
-fn returned_from<'a>(returned: &'a [Returned], name: &Name) -> Option<&'a Returned>
+fn returned_from<'a>(returned: &'a [Shared<Returned>], name: &Name) -> Option<&'a Shared<Returned>>
     ensures { option_copied result ≡ find (λ r. bytes_eq r.target name.now) returned.entry.now }
 {
-    returned.iter().find(|found| found.target == *name)
+    returned.iter().find(|found| found.get().target == *name)
 }

@@ -1,8 +1,10 @@
 use crate::reply::Reply;
+use crate::shared::SharedList;
 use crate::visit::Visit;
 use build_scheduler::Ask;
-use msb_values::{Copied, List, NoMemory};
+use msb_values::{Copied, NoMemory};
 use result_cache::RunId;
+use std::alloc::Global;
 
 /// How far a request has come.
 #[derive(Drop)]
@@ -19,13 +21,13 @@ impl<T> Stage<T> {
     ghost use Rattle.request_machine.specs.Asks.{AsksAt};
 
     /// What a request asks that has made or used these runs, and wants another one or is over.
-    pub fn ask(&self, runs: &List<RunId>) -> Result<Ask, NoMemory>
+    pub fn ask(&self, alloc: Global, runs: &SharedList<RunId>) -> Result<Ask, NoMemory>
         requires { is_fresh self.now ≡ true }
         ensures { IfOk result (AsksAt runs.now self.now) }
     {
         match self {
             Stage::Visits(visit) => Ok(Ask::Want(visit.run.copy()?)),
-            Stage::Over(reply) => Ok(Ask::Done(reply.result(runs)?)),
+            Stage::Over(reply) => Ok(Ask::Done(reply.result(alloc, runs)?)),
             Stage::Begins => unreachable!(),
         }
     }
