@@ -1,5 +1,6 @@
 #!/usr/bin/env python3
-"""Times the program on projects of many targets: one chain of DependsOnTargets, and one target that hooks of all.
+"""Times the program on projects of many targets: one chain of DependsOnTargets, one row of DefaultTargets, and one target
+that all others hook on.
 
     bench/order.py [PROGRAM]
 
@@ -24,20 +25,26 @@ def target(name, **lists):
 def chain(size):
     """Target i depends on target i + 1."""
     last = size - 1
-    return [target(f"T{i}", **({"DependsOnTargets": f"T{i + 1}"} if i < last else {})) for i in range(size)]
+    return {}, [target(f"T{i}", **({"DependsOnTargets": f"T{i + 1}"} if i < last else {})) for i in range(size)]
+
+
+def row(size):
+    """The default targets are all of them, one after another."""
+    names = [f"T{i}" for i in range(size)]
+    return {"DefaultTargets": ";".join(names)}, [target(name) for name in names]
 
 
 def star(size):
     """Each other target names the first one, half of them ahead of its body and half behind it."""
-    return [target("T0")] + [
+    return {}, [target("T0")] + [
         target(f"T{i}", **{"BeforeTargets" if i % 2 else "AfterTargets": "T0"}) for i in range(1, size)
     ]
 
 
-def least_time(targets):
+def least_time(attributes, targets):
     with tempfile.TemporaryDirectory() as folder:
         with open(os.path.join(folder, "a.proj"), "w") as file:
-            json.dump({"e": "Project", "c": targets}, file)
+            json.dump({"e": "Project", "a": attributes, "c": targets}, file)
         times = []
         for _ in range(3):
             start = time.monotonic()
@@ -48,7 +55,7 @@ def least_time(targets):
         return min(times)
 
 
-for shape in (chain, star):
-    for size in (500, 1000, 2000, 5000):
-        seconds = least_time(shape(size))
+for shape in (chain, row, star):
+    for size in (500, 1000, 2000, 5000, 10000):
+        seconds = least_time(*shape(size))
         print(f"{shape.__name__} {size}: {seconds * 1e3:.1f} ms, {seconds / size * 1e6:.1f} us a target")
