@@ -1,10 +1,13 @@
-//! What the journals of a history have to do with its table: they are got from it by replaying runs. (MSBuild task.)
+//! What the journals of a history have to do with its table: they are got from it by replaying runs. And which tools its
+//! runs have used. (MSBuild task; Target element.)
 //!
 //! The functions here are laws: they run no code, and their contracts are what is proved, of every world and history.
 #![tactic(auto)]
 
 mod replayed;
 mod told;
+mod tools;
 
 pub use replayed::{requests_are_replayed, results_have_the_runs, root_is_replayed};
 pub use told::closed_history_tells;
+pub use tools::{runs_use_tools_once, tools_are_used_as_meant};
