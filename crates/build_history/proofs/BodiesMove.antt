@@ -36,6 +36,11 @@ run_on-uses tools r (uses name input go) j so_far =
     (record { name = name; input = input } ∷ y.0, y.1 ∙ append_assoc so_far.tools (record { name = name; input = input } ∷ []) y.0)
 run_on-uses tools r (calls key keys go) j so_far = ([], sym (append-nil so_far.tools))
 
+-- the event begins a run
+abbrev pub IsGo : Event → Type 0
+IsGo (Claim id run Go) = Unit {0}
+IsGo event = ⊥
+
 module _ {I A : Type 0} where
   abbrev pub IsReady : Status I A → Type 0
   IsReady (ready place) = Unit {0}
@@ -62,69 +67,69 @@ module _ {I A : Type 0} where
   Other s n b = (at s.requests n ≡ Some b) ⊎ ((body_at b.status ≡ None) ⊎ Resumed s n b)
 
   -- the request that the event is about: it is in no body; it is in the body that it was in; it begins a body; or its body is finished
-  pub data Own (s t : State I A) (id : ℕ) (b : RequestState I A) : Type 0 where
-    rests : body_at b.status ≡ None → t.tools_used ≡ s.tools_used → Own s t id b
-    goes : (q : RequestState I A) → at s.requests id ≡ Some q → body_at b.status ≡ body_at q.status → t.tools_used ≡ s.tools_used → Own s t id b
-    begins : (x : ToolsUsed I) → body_at b.status ≡ Some x → is_begun x.run s.begun ≡ false → t.tools_used ≡ s.tools_used → Own s t id b
-    finishes : (q : RequestState I A) (x : ToolsUsed I) → at s.requests id ≡ Some q → (IsReady q.status → ⊥) → body_at q.status ≡ Some x → body_at b.status ≡ None → t.tools_used ≡ x ∷ s.tools_used → Own s t id b
+  pub data Own (s t : State I A) (event : Event) (b : RequestState I A) : Type 0 where
+    rests : body_at b.status ≡ None → t.tools_used ≡ s.tools_used → Own s t event b
+    goes : (q : RequestState I A) → at s.requests (whose event) ≡ Some q → body_at b.status ≡ body_at q.status → t.tools_used ≡ s.tools_used → Own s t event b
+    begins : (q : RequestState I A) (x : ToolsUsed I) → IsGo event → at s.requests (whose event) ≡ Some q → body_at q.status ≡ None → body_at b.status ≡ Some x → is_begun x.run s.begun ≡ false → t.tools_used ≡ s.tools_used → Own s t event b
+    finishes : (q : RequestState I A) (x : ToolsUsed I) → at s.requests (whose event) ≡ Some q → (IsReady q.status → ⊥) → body_at q.status ≡ Some x → body_at b.status ≡ None → t.tools_used ≡ x ∷ s.tools_used → Own s t event b
 
-  pub record Moved (s t : State I A) (id : ℕ) : Type 0 where
+  pub record Moved (s t : State I A) (event : Event) : Type 0 where
     pub mine : RequestState I A
-    pub there : at t.requests id ≡ Some mine
+    pub there : at t.requests (whose event) ≡ Some mine
     pub unready : IsReady mine.status → ⊥
-    pub own : Own s t id mine
-    pub others : (n : ℕ) (b : RequestState I A) → (n ≡ id → ⊥) → at t.requests n ≡ Some b → Other s n b
+    pub own : Own s t event mine
+    pub others : (n : ℕ) (b : RequestState I A) → (n ≡ whose event → ⊥) → at t.requests n ≡ Some b → Other s n b
     pub begun : (r : RunId) → is_begun r t.begun ≡ false → is_begun r s.begun ≡ false
 
   put-others : (s : State I A) (id : ℕ) (z : RequestState I A) (n : ℕ) (b : RequestState I A) → (n ≡ id → ⊥) → at (put s.requests id z) n ≡ Some b → at s.requests n ≡ Some b
   put-others s id z n b d h = elim (at-put s.requests id z n b h) [ inl x ↦ absurd (d x.0) | inr y ↦ y.1 ]
 
   -- one request is put
-  put-moved : (s t : State I A) (id : ℕ) (q z : RequestState I A) → at s.requests id ≡ Some q → t.requests ≡ put s.requests id z → (IsReady z.status → ⊥) → Own s t id z →
-      ((r : RunId) → is_begun r t.begun ≡ false → is_begun r s.begun ≡ false) → Moved s t id
-  put-moved s t id q z e m u own g = record {
+  put-moved : (s t : State I A) (event : Event) (q z : RequestState I A) → at s.requests (whose event) ≡ Some q → t.requests ≡ put s.requests (whose event) z → (IsReady z.status → ⊥) → Own s t event z →
+      ((r : RunId) → is_begun r t.begun ≡ false → is_begun r s.begun ≡ false) → Moved s t event
+  put-moved s t event q z e m u own g = record {
     mine = z;
-    there = ap (λ rs. at rs id) m ∙ at-put_same s.requests id q z e;
+    there = ap (λ rs. at rs (whose event)) m ∙ at-put_same s.requests (whose event) q z e;
     unready = u;
     own = own;
-    others = λ n b d h. inl (put-others s id z n b d (sym (ap (λ rs. at rs n) m) ∙ h));
+    others = λ n b d h. inl (put-others s (whose event) z n b d (sym (ap (λ rs. at rs n) m) ∙ h));
     begun = g;
   }
 
-  moved-same : (s m t : State I A) (id : ℕ) → Moved s m id → m ≡ t → Moved s t id
-  moved-same s m t id v e = subst (λ (u : State I A). Moved s u id) e v
+  moved-same : (s m t : State I A) (event : Event) → Moved s m event → m ≡ t → Moved s t event
+  moved-same s m t event v e = subst (λ (u : State I A). Moved s u event) e v
 
 older-begun : (b c : Bool) → (b || c) ≡ false → c ≡ false
 older-begun true c h = absurd (cc)
 older-begun false c h = h
 
 module _ {I A : Type 0} (w : World I A) where
-  claimed-moved : (s t : State I A) (id m : ℕ) (o : Origin) (j : Journal) (runs : List RunId) (r : RunId) (b : Body I A) (go : Record → Journal → Walk I A) (kind : ClaimKind) (q : RequestState I A) →
-      at s.requests id ≡ Some q → claimed w s id m o j runs r b go kind ≡ Some t → Moved s t id
-  claimed-moved s t id m o j runs r b go Go q e h =
+  claimed-moved : (s t : State I A) (id m : ℕ) (o : Origin) (j : Journal) (runs : List RunId) (claims r : RunId) (b : Body I A) (go : Record → Journal → Walk I A) (kind : ClaimKind) (q : RequestState I A) →
+      at s.requests id ≡ Some q → body_at q.status ≡ None → claimed w s id m o j runs r b go kind ≡ Some t → Moved s t (Claim id claims kind)
+  claimed-moved s t id m o j runs claims r b go Go q e none h =
       let z : RequestState I A = in_body w (assigned m) o runs r go (run_on w.tools r b j nothing_yet) in
       let next : State I A = record { requests = put s.requests id z; begun = record { run = r; by = id } ∷ s.begun; table = s.table; tools_used = s.tools_used } in
       let x = unless-some (is_begun r s.begun) next t h in
-      moved-same s next t id (put-moved s next id q z e refl (λ a. a)
-      (begins (record { run = r; tools = (run_on w.tools r b j nothing_yet).so_far.tools }) refl x.0 refl)
+      moved-same s next t (Claim id claims Go) (put-moved s next (Claim id claims Go) q z e refl (λ a. a)
+      (begins q (record { run = r; tools = (run_on w.tools r b j nothing_yet).so_far.tools }) tt e none refl x.0 refl)
       (λ r1 g. older-begun (same_run r r1) (is_begun r1 s.begun) g)) x.1
-  claimed-moved s t id m o j runs r b go Use q e h =
+  claimed-moved s t id m o j runs claims r b go Use q e none h =
       let x = and_then-some (found s.table r) (λ made. and_then (replay s.table r j) (λ next. Some (with_request s id (goes_on w (assigned m) o runs r go made next)))) t h in
       let y = and_then-some (replay s.table r j) (λ next. Some (with_request s id (goes_on w (assigned m) o runs r go x.0 next))) t x.2 in
       let z : RequestState I A = goes_on w (assigned m) o runs r go x.0 y.0 in
-      moved-same s (with_request s id z) t id (put-moved s (with_request s id z) id q z e refl (λ a. a) (rests refl refl) (λ r1 g. g)) (some-is (with_request s id z) t y.2)
-  claimed-moved s t id m o j runs r b go Wait q e h =
+      moved-same s (with_request s id z) t (Claim id claims Use) (put-moved s (with_request s id z) (Claim id claims Use) q z e refl (λ a. a) (rests refl refl) (λ r1 g. g)) (some-is (with_request s id z) t y.2)
+  claimed-moved s t id m o j runs claims r b go Wait q e none h =
       let next : State I A = waiting w s id o j runs r b go in
       let x = only_if-some (may_wait w (is_begun r s.begun) (found s.table r) (is_in_cycle next r)) next t h in
-      moved-same s next t id (put-moved s next id q (request_of o j runs (waits r b go)) e refl (λ a. a) (rests refl refl) (λ r1 g. g)) x.1
+      moved-same s next t (Claim id claims Wait) (put-moved s next (Claim id claims Wait) q (request_of o j runs (waits r b go)) e refl (λ a. a) (rests refl refl) (λ r1 g. g)) x.1
 
-  called-moved : (s t : State I A) (id m : ℕ) (o : Origin) (j : Journal) (runs : List RunId) (keys : List RequestKey) (x : Within I A) (stop : Stop I A) (go : List RequestResult → Journal → Body I A) →
-      at s.requests id ≡ Some (request_of o j runs (assigned m (within x stop))) → with_children w s id o j runs keys x go ≡ t → Moved s t id
-  called-moved s t id m o j runs keys x stop go e h =
+  called-moved : (s t : State I A) (id m : ℕ) (asked : List RequestKey) (o : Origin) (j : Journal) (runs : List RunId) (keys : List RequestKey) (x : Within I A) (stop : Stop I A) (go : List RequestResult → Journal → Body I A) →
+      at s.requests id ≡ Some (request_of o j runs (assigned m (within x stop))) → with_children w s id o j runs keys x go ≡ t → Moved s t (Request id asked)
+  called-moved s t id m asked o j runs keys x stop go e h =
       let q : RequestState I A = request_of o j runs (assigned m (within x stop)) in
       let z : RequestState I A = request_of o j runs (calling keys (numbered_from (length s.requests) keys) x go) in
       let more : List (RequestState I A) = map (new_request w (Some id) (x.run ∷ o.path) j) keys in
-      moved-same s (with_children w s id o j runs keys x go) t id (record {
+      moved-same s (with_children w s id o j runs keys x go) t (Request id asked) (record {
         mine = z;
         there = at-front (put s.requests id z) more id z (at-put_same s.requests id q z e);
         unready = λ a. a;
@@ -149,9 +154,9 @@ module _ {I A : Type 0} (w : World I A) where
   woken-others table r m q z (calling a b c d) e h = inl (some-is q z h)
   woken-others table r m q z (done a) e h = inl (some-is q z h)
 
-  finished-moved : (s t : State I A) (id m : ℕ) (o : Origin) (j : Journal) (runs : List RunId) (x : Within I A) (stop : Stop I A) (made : Record) →
-      at s.requests id ≡ Some (request_of o j runs (assigned m (within x stop))) → finished w s id m o j runs x made ≡ Some t → Moved s t id
-  finished-moved s t id m o j runs x stop made e h =
+  finished-moved : (s t : State I A) (id m : ℕ) (run : RunId) (o : Origin) (j : Journal) (runs : List RunId) (x : Within I A) (stop : Stop I A) (made : Record) →
+      at s.requests id ≡ Some (request_of o j runs (assigned m (within x stop))) → finished w s id m o j runs x made ≡ Some t → Moved s t (Result id run)
+  finished-moved s t id m run o j runs x stop made e h =
       let f : FinishedRun = record { run = x.run; made = made } in
       let q : RequestState I A = request_of o j runs (assigned m (within x stop)) in
       let used : ToolsUsed I = record { run = x.run; tools = x.so_far.tools } in
@@ -160,7 +165,7 @@ module _ {I A : Type 0} (w : World I A) where
       let u = and_then-some (traverse wakes (put s.requests id z)) (λ requests. Some (record { requests = requests; begun = s.begun; table = f ∷ s.table; tools_used = used ∷ s.tools_used })) t h in
       let last : State I A = record { requests = u.0; begun = s.begun; table = f ∷ s.table; tools_used = used ∷ s.tools_used } in
       let here = traverse-at wakes (put s.requests id z) u.0 u.1 id z (at-put_same s.requests id q z e) in
-      moved-same s last t id (record {
+      moved-same s last t (Result id run) (record {
         mine = z;
         there = here.1 ∙ sym here.2;
         unready = λ a. a;
@@ -175,17 +180,17 @@ module _ {I A : Type 0} (w : World I A) where
       }) (some-is last t u.2)
 
   -- and then a caller is resumed, if there is one
-  answered-moved : (s m t : State I A) (id a : ℕ) (c : RequestState I A) (keys : List RequestKey) (ids : List ℕ) (x : Within I A) (go : List RequestResult → Journal → Body I A) → Moved s m id →
-      (a ≡ id → ⊥) → at s.requests a ≡ Some c → at m.requests a ≡ Some c → c.status ≡ calling keys ids x go → (o : Option (List RequestResult)) → answered w m a c.origin c.journal c.runs keys x go o ≡ Some t → Moved s t id
-  answered-moved s m t id a c keys ids x go v d es em p None h = moved-same s m t id v (some-is m t h)
-  answered-moved s m t id a c keys ids x go v d es em p (Some results) h =
+  answered-moved : (s m t : State I A) (event : Event) (a : ℕ) (c : RequestState I A) (keys : List RequestKey) (ids : List ℕ) (x : Within I A) (go : List RequestResult → Journal → Body I A) → Moved s m event →
+      (a ≡ whose event → ⊥) → at s.requests a ≡ Some c → at m.requests a ≡ Some c → c.status ≡ calling keys ids x go → (o : Option (List RequestResult)) → answered w m a c.origin c.journal c.runs keys x go o ≡ Some t → Moved s t event
+  answered-moved s m t event a c keys ids x go v d es em p None h = moved-same s m t event v (some-is m t h)
+  answered-moved s m t event a c keys ids x go v d es em p (Some results) h =
       let y = and_then-some (replay_all m.table (runs_of results) c.journal) (λ next. Some (with_request m a (in_body w ready c.origin c.runs x.run x.go (run_on w.tools x.run (go results next) next (with_calls x.so_far keys results))))) t h in
       let after = run_on w.tools x.run (go results y.0) y.0 (with_calls x.so_far keys results) in
       let z : RequestState I A = in_body w ready c.origin c.runs x.run x.go after in
       let more = run_on-uses w.tools x.run (go results y.0) y.0 (with_calls x.so_far keys results) in
-      moved-same s (with_request m a z) t id (record {
+      moved-same s (with_request m a z) t event (record {
         mine = v.mine;
-        there = at-put_else m.requests a z id (λ e. d (sym e)) ∙ v.there;
+        there = at-put_else m.requests a z (whose event) (λ e. d (sym e)) ∙ v.there;
         unready = v.unready;
         own = kept _ v.own;
         others = λ n b f at_n. elim (at-put m.requests a z n b at_n) [
@@ -209,56 +214,57 @@ module _ {I A : Type 0} (w : World I A) where
         begun = v.begun;
       }) (some-is (with_request m a z) t y.2)
     where
-      kept : (z : RequestState I A) → Own s m id v.mine → Own s (with_request m a z) id v.mine
+      kept : (z : RequestState I A) → Own s m event v.mine → Own s (with_request m a z) event v.mine
       kept z (rests e f) = rests e f
       kept z (goes q e f g) = goes q e f g
-      kept z (begins x e f g) = begins x e f g
+      kept z (begins q x y e n f g i) = begins q x y e n f g i
       kept z (finishes q x e u f g i) = finishes q x e u f g i
 
   step_of-moved : (s t : State I A) (event : Event) (o : Origin) (j : Journal) (runs : List RunId) (u : Status I A) → at s.requests (whose event) ≡ Some (request_of o j runs u) → step_of w s event (request_of o j runs u) ≡ Some t →
-      Moved s t (whose event)
+      Moved s t event
   step_of-moved s t (Assign id m) o j runs (ready a) e h =
       let z : RequestState I A = request_of o j runs (assigned m a) in
-      moved-same s (with_request s id z) t id (put-moved s (with_request s id z) id (request_of o j runs (ready a)) z e refl (λ a. a) (goes (request_of o j runs (ready a)) e refl refl) (λ r1 g. g)) (some-is (with_request s id z) t h)
+      moved-same s (with_request s id z) t (Assign id m) (put-moved s (with_request s id z) (Assign id m) (request_of o j runs (ready a)) z e refl (λ a. a) (goes (request_of o j runs (ready a)) e refl refl) (λ r1 g. g)) (some-is (with_request s id z) t h)
   step_of-moved s t (Assign id m) o j runs _ e h = absurd (cc)
   step_of-moved s t (Claim id run kind) o j runs (assigned m (walking (wants r b go))) e h =
       let x = and_then-some (only_if (same_run r run) r) (λ run. claimed w s id m o j runs run b go kind) t h in
-      claimed-moved s t id m o j runs x.0 b go kind (request_of o j runs (assigned m (walking (wants r b go)))) e x.2
+      claimed-moved s t id m o j runs run x.0 b go kind (request_of o j runs (assigned m (walking (wants r b go)))) e refl x.2
   step_of-moved s t (Claim id run kind) o j runs _ e h = absurd (cc)
   step_of-moved s t (Request id keys) o j runs (assigned m (within x (asks key more go))) e h =
       let y = only_if-some (same_keys (key ∷ more) keys && is_within_limits w s (x.run ∷ o.path) (key ∷ more)) (with_children w s id o j runs (key ∷ more) x go) t h in
-      called-moved s t id m o j runs (key ∷ more) x (asks key more go) go e y.1
+      called-moved s t id m keys o j runs (key ∷ more) x (asks key more go) go e y.1
   step_of-moved s t (Request id keys) o j runs _ e h = absurd (cc)
   step_of-moved s t (Result id run) o j runs (assigned m (within x (ends outcome))) e h =
       let y = and_then-some (only_if (same_run x.run run) x) (λ x. finished w s id m o j runs x (recorded outcome x.so_far.segments)) t h in
       let p : x ≡ y.0 = (only_if-some (same_run x.run run) x y.0 y.1).1 in
-      finished-moved s t id m o j runs x (ends outcome) (recorded outcome x.so_far.segments) e
+      finished-moved s t id m run o j runs x (ends outcome) (recorded outcome x.so_far.segments) e
       (subst (λ (a : Within I A). finished w s id m o j runs a (recorded outcome a.so_far.segments) ≡ Some t) (sym p) y.2)
   step_of-moved s t (Result id run) o j runs _ e h = absurd (cc)
   step_of-moved s t (Done id) o j runs (assigned m (walking (gives reply))) e h =
       let q : RequestState I A = request_of o j runs (assigned m (walking (gives reply))) in
       let z : RequestState I A = request_of o j runs (done (result_of reply runs)) in
       let over : State I A = with_request s id z in
-      caller-moved s over t id z o.parent (put-moved s over id q z e refl (λ a. a) (rests refl refl) (λ r1 g. g)) refl refl h
+      caller-moved s over t (Done id) z o.parent (put-moved s over (Done id) q z e refl (λ a. a) (rests refl refl) (λ r1 g. g)) refl refl h
     where
-      resumed-moved : (s m t : State I A) (id a : ℕ) (z c : RequestState I A) (u : Status I A) → Moved s m id → m.requests ≡ put s.requests id z → (a ≡ id → ⊥) → at m.requests a ≡ Some c → c.status ≡ u → resume_at w m a c u ≡ Some t → Moved s t id
-      resumed-moved s m t id a z c (calling keys ids x go) v f d e p h =
-          answered-moved s m t id a c keys ids x go v d (put-others s id z a c d (sym (ap (λ rs. at rs a) f) ∙ e)) e p (results_of w m.requests ids) h
-      resumed-moved s m t id a z c _ v f d e p h = absurd (cc)
+      resumed-moved : (s m t : State I A) (event : Event) (a : ℕ) (z c : RequestState I A) (u : Status I A) → Moved s m event → m.requests ≡ put s.requests (whose event) z → (a ≡ whose event → ⊥) → at m.requests a ≡ Some c → c.status ≡ u →
+          resume_at w m a c u ≡ Some t → Moved s t event
+      resumed-moved s m t event a z c (calling keys ids x go) v f d e p h =
+          answered-moved s m t event a c keys ids x go v d (put-others s (whose event) z a c d (sym (ap (λ rs. at rs a) f) ∙ e)) e p (results_of w m.requests ids) h
+      resumed-moved s m t event a z c _ v f d e p h = absurd (cc)
       over-calls : (m t : State I A) (a : ℕ) (z : RequestState I A) (u : Status I A) → u ≡ done (result_of reply runs) → resume_at w m a z u ≡ Some t → ⊥
       over-calls m t a z (calling keys ids x go) e h = absurd (cc)
       over-calls m t a z _ e h = absurd (cc)
-      caller-moved : (s m t : State I A) (id : ℕ) (z : RequestState I A) (parent : Option ℕ) → Moved s m id → m.requests ≡ put s.requests id z → z.status ≡ done (result_of reply runs) → resume_caller w m parent ≡ Some t → Moved s t id
-      caller-moved s m t id z None v f g h = moved-same s m t id v (some-is m t h)
-      caller-moved s m t id z (Some a) v f g h =
+      caller-moved : (s m t : State I A) (event : Event) (z : RequestState I A) (parent : Option ℕ) → Moved s m event → m.requests ≡ put s.requests (whose event) z → z.status ≡ done (result_of reply runs) → resume_caller w m parent ≡ Some t → Moved s t event
+      caller-moved s m t event z None v f g h = moved-same s m t event v (some-is m t h)
+      caller-moved s m t event z (Some a) v f g h =
           let y = and_then-some (at m.requests a) (λ q. resume_at w m a q q.status) t h in
-          elim (at-put s.requests id z a y.0 (sym (ap (λ rs. at rs a) f) ∙ y.1)) [
+          elim (at-put s.requests (whose event) z a y.0 (sym (ap (λ rs. at rs a) f) ∙ y.1)) [
             | inl same ↦ absurd (over-calls m t a y.0 y.0.status (ap (λ (q : RequestState I A). q.status) (sym same.1) ∙ g) y.2)
-            | inr else ↦ resumed-moved s m t id a z y.0 y.0.status v f else.0 y.1 refl y.2
+            | inr else ↦ resumed-moved s m t event a z y.0 y.0.status v f else.0 y.1 refl y.2
           ]
   step_of-moved s t (Done id) o j runs _ e h = absurd (cc)
 
-  pub step-moved : (s t : State I A) (event : Event) → step w s event ≡ Some t → Moved s t (whose event)
+  pub step-moved : (s t : State I A) (event : Event) → step w s event ≡ Some t → Moved s t event
   step-moved s t event h =
       let z = and_then-some (at s.requests (whose event)) (step_of w s event) t h in
       step_of-moved s t event z.0.origin z.0.journal z.0.runs z.0.status z.1 z.2

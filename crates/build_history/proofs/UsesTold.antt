@@ -93,7 +93,7 @@ module _ {I A : Type 0} where
   abbrev pub added : List (RunUse I) → RequestState I A → List (RunUse I)
   added uses b = uses ++ new_uses uses (body_at b.status)
 
-  module _ (s t : State I A) (id : ℕ) (uses : List (RunUse I)) (ls : Lawful s) (lt : Lawful t) (m : Moved s t id) (told : Told s uses) where
+  module _ (s t : State I A) (event : Event) (uses : List (RunUse I)) (ls : Lawful s) (lt : Lawful t) (m : Moved s t event) (told : Told s uses) where
     nothing-new : body_at m.mine.status ≡ None → added uses m.mine ≡ uses
     nothing-new e = ap (λ o. uses ++ new_uses uses o) e ∙ append-nil uses
 
@@ -106,10 +106,10 @@ module _ {I A : Type 0} where
     pub kept : (r : RunId) → ((x : ToolsUsed I) → body_at m.mine.status ≡ Some x → x.run ≡ r → ⊥) → uses_of r (added uses m.mine) ≡ uses_of r uses
     kept r d = kept-by (body_at m.mine.status) refl r d
 
-    own-rest : (o : Own s t id m.mine) → (x : ToolsUsed I) → body_at m.mine.status ≡ Some x → (rest : List (ToolUse I)) × (x.tools ≡ uses_of x.run uses ++ rest)
+    own-rest : (o : Own s t event m.mine) → (x : ToolsUsed I) → body_at m.mine.status ≡ Some x → (rest : List (ToolUse I)) × (x.tools ≡ uses_of x.run uses ++ rest)
     own-rest (rests e f) x h = none_some (body_at m.mine.status) x h e
-    own-rest (goes q e f g) x h = told.behind id q x e (sym f ∙ h)
-    own-rest (begins y e f g) x h =
+    own-rest (goes q e f g) x h = told.behind (whose event) q x e (sym f ∙ h)
+    own-rest (begins q y a w n e f g) x h =
         let p : y ≡ x = same_some (body_at m.mine.status) y x e h in
         let none : uses_of x.run uses ≡ [] = told.unbegun x.run (subst (λ (z : ToolsUsed I). is_begun z.run s.begun ≡ false) p f) in
         (x.tools, ap (λ xs. xs ++ x.tools) (sym none))
@@ -123,16 +123,16 @@ module _ {I A : Type 0} where
         ∙ (uses_of-append x.run uses (by_run x.run y.0) ∙ (ap (λ xs. uses_of x.run uses ++ xs) (uses_of-own x.run y.0) ∙ sym y.1)))
 
     -- another request is in the body of another run
-    apart : (n : ℕ) (q : RequestState I A) (y : ToolsUsed I) → (n ≡ id → ⊥) → at t.requests n ≡ Some q → body_at q.status ≡ Some y → (x : ToolsUsed I) → body_at m.mine.status ≡ Some x → x.run ≡ y.run → ⊥
+    apart : (n : ℕ) (q : RequestState I A) (y : ToolsUsed I) → (n ≡ whose event → ⊥) → at t.requests n ≡ Some q → body_at q.status ≡ Some y → (x : ToolsUsed I) → body_at m.mine.status ≡ Some x → x.run ≡ y.run → ⊥
     apart n q y d e h x g p =
-        let a = (body-mine t lt id m.mine x m.there g).2 in
+        let a = (body-mine t lt (whose event) m.mine x m.there g).2 in
         let b = (body-mine t lt n q y e h).2 in
-        d (some-is n id (sym b ∙ (ap (beginner t.begun) (sym p) ∙ a)))
+        d (some-is n (whose event) (sym b ∙ (ap (beginner t.begun) (sym p) ∙ a)))
 
-    pub kept-other : (n : ℕ) (q : RequestState I A) (y : ToolsUsed I) → (n ≡ id → ⊥) → at t.requests n ≡ Some q → body_at q.status ≡ Some y → uses_of y.run (added uses m.mine) ≡ uses_of y.run uses
+    pub kept-other : (n : ℕ) (q : RequestState I A) (y : ToolsUsed I) → (n ≡ whose event → ⊥) → at t.requests n ≡ Some q → body_at q.status ≡ Some y → uses_of y.run (added uses m.mine) ≡ uses_of y.run uses
     kept-other n q y d e h = kept y.run (apart n q y d e h)
 
-    behind-other : (n : ℕ) (q : RequestState I A) (x : ToolsUsed I) → (n ≡ id → ⊥) → at t.requests n ≡ Some q → body_at q.status ≡ Some x → Other s n q → (rest : List (ToolUse I)) × (x.tools ≡ uses_of x.run uses ++ rest)
+    behind-other : (n : ℕ) (q : RequestState I A) (x : ToolsUsed I) → (n ≡ whose event → ⊥) → at t.requests n ≡ Some q → body_at q.status ≡ Some x → Other s n q → (rest : List (ToolUse I)) × (x.tools ≡ uses_of x.run uses ++ rest)
     behind-other n q x d e h (inl same) = told.behind n q x same h
     behind-other n q x d e h (inr (inl none)) = none_some (body_at q.status) x h none
     behind-other n q x d e h (inr (inr r)) =
@@ -147,41 +147,41 @@ module _ {I A : Type 0} where
     caught-other n q x e h u (inr (inl none)) = none_some (body_at q.status) x h none
     caught-other n q x e h u (inr (inr r)) = absurd (u (subst IsReady (sym r.is) tt))
 
-    mine-is : (n : ℕ) (q : RequestState I A) → n ≡ id → at t.requests n ≡ Some q → m.mine ≡ q
-    mine-is n q d e = same_some (at t.requests id) m.mine q m.there (ap (at t.requests) (sym d) ∙ e)
+    mine-is : (n : ℕ) (q : RequestState I A) → n ≡ whose event → at t.requests n ≡ Some q → m.mine ≡ q
+    mine-is n q d e = same_some (at t.requests (whose event)) m.mine q m.there (ap (at t.requests) (sym d) ∙ e)
 
-    own-at : (n : ℕ) (q : RequestState I A) (x : ToolsUsed I) → n ≡ id → at t.requests n ≡ Some q → body_at q.status ≡ Some x → uses_of x.run (added uses m.mine) ≡ x.tools
+    own-at : (n : ℕ) (q : RequestState I A) (x : ToolsUsed I) → n ≡ whose event → at t.requests n ≡ Some q → body_at q.status ≡ Some x → uses_of x.run (added uses m.mine) ≡ x.tools
     own-at n q x d e h = own-told x (ap (λ (z : RequestState I A). body_at z.status) (mine-is n q d e) ∙ h)
 
     behind-next : (n : ℕ) (q : RequestState I A) (x : ToolsUsed I) → at t.requests n ≡ Some q → body_at q.status ≡ Some x → (rest : List (ToolUse I)) × (x.tools ≡ uses_of x.run (added uses m.mine) ++ rest)
-    behind-next n q x e h = elim (same_or_not n id) [
+    behind-next n q x e h = elim (same_or_not n (whose event)) [
       | inl d ↦ ([], sym (own-at n q x d e h) ∙ sym (append-nil (uses_of x.run (added uses m.mine))))
       | inr d ↦ let y = behind-other n q x d e h (m.others n q d e) in (y.0, y.1 ∙ ap (λ xs. xs ++ y.0) (sym (kept-other n q x d e h)))
     ]
 
     caught-next : (n : ℕ) (q : RequestState I A) (x : ToolsUsed I) → at t.requests n ≡ Some q → body_at q.status ≡ Some x → (IsReady q.status → ⊥) → uses_of x.run (added uses m.mine) ≡ x.tools
-    caught-next n q x e h u = elim (same_or_not n id) [
+    caught-next n q x e h u = elim (same_or_not n (whose event)) [
       | inl d ↦ own-at n q x d e h
       | inr d ↦ kept-other n q x d e h ∙ caught-other n q x e h u (m.others n q d e)
     ]
 
     unbegun-next : (r : RunId) → is_begun r t.begun ≡ false → uses_of r (added uses m.mine) ≡ []
     unbegun-next r e =
-        kept r (λ x h p. clash (is_begun r t.begun) (subst (λ k. is_begun k t.begun ≡ true) p (body-mine t lt id m.mine x m.there h).0) e) ∙ told.unbegun r (m.begun r e)
+        kept r (λ x h p. clash (is_begun r t.begun) (subst (λ k. is_begun k t.begun ≡ true) p (body-mine t lt (whose event) m.mine x m.there h).0) e) ∙ told.unbegun r (m.begun r e)
 
     module _ (tooled : tooled_runs t.tools_used ≡ finished_runs t.table) where
       -- a finished run is in no body
       done-apart : (u : ToolsUsed I) → In u t.tools_used → (x : ToolsUsed I) → body_at m.mine.status ≡ Some x → x.run ≡ u.run → ⊥
       done-apart u i x h p =
           let y = named-finished t.table u.run (subst (λ rs. In u.run rs) tooled (in-map (λ (z : ToolsUsed I). z.run) u t.tools_used i)) in
-          none_some (found t.table u.run) y.0 y.1 (subst (λ k. found t.table k ≡ None) p (body-mine t lt id m.mine x m.there h).1)
+          none_some (found t.table u.run) y.0 y.1 (subst (λ k. found t.table k ≡ None) p (body-mine t lt (whose event) m.mine x m.there h).1)
 
-      finished-by : Own s t id m.mine → (u : ToolsUsed I) → In u t.tools_used → uses_of u.run (added uses m.mine) ≡ u.tools
+      finished-by : Own s t event m.mine → (u : ToolsUsed I) → In u t.tools_used → uses_of u.run (added uses m.mine) ≡ u.tools
       finished-by (rests e f) u i = kept u.run (done-apart u i) ∙ told.finished u (subst (λ us. In u us) f i)
       finished-by (goes q e f g) u i = kept u.run (done-apart u i) ∙ told.finished u (subst (λ us. In u us) g i)
-      finished-by (begins x e f g) u i = kept u.run (done-apart u i) ∙ told.finished u (subst (λ us. In u us) g i)
+      finished-by (begins q x a w n e f g) u i = kept u.run (done-apart u i) ∙ told.finished u (subst (λ us. In u us) g i)
       finished-by (finishes q x e n f g h) u i = ap (uses_of u.run) (nothing-new g) ∙ elim (subst (λ us. In u us) h i) [
-        | inl p ↦ subst (λ (z : ToolsUsed I). uses_of z.run uses ≡ z.tools) p (told.caught id q x e f n)
+        | inl p ↦ subst (λ (z : ToolsUsed I). uses_of z.run uses ≡ z.tools) p (told.caught (whose event) q x e f n)
         | inr j ↦ told.finished u j
       ]
 
@@ -230,7 +230,7 @@ module _ {I A : Type 0} (w : World I A) where
       let next : List (RunUse I) = uses ++ new_uses uses (body_of (at y.0.requests (whose event))) in
       let same : now ≡ next = ap (λ o. uses ++ new_uses uses (body_of o)) (sym m.there) in
       subst (λ us. Told t us) (sym (ap (λ o. and_on uses o (λ next. uses_from w (uses ++ new_uses uses (body_of (at next.requests (whose event)))) next events)) y.1))
-      (told-from (past ++ event ∷ []) events y.0 t next hist2 l2 (subst (λ us. Told y.0 us) same (told-next s y.0 (whose event) uses l l2 m v tooled)) y.2)
+      (told-from (past ++ event ∷ []) events y.0 t next hist2 l2 (subst (λ us. Told y.0 us) same (told-next s y.0 event uses l l2 m v tooled)) y.2)
 
   pub history-told : (events : List Event) (s : State I A) → IsHistory w events s → Told s (uses_in w events)
   history-told events s h = told-from [] events (start w) s [] refl (start-lawful w) told-start h
