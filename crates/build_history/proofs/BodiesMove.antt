@@ -251,9 +251,11 @@ module _ {I A : Type 0} (w : World I A) where
       resumed-moved s m t event a z c (calling keys ids x go) v f d e p h =
           answered-moved s m t event a c keys ids x go v d (put-others s (whose event) z a c d (sym (ap (λ rs. at rs a) f) ∙ e)) e p (results_of w m.requests ids) h
       resumed-moved s m t event a z c _ v f d e p h = absurd (cc)
+
       over-calls : (m t : State I A) (a : ℕ) (z : RequestState I A) (u : Status I A) → u ≡ done (result_of reply runs) → resume_at w m a z u ≡ Some t → ⊥
       over-calls m t a z (calling keys ids x go) e h = absurd (cc)
       over-calls m t a z _ e h = absurd (cc)
+
       caller-moved : (s m t : State I A) (event : Event) (z : RequestState I A) (parent : Option ℕ) → Moved s m event → m.requests ≡ put s.requests (whose event) z → z.status ≡ done (result_of reply runs) → resume_caller w m parent ≡ Some t → Moved s t event
       caller-moved s m t event z None v f g h = moved-same s m t event v (some-is m t h)
       caller-moved s m t event z (Some a) v f g h =

@@ -1,5 +1,6 @@
 pub mod Assigning
 pub mod Beginning
+pub mod Behind
 pub mod CallResults
 pub mod Calling
 pub mod Claiming

@@ -1,3 +1,4 @@
+pub mod Behind
 pub mod Calls
 pub mod Chain
 pub mod Children

@@ -1,6 +1,7 @@
 ghost use Rattle.std.specs.Prelude.{◌≡◌, ◌+◌, ◌<◌, ◌≤◌, ◌++◌, map, ◌∷◌, [], IfOk, None, Some, true, length, option_copied};
 ghost use Rattle.build_meaning.specs.declared.event.Event.TheVariants.{Assign};
 ghost use Rattle.build_meaning.specs.Meaning.{most_instances};
+ghost use Rattle.build_scheduler.specs.Behind.{AreBehind, IsBehind};
 ghost use Rattle.build_scheduler.specs.Ends.{IsEnd, IsStop, ShowsStop};
 ghost use Rattle.build_scheduler.specs.Instances.{AreCounted, instance_asked};
 ghost use Rattle.build_scheduler.specs.Learnt.{AreInOrder};
@@ -47,6 +48,7 @@ pub struct Core<W: Walker> {
     ghost few: { length instances ≤ most_instances },
     ghost nested: { ∥ AreNested origins.items ∥₁ },
     ghost stops: { ∥ ShowsStop (W.world_of world) history.events end ∥₁ },
+    ghost behind: { ∥ AreBehind (seen_by W.world W.position W.asked W.learnt) (W.world_of world) history.events slots.items ∥₁ },
 }
 
 impl<W: Walker> Core<W> {
@@ -101,7 +103,8 @@ impl<W: Walker> Core<W> {
         self.ready.least()
     }
 
-    /// Hands a ready request to a node: its walk, with its next answer. This takes no memory.
+    /// Hands a ready request to a node: its walk, with its next answer. Where the request is in a body, the walk has used the
+    /// tools that the history has of it. This takes no memory.
     pub fn assign(&mut self, id: u64, node: u32) -> (W, Answer)
         requires running { self.old.end ≡ None }
         requires ready { ∥ IsReady (W.world_of self.old.world) self.old.history.events id ∥₁ }
@@ -110,6 +113,7 @@ impl<W: Walker> Core<W> {
         ensures table { self.new.table ≡ self.old.table }
         ensures end { self.new.end ≡ self.old.end }
         ensures out { ∥ IsOut (W.world_of self.new.world) self.new.history.events self.new.table.finished id (seen_by W.world W.position W.asked W.learnt result.0) result.1 ∥₁ }
+        ensures behind { ∥ IsBehind (W.world_of self.old.world) self.old.history.events id (W.position result.0).place ∥₁ }
     {
         self.ready.remove(id);
         self.history.push(Event::Assign(id, node));

@@ -14,7 +14,7 @@ build_alone-requires g c =
 pub invariant_of-core : goal.invariant_of-core
 invariant_of-core g c =
     let core = c.build_alone.new.core in
-    record { legal = core.legal; indexed = core.indexed; counted = core.counted; few = core.few; nested = core.nested; stops = core.stops }
+    record { legal = core.legal; indexed = core.indexed; counted = core.counted; few = core.few; nested = core.nested; stops = core.stops; behind = core.behind }
 
 pub returns-clause-outcome : goal.returns-clause-outcome
 returns-clause-outcome g c =

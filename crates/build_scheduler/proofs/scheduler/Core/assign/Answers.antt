@@ -1,6 +1,9 @@
 use Rattle.std.proofs.Math.Logic.{∥∥₁_map}
+use Rattle.build_meaning.specs.declared.event.Event.TheVariants.{Assign}
+use Rattle.build_scheduler.specs.declared.slot.Slot.TheVariants.{Assigned}
 use Rattle.build_scheduler.specs.Own.{seen_by}
 use Rattle.build_scheduler.proofs.Assigning.{assigned-shown, assigned-out, listed-there, room-there}
+use Rattle.build_scheduler.proofs.Behind.{behind-event, kept-put}
 use Rattle.build_scheduler.proofs.SlotNumbers.{out-indexed}
 use Rattle.build_scheduler.proofs.Stopping.{none-stops}
 use Rattle.build_scheduler.proofs.scheduler.Core.assign.Goals as goal
@@ -27,15 +30,17 @@ pub invariant_of-self : goal.invariant_of-self
 invariant_of-self g c =
     let m = g.W.Walker in
     let self = c.args.self.now in
+    let legal = ∥∥₁_map self.legal (λ x. assigned-shown (seen_by m.world m.position m.asked m.learnt) (m.world_of self.world) self.history c.push.new.self c.args.id c.args.node
+    c.take_ready.result.0 c.take_ready.result.1 c.take_ready.ensures.was c.take_ready.ensures.is c.push.ensures.events c.push.ensures.room x) in
     record {
-      legal = ∥∥₁_map self.legal (λ x. assigned-shown (seen_by m.world m.position m.asked m.learnt) (m.world_of self.world) self.history c.push.new.self c.args.id c.args.node
-          c.take_ready.result.0 c.take_ready.result.1 c.take_ready.ensures.was c.take_ready.ensures.is c.push.ensures.events c.push.ensures.room x);
+      legal = legal;
       indexed = ∥∥₁_map self.indexed (λ x. out-indexed self.slots.items self.ready c.remove.new.self self.waiting.items c.args.id c.take_ready.result.0 c.take_ready.result.1
           c.take_ready.ensures.was c.take_ready.ensures.is c.remove.ensures.numbers c.remove.ensures.room x);
       counted = self.counted;
       few = self.few;
       nested = self.nested;
       stops = ∣ none-stops (m.world_of self.world) _ c.requires.running ∣₁;
+      behind = behind-event (seen_by m.world m.position m.asked m.learnt) (m.world_of self.world) (Assign c.args.id c.args.node) self.legal legal c.push.ensures.events (kept-put self.slots.items Assigned c.take_ready.ensures.is) self.behind;
     }
 
 pub returns-clause-out : goal.returns-clause-out
@@ -44,3 +49,9 @@ returns-clause-out g c =
     let self = c.args.self.now in
     ∥∥₁_map self.legal (λ x. assigned-out (seen_by m.world m.position m.asked m.learnt) (m.world_of self.world) self.history c.push.new.self c.args.id c.args.node
     c.take_ready.result.0 c.take_ready.result.1 c.take_ready.ensures.was c.push.ensures.events x)
+
+pub returns-clause-behind : goal.returns-clause-behind
+returns-clause-behind g c =
+    let m = g.W.Walker in
+    let self = c.args.self.now in
+    ∥∥₁_map self.behind (λ b. b c.args.id c.take_ready.result.0 c.take_ready.result.1 c.take_ready.ensures.was)

@@ -1,10 +1,12 @@
-use Rattle.std.proofs.Common.{◌∷◌, ◌++◌, [], Some, sym, ◌∙◌, ap, arith}
+use Rattle.std.proofs.Common.{◌∷◌, ◌++◌, [], Some, refl, sym, ◌∙◌, ap, arith}
 use Rattle.std.proofs.Math.Logic.{∥∥₁_map, ∥∥₁_map₂}
 use Rattle.build_meaning.specs.declared.event.Event.TheVariants.{Claim}
 use Rattle.build_meaning.specs.declared.event.ClaimKind.TheVariants.{Go}
 use Rattle.build_meaning.specs.Lists.{put}
 use Rattle.build_scheduler.specs.Own.{seen_by}
+use Rattle.build_scheduler.proofs.Behind.{behind-event, behind-same, kept-same}
 use Rattle.build_scheduler.proofs.Claiming.{begun-shown, begun-out, shown-room, making-there}
+use Rattle.build_scheduler.proofs.Rooms.{room-kept, room-shown}
 use Rattle.build_scheduler.proofs.Stopping.{none-stops}
 use Rattle.build_scheduler.proofs.scheduler.Core.begin.Goals as goal
 
@@ -20,6 +22,7 @@ invariant_of-self-in-Break-branch-4 g c =
       few = self.few;
       nested = self.nested;
       stops = ∣ none-stops (m.world_of self.world) _ c.requires.running ∣₁;
+      behind = behind-same (seen_by m.world m.position m.asked m.learnt) (m.world_of self.world) c.in_ok-reserve.ensures.events refl self.behind;
     }
 
 pub put_run-requires : goal.put_run-requires
@@ -32,18 +35,21 @@ pub invariant_of-self-2 : goal.invariant_of-self-2
 invariant_of-self-2 g c =
     let m = g.W.Walker in
     let self = c.args.self.now in
+    let legal = ∥∥₁_map₂ self.legal c.requires.own (λ x own. begun-shown (seen_by m.world m.position m.asked m.learnt) (m.world_of self.world) self.history c.push.new.self c.args.id c.args.walk.now c.args.run.now
+    own c.requires.asks c.requires.unfinished c.requires.unbegun
+    (c.push.ensures.events ∙ (ap (λ es. es ++ Claim c.args.id c.in_ok-claimed.claimed Go ∷ []) c.in_ok-reserve.ensures.events ∙ ap (λ r. self.history.events ++ Claim c.args.id r Go ∷ []) c.in_ok-claimed.ensures))
+    (sym c.in_ok-reserve.ensures.ok ∙ c.push.ensures.room)
+    (c.put_run.ensures ∙ ap (λ r. put self.making.items c.args.id (Some r)) c.in_ok-made.ensures)
+    c.in_ok-begin.ensures.finished c.in_ok-begin.ensures.begun x) in
     record {
-      legal = ∥∥₁_map₂ self.legal c.requires.own (λ x own. begun-shown (seen_by m.world m.position m.asked m.learnt) (m.world_of self.world) self.history c.push.new.self c.args.id c.args.walk.now c.args.run.now
-          own c.requires.asks c.requires.unfinished c.requires.unbegun
-          (c.push.ensures.events ∙ (ap (λ es. es ++ Claim c.args.id c.in_ok-claimed.claimed Go ∷ []) c.in_ok-reserve.ensures.events ∙ ap (λ r. self.history.events ++ Claim c.args.id r Go ∷ []) c.in_ok-claimed.ensures))
-          (sym c.in_ok-reserve.ensures.ok ∙ c.push.ensures.room)
-          (c.put_run.ensures ∙ ap (λ r. put self.making.items c.args.id (Some r)) c.in_ok-made.ensures)
-          c.in_ok-begin.ensures.finished c.in_ok-begin.ensures.begun x);
+      legal = legal;
       indexed = self.indexed;
       counted = self.counted;
       few = self.few;
       nested = self.nested;
       stops = ∣ none-stops (m.world_of self.world) _ c.requires.running ∣₁;
+      behind = behind-event (seen_by m.world m.position m.asked m.learnt) (m.world_of self.world) (Claim c.args.id c.args.run.now Go) self.legal legal
+          (c.push.ensures.events ∙ (ap (λ es. es ++ Claim c.args.id c.in_ok-claimed.claimed Go ∷ []) c.in_ok-reserve.ensures.events ∙ ap (λ r. self.history.events ++ Claim c.args.id r Go ∷ []) c.in_ok-claimed.ensures)) (kept-same refl) self.behind;
     }
 
 pub returns-clause-out : goal.returns-clause-out
@@ -54,3 +60,18 @@ returns-clause-out g c =
     own c.requires.asks c.requires.unfinished c.requires.unbegun
     (c.push.ensures.events ∙ (ap (λ es. es ++ Claim c.args.id c.in_ok-claimed.claimed Go ∷ []) c.in_ok-reserve.ensures.events ∙ ap (λ r. self.history.events ++ Claim c.args.id r Go ∷ []) c.in_ok-claimed.ensures))
     c.in_ok-begin.ensures.finished x)
+
+pub invariant_of-self : goal.invariant_of-self
+invariant_of-self g c =
+    let m = g.W.Walker in
+    let self = c.args.self.now in
+    record {
+      legal = ∥∥₁_map self.legal (λ x. room-shown (seen_by m.world m.position m.asked m.learnt) (m.world_of self.world) c.reserve.ensures.events
+          (room-kept c.reserve.result self.history.room c.reserve.new.self.room 2 c.reserve.ensures.ok c.reserve.ensures.err) refl refl refl x);
+      indexed = self.indexed;
+      counted = self.counted;
+      few = self.few;
+      nested = self.nested;
+      stops = ∣ none-stops (m.world_of self.world) _ c.requires.running ∣₁;
+      behind = behind-same (seen_by m.world m.position m.asked m.learnt) (m.world_of self.world) c.reserve.ensures.events refl self.behind;
+    }

@@ -1,6 +1,9 @@
 use Rattle.std.proofs.Common.{refl}
 use Rattle.std.proofs.Math.Logic.{∥∥₁_map}
+use Rattle.build_meaning.specs.declared.event.Event.TheVariants.{Done}
+use Rattle.build_scheduler.specs.declared.slot.Slot.TheVariants.{Done as Over}
 use Rattle.build_scheduler.specs.Own.{seen_by}
+use Rattle.build_scheduler.proofs.Behind.{behind-event, kept-put, kept-resumed}
 use Rattle.build_scheduler.proofs.Ending.{over-room, over-slot, over-there, root-zero, called-other-than_root, caller-open, caller-unlisted, ended-shown, resumed-shown, over-indexed}
 use Rattle.build_scheduler.proofs.SlotNumbers.{resumed-indexed}
 use Rattle.build_scheduler.proofs.Stopping.{none-stops}
@@ -28,13 +31,15 @@ pub invariant_of-self : goal.invariant_of-self
 invariant_of-self g c =
     let m = g.W.Walker in
     let self = c.args.self.now in
+    let legal = ended-shown (seen_by m.world m.position m.asked m.learnt) (m.world_of self.world) c.args.id c.args.told self.legal c.requires.asks c.in-None.ensures c.push.ensures.events c.push.ensures.room c.put_slot.ensures refl in
     record {
-      legal = ended-shown (seen_by m.world m.position m.asked m.learnt) (m.world_of self.world) c.args.id c.args.told self.legal c.requires.asks c.in-None.ensures c.push.ensures.events c.push.ensures.room c.put_slot.ensures refl;
+      legal = legal;
       indexed = over-indexed (seen_by m.world m.position m.asked m.learnt) (m.world_of self.world) c.args.id c.args.told self.legal c.requires.asks c.put_slot.ensures self.indexed;
       counted = self.counted;
       few = self.few;
       nested = self.nested;
       stops = ∣ tt ∣₁;
+      behind = behind-event (seen_by m.world m.position m.asked m.learnt) (m.world_of self.world) (Done c.args.id) self.legal legal c.push.ensures.events (kept-put self.slots.items Over c.put_slot.ensures) self.behind;
     }
 
 pub resume-requires-clause-calls : goal.resume-requires-clause-calls
@@ -59,15 +64,17 @@ pub invariant_of-self-in-Some : goal.invariant_of-self-in-Some
 invariant_of-self-in-Some g c =
     let m = g.W.Walker in
     let self = c.args.self.now in
+    let legal = resumed-shown (seen_by m.world m.position m.asked m.learnt) (m.world_of self.world) c.args.id c.args.told self.legal c.requires.asks c.in-Some.caller c.in-Some.ensures c.requires.running
+    c.push.ensures.events c.push.ensures.room c.put_slot.ensures c.resume.ensures in
     record {
-      legal = resumed-shown (seen_by m.world m.position m.asked m.learnt) (m.world_of self.world) c.args.id c.args.told self.legal c.requires.asks c.in-Some.caller c.in-Some.ensures c.requires.running
-          c.push.ensures.events c.push.ensures.room c.put_slot.ensures c.resume.ensures;
+      legal = legal;
       indexed = ∥∥₁_map (over-indexed (seen_by m.world m.position m.asked m.learnt) (m.world_of self.world) c.args.id c.args.told self.legal c.requires.asks c.put_slot.ensures self.indexed)
           (λ x. resumed-indexed c.put_slot.new.slots.items c.resume.new.slots.items self.ready c.resume.new.ready self.waiting.items c.in-Some.caller c.args.id c.args.told c.resume.ensures x);
       counted = self.counted;
       few = self.few;
       nested = self.nested;
       stops = ∣ none-stops (m.world_of self.world) _ c.requires.running ∣₁;
+      behind = behind-event (seen_by m.world m.position m.asked m.learnt) (m.world_of self.world) (Done c.args.id) self.legal legal c.push.ensures.events (kept-resumed self.slots.items c.put_slot.ensures c.resume.ensures) self.behind;
     }
 
 pub returns-in-None-clause-others : goal.returns-in-None-clause-others

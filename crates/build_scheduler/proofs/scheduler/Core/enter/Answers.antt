@@ -2,8 +2,10 @@ use Rattle.std.proofs.Common.{rules, ◌≡◌, ◌≤◌, length, refl, ap, ◌
 use Rattle.std.proofs.Math.Logic.{∥∥₁_map, ∥∥₁_elim, ∥∥₁_prop}
 use Rattle.std.specs.Prelude.{vec_len}
 use Rattle.build_meaning.specs.Meaning.{most_instances}
+use Rattle.build_meaning.specs.declared.event.Event.TheVariants.{Request}
 use Rattle.build_scheduler.specs.Instances.{IsOver, with_all}
 use Rattle.build_scheduler.specs.Own.{seen_by}
+use Rattle.build_scheduler.proofs.Behind.{behind-event, kept-entered}
 use Rattle.build_scheduler.proofs.Entering.{absent-beyond, children-many, entered-counted, entered-indexed, entered-nested, entered-shown, slot-there, spare-room}
 use Rattle.build_scheduler.proofs.Refusing.{many-refused}
 use Rattle.build_scheduler.proofs.Stopping.{none-stops}
@@ -57,10 +59,11 @@ invariant_of-self-in-Ok g c =
     let e = c.enter_all.ensures in
     let added : c.add.new.self ≡ with_all self.instances c.args.calls = c.in-Ok.ensures.0 ∙ ap (with_all self.instances) c.as_slice.ensures in
     let few : length (with_all self.instances c.args.calls) ≤ most_instances = subst (λ xs. length xs ≤ most_instances) added c.in-Ok.ensures.1 in
+    let legal = ∥∥₁_elim self.legal ∥∥₁_prop (λ x. ∥∥₁_elim c.requires.own ∥∥₁_prop (λ o. ∥∥₁_elim self.counted ∥∥₁_prop (λ k. ∥∥₁_map c.requires.spare (λ spare.
+    entered-shown seen w c.args.id c.args.walk c.push.new.self c.args.calls c.args.children c.requires.children self.instances c.requires.running c.requires.asks few
+    c.push.ensures.events c.push.ensures.room e.origins e.slots e.making x o k spare)))) in
     record {
-      legal = ∥∥₁_elim self.legal ∥∥₁_prop (λ x. ∥∥₁_elim c.requires.own ∥∥₁_prop (λ o. ∥∥₁_elim self.counted ∥∥₁_prop (λ k. ∥∥₁_map c.requires.spare (λ spare.
-          entered-shown seen w c.args.id c.args.walk c.push.new.self c.args.calls c.args.children c.requires.children self.instances c.requires.running c.requires.asks few
-          c.push.ensures.events c.push.ensures.room e.origins e.slots e.making x o k spare))));
+      legal = legal;
       indexed = ∥∥₁_elim self.legal ∥∥₁_prop (λ x. ∥∥₁_elim c.requires.own ∥∥₁_prop (λ o. ∥∥₁_map self.indexed (λ y.
           entered-indexed seen w c.args.id c.args.walk c.push.new.self c.args.calls c.args.children c.requires.children self.ready c.list_new.new.ready self.waiting.items c.enter_all.new.waiting.items c.len.result c.len-in-Ok.result
           (c.len.ensures ∙ n) c.len-in-Ok.ensures e.slots e.waiting c.requires.ready_room c.list_new.ensures.room c.list_new.ensures.numbers x o y)));
@@ -69,4 +72,5 @@ invariant_of-self-in-Ok g c =
       few = c.in-Ok.ensures.1;
       nested = ∥∥₁_map self.nested (λ v. entered-nested seen c.args.id c.args.walk c.args.calls c.args.children c.requires.children e.origins v);
       stops = ∣ none-stops w _ c.requires.running ∣₁;
+      behind = behind-event seen w (Request c.args.id c.args.calls) self.legal legal c.push.ensures.events (kept-entered e.slots) self.behind;
     }

@@ -3,6 +3,7 @@ use Rattle.build_scheduler.specs.declared.slot.Slot.TheVariants.{Ready}
 use Rattle.build_scheduler.specs.declared.walker.Answer.TheVariants.{First}
 use Rattle.build_scheduler.specs.Numbers.{among}
 use Rattle.build_scheduler.specs.Own.{seen_by}
+use Rattle.build_scheduler.proofs.Behind.{behind-start}
 use Rattle.build_scheduler.proofs.Beginning.{shown-start, indexed-start, counted-root, few-root}
 use Rattle.build_scheduler.proofs.Nesting.{nested-root}
 use Rattle.build_scheduler.proofs.scheduler.Core.new.Goals as goal
@@ -26,4 +27,6 @@ invariant_of-result g c =
       few = few-root c.args.root c.in_ok-instances.ensures;
       nested = ∣ nested-root c.args.root (c.in_ok-push.ensures.items ∙ ap (λ xs. xs ++ record { key = c.args.root; parent = None; depth = 0 } ∷ []) c.new-origins.ensures.items) ∣₁;
       stops = ∣ tt ∣₁;
+      behind = ∣ behind-start (seen_by m.world m.position m.asked m.learnt) _ c.args.walk (c.in_ok-reserve.ensures.events ∙ c.new-history.ensures.events)
+          (c.in_ok-push-2.ensures.items ∙ ap (λ xs. xs ++ Ready c.args.walk First ∷ []) c.new-slots.ensures.items) ∣₁;
     }

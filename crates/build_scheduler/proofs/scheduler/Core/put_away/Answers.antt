@@ -2,7 +2,9 @@ use Rattle.std.proofs.Common.{◌∷◌, ◌++◌, [], refl, sym, ◌∙◌, ap,
 use Rattle.std.proofs.Math.Logic.{∥∥₁_elim, ∥∥₁_map, ∥∥₁_map₂, ∥∥₁_prop}
 use Rattle.build_meaning.specs.declared.event.Event.TheVariants.{Claim}
 use Rattle.build_meaning.specs.declared.event.ClaimKind.TheVariants.{Wait}
+use Rattle.build_scheduler.specs.declared.slot.Slot.TheVariants.{Waiting}
 use Rattle.build_scheduler.specs.Own.{seen_by}
+use Rattle.build_scheduler.proofs.Behind.{behind-event, behind-same, kept-put}
 use Rattle.build_scheduler.proofs.Entering.{slot-there}
 use Rattle.build_scheduler.proofs.OwnWalks.{there-of}
 use Rattle.build_scheduler.proofs.Rooms.{room-shown, room-indexed, room-stops}
@@ -34,16 +36,19 @@ invariant_of-self g c =
     let self = c.args.self.now in
     let seen = seen_by m.world m.position m.asked m.learnt in
     let w = m.world_of self.world in
+    let legal = ∥∥₁_map₂ self.legal c.requires.own (λ x o. waited-shown seen w self.history c.push.new.self c.args.id c.args.walk c.args.run.now c.args.by o c.requires.asks c.requires.unfinished c.requires.begun c.requires.open
+    (c.push.ensures.events ∙ (ap (λ es. es ++ Claim c.args.id c.in-Ok.claimed Wait ∷ []) c.in-Ok.ensures.events ∙ ap (λ r. self.history.events ++ Claim c.args.id r Wait ∷ []) c.in-Ok.ensures.run))
+    (sym c.in-Ok.ensures.ok ∙ c.push.ensures.room) c.put_slot.ensures x) in
     record {
-      legal = ∥∥₁_map₂ self.legal c.requires.own (λ x o. waited-shown seen w self.history c.push.new.self c.args.id c.args.walk c.args.run.now c.args.by o c.requires.asks c.requires.unfinished c.requires.begun c.requires.open
-          (c.push.ensures.events ∙ (ap (λ es. es ++ Claim c.args.id c.in-Ok.claimed Wait ∷ []) c.in-Ok.ensures.events ∙ ap (λ r. self.history.events ++ Claim c.args.id r Wait ∷ []) c.in-Ok.ensures.run))
-          (sym c.in-Ok.ensures.ok ∙ c.push.ensures.room) c.put_slot.ensures x);
+      legal = legal;
       indexed = ∥∥₁_elim self.legal ∥∥₁_prop (λ x. ∥∥₁_elim c.requires.own ∥∥₁_prop (λ o. ∥∥₁_map self.indexed (λ y.
           waits-indexed c.args.id c.args.walk c.args.by (there-of seen w x c.args.id (m.position c.args.walk) o.stands).at_slots c.wait_room.ensures.same c.list_waiting.ensures c.put_slot.ensures y)));
       counted = self.counted;
       few = self.few;
       nested = self.nested;
       stops = ∣ none-stops w _ c.requires.running ∣₁;
+      behind = behind-event seen w (Claim c.args.id c.args.run.now Wait) self.legal legal
+          (c.push.ensures.events ∙ (ap (λ es. es ++ Claim c.args.id c.in-Ok.claimed Wait ∷ []) c.in-Ok.ensures.events ∙ ap (λ r. self.history.events ++ Claim c.args.id r Wait ∷ []) c.in-Ok.ensures.run)) (kept-put self.slots.items (Waiting c.args.walk c.args.by) c.put_slot.ensures) self.behind;
     }
 
 pub invariant_of-self-in-Err : goal.invariant_of-self-in-Err
@@ -59,4 +64,5 @@ invariant_of-self-in-Err g c =
       few = self.few;
       nested = self.nested;
       stops = room-stops w self.end c.wait_room.ensures.events self.stops;
+      behind = behind-same seen w c.wait_room.ensures.events refl self.behind;
     }

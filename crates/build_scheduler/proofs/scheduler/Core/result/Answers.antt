@@ -2,6 +2,7 @@ use Rattle.std.proofs.Common.{◌≡◌, ◌∷◌, ◌++◌, [], ◌∙◌, ap}
 use Rattle.std.proofs.Math.Logic.{∥∥₁_map₂}
 use Rattle.build_meaning.specs.declared.event.Event.TheVariants.{Result}
 use Rattle.build_scheduler.specs.Own.{seen_by}
+use Rattle.build_scheduler.proofs.Behind.{behind-event, kept-woken}
 use Rattle.build_scheduler.proofs.Finishing.{finish-shown, finish-out, finishes-begun, finishes-room, finishes-there, finishes-slot, finishes-named, finishes-some}
 use Rattle.build_scheduler.proofs.Stopping.{none-stops}
 use Rattle.build_scheduler.proofs.scheduler.Core.result.Goals as goal
@@ -45,15 +46,17 @@ invariant_of-self g c =
     let self = c.args.self.now in
     let named : c.in-Some.finished ≡ c.args.run.now =
     finishes-named (seen_by m.world m.position m.asked m.learnt) (m.world_of self.world) c.args.id c.args.run.now c.args.made self.legal c.requires.asks c.in-Some.finished c.in-Some.ensures.was in
+    let legal = ∥∥₁_map₂ self.legal c.requires.asks (λ x a. finish-shown (seen_by m.world m.position m.asked m.learnt) (m.world_of self.world) self.history c.push.new.self c.args.id c.args.run.now c.args.made
+    a c.requires.running (c.push.ensures.events ∙ ap (λ r. self.history.events ++ Result c.args.id r ∷ []) named) c.push.ensures.room
+    c.wake.ensures.slots c.in-Some.ensures.is c.finish.ensures.finished c.finish.ensures.begun x) in
     record {
-      legal = ∥∥₁_map₂ self.legal c.requires.asks (λ x a. finish-shown (seen_by m.world m.position m.asked m.learnt) (m.world_of self.world) self.history c.push.new.self c.args.id c.args.run.now c.args.made
-          a c.requires.running (c.push.ensures.events ∙ ap (λ r. self.history.events ++ Result c.args.id r ∷ []) named) c.push.ensures.room
-          c.wake.ensures.slots c.in-Some.ensures.is c.finish.ensures.finished c.finish.ensures.begun x);
+      legal = legal;
       indexed = c.wake.ensures.indexed;
       counted = self.counted;
       few = self.few;
       nested = self.nested;
       stops = ∣ none-stops (m.world_of self.world) _ c.requires.running ∣₁;
+      behind = behind-event (seen_by m.world m.position m.asked m.learnt) (m.world_of self.world) (Result c.args.id c.args.run.now) self.legal legal (c.push.ensures.events ∙ ap (λ r. self.history.events ++ Result c.args.id r ∷ []) named) (kept-woken self.slots.items c.wake.ensures.slots) self.behind;
     }
 
 pub returns-clause-history : goal.returns-clause-history

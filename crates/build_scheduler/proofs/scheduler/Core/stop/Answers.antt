@@ -14,4 +14,5 @@ invariant_of-self g c =
       few = self.few;
       nested = self.nested;
       stops = ∣ shows-stop (m.world_of self.world) self.history.events c.args.end c.requires.shown ∣₁;
+      behind = self.behind;
     }

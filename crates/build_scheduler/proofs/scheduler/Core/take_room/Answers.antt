@@ -3,6 +3,7 @@ use Rattle.std.proofs.Math.Logic.{∥∥₁_map}
 use Rattle.build_scheduler.specs.Instances.{AreCounted, instance_asked}
 use Rattle.build_scheduler.specs.Own.{seen_by}
 use Rattle.build_scheduler.specs.Shown.{AreNested}
+use Rattle.build_scheduler.proofs.Behind.{behind-same}
 use Rattle.build_scheduler.proofs.Rooms.{room-kept, room-shown, room-indexed, room-stops, same-numbers, spare-of, unready-room}
 use Rattle.build_scheduler.proofs.scheduler.Core.take_room.Goals as goal
 
@@ -18,6 +19,7 @@ invariant_of-self g c =
       few = self.few;
       nested = subst (λ os. ∥ AreNested os ∥₁) (sym r.origins) self.nested;
       stops = self.stops;
+      behind = behind-same (seen_by m.world m.position m.asked m.learnt) (m.world_of self.world) refl r.slots self.behind;
     }
 
 pub invariant_of-self-in-Break-branch-3 : goal.invariant_of-self-in-Break-branch-3
@@ -32,6 +34,7 @@ invariant_of-self-in-Break-branch-3 g c =
       few = self.few;
       nested = subst (λ os. ∥ AreNested os ∥₁) (sym r.origins) self.nested;
       stops = self.stops;
+      behind = behind-same (seen_by m.world m.position m.asked m.learnt) (m.world_of self.world) refl r.slots self.behind;
     }
 
 pub invariant_of-self-2 : goal.invariant_of-self-2
@@ -46,6 +49,7 @@ invariant_of-self-2 g c =
       few = self.few;
       nested = subst (λ os. ∥ AreNested os ∥₁) (sym r.origins) self.nested;
       stops = room-stops (m.world_of self.world) self.end c.reserve-2.ensures.events self.stops;
+      behind = behind-same (seen_by m.world m.position m.asked m.learnt) (m.world_of self.world) c.reserve-2.ensures.events r.slots self.behind;
     }
 
 pub returns-clause-ready_room : goal.returns-clause-ready_room
