@@ -7,7 +7,7 @@ use Rattle.result_cache.specs.declared.request.RequestKey.{RequestKey}
 use Rattle.result_cache.specs.declared.request.RequestResult.{RequestResult}
 use Rattle.result_cache.specs.declared.record.Record.{Record}
 use Rattle.result_cache.specs.Same.{same_run, same_keys}
-use Rattle.result_cache.specs.Journal.{Journal, wrote, ended, add}
+use Rattle.result_cache.specs.Journal.{Journal, ended, add}
 use Rattle.result_cache.specs.Table.{FinishedRun, Records, found, is_begun}
 use Rattle.result_cache.specs.Replay.{replay, replay_all}
 use Rattle.result_cache.proofs.RunTests.{and_then-some}
@@ -20,7 +20,7 @@ use Rattle.build_meaning.specs.World.{World}
 use Rattle.build_meaning.specs.Walk.{Walk, gives, wants, Body, makes, writes, uses, calls}
 use Rattle.build_meaning.specs.SoFar.{ToolUse, SoFar, nothing_yet, with_write, with_tool, with_calls, runs_of, recorded, result_of}
 use Rattle.build_meaning.specs.Stop.{Stop, ends, asks, run_on}
-use Rattle.build_meaning.specs.State.{Within, Place, walking, within, Status, ready, assigned, waits, calling, done, Origin, RequestState, ToolsUsed, State, with_request, new_request}
+use Rattle.build_meaning.specs.State.{Within, walking, within, Status, ready, assigned, waits, calling, done, Origin, RequestState, ToolsUsed, State, with_request, new_request}
 use Rattle.build_meaning.specs.Cycle.{is_in_cycle}
 use Rattle.build_meaning.specs.Step.{only_if, whose, in_body, goes_on, waiting, may_wait, claimed, with_children, is_within_limits, woken_if, woken_at, woken, finished, results_of, answered, resume_at, resume_caller, step_of, step}
 use Rattle.build_meaning.proofs.ListPlaces.{at-put, at-put_same, at-put_else, at-front, at-append, at-map, at-traverse, traverse-at}

@@ -1,5 +1,5 @@
 -- Where the root of a history of a whole and steady world is done, tools were used as the meaning uses them.
-use Rattle.std.proofs.Common.{◌≡◌, inl, inr, ℕ, true, false, List, map, Option, None, Some, refl, ap, sym, ◌∙◌, subst}
+use Rattle.std.proofs.Common.{◌≡◌, inl, inr, true, List, map, Option, None, Some, refl, ap, sym, ◌∙◌, subst}
 use Rattle.result_cache.specs.declared.run.RunId.{RunId}
 use Rattle.result_cache.specs.declared.request.RequestResult.{RequestResult}
 use Rattle.result_cache.specs.declared.record.Record.{Record}
@@ -11,7 +11,7 @@ use Rattle.build_meaning.specs.declared.event.Event.{Event}
 use Rattle.build_meaning.specs.World.{World}
 use Rattle.build_meaning.specs.SoFar.{ToolUse}
 use Rattle.build_meaning.specs.Meaning.{built, Given}
-use Rattle.build_meaning.specs.Demand.{IsWhole, IsSteady, IsSingle}
+use Rattle.build_meaning.specs.Demand.{IsWhole, IsSteady}
 use Rattle.build_meaning.specs.State.{walking, within, Status, ready, assigned, waits, calling, done, ToolsUsed, State, start}
 use Rattle.build_meaning.specs.History.{IsHistory, EndsWith}
 use Rattle.build_meaning.specs.Stands.{Contained, Goal, Stands, StandsAt}

@@ -1,32 +1,27 @@
 -- What the uses of a history have to do with the bodies that its requests are in.
-use Rattle.std.proofs.Common.{◌≡◌, ◌⊎◌, inl, inr, ℕ, zero, suc, Bool, true, false, List, [], ◌∷◌, ◌++◌, length, drop, map, Option, None, Some, refl, ap, sym, ◌∙◌, subst, append-nil, append_assoc}
+use Rattle.std.proofs.Common.{◌≡◌, inl, inr, ℕ, zero, suc, Bool, true, false, List, [], ◌∷◌, ◌++◌, length, drop, Option, None, Some, refl, ap, sym, ◌∙◌, subst, append-nil}
 use Rattle.std.proofs.Math.Seq.{drop-append_seam}
 use Rattle.result_cache.specs.declared.run.RunId.{RunId}
-use Rattle.result_cache.specs.declared.request.RequestResult.{RequestResult}
-use Rattle.result_cache.specs.declared.record.Record.{Record}
 use Rattle.result_cache.specs.Same.{same_run}
 use Rattle.result_cache.specs.Lists.{In}
-use Rattle.result_cache.specs.Journal.{Journal}
-use Rattle.result_cache.specs.Table.{FinishedRun, found, is_begun}
-use Rattle.result_cache.proofs.RunTests.{clash, tells, same_run-refl, same_run-true, and_then-some}
+use Rattle.result_cache.specs.Table.{found, is_begun}
+use Rattle.result_cache.proofs.RunTests.{clash, same_run-refl, same_run-true, and_then-some}
 use Rattle.build_meaning.specs.declared.event.Event.{Event}
 use Rattle.build_meaning.specs.Lists.{at}
 use Rattle.build_meaning.specs.World.{World}
 use Rattle.build_meaning.specs.SoFar.{ToolUse}
-use Rattle.build_meaning.specs.Meaning.{built, Given}
-use Rattle.build_meaning.specs.Demand.{IsWhole, IsSteady, IsSingle}
-use Rattle.build_meaning.specs.State.{Place, walking, within, Status, ready, assigned, waits, calling, done, RequestState, ToolsUsed, State, start}
+use Rattle.build_meaning.specs.State.{walking, within, Status, ready, assigned, waits, calling, done, RequestState, ToolsUsed, State, start}
 use Rattle.build_meaning.specs.Step.{whose, step, after_all}
-use Rattle.build_meaning.specs.History.{IsHistory, EndsWith}
-use Rattle.build_meaning.proofs.LawfulStates.{beginner, beginner-begun, in-found, Lawful}
-use Rattle.build_meaning.proofs.EventsKeepLawful.{some-is, step-lawful, start-lawful, all-lawful}
+use Rattle.build_meaning.specs.History.{IsHistory}
+use Rattle.build_meaning.proofs.LawfulStates.{beginner, Lawful}
+use Rattle.build_meaning.proofs.EventsKeepLawful.{some-is, step-lawful, start-lawful}
 use Rattle.build_meaning.proofs.ConsistentTables.{after-more}
 use Rattle.build_meaning.proofs.ParentsAndChildren.{same_some, none_some, same_or_not}
 use Rattle.build_meaning.proofs.OpenRequests.{inside_of, kins-at, inside-open, kin_of}
 use Rattle.build_meaning.proofs.OrderlyHistories.{all-change, tooled_runs, finished_runs, named-finished}
 use Rattle.build_meaning.proofs.ReplayCircles.{in-map}
 use Rattle.build_history.specs.Uses.{RunUse, with_if, uses_of, by_run, body_at, body_of, new_uses, and_on, uses_from, uses_in}
-use Rattle.build_history.proofs.BodiesMove.{IsReady, Resumed, Other, Own, rests, goes, begins, finishes, Moved, step-moved}
+use Rattle.build_history.proofs.BodiesMove.{IsReady, Other, Own, rests, goes, begins, finishes, Moved, step-moved}
 
 module _ {I : Type 0} where
   with_if-append : (b : Bool) (x : ToolUse I) (xs ys : List (ToolUse I)) → with_if b x (xs ++ ys) ≡ with_if b x xs ++ ys

@@ -3,3 +3,4 @@ pub mod OneAtATime
 pub mod OwnTurns
 pub mod RequestsMove
 pub mod Turns
+pub mod Using

@@ -25,7 +25,7 @@ first_there (x ∷ xs) l = (x, refl)
 
 module _ {I A : Type 0} (w : World I A) where
   -- the last event of a history is a step from the state before it
-  last-step : (events : List Event) (event : Event) (u s t : State I A) → after_all w u events ≡ Some s → after_all w u (events ++ event ∷ []) ≡ Some t → step w s event ≡ Some t
+  pub last-step : (events : List Event) (event : Event) (u s t : State I A) → after_all w u events ≡ Some s → after_all w u (events ++ event ∷ []) ≡ Some t → step w s event ≡ Some t
   last-step [] event u s t h g =
       let y = and_then-some (step w u event) (λ next. after_all w next []) t g in
       let same : u ≡ s = (let e : Some u ≡ Some s = h in cc) in

@@ -1,12 +1,13 @@
-ghost use Rattle.std.specs.Prelude.{◌≡◌, ◌+◌, ◌^◌, ◌<◌, ◌++◌, None, Some, IfOk, IsSome, OnOk, length};
+ghost use Rattle.std.specs.Prelude.{◌≡◌, ◌+◌, ◌^◌, ◌<◌, ◌++◌, [], None, Some, IfOk, IsSome, OnOk, length};
 ghost use Rattle.build_meaning.specs.declared.event.Event.{Event};
 ghost use Rattle.build_plain.specs.declared.alone.Turn.TheVariants.{Over};
+ghost use Rattle.build_plain.specs.Used.{UnlessMemory, Uses, due, due_in};
 ghost use Rattle.build_plain.specs.Driven.{AssignsLeast, Continues, Drives, HasGrown, IsFree, IsLegal, IsTurn, NoneAssigned, OnlyAssigned, end_of};
 ghost use Rattle.build_scheduler.specs.declared.walker.Ask.TheVariants.{Want, Call};
 ghost use Rattle.build_scheduler.specs.Ends.{IsStop};
 ghost use Rattle.build_scheduler.specs.Learnt.{AreInOrder, ArePartOf};
 ghost use Rattle.build_scheduler.specs.Own.{IsOut, IsOwn, seen_by};
-ghost use Rattle.build_scheduler.specs.Position.{IsInTurn, answered, ask_of};
+ghost use Rattle.build_scheduler.specs.Position.{IsInTurn, answered, ask_of, used_between};
 
 use build_scheduler::{Answer, Ask, Claimed, Core, End, RequestFault, Walker};
 use msb_values::{List, NoMemory};
@@ -22,8 +23,9 @@ pub(crate) enum Turn<W> {
 }
 
 /// Builds on one node until the core's end is told: the least ready request is assigned each time, and its walk is advanced until
-/// it waits, calls or is over. Want of memory, a cycle of runs and a limit that is passed end the build. (MSBuild task; Building
-/// projects in parallel.)
+/// it waits, calls or is over. Want of memory, a cycle of runs and a limit that is passed end the build. Unless it wanted memory,
+/// the tools that were used at the place are those that the history has, in its order. (MSBuild task; Building projects in
+/// parallel.)
 pub fn build_alone<W: Walker>(core: &mut Core<W>, place: &mut W::Place)
     requires { NoneAssigned (W.world_of core.old.world) core.old.history.events }
     ensures world { W.world_of core.new.world ≡ W.world_of core.old.world }
@@ -32,6 +34,7 @@ pub fn build_alone<W: Walker>(core: &mut Core<W>, place: &mut W::Place)
     ensures least { (more : List Event) → core.new.history.events ≡ core.old.history.events ++ more → AssignsLeast (W.world_of core.old.world) core.old.history.events more }
     ensures end { IsSome core.new.end }
     ensures free { IsFree (W.world_of core.new.world) core.new.history.events core.new.end }
+    ensures uses { UnlessMemory core.new.end ∥ Uses (W.world_of core.old.world) core.old.history.events core.new.history.events (W.used place.old) (W.used place.new) ∥₁ }
 {
     while core.end().is_none() {
         take_turn(core, place);
@@ -47,6 +50,7 @@ fn take_turn<W: Walker>(core: &mut Core<W>, place: &mut W::Place)
     ensures free { IsFree (W.world_of core.old.world) core.new.history.events core.new.end }
     ensures grows { length core.old.history.events < length core.new.history.events }
     ensures few { length core.old.history.events < 2 ^ 63 }
+    ensures uses { UnlessMemory core.new.end ∥ Uses (W.world_of core.old.world) core.old.history.events core.new.history.events (W.used place.old) (W.used place.new) ∥₁ }
 {
     few_events(core);
     match core.ready() {
@@ -66,6 +70,7 @@ fn work<W: Walker>(core: &mut Core<W>, place: &mut W::Place, id: u64, walk: W, a
     ensures world { W.world_of core.new.world ≡ W.world_of core.old.world }
     ensures drives { Drives (W.world_of core.old.world) core.old.history.events core.new.history.events }
     ensures free { IsFree (W.world_of core.old.world) core.new.history.events core.new.end }
+    ensures uses { UnlessMemory core.new.end ∥ Uses (W.world_of core.old.world) core.old.history.events core.new.history.events (W.used place.old ++ due (W.world_of core.old.world) core.old.table.finished (seen_by W.world W.position W.asked W.learnt walk) answer) (W.used place.new) ∥₁ }
 {
     let mut turn = Turn::GoesOn(walk, answer);
     while let Turn::GoesOn(walk, answer) = turn {
@@ -89,6 +94,7 @@ fn step<W: Walker>(
     ensures turn { IsTurn (seen_by W.world W.position W.asked W.learnt) (W.world_of core.old.world) core.new.history.events core.new.table.finished core.new.end id result }
     ensures grows { HasGrown core.old.history.events core.new.history.events result }
     ensures few { length core.old.history.events < 2 ^ 63 }
+    ensures uses { UnlessMemory core.new.end ∥ Uses (W.world_of core.old.world) core.old.history.events core.new.history.events (W.used place.old ++ due (W.world_of core.old.world) core.old.table.finished (seen_by W.world W.position W.asked W.learnt walk) answer) (W.used place.new ++ due_in (seen_by W.world W.position W.asked W.learnt) (W.world_of core.old.world) core.new.table.finished result) ∥₁ }
 {
     few_events(core);
     let mut walk = walk;
@@ -121,6 +127,7 @@ fn go_on<W: Walker>(
     ensures goes_on { OnOk result (answered (W.world walk.old) table.now.finished (W.position walk.old) answer.now ≡ Some (W.position walk.new)) }
     ensures asked { OnOk result (W.asked walk.new ≡ W.asked walk.old + 1) }
     ensures known { ArePartOf (W.learnt walk.new) table.now.finished }
+    ensures used { OnOk result (W.used place.new ≡ W.used place.old ++ used_between (W.position walk.old).place (W.position walk.new).place) }
     ensures world { W.world walk.new ≡ W.world walk.old }
 {
     walk.learn(table, answer)?;
@@ -137,6 +144,7 @@ fn answer_ask<W: Walker>(core: &mut Core<W>, id: u64, walk: W, ask: Ask) -> Turn
     ensures drives { Drives (W.world_of core.old.world) core.old.history.events core.new.history.events }
     ensures turn { IsTurn (seen_by W.world W.position W.asked W.learnt) (W.world_of core.old.world) core.new.history.events core.new.table.finished core.new.end id result }
     ensures grows { HasGrown core.old.history.events core.new.history.events result }
+    ensures uses { ∥ Uses (W.world_of core.old.world) core.old.history.events core.new.history.events [] (due_in (seen_by W.world W.position W.asked W.learnt) (W.world_of core.old.world) core.new.table.finished result) ∥₁ }
 {
     match ask {
         Ask::Want(run) => claim(core, id, walk, &run),
@@ -163,6 +171,7 @@ fn claim<W: Walker>(core: &mut Core<W>, id: u64, walk: W, run: &RunId) -> Turn<W
     ensures drives { Drives (W.world_of core.old.world) core.old.history.events core.new.history.events }
     ensures turn { IsTurn (seen_by W.world W.position W.asked W.learnt) (W.world_of core.old.world) core.new.history.events core.new.table.finished core.new.end id result }
     ensures grows { HasGrown core.old.history.events core.new.history.events result }
+    ensures uses { ∥ Uses (W.world_of core.old.world) core.old.history.events core.new.history.events [] (due_in (seen_by W.world W.position W.asked W.learnt) (W.world_of core.old.world) core.new.table.finished result) ∥₁ }
 {
     match core.claim(id, walk, run) {
         Ok(Claimed::Go(walk)) => Turn::GoesOn(walk, Answer::Go),
@@ -184,6 +193,7 @@ fn call<W: Walker>(core: &mut Core<W>, id: u64, walk: W, calls: List<RequestKey>
     ensures drives { Drives (W.world_of core.old.world) core.old.history.events core.new.history.events }
     ensures turn { IsTurn (seen_by W.world W.position W.asked W.learnt) (W.world_of core.old.world) core.new.history.events core.new.table.finished core.new.end id result }
     ensures grows { HasGrown core.old.history.events core.new.history.events result }
+    ensures uses { ∥ Uses (W.world_of core.old.world) core.old.history.events core.new.history.events [] (due_in (seen_by W.world W.position W.asked W.learnt) (W.world_of core.old.world) core.new.table.finished result) ∥₁ }
 {
     match core.request(id, walk, calls) {
         Ok(()) => Turn::Over,
@@ -208,6 +218,7 @@ fn stop<W: Walker>(core: &mut Core<W>, end: End) -> Turn<W>
     requires shown { IsStop (W.world_of core.old.world) core.old.history.events end }
     ensures world { W.world_of core.new.world ≡ W.world_of core.old.world }
     ensures history { core.new.history.events ≡ core.old.history.events }
+    ensures end { core.new.end ≡ Some end }
     ensures turn { result ≡ Over }
     ensures free { IsFree (W.world_of core.old.world) core.new.history.events core.new.end }
 {

@@ -1,6 +1,6 @@
 -- The walk of a ready request has used what the history has of its body.
-use Rattle.std.proofs.Common.{◌≡◌, ◌⊎◌, inl, inr, ◌-◌, ◌==◌, ℕ, zero, suc, Bool, true, false, List, [], ◌∷◌, ◌++◌, length, map, Option, None, Some, refl, ap, sym, ◌∙◌, subst}
-use Rattle.std.proofs.Math.Logic.{∥∥₁_map₂, ∥∥₁_map, ∥∥₁_elim, ∥∥₁_prop}
+use Rattle.std.proofs.Common.{◌≡◌, inl, inr, ◌-◌, ◌==◌, ℕ, zero, suc, Bool, true, false, List, [], ◌∷◌, ◌++◌, length, map, Option, None, Some, ap, sym, ◌∙◌, subst}
+use Rattle.std.proofs.Math.Logic.{∥∥₁_map, ∥∥₁_elim, ∥∥₁_prop}
 use Rattle.result_cache.specs.declared.run.RunId.{RunId}
 use Rattle.result_cache.specs.declared.request.RequestKey.{RequestKey}
 use Rattle.result_cache.specs.declared.request.RequestResult.{RequestResult}
@@ -11,25 +11,24 @@ use Rattle.build_meaning.specs.declared.event.Event.{Event}
 use Rattle.build_meaning.specs.Lists.{at, put, numbered_from}
 use Rattle.build_meaning.specs.World.{World}
 use Rattle.build_meaning.specs.Walk.{Body}
-use Rattle.build_meaning.specs.Stop.{asks}
-use Rattle.build_meaning.specs.State.{Within, within, Status, ready, assigned, waits, calling, done, RequestState, ToolsUsed, State, start, new_request}
+use Rattle.build_meaning.specs.State.{Within, ready, assigned, waits, calling, done, RequestState, ToolsUsed, State, start, new_request}
 use Rattle.build_meaning.specs.Step.{whose, step, after_all}
 use Rattle.build_meaning.specs.History.{IsHistory}
-use Rattle.build_meaning.proofs.ListPlaces.{at-put, at-put_else, at-front, at-append, at-map, at-less}
+use Rattle.build_meaning.proofs.ListPlaces.{at-put, at-put_else, at-front, at-map}
 use Rattle.build_meaning.proofs.ParentsAndChildren.{same_some, none_some, same_or_not}
 use Rattle.build_meaning.proofs.EventsKeepLawful.{some-is, step-lawful}
 use Rattle.build_history.specs.Uses.{body_at, uses_of, uses_in}
-use Rattle.build_history.proofs.BodiesMove.{IsReady, Resumed, Other, Moved, step-moved}
-use Rattle.build_history.proofs.UsesTold.{Told, added, kept-other, event-uses, history-told}
+use Rattle.build_history.proofs.BodiesMove.{IsReady, Other, step-moved}
+use Rattle.build_history.proofs.UsesTold.{added, kept-other, event-uses, history-told}
 use Rattle.build_scheduler.specs.declared.walker.Answer.{Answer}
-use Rattle.build_scheduler.specs.declared.walker.Answer.TheVariants.{First, Use}
+use Rattle.build_scheduler.specs.declared.walker.Answer.TheVariants.{First}
 use Rattle.build_scheduler.specs.declared.slot.Origin.{Origin}
 use Rattle.build_scheduler.specs.declared.slot.Calls.{Calls}
 use Rattle.build_scheduler.specs.declared.slot.Slot.{Slot}
 use Rattle.build_scheduler.specs.declared.slot.Slot.TheVariants.{Ready, Assigned, Waiting, Calling, Done}
 use Rattle.build_scheduler.specs.declared.slot.End.{End}
 use Rattle.build_scheduler.specs.declared.request.Children.{Children}
-use Rattle.build_scheduler.specs.Behind.{IsBehind, AreBehind, walk_in, AreKept}
+use Rattle.build_scheduler.specs.Behind.{AreBehind, walk_in, AreKept}
 use Rattle.build_scheduler.specs.Calls.{IsTold, IsResumed}
 use Rattle.build_scheduler.specs.Entered.{AreEntered}
 use Rattle.build_scheduler.specs.Log.{Logged}
@@ -37,7 +36,7 @@ use Rattle.build_scheduler.specs.Numbers.{Numbered}
 use Rattle.build_scheduler.specs.Own.{Seen}
 use Rattle.build_scheduler.specs.Position.{tools_in}
 use Rattle.build_scheduler.specs.Shown.{Shown, woken_if, woken_by}
-use Rattle.build_scheduler.specs.Slots.{ShowsSlot, ShowsReady, ShowsCalling}
+use Rattle.build_scheduler.specs.Slots.{ShowsSlot}
 use Rattle.build_scheduler.proofs.HistoryFacts.{one_state, lawful}
 use Rattle.build_scheduler.proofs.SlotsStay.{paired-other}
 

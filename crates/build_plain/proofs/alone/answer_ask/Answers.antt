@@ -3,9 +3,11 @@ use Rattle.build_meaning.specs.declared.event.Event.TheVariants.{Result, Done}
 use Rattle.build_scheduler.specs.declared.walker.Ask.TheVariants.{Finished, Done as IsOver}
 use Rattle.build_scheduler.specs.declared.walker.Answer.TheVariants.{Use}
 use Rattle.build_scheduler.specs.Own.{IsOut, seen_by}
+use Rattle.build_plain.specs.Driven.{IsLegal}
 use Rattle.build_plain.proofs.OneAtATime.{legal-of}
 use Rattle.build_plain.proofs.OwnTurns.{asks-of}
 use Rattle.build_plain.proofs.Turns.{goes-on, leaves-node}
+use Rattle.build_plain.proofs.Using.{goes-uses, away-uses}
 use Rattle.build_plain.proofs.alone.answer_ask.Goals as goal
 
 pub result-requires-clause-asks : goal.result-requires-clause-asks
@@ -36,3 +38,22 @@ returns-in-Done-clause-turn g c =
     let core = c.args.core.now in
     leaves-node (m.world_of core.world) core.history.events c.done.new.self.history.events (Done c.args.id)
     (legal-of (seen_by m.world m.position m.asked m.learnt) (m.world_of core.world) core.legal) c.done.ensures.history c.args.id refl c.requires.only c.done.new.self.end tt
+
+pub returns-in-Finished-clause-uses : goal.returns-in-Finished-clause-uses
+returns-in-Finished-clause-uses g c =
+    let m = g.W.Walker in
+    let core = c.args.core.now in
+    let after = c.result.new.self in
+    goes-uses (m.world_of core.world) core.history.events after.history.events (Result c.args.id c.in-Finished.run') c.args.id core.table.finished after.table.finished
+    (seen_by m.world m.position m.asked m.learnt c.args.walk) Use refl c.result.ensures.history c.requires.own
+    (subst (λ w. ∥ IsOut w after.history.events after.table.finished c.args.id (seen_by m.world m.position m.asked m.learnt c.args.walk) Use ∥₁) c.result.ensures.world
+    (c.result.ensures.out c.args.walk c.requires.own (c.requires.asks ∙ c.in-Finished.is)))
+
+pub returns-in-Done-clause-uses : goal.returns-in-Done-clause-uses
+returns-in-Done-clause-uses g c =
+    let m = g.W.Walker in
+    let core = c.args.core.now in
+    let after = c.done.new.self in
+    away-uses (m.world_of core.world) core.history.events after.history.events (Done c.args.id) c.args.id core.table.finished
+    (seen_by m.world m.position m.asked m.learnt c.args.walk) refl (λ a. a) c.done.ensures.history c.requires.own
+    (subst (λ w. ∥ IsLegal w after.history.events ∥₁) c.done.ensures.world (legal-of (seen_by m.world m.position m.asked m.learnt) (m.world_of after.world) after.legal))

@@ -1,5 +1,6 @@
 use Rattle.std.proofs.Common.{◌≡◌, ◌-◌, ◌^◌, length}
 use Rattle.build_plain.specs.Driven.{Drives, IsFree}
+use Rattle.build_plain.specs.Used.{UnlessMemory, Uses}
 use Rattle.build_plain.proofs.alone.build_alone.Given as goal
 
 abbrev pub invariant-loop-core : goal.invariant-loop-core
@@ -9,6 +10,7 @@ invariant-loop-core g l =
       world : m.world_of l.core.world ≡ m.world_of l.initial.core.world;
       drives : Drives (m.world_of l.initial.core.world) l.initial.core.history.events l.core.history.events;
       free : IsFree (m.world_of l.initial.core.world) l.core.history.events l.core.end;
+      uses : UnlessMemory l.core.end ∥ Uses (m.world_of l.initial.core.world) l.initial.core.history.events l.core.history.events (m.used l.initial.place) (m.used l.place) ∥₁;
     }
 
 abbrev pub decreases-loop-core : goal.decreases-loop-core

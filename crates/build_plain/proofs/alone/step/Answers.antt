@@ -4,6 +4,7 @@ use Rattle.build_scheduler.specs.Learnt.{ArePartOf}
 use Rattle.build_scheduler.specs.Own.{seen_by}
 use Rattle.build_scheduler.specs.Position.{answered}
 use Rattle.build_plain.proofs.OwnTurns.{known-of, fits-of, turn-of, room-of, own-of}
+use Rattle.build_plain.proofs.Using.{step-uses, unless-wanted}
 use Rattle.build_plain.proofs.alone.step.Goals as goal
 
 pub go_on-requires-clause-known : goal.go_on-requires-clause-known
@@ -40,3 +41,17 @@ answer_ask-requires-clause-own g c =
     (seen_by m.world m.position m.asked m.learnt c.go_on.new.walk) c.in-Ok.ensures.world
     (subst (λ table. answered (m.world c.args.walk) table.finished (m.position c.args.walk) c.args.answer ≡ Some (m.position c.go_on.new.walk)) c.table.ensures.table c.in-Ok.ensures.goes_on)
     c.in-Ok.ensures.asked (subst (λ table. ArePartOf (m.learnt c.go_on.new.walk) table.finished) c.table.ensures.table c.in-Ok.ensures.known)
+
+pub returns-in-Ok-clause-uses : goal.returns-in-Ok-clause-uses
+returns-in-Ok-clause-uses g c =
+    let m = g.W.Walker in
+    let core = c.args.core.now in
+    let after = c.answer_ask.new.core in
+    let seen = seen_by m.world m.position m.asked m.learnt in
+    step-uses seen (m.world_of core.world) core.history.events after.history.events core.table.finished after.table.finished c.args.id c.args.walk c.go_on.new.walk c.args.answer c.answer_ask.result after.end
+    (m.used c.args.place.now) (m.used c.go_on.new.place) c.requires.out
+    (subst (λ table. answered (m.world c.args.walk) table.finished (m.position c.args.walk) c.args.answer ≡ Some (m.position c.go_on.new.walk)) c.table.ensures.table c.in-Ok.ensures.goes_on)
+    c.in-Ok.ensures.used c.answer_ask.ensures.uses
+
+pub returns-clause-uses : goal.returns-clause-uses
+returns-clause-uses g c = unless-wanted c.stop.new.core.end _ c.stop.ensures.end

@@ -1,6 +1,7 @@
-use Rattle.std.proofs.Common.{◌≡◌, length}
+use Rattle.std.proofs.Common.{◌≡◌, ◌++◌, length}
 use Rattle.build_scheduler.specs.Own.{seen_by}
 use Rattle.build_plain.specs.Driven.{Drives, IsTurn}
+use Rattle.build_plain.specs.Used.{UnlessMemory, Uses, due_in}
 use Rattle.build_plain.proofs.Turns.{left_of}
 use Rattle.build_plain.proofs.alone.work.Given as goal
 
@@ -11,6 +12,9 @@ invariant-loop-turn g l =
       world : m.world_of l.core.world ≡ m.world_of l.initial.core.world;
       drives : Drives (m.world_of l.initial.core.world) l.initial.core.history.events l.core.history.events;
       turn : IsTurn (seen_by m.world m.position m.asked m.learnt) (m.world_of l.initial.core.world) l.core.history.events l.core.table.finished l.core.end l.id l.turn;
+      uses : UnlessMemory l.core.end ∥ Uses (m.world_of l.initial.core.world) l.initial.core.history.events l.core.history.events
+          (m.used l.initial.place ++ due_in (seen_by m.world m.position m.asked m.learnt) (m.world_of l.initial.core.world) l.initial.core.table.finished l.initial.turn)
+          (m.used l.place ++ due_in (seen_by m.world m.position m.asked m.learnt) (m.world_of l.initial.core.world) l.core.table.finished l.turn) ∥₁;
     }
 
 abbrev pub decreases-loop-turn : goal.decreases-loop-turn
