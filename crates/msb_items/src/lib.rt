@@ -29,6 +29,6 @@ mod updates;
 pub use batched::element_buckets;
 pub use definitions::definition_pass;
 pub use items::item_pass;
-pub use repeats::without_repeats;
+pub use repeats::KeyedItems;
 pub use target_groups::{change_by_group, in_target};
 pub use truths::truth_or;

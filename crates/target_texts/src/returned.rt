@@ -10,8 +10,8 @@ use crate::bucket::without_lists;
 use crate::place::Place;
 use build_world::{EvalFault, PlacedElement, UsedTarget};
 use msb_expand::Bucket;
-use msb_items::{truth_or, without_repeats};
-use msb_values::{Item, List, NoMemory, Pairs, unescape};
+use msb_items::{KeyedItems, truth_or};
+use msb_values::{Item, List, NoMemory, unescape};
 use std::alloc::Global;
 
 /// The text of the items that a target returns: Returns, or where no Target element of its file has one, Outputs.
@@ -66,7 +66,7 @@ pub fn returned_items(
     place: &Place<'_>,
     bucket: &Bucket,
     element: &PlacedElement<'_>,
-    there: &[Item],
+    there: &KeyedItems,
     written: &str,
 ) -> Result<List<Item>, EvalFault>
     ensures { GivesFault (λ items. items) result (returned_items (seen_place place.now) bucket.now (seen_element element.now) there.now written.now) }
@@ -92,7 +92,7 @@ pub fn listed_items(
     place: &Place<'_>,
     element: &PlacedElement<'_>,
     keeps: bool,
-    there: &[Item],
+    there: &KeyedItems,
     written: &str,
 ) -> Result<List<Item>, EvalFault>
     ensures { GivesFault (λ items. items) result (listed_items (seen_place place.now) (seen_element element.now) keeps there.now written.now) }
@@ -107,7 +107,7 @@ pub fn listed_items(
 fn less_repeats(
     alloc: Global,
     keeps: bool,
-    there: &[Item],
+    there: &KeyedItems,
     items: List<Item>,
 ) -> Result<List<Item>, NoMemory>
     ensures { IfOk result (λ kept. kept ≡ less_repeats keeps there.now items) }
@@ -115,7 +115,5 @@ fn less_repeats(
     if keeps {
         return Ok(items);
     }
-    let none = Pairs::new(alloc);
-    let kept = without_repeats(alloc, &none, there, items.into_vec())?;
-    Ok(List::from(kept))
+    there.without_repeats(alloc, items)
 }
