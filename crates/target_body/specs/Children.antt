@@ -8,12 +8,12 @@ use Rattle.build_world.specs.Elements.{At, children_of}
 use Rattle.msb_items.specs.TargetGroups.{group_changes}
 use Rattle.target_incremental.specs.declared.decision.Choice.{Choice}
 use Rattle.target_body.specs.Work.{Work, done, followed_by, each_in_turn}
-use Rattle.target_body.specs.States.{Run, State, Stopped, or_stop, with_changes, settled, place_in}
+use Rattle.target_body.specs.States.{Run, State, Stopped, or_stop, with_changes_seen, without_scope, settled, place_in}
 use Rattle.target_body.specs.Tasks.{task}
 
 -- a PropertyGroup or an ItemGroup: all its changes, or none where one of its texts has a fault
 abbrev pub group : Run → At → State → Result State Stopped
-group run e s = map_ok (λ changes. with_changes changes s) (or_stop s (group_changes (place_in run s s.scope) e))
+group run e s = map_ok (λ changes. with_changes_seen changes s) (or_stop (without_scope s) (group_changes (place_in run s s.scope) e))
 
 pub data Kind : Type 0 where
   group_element : Kind

@@ -21,6 +21,7 @@ use Rattle.msb_files.specs.Views as views
 use Rattle.msb_expand.specs.declared.lens.Bucket.{Bucket}
 use Rattle.msb_items.specs.Items.{list_of, with_list}
 use Rattle.msb_items.specs.Places.{Place, item_place}
+use Rattle.msb_items.specs.TargetGroups.{all_applied}
 use Rattle.target_texts.specs.Made.{Made}
 
 -- a run: the files as they stood at the start, the mode of the build, the project with its global properties, and the target
@@ -30,8 +31,8 @@ pub record Run : Type 0 where
   pub instance : InstanceKey
   pub target : UsedTarget
 
--- The scope of the bucket at hand. Where its tasks run on a part of a list, the type and the items that they see of it. The changes of the child at
--- hand, which the scope has not yet. The journal of files, and the number of bytes that the run itself has written. Then what its record says: what was decided
+-- The scope of the bucket at hand. Where its tasks run on a part of a list, the type and the items that they see of it. The changes of the task
+-- element at hand, which the scope has not yet. The journal of files, and the number of bytes that the run itself has written. Then what its record says: what was decided
 -- of each bucket, the items that are returned, the changes of the request's scope, and the notes.
 pub record State : Type 0 where
   pub scope : Scope
@@ -64,15 +65,31 @@ with_part (Some part) scope = with_list scope part.0 part.1
 abbrev pub task_scope : State → Scope
 task_scope s = with_part s.part s.scope
 
+-- a scope in which nothing is
+abbrev pub no_scope : Scope
+no_scope = record { globals = []; props = []; items = []; defaults = [] }
+
+-- a change is made of the part as of the items of its type in a scope, where it looks at no others
+abbrev pub part_after : Change → Option (List ℕ × List Item) → Option (List ℕ × List Item)
+part_after change None = None
+part_after change (Some part) = Some (part.0, list_of (applied change (with_list no_scope part.0 part.1)) part.0)
+
+abbrev pub part_after_all : List Change → Option (List ℕ × List Item) → Option (List ℕ × List Item)
+part_after_all changes part = fold (λ part change. part_after change part) part changes
+
 -- a change is made in both scopes
-abbrev pub part_after : Change → Scope → Option (List ℕ × List Item) → Option (List ℕ × List Item)
-part_after change scope None = None
-part_after change scope (Some part) = Some (part.0, list_of (applied change (with_list scope part.0 part.1)) part.0)
-
 abbrev pub with_change : State → Change → State
-with_change s change = record s { scope = applied change s.scope; part = part_after change s.scope s.part }
+with_change s change = record s { scope = applied change s.scope; part = part_after change s.part }
 
--- a change of the child at hand, which stays out of the scope until the child is over
+-- changes that the scope has at once
+abbrev pub with_changes_seen : List Change → State → State
+with_changes_seen changes s = record s { scope = all_applied changes s.scope; part = part_after_all changes s.part; changes = s.changes ++ changes }
+
+-- nothing looks at the scope any more
+abbrev pub without_scope : State → State
+without_scope s = record s { scope = no_scope }
+
+-- changes of the task element at hand, which stay out of the scope until it is over
 abbrev pub with_changes : List Change → State → State
 with_changes changes s = record s { unseen = s.unseen ++ changes; changes = s.changes ++ changes }
 

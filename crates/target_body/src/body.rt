@@ -200,7 +200,7 @@ fn recorded(alloc: Global, state: State, ending: Ending) -> Record
         Ending::Fine => Record {
             ok: true,
             decisions,
-            items,
+            items: items.into_list(),
             changes,
             notes,
             segments,

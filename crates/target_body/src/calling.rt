@@ -81,7 +81,7 @@ impl State {
     ) -> Result<Option<(OnError, List<Param>)>, EvalFault>
         ensures { GivesFault (λ ready. ready) result (readied (called_place (seen_run call.entry.now.site) (seen_state self.entry.now journal.entry.now) call.entry.now.bucket.now) (seen_element call.entry.now.element)) }
     {
-        let Ok(own) = scope_of_part(alloc, &self.scope, &self.part) else {
+        let Ok(own) = scope_of_part(&self.scope, &self.part) else {
             return Err(EvalFault::memory(alloc));
         };
         let view = FileView::of(&call.site.world.tree, journal);
@@ -296,7 +296,7 @@ impl State {
         if !call.gives {
             return Ok(());
         }
-        let Ok(own) = scope_of_part(alloc, &self.scope, &self.part) else {
+        let Ok(own) = scope_of_part(&self.scope, &self.part) else {
             return Err(EvalFault::memory(alloc));
         };
         let view = FileView::of(&call.site.world.tree, journal);

@@ -10,13 +10,13 @@ ghost use Rattle.target_body.specs.Seen.{child_at, ended, seen_kind, seen_run, s
 ghost use Rattle.target_body.specs.Work.{each_in_turn, unless_stopped};
 
 use crate::frames::AtTask;
+use crate::part::{no_scope, part_after_all};
 use crate::site::Site;
 use crate::state::State;
 use crate::steps::{Ending, Step};
 use build_world::PlacedElement;
-use msb_expand::{Lens, Use};
 use msb_files::{FileView, Journal};
-use msb_items::in_target;
+use msb_items::change_by_group;
 use msb_values::{List, NoMemory};
 use result_cache::RequestResult;
 use std::alloc::Global;
@@ -95,7 +95,7 @@ impl State {
         }
     }
 
-    // A PropertyGroup or an ItemGroup: all its changes, or none where one of its texts has a fault.
+    // A PropertyGroup or an ItemGroup: the scope has all its changes at once, or one of its texts has a fault.
     fn group(
         &mut self,
         alloc: Global,
@@ -108,13 +108,15 @@ impl State {
     {
         let view = FileView::of(&site.world.tree, journal);
         let project = site.id.instance.path.as_str();
-        let lens = Lens::new(&self.scope, project, element.file, Use::All);
-        match in_target(alloc, &view, &lens, element.element) {
+        match change_by_group(alloc, &view, project, element, &mut self.scope) {
             Ok(changes) => {
-                self.add_changes(changes)?;
+                part_after_all(alloc, &mut self.part, changes.as_slice())?;
+                self.changes.append(changes)?;
                 Ok(Ending::Fine)
             }
             Err(fault) => {
+                // Some of the group's changes may be made, and nothing looks at the scope behind a fault.
+                self.scope = no_scope(alloc);
                 self.note_fault(alloc, &fault)?;
                 Ok(Ending::Faulted)
             }

@@ -125,9 +125,9 @@ fn choice_copy(choice: &Choice) -> Result<Choice, NoMemory>
 }
 
 /// A type and items of it, if there are any, once more.
-pub(crate) fn typed_copy(
-    typed: &Option<(Name, List<Item>)>,
-) -> Result<Option<(Name, List<Item>)>, NoMemory>
+pub(crate) fn typed_copy<I: Copied + Drop>(
+    typed: &Option<(Name, I)>,
+) -> Result<Option<(Name, I)>, NoMemory>
     ensures { IfOk result (λ copy. copy ≡ typed.now) }
 {
     match typed {

@@ -25,7 +25,7 @@ use crate::steps::{Ending, Step};
 use build_world::{EvalFault, PlacedElement};
 use msb_expand::Bucket;
 use msb_files::{FileView, Journal};
-use msb_values::{Copied, Item, List, Name, NoMemory, Scope};
+use msb_values::{Copied, Item, List, Name, NoMemory, Scope, SharedItems};
 use result_cache::{Decision, RequestResult};
 use std::alloc::Global;
 use target_incremental::{Choice, decide};
@@ -132,7 +132,7 @@ impl State {
             Choice::Run | Choice::Skip => self.children(alloc, site, choice, 0, tools, journal),
             Choice::Nothing => Ok(Step::Over(Ending::Fine)),
             Choice::Part(old) => {
-                self.narrow(items, old)?;
+                self.narrow(alloc, items, old)?;
                 self.children(alloc, site, choice, 0, tools, journal)
             }
         }
@@ -141,6 +141,7 @@ impl State {
     // Tasks see of the type its items that are out of date.
     fn narrow(
         &mut self,
+        alloc: Global,
         items: &Option<(Name, List<Item>)>,
         old: &List<Item>,
     ) -> Result<(), NoMemory>
@@ -148,7 +149,8 @@ impl State {
         ensures kept { OnOk result (self.new.segments ≡ self.old.segments) }
     {
         if let Some((kind, _)) = items {
-            self.part = Some((kind.copy()?, old.copy()?));
+            let old = SharedItems::of(alloc, old.copy()?)?;
+            self.part = Some((kind.copy()?, old));
         }
         Ok(())
     }
@@ -216,7 +218,7 @@ impl State {
     {
         match self.returned(alloc, &*site, &*bucket, &*journal) {
             Ok(items) => {
-                self.items.append(items)?;
+                self.items.append(alloc, items)?;
                 self.add_decision(word)?;
                 Ok(Ending::Fine)
             }
@@ -243,14 +245,7 @@ impl State {
         let view = FileView::of(&site.world.tree, journal);
         let place = place_of(&view, site.id.instance.path.as_str(), &self.scope);
         let target = PlacedElement::of(&site.target.at);
-        returned_items(
-            alloc,
-            &place,
-            bucket,
-            &target,
-            self.items.as_slice(),
-            written,
-        )
+        returned_items(alloc, &place, bucket, &target, &self.items, written)
     }
 
     /// Goes on with a bucket of the target when the results of calls have come. (MSBuild task.)

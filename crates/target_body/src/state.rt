@@ -16,7 +16,8 @@ use crate::part::part_after;
 use crate::steps::Ending;
 use build_world::EvalFault;
 use msb_expand::Bucket;
-use msb_values::{Cause, Change, Copied, Item, List, Lists, Name, NoMemory, Note, Scope};
+use msb_items::KeyedItems;
+use msb_values::{Cause, Change, Copied, List, Lists, Name, NoMemory, Note, Scope, SharedItems};
 use result_cache::{Decision, RequestKey, RequestResult, Segment};
 use std::alloc::Global;
 use std::mem;
@@ -27,14 +28,14 @@ pub(crate) struct State {
     /// The scope of the bucket at hand.
     pub(crate) scope: Scope,
     /// Where its tasks run on a part of a list, the type and the items that they see of it.
-    pub(crate) part: Option<(Name, List<Item>)>,
-    /// The changes of the child at hand, which the scope has not yet.
+    pub(crate) part: Option<(Name, SharedItems)>,
+    /// The changes of the task element at hand, which the scope has not yet.
     pub(crate) unseen: List<Change>,
     /// How many bytes the run itself has written.
     pub(crate) written: u64,
     pub(crate) decisions: List<Decision>,
     /// The items that are returned.
-    pub(crate) items: List<Item>,
+    pub(crate) items: KeyedItems,
     pub(crate) changes: List<Change>,
     pub(crate) notes: List<Note>,
     /// The run's own writes and its calls, in order.
@@ -54,7 +55,7 @@ impl State {
             unseen: List::new(alloc),
             written: 0,
             decisions: List::new(alloc),
-            items: List::new(alloc),
+            items: KeyedItems::new(alloc),
             changes: List::new(alloc),
             notes: List::new(alloc),
             segments: List::new(alloc),
@@ -79,7 +80,7 @@ impl State {
         Ok(())
     }
 
-    /// Changes of the child at hand, which stay out of the scope until it is over.
+    /// Changes of the task element at hand, which stay out of the scope until it is over.
     pub(crate) fn add_changes(&mut self, made: List<Change>) -> Result<(), NoMemory>
         ensures { OnOk result (self.new ≡ record self.old { unseen = self.old.unseen ++ made; changes = self.old.changes ++ made }) }
     {
@@ -162,9 +163,9 @@ impl State {
 
     // A change is made in the scope, and in what tasks see of a list.
     fn see(&mut self, alloc: Global, change: &Change) -> Result<(), NoMemory>
-        ensures { OnOk result (self.new ≡ record self.old { scope = applied change.now self.old.scope; part = part_after change.now self.old.scope self.old.part }) }
+        ensures { OnOk result (self.new ≡ record self.old { scope = applied change.now self.old.scope; part = part_after change.now self.old.part }) }
     {
-        part_after(alloc, &self.scope, &mut self.part, change)?;
+        part_after(alloc, &mut self.part, change)?;
         self.scope.apply(alloc, change)
     }
 }

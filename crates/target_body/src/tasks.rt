@@ -130,7 +130,7 @@ impl State {
     ) -> Result<List<Bucket>, EvalFault>
         ensures { GivesFault (λ buckets. buckets) result (task_buckets (place_in (seen_run at.entry.now.site) (seen_state self.entry.now journal.entry.now) (task_scope (seen_state self.entry.now journal.entry.now))) (seen_element at.entry.now.element)) }
     {
-        let Ok(own) = scope_of_part(alloc, &self.scope, &self.part) else {
+        let Ok(own) = scope_of_part(&self.scope, &self.part) else {
             return Err(EvalFault::memory(alloc));
         };
         let view = FileView::of(&at.site.world.tree, journal);
