@@ -3,36 +3,38 @@ use Rattle.std.proofs.Common.{◌≡◌, ◌≤◌, ◌+◌, min, ℕ, List, Opt
 use Rattle.file_store.specs.declared.tree.File.{File}
 use Rattle.msb_words.specs.Options.{options_in}
 use Rattle.msb_words.specs.declared.options.Options.{Options}
-use Rattle.msb_program.specs.Outcomes.{Answering, IsCompletion, IsRefusal, IsOutcomeOf}
+use Rattle.msb_program.specs.Outcomes.{Answering, HasProject, IsCompletion, IsRefusal, IsOutcomeOf}
 use Rattle.msb_program.specs.Endings.{Saving, saving, Printing, Silent, EndsWhole, EndsRefused, EndsUnprinted, EndsUnwritten, EndsHalfway, Ends, EndsOver}
-use Rattle.msb_program.specs.Answers.{Loading, AreLoaded, HasOutcome, IsStatusOf, Answers}
+use Rattle.msb_program.specs.Answers.{Loading, AreLoaded, HasOutcome, IsStatusOf, IsStatusOfProject, Answers}
 use Rattle.build_outcome.specs.declared.outcome.Outcome.{Outcome}
 use Rattle.msb_program.proofs.Claims.{answers_at, memory_answers}
 
 module _ (tools : Answering) where
   -- an outcome of loaded files is one of the told files
-  told_status : (told : Option (List File)) (options : Options) (files : List File) (o : Outcome) (status : ℕ) → IfSome told (λ those. files ≡ those) → IsOutcomeOf tools options files o → status ≡ o.status → IsStatusOf tools (Some options) told status
-  told_status None options files o status same is e = tt
-  told_status (Some those) options files o status same is e = (o, subst (λ loaded. IsOutcomeOf tools options loaded o) same is, e)
+  told_status : (told : Option (List File)) (options : Options) (files : List File) (o : Outcome) (status : ℕ) → HasProject options → IfSome told (λ those. files ≡ those) → IsOutcomeOf tools options files o → status ≡ o.status
+      → IsStatusOfProject tools options told status
+  told_status None options files o status project same is e = (project, tt)
+  told_status (Some those) options files o status project same is e = (project, (o, subst (λ loaded. IsOutcomeOf tools options loaded o) same is, e))
 
   -- an outcome of these words over loaded files
   pub record Work (words : List (List ℕ)) (told : Option (List File)) (o : Outcome) : Type 0 where
     pub options : Options
     pub asked : options_in words ≡ Some options
+    pub project : HasProject options
     pub files : List File
     pub loaded : AreLoaded told files
     pub is : IsOutcomeOf tools options files o
 
   module _ (words : List (List ℕ)) (l : Loading) (s : Saving) (p : Printing) (o : Outcome) (work : Work words l.told o) where
     having : (P : Outcome → Type 0) → P o → HasOutcome tools words l.told P
-    having P holds = record { options = work.options; asked = work.asked; files = work.files; loaded = work.loaded; outcome = o; is = work.is; holds = holds }
+    having P holds = record { options = work.options; asked = work.asked; project = work.project; files = work.files; loaded = work.loaded; outcome = o; is = work.is; holds = holds }
 
     status_told : (status : ℕ) → status ≡ o.status → IsStatusOf tools (options_in words) l.told status
-    status_told status is = subst (λ asks. IsStatusOf tools asks l.told status) (sym work.asked) (told_status l.told work.options work.files o status work.loaded.told_are work.is is)
+    status_told status is = subst (λ asks. IsStatusOf tools asks l.told status) (sym work.asked) (inl (told_status l.told work.options work.files o status work.project work.loaded.told_are work.is is))
 
     whole_answers : (status : ℕ) → status ≡ o.status → IsCompletion o.status → EndsWhole s p o → Answers tools words l s p status
     whole_answers status is (inl zero_is) ends =
-        answers_at tools words l s p 0 (inl refl) (having (λ made. (made.status ≡ 0) × EndsWhole s p made) (zero_is, ends)) status (is ∙ zero_is) (λ store sink. inr (status_told status is))
+        answers_at tools words l s p 0 (inl refl) (inl (having (λ made. (made.status ≡ 0) × EndsWhole s p made) (zero_is, ends))) status (is ∙ zero_is) (λ store sink. inr (status_told status is))
     whole_answers status is (inr one_is) ends =
         answers_at tools words l s p 1 (inr (inl refl)) (having (λ made. (made.status ≡ 1) × EndsWhole s p made) (one_is, ends)) status (is ∙ one_is) (λ store sink. inr (status_told status is))
 
@@ -48,7 +50,7 @@ module _ (tools : Answering) where
 
     unprinted_answers : (status : ℕ) → status ≡ 6 → EndsUnprinted s p o → Answers tools words l s p status
     unprinted_answers status is ends =
-        answers_at tools words l s p 6 (inr (inr (inr (inr (inr (inr (inl refl))))))) (having (EndsUnprinted s p) ends) status is (λ store sink. absurd (sink ends.rose))
+        answers_at tools words l s p 6 (inr (inr (inr (inr (inr (inr (inl refl))))))) (inl (having (EndsUnprinted s p) ends)) status is (λ store sink. absurd (sink ends.rose))
 
     halfway_answers : (status : ℕ) → status ≡ 7 → Silent p → EndsHalfway s o → Answers tools words l s p status
     halfway_answers status is silent ends = memory_answers tools words l s p status is (silent, inr (having (EndsHalfway s) ends))
@@ -74,11 +76,12 @@ module _ (tools : Answering) where
   ends_since o before between after s p status earlier (inr (inr (inr (inl ends)))) = inr (inr (inr (inl (ends.0, unwritten_since before between after s p o earlier ends.1))))
   ends_since o before between after s p status earlier (inr (inr (inr (inr ends)))) = inr (inr (inr (inr ends)))
 
-  module _ (words : List (List ℕ)) (l : Loading) (s : Saving) (p : Printing) (options : Options) (files : List File) (asked : options_in words ≡ Some options) (loaded : AreLoaded l.told files) where
+  module _ (words : List (List ℕ)) (l : Loading) (s : Saving) (p : Printing) (options : Options) (files : List File) (asked : options_in words ≡ Some options) (project : HasProject options)
+      (loaded : AreLoaded l.told files) where
     -- what ended once the files were loaded, which left the told files as they were
     pub loaded_answers : (status between : ℕ) (told : Option (List File)) → told ≡ s.before → l.faults_before ≤ between → EndsOver tools options files between l.faults_after (saving told s.after) p status → Answers tools words l s p status
     loaded_answers status between told same earlier (inl made) =
         let ends : Ends made.0 between l.faults_after s p status = subst (λ (before : Option (List File)). Ends made.0 between l.faults_after (saving before s.after) p status) same made.2 in
-        outcome_answers words l s p made.0 (record { options = options; asked = asked; files = files; loaded = loaded; is = made.1 }) status
+        outcome_answers words l s p made.0 (record { options = options; asked = asked; project = project; files = files; loaded = loaded; is = made.1 }) status
         (ends_since made.0 l.faults_before between l.faults_after s p status earlier ends)
     loaded_answers status between told same earlier (inr memory) = memory_answers tools words l s p status memory.0 (memory.2, inl (memory.1 ∙ same))

@@ -1,8 +1,12 @@
 pub mod Building
 pub mod Claims
 pub mod Committing
+pub mod Compared
+pub mod Counting
 pub mod Ended
 pub mod Meant
 pub mod Ready
+pub mod TrialEnded
+pub mod Trying
 pub mod Unloaded
 pub mod Working

@@ -25,13 +25,14 @@ use Rattle.request_machine.specs.Worlds.{world_of}
 use Rattle.msb_words.specs.Options.{options_in}
 use Rattle.msb_words.specs.declared.options.Options.{Options}
 use Rattle.msb_words.specs.declared.options.Action.{Action}
-use Rattle.msb_words.specs.declared.options.Action.TheVariants.{Build as ToBuild, Eval, Targets}
-use Rattle.msb_program.specs.Answers.{Answers, HasOutcome, IsLoadFailure, IsStatus, IsStatusOf, IsPastLimit, Loading}
-use Rattle.msb_program.specs.Endings.{Saving, Kept, Printing, Silent, EndsWhole, EndsRefused, EndsUnprinted, EndsUnwritten, EndsHalfway}
+use Rattle.msb_words.specs.declared.options.Action.TheVariants.{Build as ToBuild, Eval, Targets, Trial}
+use Rattle.msb_program.specs.Answers.{Answers, HasOutcome, HasTrial, IsLoadFailure, IsStatus, IsStatusOf, IsPastLimit, Loading}
+use Rattle.msb_program.specs.Endings.{Saving, Kept, Printing, PrintedAll, PrintedFront, Silent, EndsWhole, EndsRefused, EndsUnprinted, EndsUnwritten, EndsHalfway}
 use Rattle.msb_program.specs.Meanings.{AnswersMeant, Means}
 use Rattle.msb_program.specs.Outcomes.{Answering, ComesOf, IsAsked, IsBuildOf, IsOutcomeAt, IsOutcomeOf, IsOutcomeWithin, IsWorkAt, IsWorkOfAction, IsWorkOfFile, IsWorkOfInstance, key_at}
 use Rattle.msb_program.specs.declared.work.Work.{Work}
 use Rattle.msb_program.specs.declared.work.Work.TheVariants.{Told, Build}
+use Rattle.msb_program.proofs.Working.{build_is_asked}
 
 bytes_code : Coded (List ℕ)
 bytes_code = coded_list coded_ℕ
@@ -77,6 +78,7 @@ module _ (options : Options) (key : InstanceKey) (files : List File) (given : Wo
   same_action ToBuild instance work x y = same_build work x y
   same_action Eval instance work x y = x ∙ sym y
   same_action Targets instance work x y = x ∙ sym y
+  same_action Trial instance work x y = absurd x
 
   same_instance_work : (result : Result Instance EvalFault) (work : Work) → IsWorkOfInstance options key files result work → IsWorkOfInstance options key files result (Build given) → work ≡ Build given
   same_instance_work (Ok instance) work x y = same_action options.action instance work x y
@@ -117,6 +119,13 @@ module _ (tools : Answering) (words : List (List ℕ)) (told : Option (List File
   pub holds_meant : (P : Outcome → Type 0) → HasOutcome tools words told P → P meant
   holds_meant P x = subst P (outcome_meant x.options x.files x.outcome x.asked x.loaded.told_are x.is) x.holds
 
+  -- what asks for a build asks for no trial
+  pub no_trial : (options : Options) → options_in words ≡ Some options → options.action ≡ Trial → ⊥
+  no_trial options asked trial =
+      let build : means.build.options.action ≡ ToBuild = build_is_asked means.build.options means.build.files (normal_path [] means.build.options.project) means.given means.build.is in
+      let apart : ToBuild ≡ Trial = sym build ∙ ap (λ (o : Options). o.action) (sym (same_options options asked)) ∙ trial in
+      cc
+
   -- a build that means something comes to its end
   pub meant_status : (meant.status ≡ 0) ⊎ (meant.status ≡ 1)
   meant_status = ended means.out.value.ok (ap (λ (o : Outcome). o.status) means.is)
@@ -154,8 +163,13 @@ module _ (tools : Answering) (words : List (List ℕ)) (l : Loading) (s : Saving
   known_meant (inr (inr (inr (inr (inr (inr (inr (inl seven_is)))))))) = inr (inr (inr (inr seven_is)))
   known_meant (inr (inr (inr (inr (inr (inr (inr (inr eight_is)))))))) = absurd (in_limits tools words l.told meant means refl (answers.limited eight_is))
 
+  -- what is known of an outcome of the words, or else of a trial, holds of what the build means
+  not_tried : (P : Outcome → Type 0) (Q : List ℕ → Type 0) → HasOutcome tools words l.told P ⊎ HasTrial words s Q → P meant
+  not_tried P Q (inl x) = holds P x
+  not_tried P Q (inr x) = absurd (no_trial tools words l.told meant means x.options x.asked x.trial)
+
   done_meant : (status ≡ 0) ⊎ (status ≡ 1) → (status ≡ meant.status) × EndsWhole s p meant
-  done_meant (inl zero_is) = let x = holds (λ o. (o.status ≡ 0) × EndsWhole s p o) (answers.done zero_is) in (zero_is ∙ sym x.0, x.1)
+  done_meant (inl zero_is) = let x = not_tried (λ o. (o.status ≡ 0) × EndsWhole s p o) (PrintedAll p) (answers.done zero_is) in (zero_is ∙ sym x.0, x.1)
   done_meant (inr one_is) = let x = holds (λ o. (o.status ≡ 1) × EndsWhole s p o) (answers.failed one_is) in (one_is ∙ sym x.0, x.1)
 
   store_meant : status ≡ 5 → IsLoadFailure words l s p ⊎ EndsUnwritten l.faults_before l.faults_after s p meant
@@ -170,7 +184,10 @@ module _ (tools : Answering) (words : List (List ℕ)) (l : Loading) (s : Saving
     where
       nothing : None ≡ Some means.build.files → ⊥
       nothing apart = cc
-  told_meant (Some options) (Some files) asked same is = is.2 ∙ ap (λ (o : Outcome). o.status) (outcome_meant tools words l.told meant means options files is.0 asked (subst (λ those. IfSome those (λ found. files ≡ found)) (sym same) refl) is.1)
+  told_meant (Some options) (Some files) asked same (inl is) =
+      let outcome = is.1.0 in
+      is.1.2 ∙ ap (λ (o : Outcome). o.status) (outcome_meant tools words l.told meant means options files outcome asked (subst (λ those. IfSome those (λ found. files ≡ found)) (sym same) refl) is.1.1)
+  told_meant (Some options) (Some files) asked same (inr trial) = absurd (no_trial tools words l.told meant means options asked trial.0)
 
   unfailing_meant : ¬ Rose l.faults_before l.faults_after → ¬ Rose p.faults_before p.faults_after → (status ≡ 7) ⊎ (status ≡ meant.status)
   unfailing_meant store sink = elim (answers.unfailing store sink) [ inl seven_is ↦ inl seven_is | inr is ↦ inr (told_meant (options_in words) l.told refl refl is) ]
@@ -181,7 +198,7 @@ module _ (tools : Answering) (words : List (List ℕ)) (l : Loading) (s : Saving
         known = known_meant answers.known;
         done = done_meant;
         store = store_meant;
-        sink = λ six_is. holds (EndsUnprinted s p) (answers.sink six_is);
+        sink = λ six_is. not_tried (EndsUnprinted s p) (λ text. Rose p.faults_before p.faults_after × PrintedFront p text) (answers.sink six_is);
         memory = memory_meant;
         unfailing = unfailing_meant;
       }

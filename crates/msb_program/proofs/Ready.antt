@@ -30,7 +30,7 @@ ready_answers tools {words} {told} {faults} {mid} {faults_after} {failed} {faile
     let whole : EndsMade made mid faults_after (saving between after) (printing pf pa t ta) status =
     subst (λ (old : Option (List ℕ)). EndsMade made mid faults_after (saving between after) (printing pf pa old ta) status) ready.silent
     (subst (λ (count : ℕ). EndsMade made mid faults_after (saving between after) (printing count pa tm ta) status) ready.unfailing ends) in
-    loaded_answers tools words (loading told faults faults_after failed failed_after) (saving before after) (printing pf pa t ta) options ready.files ready.asked ready.loaded status mid between ready.kept ready.later
+    loaded_answers tools words (loading told faults faults_after failed failed_after) (saving before after) (printing pf pa t ta) options ready.files ready.asked ready.project ready.loaded status mid between ready.kept ready.later
     (over tools told options ready.files work ready.loaded ready.is made comes mid faults_after (saving between after) (printing pf pa t ta) status whole)
 
 -- a build is made only where the words ask for one

@@ -1,5 +1,5 @@
 -- The answer of the program where the store's files were not loaded.
-use Rattle.std.proofs.Common.{◌≡◌, ◌⊎◌, ℕ, List, Option, Some, None, IsSome, inl, inr, refl, sym, subst, ◌∙◌, arith}
+use Rattle.std.proofs.Common.{◌≡◌, ◌⊎◌, ℕ, List, Option, Some, None, inl, inr, refl, sym, subst, ◌∙◌, arith}
 use Rattle.msb_laws.specs.Faults.{Rose}
 use Rattle.file_store.specs.Limits.{limit_fault}
 use Rattle.file_store.specs.Loads.{OfListing, IsCaused, IsOfKind}
@@ -9,9 +9,9 @@ use Rattle.file_store.specs.declared.tree.File.{File}
 use Rattle.msb_words.specs.Options.{options_in}
 use Rattle.msb_words.specs.declared.options.Options.{Options}
 use Rattle.build_report.specs.Line.{line}
-use Rattle.msb_program.specs.Outcomes.{Answering, IsOutcomeWithin, fault_status, load_fault_text, unloaded}
+use Rattle.msb_program.specs.Outcomes.{Answering, HasProject, IsOutcomeWithin, fault_status, load_fault_text, unloaded}
 use Rattle.msb_program.specs.Endings.{Saving, Kept, Printing, Printed, Silent}
-use Rattle.msb_program.specs.Answers.{Loading, LoadFails, IsStoreFault, IsStatusOf, Answers}
+use Rattle.msb_program.specs.Answers.{AsksForProject, Loading, LoadFails, IsStoreFault, IsStatusOf, IsStatusOfProject, Answers}
 use Rattle.msb_program.proofs.Claims.{answers_at, memory_answers}
 
 module _ (tools : Answering) where
@@ -43,14 +43,15 @@ module _ (tools : Answering) where
   either_status Memory never = absurd (never refl)
 
   -- files past a limit have an outcome of this status
-  limited_status : (told : Option (List File)) (options : Options) (fault : LoadFault) (status : ℕ) → status ≡ fault_status fault → OfListing told (λ listing. limit_fault listing ≡ Some fault) → IsStatusOf tools (Some options) told status
-  limited_status None options fault status is past = tt
-  limited_status (Some files) options fault status is past = (unloaded fault, subst (λ limit. IsOutcomeWithin tools options files limit (unloaded fault)) (sym past) refl, is)
+  limited_status : (told : Option (List File)) (options : Options) (fault : LoadFault) (status : ℕ) → HasProject options → status ≡ fault_status fault → OfListing told (λ listing. limit_fault listing ≡ Some fault)
+      → IsStatusOfProject tools options told status
+  limited_status None options fault status project is past = (project, tt)
+  limited_status (Some files) options fault status project is past = (project, (unloaded fault, subst (λ limit. IsOutcomeWithin tools options files limit (unloaded fault)) (sym past) refl, is))
 
-  module _ (words : List (List ℕ)) (l : Loading) (s : Saving) (p : Printing) (options : Options) (fault : LoadFault) (asked : options_in words ≡ Some options)
+  module _ (words : List (List ℕ)) (l : Loading) (s : Saving) (p : Printing) (options : Options) (fault : LoadFault) (asked : options_in words ≡ Some options) (project : HasProject options)
       (caused : IsCaused l.faults_before l.faults_after l.told fault) (kind : IsOfKind l.before l.after fault) (kept : Kept s) where
     fails : Printed p (line (load_fault_text fault)) → LoadFails words l s p fault
-    fails printed = record { asked = subst IsSome (sym asked) refl; cause = caused; kind = kind; kept = kept; printed = printed }
+    fails printed = record { asked = subst AsksForProject (sym asked) project; cause = caused; kind = kind; kept = kept; printed = printed }
 
     fault_answers : (status : ℕ) → status ≡ fault_status fault → Printed p (line (load_fault_text fault)) → (fault_status fault ≡ 5) ⊎ (fault_status fault ≡ 8) → Answers tools words l s p status
     fault_answers status is printed (inl five) =
@@ -59,7 +60,7 @@ module _ (tools : Answering) where
     fault_answers status is printed (inr eight) =
         let past = past_limit l.told fault l.faults_before l.faults_after eight caused in
         answers_at tools words l s p 8 (inr (inr (inr (inr (inr (inr (inr (inr refl)))))))) (fault, past, fails printed) status (is ∙ eight)
-        (λ store sink. inr (subst (λ asks. IsStatusOf tools asks l.told status) (sym asked) (limited_status l.told options fault status is past)))
+        (λ store sink. inr (subst (λ asks. IsStatusOf tools asks l.told status) (sym asked) (inl (limited_status l.told options fault status project is past))))
 
     pub unloaded_answers : (status : ℕ) → ((status ≡ fault_status fault) × (fault ≡ Memory → ⊥) × Printed p (line (load_fault_text fault))) ⊎ ((status ≡ 7) × Silent p) → Answers tools words l s p status
     unloaded_answers status (inl told) = fault_answers status told.0 told.2 (either_status fault told.1)

@@ -1,5 +1,5 @@
 -- What a status of the program says of its words, of the files that the store tells, and of what was written and printed.
-use Rattle.std.specs.Prelude.{◌≡◌, ◌⊎◌, ℕ, List, true, Option, Some, None, IfSome, IsSome, codes}
+use Rattle.std.specs.Prelude.{◌≡◌, ◌⊎◌, ℕ, List, true, Option, Some, None, IfSome, codes}
 use Rattle.msb_laws.specs.Faults.{Rose}
 use Rattle.file_store.specs.Entries.{entries_of}
 use Rattle.file_store.specs.Failed.{Failures}
@@ -11,10 +11,11 @@ use Rattle.file_store.specs.declared.loading.LoadFault.TheVariants.{Listing, Rea
 use Rattle.file_store.specs.declared.tree.File.{File}
 use Rattle.msb_words.specs.Options.{options_in}
 use Rattle.msb_words.specs.declared.options.Options.{Options}
-use Rattle.msb_words.specs.declared.options.Action.TheVariants.{Build}
+use Rattle.msb_words.specs.declared.options.Action.TheVariants.{Build, Trial}
 use Rattle.build_report.specs.Line.{line}
-use Rattle.msb_program.specs.Outcomes.{Answering, IsOutcomeOf, load_fault_text}
-use Rattle.msb_program.specs.Endings.{Saving, Kept, Printing, Printed, Silent, EndsWhole, EndsRefused, EndsUnprinted, EndsUnwritten, EndsHalfway}
+use Rattle.msb_program.specs.Outcomes.{Answering, HasProject, IsOutcomeOf, load_fault_text}
+use Rattle.msb_program.specs.Endings.{Saving, Kept, Printing, Printed, PrintedAll, PrintedFront, Silent, EndsWhole, EndsRefused, EndsUnprinted, EndsUnwritten, EndsHalfway}
+use Rattle.msb_program.specs.Trials.{IsTrial}
 use Rattle.build_outcome.specs.declared.outcome.Outcome.{Outcome}
 
 -- the files that a store tells, its count of faults, and its failed calls by their kinds, before and after the call
@@ -42,13 +43,23 @@ abbrev pub AsksForBuild : Option Options → Type 0
 AsksForBuild None = ⊥
 AsksForBuild (Some options) = options.action ≡ Build
 
+-- the words ask for a project
+abbrev pub AsksForProject : Option Options → Type 0
+AsksForProject None = ⊥
+AsksForProject (Some options) = HasProject options
+
+-- the words ask for a trial, which has no project
+abbrev pub AsksForTrial : Option Options → Type 0
+AsksForTrial None = ⊥
+AsksForTrial (Some options) = options.action ≡ Trial
+
 -- 2: the words are outside the grammar
 abbrev pub IsUsage : List (List ℕ) → Saving → Printing → Type 0
 IsUsage words s p = (options_in words ≡ None) × Kept s × Printed p usage
 
 -- a load fails for this reason, by a call of its kind, and so it is told
 pub record LoadFails (words : List (List ℕ)) (l : Loading) (s : Saving) (p : Printing) (fault : LoadFault) : Type 0 where
-  pub asked : IsSome (options_in words)
+  pub asked : AsksForProject (options_in words)
   pub cause : IsCaused l.faults_before l.faults_after l.told fault
   pub kind : IsOfKind l.before l.after fault
   pub kept : Kept s
@@ -69,11 +80,22 @@ IsPastLimit words l s p = (fault : LoadFault) × OfListing l.told (λ listing. l
 abbrev pub IsStatus : ℕ → Type 0
 IsStatus status = (status ≡ 0) ⊎ (status ≡ 1) ⊎ (status ≡ 2) ⊎ (status ≡ 3) ⊎ (status ≡ 4) ⊎ (status ≡ 5) ⊎ (status ≡ 6) ⊎ (status ≡ 7) ⊎ (status ≡ 8)
 
+-- the words ask for a trial, and P holds of a text that it may print; no file is written
+pub record HasTrial (words : List (List ℕ)) (s : Saving) (P : List ℕ → Type 0) : Type 0 where
+  pub options : Options
+  pub asked : options_in words ≡ Some options
+  pub trial : options.action ≡ Trial
+  pub kept : Kept s
+  pub text : List ℕ
+  pub is : IsTrial options text
+  pub holds : P text
+
 module _ (tools : Answering) where
-  -- the words ask for something, the store's files were loaded, and P holds of an outcome of both
+  -- the words ask for a project, the store's files were loaded, and P holds of an outcome of both
   pub record HasOutcome (words : List (List ℕ)) (told : Option (List File)) (P : Outcome → Type 0) : Type 0 where
     pub options : Options
     pub asked : options_in words ≡ Some options
+    pub project : HasProject options
     pub files : List File
     pub loaded : AreLoaded told files
     pub outcome : Outcome
@@ -82,7 +104,7 @@ module _ (tools : Answering) where
 
   -- 0: what the words ask for was done, its files were written, and its text was printed whole
   abbrev pub IsDone : List (List ℕ) → Option (List File) → Saving → Printing → Type 0
-  IsDone words told s p = HasOutcome words told (λ o. (o.status ≡ 0) × EndsWhole s p o)
+  IsDone words told s p = HasOutcome words told (λ o. (o.status ≡ 0) × EndsWhole s p o) ⊎ HasTrial words s (PrintedAll p)
 
   -- 1: the request failed, its files were written, and its text was printed whole
   abbrev pub IsFailed : List (List ℕ) → Option (List File) → Saving → Printing → Type 0
@@ -102,16 +124,20 @@ module _ (tools : Answering) where
 
   -- 6: the sink's count of faults rose where all else was done
   abbrev pub IsSinkFailure : List (List ℕ) → Option (List File) → Saving → Printing → Type 0
-  IsSinkFailure words told s p = HasOutcome words told (EndsUnprinted s p)
+  IsSinkFailure words told s p = HasOutcome words told (EndsUnprinted s p) ⊎ HasTrial words s (λ text. Rose p.faults_before p.faults_after × PrintedFront p text)
 
   -- 7: want of memory, which may come at any place and prints nothing
   abbrev pub IsMemory : List (List ℕ) → Option (List File) → Saving → Printing → Type 0
   IsMemory words told s p = Silent p × (Kept s ⊎ HasOutcome words told (EndsHalfway s))
 
-  -- where neither failed, the status is 2 or that of an outcome of the words and the told files, or want of memory
+  -- the words ask for a project, and the status is that of an outcome of it and the told files
+  abbrev pub IsStatusOfProject : Options → Option (List File) → ℕ → Type 0
+  IsStatusOfProject options told status = HasProject options × IfSome told (λ files. (outcome : Outcome) × IsOutcomeOf tools options files outcome × (status ≡ outcome.status))
+
+  -- where neither failed, the status is 2, or that of an outcome, or that of a trial that was done, or want of memory
   abbrev pub IsStatusOf : Option Options → Option (List File) → ℕ → Type 0
   IsStatusOf None told status = status ≡ 2
-  IsStatusOf (Some options) told status = IfSome told (λ files. (outcome : Outcome) × IsOutcomeOf tools options files outcome × (status ≡ outcome.status))
+  IsStatusOf (Some options) told status = IsStatusOfProject options told status ⊎ ((options.action ≡ Trial) × (status ≡ 0))
 
   -- What each status says.
   pub record Answers (words : List (List ℕ)) (l : Loading) (s : Saving) (p : Printing) (status : ℕ) : Type 0 where

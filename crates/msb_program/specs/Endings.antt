@@ -102,6 +102,11 @@ abbrev pub EndsMade : Result Outcome NoMemory → ℕ → ℕ → Saving → Pri
 EndsMade (Ok o) faults_before faults_after s p status = Ends o faults_before faults_after s p status
 EndsMade (Err none) faults_before faults_after s p status = (status ≡ 7) × Kept s × Silent p
 
+-- how a trial ends: its text is printed, or the sink fails; for want of memory there is none
+abbrev pub EndsTrial : Result (List ℕ) NoMemory → Printing → ℕ → Type 0
+EndsTrial (Ok text) p status = ((status ≡ 0) × PrintedAll p text) ⊎ ((status ≡ 6) × Rose p.faults_before p.faults_after × PrintedFront p text)
+EndsTrial (Err none) p status = (status ≡ 7) × Silent p
+
 -- how an outcome of these files ends, where it is made
 abbrev pub EndsOver : Answering → Options → List File → ℕ → ℕ → Saving → Printing → ℕ → Type 0
 EndsOver tools options files faults_before faults_after s p status =

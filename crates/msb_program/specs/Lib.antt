@@ -4,3 +4,4 @@ pub mod Gates
 pub mod Meanings
 pub mod Outcomes
 pub mod Prepared
+pub mod Trials

@@ -1,5 +1,5 @@
 -- What the program does: which outcomes the words have over the files.
-use Rattle.std.specs.Prelude.{◌≡◌, ◌⊎◌, ℕ, List, [], ◌++◌, Bool, true, false, Option, Some, None, Result, Ok, Err, codes}
+use Rattle.std.specs.Prelude.{◌≡◌, ◌≢◌, ◌⊎◌, ℕ, List, [], ◌++◌, Bool, true, false, Option, Some, None, Result, Ok, Err, codes}
 use Rattle.std.specs.Fmt.{decimal}
 use Rattle.msb_values.specs.declared.key.InstanceKey.{InstanceKey}
 use Rattle.msb_values.specs.declared.mode.Mode.{Mode}
@@ -28,7 +28,7 @@ use Rattle.msb_program.specs.declared.work.Work.{Work}
 use Rattle.msb_program.specs.declared.work.Work.TheVariants.{Told, Build}
 use Rattle.msb_words.specs.declared.options.Options.{Options}
 use Rattle.msb_words.specs.declared.options.Action.{Action}
-use Rattle.msb_words.specs.declared.options.Action.TheVariants.{Build as ToBuild, Eval, Targets}
+use Rattle.msb_words.specs.declared.options.Action.TheVariants.{Build as ToBuild, Eval, Targets, Trial}
 
 -- the status where the work was done, or the request failed: the files are written, and then the text is printed
 abbrev pub IsCompletion : ℕ → Type 0
@@ -48,6 +48,10 @@ not_found word = refused (word ++ codes ": not found")
 -- what was asked for is shown
 abbrev pub shown : List ℕ → Outcome
 shown text = record { status = 0; text = text; commit = [] }
+
+-- the words ask for a project, and not for a trial
+abbrev pub HasProject : Options → Type 0
+HasProject options = options.action ≢ Trial
 
 -- whether a build skips what is up to date (How to build incrementally)
 abbrev pub mode_of : Bool → Mode
@@ -99,11 +103,12 @@ abbrev pub IsBuildOf : Options → InstanceKey → List File → Work → Type 0
 IsBuildOf options key files (Told outcome) = ⊥
 IsBuildOf options key files (Build given) = IsAsked options key files given
 
--- an evaluated project is built, or it or its targets are shown
+-- an evaluated project is built, or it or its targets are shown; a trial has none
 abbrev pub IsWorkOfAction : Action → Options → InstanceKey → List File → Instance → Work → Type 0
 IsWorkOfAction ToBuild options key files instance work = IsBuildOf options key files work
 IsWorkOfAction Eval options key files instance work = work ≡ Told (shown (eval_text instance.scope instance.duplicates))
 IsWorkOfAction Targets options key files instance work = work ≡ Told (shown (targets_text instance.rows instance.initial instance.default))
+IsWorkOfAction Trial options key files instance work = ⊥
 
 abbrev pub IsWorkOfInstance : Options → InstanceKey → List File → Result Instance EvalFault → Work → Type 0
 IsWorkOfInstance options key files (Ok instance) work = IsWorkOfAction options.action options key files instance work

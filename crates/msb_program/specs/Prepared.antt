@@ -3,17 +3,28 @@ use Rattle.std.specs.Prelude.{◌≡◌, ◌<◌, ◌≤◌, ℕ, List, [], Some
 use Rattle.file_store.specs.declared.tree.File.{File}
 use Rattle.msb_paths.specs.Refused.{normal_path}
 use Rattle.msb_words.specs.Options.{options_in}
+use Rattle.msb_words.specs.declared.options.Action.TheVariants.{Trial as ToTry}
 use Rattle.msb_words.specs.declared.options.Options.{Options}
 use Rattle.msb_program.specs.Answers.{Answers, AreLoaded, Loading}
 use Rattle.msb_program.specs.Endings.{Saving, Kept, Printing, Silent}
-use Rattle.msb_program.specs.Outcomes.{Answering, IsWorkAt}
+use Rattle.msb_program.specs.Outcomes.{Answering, HasProject, IsWorkAt}
 use Rattle.msb_program.specs.declared.top.Prepared.{Prepared}
-use Rattle.msb_program.specs.declared.top.Prepared.TheVariants.{Ended, Ready}
+use Rattle.msb_program.specs.declared.top.Prepared.TheVariants.{Ended, Ready, Trial}
 use Rattle.msb_program.specs.declared.work.Work.{Work}
+
+-- the words ask for this trial; nothing was written or printed
+pub record IsTrialAsked (words : List (List ℕ)) (s : Saving) (p : Printing) (options : Options) : Type 0 where
+  pub asked : options_in words ≡ Some options
+  pub nodes : (0 < options.nodes) × (options.nodes ≤ 64)
+  pub trial : options.action ≡ ToTry
+  pub kept : Kept s
+  pub silent : Silent p
+  pub unfailing : p.faults_after ≡ p.faults_before
 
 -- the words ask for this work over loaded files; nothing was written or printed
 pub record IsReady (words : List (List ℕ)) (l : Loading) (s : Saving) (p : Printing) (options : Options) (work : Work) : Type 0 where
   pub asked : options_in words ≡ Some options
+  pub project : HasProject options
   pub nodes : (0 < options.nodes) × (options.nodes ≤ 64)
   pub files : List File
   pub loaded : AreLoaded l.told files
@@ -23,12 +34,14 @@ pub record IsReady (words : List (List ℕ)) (l : Loading) (s : Saving) (p : Pri
   pub silent : Silent p
   pub unfailing : p.faults_after ≡ p.faults_before
 
--- all is done, whatever tools answer; or work is left
+-- all is done, whatever tools answer; or a trial or work is left
 abbrev pub IsPrepared : List (List ℕ) → Loading → Saving → Printing → Prepared → Type 0
 IsPrepared words l s p (Ended status) = (tools : Answering) → Answers tools words l s p status
+IsPrepared words l s p (Trial options) = IsTrialAsked words s p options
 IsPrepared words l s p (Ready options work) = IsReady words l s p options work
 
 -- what is left to do of the words over the files of a tree
 abbrev pub IsLeft : Options → List File → Prepared → Type 0
 IsLeft options files (Ended status) = status ≡ 7
+IsLeft options files (Trial asked) = ⊥
 IsLeft options files (Ready asked work) = (asked ≡ options) × IsWorkAt options files (normal_path [] options.project) work

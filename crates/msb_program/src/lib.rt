@@ -5,7 +5,7 @@
 //! to what is left to do, a build to its outcome, the outcome's files to the store, and then its text to the sink. Which outcomes
 //! there are stands in one definition, `IsOutcomeOf` in `specs/Outcomes.antt`; how one ends, in `specs/Endings.antt`; what each
 //! status says, in `specs/Answers.antt`; and what it says where the world of a build is whole and steady, in
-//! `specs/Meanings.antt`.
+//! `specs/Meanings.antt`. What a trial prints stands in `specs/Trials.antt`.
 #![tactic(auto)]
 
 mod alone;
@@ -13,6 +13,8 @@ mod gate;
 mod on_nodes;
 mod outcome;
 mod top;
+mod trial;
+mod tried;
 mod work;
 
 pub use gate::Gate;

@@ -4,19 +4,20 @@ ghost use Rattle.msb_laws.specs.Gains.{Prints};
 ghost use Rattle.file_store.specs.declared.loading.LoadFault.TheVariants.{Memory};
 ghost use Rattle.msb_words.specs.Options.{options_in};
 ghost use Rattle.build_report.specs.Line.{line};
-ghost use Rattle.msb_program.specs.Outcomes.{IsCompletion, IsRefusal, load_fault_text, fault_status};
-ghost use Rattle.msb_program.specs.Endings.{Ends, EndsMade, Printed, PrintedAll, PrintedFront, Silent, printing, saving};
-ghost use Rattle.msb_program.specs.Answers.{Answers, AsksForBuild, loading};
+ghost use Rattle.msb_program.specs.Outcomes.{HasProject, IsCompletion, IsRefusal, load_fault_text, fault_status};
+ghost use Rattle.msb_program.specs.Endings.{Ends, EndsMade, EndsTrial, Printed, PrintedAll, PrintedFront, Silent, printing, saving};
+ghost use Rattle.msb_program.specs.Answers.{Answers, AsksForBuild, AsksForTrial, loading};
 ghost use Rattle.msb_program.specs.Prepared.{IsLeft, IsPrepared};
 ghost use Rattle.msb_program.specs.Meanings.{AnswersMeant, Means};
 ghost use Rattle.build_outcome.specs.declared.outcome.Outcome.{Outcome as TheOutcome};
 
 use crate::outcome::{outcome_alone, outcome_on};
+use crate::trial::{trial_alone, trial_on};
 use crate::work::{Work, work_within};
 use build_outcome::Outcome;
 use file_store::{CommitFault, LoadFault, Sink, SinkError, Store, Tree, commit, load};
-use msb_values::{NoMemory, Text};
-use msb_words::{Options, WordFault, read_words};
+use msb_values::{NoMemory, Text, Text8};
+use msb_words::{Action, Options, WordFault, read_words};
 use std::alloc::Global;
 use std::sync::Wait;
 use std::thread::Threads;
@@ -34,7 +35,8 @@ const USAGE: &str =
 /// pass a limit. Files are written with status 0, 1 and 6, and those up to some place of the list with 5 and 7.
 ///
 /// A build takes as many nodes as the words tell, each in a thread of its own, and waits for them; over one node it starts no
-/// thread. (MSBuild command-line reference, -maxCpuCount.)
+/// thread. A trial builds its set so too, and touches neither the store nor the tools. (MSBuild command-line reference,
+/// -maxCpuCount.)
 pub fn run<R: Threads + Wait + Sync, S: Store, K: Sink, T: Tools + Sync>(
     rt: &R,
     alloc: Global,
@@ -45,6 +47,7 @@ pub fn run<R: Threads + Wait + Sync, S: Store, K: Sink, T: Tools + Sync>(
 ) -> u8
     ensures answer { Answers T.answer (map string_bytes words.now) (loading (S.tree store.old) (S.fault_count store.old) (S.fault_count store.new) (S.failures store.old) (S.failures store.new)) (saving (S.tree store.old) (S.tree store.new)) (printing (K.fault_count sink.old) (K.fault_count sink.new) (K.told sink.old) (K.told sink.new)) result }
     ensures meaning { (meant : TheOutcome) → Means T.answer (map string_bytes words.now) (S.tree store.old) meant → AnswersMeant (map string_bytes words.now) (loading (S.tree store.old) (S.fault_count store.old) (S.fault_count store.new) (S.failures store.old) (S.failures store.new)) (saving (S.tree store.old) (S.tree store.new)) (printing (K.fault_count sink.old) (K.fault_count sink.new) (K.told sink.old) (K.told sink.new)) meant result }
+    ensures untouched { AsksForTrial (options_in (map string_bytes words.now)) → store.new ≡ store.old }
 {
     answered_on(rt, alloc, words, store, sink, tools)
 }
@@ -60,6 +63,7 @@ pub fn run_alone<S: Store, K: Sink, T: CountedTools>(
     ensures answer { Answers T.answer (map string_bytes words.now) (loading (S.tree store.old) (S.fault_count store.old) (S.fault_count store.new) (S.failures store.old) (S.failures store.new)) (saving (S.tree store.old) (S.tree store.new)) (printing (K.fault_count sink.old) (K.fault_count sink.new) (K.told sink.old) (K.told sink.new)) result }
     ensures meaning { (meant : TheOutcome) → Means T.answer (map string_bytes words.now) (S.tree store.old) meant → AnswersMeant (map string_bytes words.now) (loading (S.tree store.old) (S.fault_count store.old) (S.fault_count store.new) (S.failures store.old) (S.failures store.new)) (saving (S.tree store.old) (S.tree store.new)) (printing (K.fault_count sink.old) (K.fault_count sink.new) (K.told sink.old) (K.told sink.new)) meant result }
     ensures uncalled { (AsksForBuild (options_in (map string_bytes words.now)) → ⊥) → T.calls tools.new ≡ T.calls tools.old }
+    ensures untouched { AsksForTrial (options_in (map string_bytes words.now)) → store.new ≡ store.old }
 {
     answered_alone(alloc, words, store, sink, tools)
 }
@@ -74,9 +78,11 @@ fn answered_alone<S: Store, K: Sink, T: CountedTools>(
 ) -> u8
     ensures answer { Answers T.answer (map string_bytes words.now) (loading (S.tree store.old) (S.fault_count store.old) (S.fault_count store.new) (S.failures store.old) (S.failures store.new)) (saving (S.tree store.old) (S.tree store.new)) (printing (K.fault_count sink.old) (K.fault_count sink.new) (K.told sink.old) (K.told sink.new)) result }
     ensures uncalled { (AsksForBuild (options_in (map string_bytes words.now)) → ⊥) → T.calls tools.new ≡ T.calls tools.old }
+    ensures untouched { AsksForTrial (options_in (map string_bytes words.now)) → store.new ≡ store.old }
 {
     match prepare(alloc, words, store, sink) {
         Prepared::Ended(status) => status,
+        Prepared::Trial(options) => end_trial(trial_alone(alloc, &options), sink),
         Prepared::Ready(options, work) => {
             let made = outcome_alone(alloc, &options, work, tools);
             end(alloc, made, store, sink)
@@ -93,10 +99,12 @@ fn answered_on<R: Threads + Wait + Sync, S: Store, K: Sink, T: Tools + Sync>(
     sink: &mut K,
     tools: &T,
 ) -> u8
-    ensures { Answers T.answer (map string_bytes words.now) (loading (S.tree store.old) (S.fault_count store.old) (S.fault_count store.new) (S.failures store.old) (S.failures store.new)) (saving (S.tree store.old) (S.tree store.new)) (printing (K.fault_count sink.old) (K.fault_count sink.new) (K.told sink.old) (K.told sink.new)) result }
+    ensures answer { Answers T.answer (map string_bytes words.now) (loading (S.tree store.old) (S.fault_count store.old) (S.fault_count store.new) (S.failures store.old) (S.failures store.new)) (saving (S.tree store.old) (S.tree store.new)) (printing (K.fault_count sink.old) (K.fault_count sink.new) (K.told sink.old) (K.told sink.new)) result }
+    ensures untouched { AsksForTrial (options_in (map string_bytes words.now)) → store.new ≡ store.old }
 {
     match prepare(alloc, words, store, sink) {
         Prepared::Ended(status) => status,
+        Prepared::Trial(options) => end_trial(trial_on(rt, alloc, &options), sink),
         Prepared::Ready(options, work) => {
             let made = outcome_on(rt, alloc, &options, work, tools);
             end(alloc, made, store, sink)
@@ -104,11 +112,13 @@ fn answered_on<R: Threads + Wait + Sync, S: Store, K: Sink, T: Tools + Sync>(
     }
 }
 
-/// What is left to do once the words are read, the files loaded and the project evaluated.
+/// What is left to do once the words are read, and where they ask for a project the files loaded and it evaluated.
 #[derive(Drop)]
 enum Prepared {
     /// Nothing: this is the status.
     Ended(u8),
+    /// This trial, which has no project.
+    Trial(Options),
     /// This work.
     Ready(Options, Work),
 }
@@ -120,7 +130,8 @@ fn prepare<S: Store, K: Sink>(
     store: &mut S,
     sink: &mut K,
 ) -> Prepared
-    ensures { IsPrepared (map string_bytes words.now) (loading (S.tree store.old) (S.fault_count store.old) (S.fault_count store.new) (S.failures store.old) (S.failures store.new)) (saving (S.tree store.old) (S.tree store.new)) (printing (K.fault_count sink.old) (K.fault_count sink.new) (K.told sink.old) (K.told sink.new)) result }
+    ensures prepared { IsPrepared (map string_bytes words.now) (loading (S.tree store.old) (S.fault_count store.old) (S.fault_count store.new) (S.failures store.old) (S.failures store.new)) (saving (S.tree store.old) (S.tree store.new)) (printing (K.fault_count sink.old) (K.fault_count sink.new) (K.told sink.old) (K.told sink.new)) result }
+    ensures untouched { AsksForTrial (options_in (map string_bytes words.now)) → store.new ≡ store.old }
 {
     let options = match read_words(alloc, words) {
         Ok(options) => options,
@@ -130,14 +141,18 @@ fn prepare<S: Store, K: Sink>(
         }
         Err(WordFault::Memory) => return Prepared::Ended(7),
     };
+    if let Action::Trial = options.action {
+        return Prepared::Trial(options);
+    }
     match load(alloc, store) {
         Ok(tree) => work_left(alloc, options, tree),
         Err(fault) => Prepared::Ended(print_load_fault(alloc, &fault, sink)),
     }
 }
 
-// What is left to do over the files of a tree.
+// What is left to do for a project over the files of a tree.
 fn work_left(alloc: Global, options: Options, tree: Tree) -> Prepared
+    requires { HasProject options }
     ensures { IsLeft options tree.files result }
 {
     match work_within(alloc, &options, tree) {
@@ -158,6 +173,16 @@ fn end<S: Store, K: Sink>(
 {
     match made {
         Ok(outcome) => commit_and_print(alloc, &outcome, store, sink),
+        Err(NoMemory) => 7,
+    }
+}
+
+// Ends a trial: its text is printed.
+fn end_trial<K: Sink>(made: Result<Text8, NoMemory>, sink: &mut K) -> u8
+    ensures { EndsTrial made (printing (K.fault_count sink.old) (K.fault_count sink.new) (K.told sink.old) (K.told sink.new)) result }
+{
+    match made {
+        Ok(text) => tell(sink, 0, text.as_bytes()),
         Err(NoMemory) => 7,
     }
 }

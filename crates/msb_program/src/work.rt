@@ -7,7 +7,7 @@ ghost use Rattle.msb_values.specs.declared.cause.Cause.TheVariants.{Memory};
 ghost use Rattle.build_world.specs.Faults.{fault_text};
 ghost use Rattle.msb_instance.specs.Evaluated.{seen_instance};
 ghost use Rattle.msb_words.specs.declared.options.Action.TheVariants.{Build};
-ghost use Rattle.msb_program.specs.Outcomes.{IsBuildOf, IsWorkAt, IsWorkOfAction, IsWorkOfFile, mode_of, not_found, refused, shown};
+ghost use Rattle.msb_program.specs.Outcomes.{HasProject, IsBuildOf, IsWorkAt, IsWorkOfAction, IsWorkOfFile, mode_of, not_found, refused, shown};
 ghost use Rattle.msb_program.specs.declared.work.Work.TheVariants.{Told};
 
 use build_outcome::Outcome;
@@ -32,6 +32,7 @@ pub enum Work {
 /// What is left to do of the words over the files of a tree: to tell why the project is refused, to tell what is shown of it,
 /// or to build it. (MSBuild command-line reference.)
 pub fn work_within(alloc: Global, options: &Options, tree: Tree) -> Result<Work, NoMemory>
+    requires { HasProject options.now }
     ensures { IfOk result (IsWorkAt options.now tree.files (normal_path [] options.now.project)) }
 {
     match normal_path(alloc, "", options.project.as_str()) {
@@ -48,6 +49,7 @@ pub fn work_within(alloc: Global, options: &Options, tree: Tree) -> Result<Work,
 }
 
 fn work_at(alloc: Global, options: &Options, key: InstanceKey, tree: Tree) -> Result<Work, NoMemory>
+    requires { HasProject options.now }
     ensures { IfOk result (IsWorkOfFile options.now key tree.files (file_at key.path tree.files)) }
 {
     if tree.find(key.path.as_str()).is_none() {
@@ -66,6 +68,7 @@ fn work_of(
     tree: Tree,
     instance: &Instance,
 ) -> Result<Work, NoMemory>
+    requires { HasProject options.now }
     ensures { IfOk result (IsWorkOfAction options.now.action options.now key tree.files (seen_instance instance.now)) }
 {
     match options.action {
@@ -78,6 +81,7 @@ fn work_of(
             alloc,
             shown_targets(alloc, &instance.rows, &instance.initial, &instance.default)?,
         )),
+        Action::Trial => unreachable!(),
     }
 }
 

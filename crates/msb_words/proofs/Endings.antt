@@ -18,10 +18,10 @@ Undefaulted (a ∷ rest) = (a.defaults ≡ []) × Undefaulted rest
 
 -- the flag comes last
 abbrev valued_rules : List Rule
-valued_rules = take 6 rules
+valued_rules = take 7 rules
 
 undefaulted : Undefaulted valued_rules
-undefaulted = (refl, (refl, (refl, (refl, (refl, (refl, tt))))))
+undefaulted = (refl, (refl, (refl, (refl, (refl, (refl, (refl, tt)))))))
 
 same_default : (rs : List Row) (a : Rule) → a.defaults ≡ [] → with_default rs a ≡ rs
 same_default rs a none = go (has_row a.id rs)
@@ -100,6 +100,7 @@ same_answer names clean =
       same_value (codes "property") names refl,
       same_value (codes "nodes") names refl,
       same_value (codes "show") names refl,
+      same_value (codes "size") names refl,
     ) refl
 
 pub no_action : (names : Names) → has (codes "action") names ≡ false → given_of names ≡ None
@@ -109,6 +110,6 @@ pub no_project : (names : Names) → has (codes "project") names ≡ false → g
 no_project names p = rw (no_value (codes "project") names p) (go (value_in names (codes "action")))
   where
     go : (o : Option (List ℕ)) → given_with o None (value_in names (codes "target")) (value_in names (codes "property")) (value_in names (codes "nodes"))
-        (has (codes "clean") names) (value_in names (codes "show")) ≡ None
+        (has (codes "clean") names) (value_in names (codes "show")) (value_in names (codes "size")) ≡ None
     go None = refl
     go (Some a) = refl

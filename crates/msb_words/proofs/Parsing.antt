@@ -74,6 +74,7 @@ same_given f clean =
       first_value-rows f (codes "property"),
       first_value-rows f (codes "nodes"),
       first_value-rows f (codes "show"),
+      first_value-rows f (codes "size"),
     ) refl
 
 -- a parse that has matches

@@ -76,6 +76,7 @@ pub data IsOption : List ℕ → Type 0 where
   is_property : IsOption (codes "property")
   is_nodes : IsOption (codes "nodes")
   is_show : IsOption (codes "show")
+  is_size : IsOption (codes "size")
 
 pub data IsFlag : List ℕ → Type 0 where
   is_clean : IsFlag (codes "clean")
@@ -85,23 +86,25 @@ pub data Met : List ℕ → Type 0 where
   a_flag : {name : List ℕ} → IsFlag name → Met name
   unknown : {name : List ℕ} → is_option name ≡ false → is_flag name ≡ false → arg_by_long rules name ≡ None → Met name
 
-named : (name : List ℕ) (b c d e f : Bool) → bytes_eq (codes "target") name ≡ b → bytes_eq (codes "property") name ≡ c → bytes_eq (codes "nodes") name ≡ d → bytes_eq (codes "show") name ≡ e
-    → bytes_eq (codes "clean") name ≡ f → Met name
-named name true c d e f t p n s l = an_option (subst IsOption (same_text (codes "target") name t) is_target)
-named name false true d e f t p n s l = an_option (subst IsOption (same_text (codes "property") name p) is_property)
-named name false false true e f t p n s l = an_option (subst IsOption (same_text (codes "nodes") name n) is_nodes)
-named name false false false true f t p n s l = an_option (subst IsOption (same_text (codes "show") name s) is_show)
-named name false false false false true t p n s l = a_flag (subst IsFlag (same_text (codes "clean") name l) is_clean)
-named name false false false false false t p n s l = unknown (rw (t, p, n, s) refl) l (rw (t, p, n, s, l) refl)
+named : (name : List ℕ) (b c d e f g : Bool) → bytes_eq (codes "target") name ≡ b → bytes_eq (codes "property") name ≡ c → bytes_eq (codes "nodes") name ≡ d → bytes_eq (codes "show") name ≡ e
+    → bytes_eq (codes "size") name ≡ f → bytes_eq (codes "clean") name ≡ g → Met name
+named name true c d e f g t p n s z l = an_option (subst IsOption (same_text (codes "target") name t) is_target)
+named name false true d e f g t p n s z l = an_option (subst IsOption (same_text (codes "property") name p) is_property)
+named name false false true e f g t p n s z l = an_option (subst IsOption (same_text (codes "nodes") name n) is_nodes)
+named name false false false true f g t p n s z l = an_option (subst IsOption (same_text (codes "show") name s) is_show)
+named name false false false false true g t p n s z l = an_option (subst IsOption (same_text (codes "size") name z) is_size)
+named name false false false false false true t p n s z l = a_flag (subst IsFlag (same_text (codes "clean") name l) is_clean)
+named name false false false false false false t p n s z l = unknown (rw (t, p, n, s, z) refl) l (rw (t, p, n, s, z, l) refl)
 
 pub which : (name : List ℕ) → Met name
-which name = named name _ _ _ _ _ refl refl refl refl refl
+which name = named name _ _ _ _ _ _ refl refl refl refl refl refl
 
 pub known : {name : List ℕ} → IsOption name → is_option name ≡ true
 known is_target = refl
 known is_property = refl
 known is_nodes = refl
 known is_show = refl
+known is_size = refl
 
 pub known_flag : {name : List ℕ} → IsFlag name → (is_option name ≡ false) × (is_flag name ≡ true)
 known_flag is_clean = (refl, refl)
@@ -115,12 +118,14 @@ no_place is_target = record { action = refl; project = refl }
 no_place is_property = record { action = refl; project = refl }
 no_place is_nodes = record { action = refl; project = refl }
 no_place is_show = record { action = refl; project = refl }
+no_place is_size = record { action = refl; project = refl }
 
 no_flag : {name : List ℕ} → IsOption name → bytes_eq name (codes "clean") ≡ false
 no_flag is_target = refl
 no_flag is_property = refl
 no_flag is_nodes = refl
 no_flag is_show = refl
+no_flag is_size = refl
 
 -- ---- places
 
@@ -185,6 +190,7 @@ module _ (rs : List Row) (pending : Option (List ℕ × List (List ℕ))) (posit
   opens_clean is_property is = rw (long_word word _ is, is) (none_else _ [] clean refl)
   opens_clean is_nodes is = rw (long_word word _ is, is) (none_else _ [] clean refl)
   opens_clean is_show is = rw (long_word word _ is, is) (none_else _ [] clean refl)
+  opens_clean is_size is = rw (long_word word _ is, is) (none_else _ [] clean refl)
 
   pub opens_goes : {name : List ℕ} → IsOption name → long_of word ≡ Some (name, None)
       → walked rules [] (walk_at rs pending idle position) word ≡ walk_at (settled_rows rules pending rs) (Some (name, [])) (waits_for name) position
@@ -193,6 +199,7 @@ module _ (rs : List Row) (pending : Option (List ℕ × List (List ℕ))) (posit
   opens_goes is_property is = rw (long_word word _ is, is) refl
   opens_goes is_nodes is = rw (long_word word _ is, is) refl
   opens_goes is_show is = rw (long_word word _ is, is) refl
+  opens_goes is_size is = rw (long_word word _ is, is) refl
 
   pub attached_clean : {name value : List ℕ} → IsOption name → long_of word ≡ Some (name, Some value) → has_row name (settled_rows rules pending rs) ≡ false
       → turn_fault shape [] (walk_at rs pending idle position) word ≡ []
@@ -200,6 +207,7 @@ module _ (rs : List Row) (pending : Option (List ℕ × List (List ℕ))) (posit
   attached_clean is_property is new = rw (long_word word _ is, is) (none_else _ [] (none_else _ _ clean (rw (new) refl)) refl)
   attached_clean is_nodes is new = rw (long_word word _ is, is) (none_else _ [] (none_else _ _ clean (rw (new) refl)) refl)
   attached_clean is_show is new = rw (long_word word _ is, is) (none_else _ [] (none_else _ _ clean (rw (new) refl)) refl)
+  attached_clean is_size is new = rw (long_word word _ is, is) (none_else _ [] (none_else _ _ clean (rw (new) refl)) refl)
 
   pub attached_goes : {name value : List ℕ} → IsOption name → long_of word ≡ Some (name, Some value)
       → walked rules [] (walk_at rs pending idle position) word
@@ -209,6 +217,7 @@ module _ (rs : List Row) (pending : Option (List ℕ × List (List ℕ))) (posit
   attached_goes is_property is = rw (long_word word _ is, is) refl
   attached_goes is_nodes is = rw (long_word word _ is, is) refl
   attached_goes is_show is = rw (long_word word _ is, is) refl
+  attached_goes is_size is = rw (long_word word _ is, is) refl
 
   pub attached_again : {name value : List ℕ} → IsOption name → long_of word ≡ Some (name, Some value) → has_row name (settled_rows rules pending rs) ≡ true
       → Faulty (turn_fault shape [] (walk_at rs pending idle position) word)
@@ -216,6 +225,7 @@ module _ (rs : List Row) (pending : Option (List ℕ × List (List ℕ))) (posit
   attached_again is_property is old = rw (long_word word _ is, is) (or_else_first _ [] (or_else_then _ _ clean (rw (old) tt)))
   attached_again is_nodes is old = rw (long_word word _ is, is) (or_else_first _ [] (or_else_then _ _ clean (rw (old) tt)))
   attached_again is_show is old = rw (long_word word _ is, is) (or_else_first _ [] (or_else_then _ _ clean (rw (old) tt)))
+  attached_again is_size is old = rw (long_word word _ is, is) (or_else_first _ [] (or_else_then _ _ clean (rw (old) tt)))
 
   -- the flag
   pub flag_clean : {name : List ℕ} → IsFlag name → long_of word ≡ Some (name, None) → has_row name (settled_rows rules pending rs) ≡ false
@@ -248,6 +258,7 @@ module _ (rs : List Row) (position : ℕ) (word : List ℕ) (good : is_value wor
   value_goes is_property = let w = value_word word good in rw (w.0, w.1, w.2) refl
   value_goes is_nodes = let w = value_word word good in rw (w.0, w.1, w.2) refl
   value_goes is_show = let w = value_word word good in rw (w.0, w.1, w.2) refl
+  value_goes is_size = let w = value_word word good in rw (w.0, w.1, w.2) refl
 
 -- what is pending after a value, before it is settled
 pub value_pending : {name : List ℕ} (rs : List Row) (word : List ℕ) → IsOption name → has_row name rs ≡ false → settle_fault rules false (held rs (Some (name, word ∷ []))) ≡ []
@@ -255,12 +266,14 @@ value_pending rs word is_target new = rw (new) refl
 value_pending rs word is_property new = rw (new) refl
 value_pending rs word is_nodes new = rw (new) refl
 value_pending rs word is_show new = rw (new) refl
+value_pending rs word is_size new = rw (new) refl
 
 pub value_again : {name : List ℕ} (rs : List Row) (word : List ℕ) → IsOption name → has_row name rs ≡ true → Faulty (settle_fault rules false (held rs (Some (name, word ∷ []))))
 value_again rs word is_target old = rw (old) tt
 value_again rs word is_property old = rw (old) tt
 value_again rs word is_nodes old = rw (old) tt
 value_again rs word is_show old = rw (old) tt
+value_again rs word is_size old = rw (old) tt
 
 pub value_settled : {name : List ℕ} (rs : List Row) (word : List ℕ) → IsOption name
     → settled_rows rules (Some (name, word ∷ [])) rs ≡ with_values name AsWritten CommandLine (word ∷ []) (without name rs)
@@ -268,12 +281,14 @@ value_settled rs word is_target = refl
 value_settled rs word is_property = refl
 value_settled rs word is_nodes = refl
 value_settled rs word is_show = refl
+value_settled rs word is_size = refl
 
 pub value_missing : {name : List ℕ} (rs : List Row) → IsOption name → Faulty (settle_fault rules false (held rs (Some (name, []))))
 value_missing rs is_target = tt
 value_missing rs is_property = tt
 value_missing rs is_nodes = tt
 value_missing rs is_show = tt
+value_missing rs is_size = tt
 
 -- ---- what is pending is faulty
 
@@ -288,10 +303,12 @@ long_bad rs pending waiting position word None is_target is none bad = rw (none,
 long_bad rs pending waiting position word None is_property is none bad = rw (none, long_word word _ is, is) (or_else_first _ _ bad)
 long_bad rs pending waiting position word None is_nodes is none bad = rw (none, long_word word _ is, is) (or_else_first _ _ bad)
 long_bad rs pending waiting position word None is_show is none bad = rw (none, long_word word _ is, is) (or_else_first _ _ bad)
+long_bad rs pending waiting position word None is_size is none bad = rw (none, long_word word _ is, is) (or_else_first _ _ bad)
 long_bad rs pending waiting position word (Some value) is_target is none bad = rw (none, long_word word _ is, is) (or_else_first _ _ (or_else_first _ _ bad))
 long_bad rs pending waiting position word (Some value) is_property is none bad = rw (none, long_word word _ is, is) (or_else_first _ _ (or_else_first _ _ bad))
 long_bad rs pending waiting position word (Some value) is_nodes is none bad = rw (none, long_word word _ is, is) (or_else_first _ _ (or_else_first _ _ bad))
 long_bad rs pending waiting position word (Some value) is_show is none bad = rw (none, long_word word _ is, is) (or_else_first _ _ (or_else_first _ _ bad))
+long_bad rs pending waiting position word (Some value) is_size is none bad = rw (none, long_word word _ is, is) (or_else_first _ _ (or_else_first _ _ bad))
 
 pub flag_bad : {name : List ℕ} (rs : List Row) (pending : Option (List ℕ × List (List ℕ))) (waiting : Waiting) (position : ℕ) (word : List ℕ) (value : Option (List ℕ)) → IsFlag name → long_of word ≡ Some (name, value)
     → subcommand_met [] waiting word ≡ None → Faulty (settle_fault rules false (held rs pending)) → Faulty (turn_fault shape [] (walk_at rs pending waiting position) word)

@@ -28,7 +28,7 @@ option_of (a ∷ b ∷ text) = if a == 45 && b == 45 then option_in text else No
 abbrev pub is_option : List ℕ → Bool
 is_option name =
     bytes_eq (codes "target") name || bytes_eq (codes "property") name
-    || bytes_eq (codes "nodes") name || bytes_eq (codes "show") name
+    || bytes_eq (codes "nodes") name || bytes_eq (codes "show") name || bytes_eq (codes "size") name
 
 -- the name of the one that has none
 abbrev pub is_flag : List ℕ → Bool
@@ -112,6 +112,7 @@ pub record Given : Type 0 where
   pub nodes : Option (List ℕ)
   pub clean : Bool
   pub show : Option (List ℕ)
+  pub size : Option (List ℕ)
 
 -- what a contract sees of them
 abbrev pub seen : GivenWords → Given
@@ -123,11 +124,13 @@ seen g = record {
   nodes = option_map (λ t. t.now) g.nodes;
   clean = g.clean;
   show = option_map (λ t. t.now) g.show;
+  size = option_map (λ t. t.now) g.size;
 }
 
 -- both words are there
-abbrev pub given_with : Option (List ℕ) → Option (List ℕ) → Option (List ℕ) → Option (List ℕ) → Option (List ℕ) → Bool → Option (List ℕ) → Option Given
-given_with (Some action) (Some project) target property nodes clean show = Some (record {
+abbrev pub given_with :
+    Option (List ℕ) → Option (List ℕ) → Option (List ℕ) → Option (List ℕ) → Option (List ℕ) → Bool → Option (List ℕ) → Option (List ℕ) → Option Given
+given_with (Some action) (Some project) target property nodes clean show size = Some (record {
   action = action;
   project = project;
   target = target;
@@ -135,14 +138,15 @@ given_with (Some action) (Some project) target property nodes clean show = Some 
   nodes = nodes;
   clean = clean;
   show = show;
+  size = size;
 })
-given_with action project target property nodes clean show = None
+given_with action project target property nodes clean show size = None
 
 -- by what a name has, and whether the flag is there
 abbrev pub given_by : (List ℕ → Option (List ℕ)) → Bool → Option Given
 given_by value clean =
     given_with (value (codes "action")) (value (codes "project")) (value (codes "target")) (value (codes "property"))
-    (value (codes "nodes")) clean (value (codes "show"))
+    (value (codes "nodes")) clean (value (codes "show")) (value (codes "size"))
 
 abbrev pub value_in : Names → List ℕ → Option (List ℕ)
 value_in names name = option_map (λ n. n.1) (find (λ n. bytes_eq n.0 name) names)

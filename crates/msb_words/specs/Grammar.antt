@@ -22,7 +22,7 @@ plain shape = record shape { no_binary_name = true; disable_help_flag = true }
 
 abbrev pub grammar : App
 grammar =
-    with_rule (with_rule (with_rule (with_rule (with_rule (with_rule (with_rule
+    with_rule (with_rule (with_rule (with_rule (with_rule (with_rule (with_rule (with_rule
     (on_top plain (new_app (codes "msb")))
     (positional (codes "action")))
     (positional (codes "project")))
@@ -30,4 +30,5 @@ grammar =
     (option (codes "property")))
     (option (codes "nodes")))
     (option (codes "show")))
+    (option (codes "size")))
     (flag (codes "clean"))

@@ -1,5 +1,5 @@
 -- What the values of options say. (MSBuild command-line reference; MSBuild global properties.)
-use Rattle.std.specs.Prelude.{ℕ, List, [], ◌∷◌, ◌==◌, ◌&&◌, nat_lt, length, Bool, true, false, Option, Some, None, if◌then◌else◌, codes, option_map, option_and_then}
+use Rattle.std.specs.Prelude.{ℕ, ◌^◌, List, [], ◌∷◌, ◌==◌, ◌&&◌, nat_le, nat_lt, length, Bool, true, false, Option, Some, None, if◌then◌else◌, codes, option_map, option_and_then}
 use Rattle.std.specs.List.{list_any, before_first, after_first}
 use Rattle.std.specs.Str.{all_ascii_digits, bytes_eq}
 use Rattle.std.specs.Str.Parse.{digits_value}
@@ -65,24 +65,37 @@ abbrev pub globals_if : Option (List ℕ) → Option (List (List ℕ × List ℕ
 globals_if None = Some []
 globals_if (Some value) = globals_in value
 
--- one or two decimal digits
-abbrev pub are_digits : List ℕ → Bool
-are_digits value = nat_lt 0 (length value) && nat_lt (length value) 3 && all_ascii_digits value
+-- decimal digits, one or more and at most so many
+abbrev pub are_digits : ℕ → List ℕ → Bool
+are_digits most value = nat_lt 0 (length value) && nat_le (length value) most && all_ascii_digits value
 
-abbrev pub number_of : List ℕ → Option ℕ
-number_of value = if are_digits value then Some (digits_value 10 value) else None
+-- the number of so many digits at most, if it is below 2^64
+abbrev pub number_of : ℕ → List ℕ → Option ℕ
+number_of most value = if are_digits most value && nat_lt (digits_value 10 value) (2 ^ 64) then Some (digits_value 10 value) else None
+
+-- a number from 1 to the most
+abbrev pub up_to : ℕ → ℕ → Option ℕ
+up_to most number = if nat_lt 0 number && nat_le number most then Some number else None
 
 -- from 1 to 64 nodes
-abbrev pub if_within : ℕ → Option ℕ
-if_within number = if nat_lt 0 number && nat_lt number 65 then Some number else None
-
 abbrev pub nodes_in : List ℕ → Option ℕ
-nodes_in value = option_and_then if_within (number_of value)
+nodes_in value = option_and_then (up_to 64) (number_of 2 value)
 
--- one node where the option is left out
-abbrev pub nodes_if : Option (List ℕ) → Option ℕ
-nodes_if None = Some 1
-nodes_if (Some value) = nodes_in value
+-- this many nodes where the option is left out
+abbrev pub nodes_if : ℕ → Option (List ℕ) → Option ℕ
+nodes_if without None = Some without
+nodes_if without (Some value) = nodes_in value
+
+-- from 1 to 100 projects
+abbrev pub size_in : List ℕ → Option ℕ
+size_in value = option_and_then (up_to 100) (number_of 3 value)
+
+abbrev pub size_if : Option (List ℕ) → Option ℕ
+size_if None = Some 0
+size_if (Some value) = size_in value
+
+abbrev pub seed_in : List ℕ → Option ℕ
+seed_in value = number_of 20 value
 
 -- the one value is `low`
 abbrev pub low_in : List ℕ → Option Bool

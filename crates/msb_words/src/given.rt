@@ -22,6 +22,7 @@ pub(crate) struct Given<'a> {
     pub(crate) nodes: Option<&'a str>,
     pub(crate) clean: bool,
     pub(crate) show: Option<&'a str>,
+    pub(crate) size: Option<&'a str>,
 }
 
 impl<'a> Given<'a> {
@@ -57,6 +58,7 @@ impl<'a> Given<'a> {
             nodes: matches.get_str("nodes"),
             clean: matches.get_flag("clean"),
             show: matches.get_str("show"),
+            size: matches.get_str("size"),
         })
     }
 }

@@ -17,6 +17,7 @@ pub(crate) fn grammar<'a>(alloc: Global) -> Result<Command<'a>, AllocError>
         .arg(option(alloc, "property"))?
         .arg(option(alloc, "nodes"))?
         .arg(option(alloc, "show"))?
+        .arg(option(alloc, "size"))?
         .arg(flag(alloc, "clean"))
 }
 

@@ -9,7 +9,7 @@ mod faults;
 mod given;
 mod globals;
 mod grammar;
-mod nodes;
+mod numbers;
 mod options;
 mod targets;
 

@@ -15,4 +15,6 @@ mod runs;
 #[cfg(test)]
 mod stories;
 #[cfg(test)]
+mod trials;
+#[cfg(test)]
 mod words;

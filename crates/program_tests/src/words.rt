@@ -69,7 +69,6 @@ build|a.proj|--nodes|--clean => usage
 eval|a.proj|--nodes|2 => usage
 targets|a.proj|--nodes=2 => usage
 build|--nodes|8|a.proj|--clean|--show=low => Build a.proj 8 nodes clean low
-trial|7|--size|2 => usage
 build|a.proj|--size|2 => usage
 --show=low|build|--property|A=1;B=2|a.proj|--target|x => Build a.proj @x a=1 b=2 low
 eval|--property=A=x|a.proj => Eval a.proj a=x

@@ -1,19 +1,32 @@
 use Rattle.std.proofs.Common.{[]}
 use Rattle.msb_paths.specs.Refused.{normal_path}
 use Rattle.msb_program.proofs.Ready.{build_of_words, ready_answers}
+use Rattle.msb_program.proofs.TrialEnded.{no_trial, trial_answers}
 use Rattle.msb_program.proofs.Working.{has_status}
 use Rattle.msb_program.proofs.top.answered_alone.Goals as goal
 
 pub outcome_alone-made-requires : goal.outcome_alone-made-requires
 outcome_alone-made-requires g c =
-    let ready = c.in-Ready.ensures in
+    let ready = c.in-Ready.ensures.prepared in
     has_status c.in-Ready.options ready.files (normal_path [] c.in-Ready.options.project) c.in-Ready.work ready.is
+
+pub returns-in-Ended-clause-answer : goal.returns-in-Ended-clause-answer
+returns-in-Ended-clause-answer g c = c.in-Ended.ensures.prepared g.T.CountedTools.answer
+
+pub returns-in-Trial-clause-answer : goal.returns-in-Trial-clause-answer
+returns-in-Trial-clause-answer g c =
+    trial_answers g.T.CountedTools.answer c.in-Trial.options c.in-Trial.ensures.prepared c.trial_alone.result c.trial_alone.ensures c.end_trial.result c.end_trial.ensures
 
 pub returns-in-Ready-clause-answer : goal.returns-in-Ready-clause-answer
 returns-in-Ready-clause-answer g c =
-    ready_answers g.T.CountedTools.answer c.in-Ready.options c.in-Ready.work c.in-Ready.ensures c.outcome_alone-made.result c.outcome_alone-made.ensures.outcome c.end.result c.end.ensures
+    ready_answers g.T.CountedTools.answer c.in-Ready.options c.in-Ready.work c.in-Ready.ensures.prepared c.outcome_alone-made.result c.outcome_alone-made.ensures.outcome c.end.result c.end.ensures
 
 pub returns-in-Ready-clause-uncalled : goal.returns-in-Ready-clause-uncalled
 returns-in-Ready-clause-uncalled g c = λ unasked.
-    let ready = c.in-Ready.ensures in
+    let ready = c.in-Ready.ensures.prepared in
     c.outcome_alone-made.ensures.uncalled (λ build. unasked (build_of_words _ ready.files c.in-Ready.options c.in-Ready.work ready.asked ready.is build))
+
+pub returns-in-Ready-clause-untouched : goal.returns-in-Ready-clause-untouched
+returns-in-Ready-clause-untouched g c = λ trial.
+    let ready = c.in-Ready.ensures.prepared in
+    absurd (no_trial _ c.in-Ready.options ready.asked ready.project trial)

@@ -1,14 +1,27 @@
 use Rattle.std.proofs.Common.{[]}
 use Rattle.msb_paths.specs.Refused.{normal_path}
 use Rattle.msb_program.proofs.Ready.{ready_answers}
+use Rattle.msb_program.proofs.TrialEnded.{no_trial, trial_answers}
 use Rattle.msb_program.proofs.Working.{has_status}
 use Rattle.msb_program.proofs.top.answered_on.Goals as goal
 
 pub outcome_on-made-requires-clause-status : goal.outcome_on-made-requires-clause-status
 outcome_on-made-requires-clause-status g c κs within =
-    let ready = c.in-Ready.ensures in
+    let ready = c.in-Ready.ensures.prepared in
     has_status c.in-Ready.options ready.files (normal_path [] c.in-Ready.options.project) c.in-Ready.work ready.is
 
-pub returns-in-Ready : goal.returns-in-Ready
-returns-in-Ready g c =
-    ready_answers g.T.Tools.answer c.in-Ready.options c.in-Ready.work c.in-Ready.ensures c.outcome_on-made.result c.outcome_on-made.ensures.outcome c.end.result c.end.ensures
+pub returns-in-Ended-clause-answer : goal.returns-in-Ended-clause-answer
+returns-in-Ended-clause-answer g c = c.in-Ended.ensures.prepared g.T.Tools.answer
+
+pub returns-in-Trial-clause-answer : goal.returns-in-Trial-clause-answer
+returns-in-Trial-clause-answer g c =
+    trial_answers g.T.Tools.answer c.in-Trial.options c.in-Trial.ensures.prepared c.trial_on.result c.trial_on.ensures c.end_trial.result c.end_trial.ensures
+
+pub returns-in-Ready-clause-answer : goal.returns-in-Ready-clause-answer
+returns-in-Ready-clause-answer g c =
+    ready_answers g.T.Tools.answer c.in-Ready.options c.in-Ready.work c.in-Ready.ensures.prepared c.outcome_on-made.result c.outcome_on-made.ensures.outcome c.end.result c.end.ensures
+
+pub returns-in-Ready-clause-untouched : goal.returns-in-Ready-clause-untouched
+returns-in-Ready-clause-untouched g c = λ trial.
+    let ready = c.in-Ready.ensures.prepared in
+    absurd (no_trial _ c.in-Ready.options ready.asked ready.project trial)

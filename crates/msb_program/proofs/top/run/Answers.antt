@@ -2,4 +2,4 @@ use Rattle.msb_program.proofs.Meant.{answers_meant}
 use Rattle.msb_program.proofs.top.run.Goals as goal
 
 pub returns-clause-meaning : goal.returns-clause-meaning
-returns-clause-meaning g c = answers_meant g.T.Tools.answer _ _ _ _ _ c.answered_on.ensures
+returns-clause-meaning g c = answers_meant g.T.Tools.answer _ _ _ _ _ c.answered_on.ensures.answer
