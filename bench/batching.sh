@@ -18,7 +18,9 @@ cat > "$work/crates/batching_bench/src/main.rt" <<'PROGRAM'
 use msb_batching::buckets;
 use msb_expand::{Lens, Use};
 use msb_expression::{Expr, parse};
-use msb_values::{Defaults, Item, List, Lists, Name, NoMemory, Pairs, Scope, Text};
+use msb_values::{
+    Defaults, Item, List, Lists, Name, NoMemory, Pairs, Scope, SharedItems, Text,
+};
 use std::alloc::Global;
 use std::io;
 use std::time::Instant;
@@ -58,7 +60,7 @@ fn items(alloc: Global, size: u32, keys: u32) -> Result<List<Item>, NoMemory> {
 
 fn scope(alloc: Global, size: u32, keys: u32) -> Result<Scope, NoMemory> {
     let mut lists = Lists::new(alloc);
-    lists.insert(name(alloc, "X")?, items(alloc, size, keys)?)?;
+    lists.insert(name(alloc, "X")?, SharedItems::of(alloc, items(alloc, size, keys)?)?)?;
     Ok(Scope {
         globals: Pairs::new(alloc),
         props: Pairs::new(alloc),

@@ -17,7 +17,9 @@ cat > "$work/crates/expand_bench/src/main.rt" <<'PROGRAM'
 
 use msb_expand::{Lens, Use, list, text};
 use msb_expression::{Expr, parse};
-use msb_values::{Defaults, Item, List, Lists, Name, NoMemory, Pairs, Scope, Text};
+use msb_values::{
+    Defaults, Item, List, Lists, Name, NoMemory, Pairs, Scope, SharedItems, Text,
+};
 use std::alloc::Global;
 use std::io;
 use std::time::Instant;
@@ -61,8 +63,8 @@ fn scope(alloc: Global, count: u32) -> Result<Scope, NoMemory> {
     props.insert(name(alloc, "P")?, Text::of(alloc, "value")?)?;
     props.insert(name(alloc, "R")?, repeated(alloc, "@(Y);", count)?)?;
     let mut lists = Lists::new(alloc);
-    lists.insert(name(alloc, "X")?, items(alloc, count)?)?;
-    lists.insert(name(alloc, "Y")?, items(alloc, 1)?)?;
+    lists.insert(name(alloc, "X")?, SharedItems::of(alloc, items(alloc, count)?)?)?;
+    lists.insert(name(alloc, "Y")?, SharedItems::of(alloc, items(alloc, 1)?)?)?;
     Ok(Scope {
         globals: Pairs::new(alloc),
         props,

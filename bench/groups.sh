@@ -22,7 +22,9 @@ use file_store::Tree;
 use msb_elements::{Element, Project, read_project};
 use msb_files::{FileView, Journal};
 use msb_items::change_by_group;
-use msb_values::{Defaults, Item, List, Lists, Name, NoMemory, Pairs, Scope, Text};
+use msb_values::{
+    Defaults, Item, List, Lists, Name, NoMemory, Pairs, Scope, SharedItems, Text,
+};
 use std::alloc::Global;
 use std::io;
 use std::time::Instant;
@@ -58,7 +60,7 @@ fn scope(alloc: Global, size: u32) -> Result<Scope, NoMemory> {
         items.push(item(alloc, number)?)?;
     }
     let mut lists = Lists::new(alloc);
-    lists.insert(name(alloc, "X")?, items)?;
+    lists.insert(name(alloc, "X")?, SharedItems::of(alloc, items)?)?;
     Ok(Scope {
         globals: Pairs::new(alloc),
         props: Pairs::new(alloc),
