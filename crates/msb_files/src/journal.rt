@@ -18,7 +18,7 @@ use std::marker::Model;
 /// task.)
 ///
 /// A copy takes a time and room that grow with the logarithm of the number of entries, and shares the rest. So does the time
-/// of a look by path, or for a run, which takes no memory.
+/// of a look for the content of a path, or for a run, which takes no memory; one for files below a folder takes the square.
 #[derive(Drop)]
 pub struct Journal {
     /// The newest first.
