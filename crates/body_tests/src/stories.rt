@@ -1,15 +1,13 @@
 //! Small targets over a tree of files, and what their runs come to, written out.
 
-ghost use Rattle.std.specs.Prelude.{◌≡◌, [], IfOk, IfSome, IsSome, length, option_copied};
-ghost use Rattle.std.specs.List.{find};
-ghost use Rattle.std.specs.Str.{bytes_eq};
+ghost use Rattle.std.specs.Prelude.{◌≡◌, [], IfOk, IfSome, IsSome, length};
 ghost use Rattle.build_world.specs.Instances.{seen_instance};
 ghost use Rattle.target_body.specs.Standings.{target_named};
 ghost use Rattle.body_tests.specs.Readiness.{IsReady};
 
 use crate::echo::Echo;
 use crate::shown::{push_ask, push_record, push_uses};
-use build_world::{Instance, UsedTarget, World};
+use build_world::{Instance, World};
 use file_store::{File, Tree};
 use msb_files::Journal;
 use msb_instance::evaluate;
@@ -94,7 +92,7 @@ fn told_of(alloc: Global, mode: Mode, project: &str, imported: &str) -> Result<T
 
 /// The requests that the run asks for, its record and its uses of tools.
 fn played(alloc: Global, world: &World, instance: &Instance, run: &RunId) -> Result<Text, Fail> {
-    let Some(_) = target_named(instance.targets.as_slice(), run.target.key()) else {
+    let Some(_) = instance.targets.find(&run.target) else {
         return Err(Fail::from("the target is there"));
     };
     let mut told = String::new(alloc);
@@ -102,12 +100,6 @@ fn played(alloc: Global, world: &World, instance: &Instance, run: &RunId) -> Res
     push_run(&mut told, alloc, world, instance, run, &mut tools)?;
     push_uses(&mut told, tools.calls())?;
     Ok(Text::from(told))
-}
-
-fn target_named<'t>(targets: &'t [UsedTarget], name: &str) -> Option<&'t UsedTarget>
-    ensures { option_copied result ≡ find (λ target. bytes_eq target.name name.now) targets.entry.now }
-{
-    targets.iter().find(|target| target.name.key() == name)
 }
 
 fn push_run<T: CountedTools>(

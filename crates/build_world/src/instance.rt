@@ -1,4 +1,4 @@
-use crate::Placed;
+use crate::{Placed, UsedTargets};
 use msb_values::{List, Name, Scope, Text};
 use target_order::TargetRow;
 
@@ -18,7 +18,7 @@ pub struct Instance {
     /// The targets in the order of the first element of each name, with those that they hook on.
     pub rows: List<TargetRow>,
     /// The element that is used, for each row.
-    pub targets: List<UsedTarget>,
+    pub targets: UsedTargets,
     pub initial: List<Name>,
     /// The default targets: without DefaultTargets the first target.
     pub default: List<Name>,

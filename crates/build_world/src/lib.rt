@@ -8,6 +8,7 @@ mod fault;
 mod instance;
 mod laid_out;
 mod reading;
+mod used_targets;
 mod world;
 
 pub use element::PlacedElement;
@@ -15,4 +16,5 @@ pub use fault::EvalFault;
 pub use instance::{Instance, UsedTarget};
 pub use laid_out::{LaidOut, Placed};
 pub use reading::read_file;
+pub use used_targets::UsedTargets;
 pub use world::World;

@@ -45,7 +45,11 @@ pub fn changes(alloc: Global, group: &str) -> Result<Text, Fail> {
 
 /// What both calls tell of the group, which is the same.
 fn told(alloc: Global, view: &FileView<'_>, instance: &Instance) -> Result<Text, Fail> {
-    let target = instance.targets.get(0).ok_or("there is a target")?;
+    let target = instance
+        .targets
+        .as_slice()
+        .first()
+        .ok_or("there is a target")?;
     let group = target.at.element.child(0).ok_or("there is a group")?;
     let placed = PlacedElement {
         file: "app/a.proj",

@@ -8,7 +8,7 @@ ghost use Rattle.msb_instance.specs.Made.{target_seen};
 
 use crate::rows::rows;
 use crate::targets::used_targets;
-use build_world::{EvalFault, Instance, LaidOut, UsedTarget};
+use build_world::{EvalFault, Instance, LaidOut, UsedTarget, UsedTargets};
 use file_store::Tree;
 use msb_items::{definition_pass, item_pass};
 use msb_properties::property_pass;
@@ -69,6 +69,9 @@ fn with_targets(
     };
     let rows = rows(alloc, key.path.as_str(), &scope, targets.as_slice())?;
     let Ok(default) = default_or_first(alloc, laid.default, targets.as_slice()) else {
+        return Err(EvalFault::memory(alloc));
+    };
+    let Ok(targets) = UsedTargets::of(alloc, targets) else {
         return Err(EvalFault::memory(alloc));
     };
     Ok(Instance {

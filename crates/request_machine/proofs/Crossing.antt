@@ -3,9 +3,14 @@ use denote.RattleType.{RattleType}
 use denote.Ref.{NamedLft}
 use denote.Struct.Declared as Struct
 use denote.Enum.Declared as Enum
-use denote.Param.Send.{IsSend, sendable, recorded_send, struct_send, enum_send}
+use denote.Param.Send.{IsSend, sendable, recorded_send, struct_send, enum_send, view_send}
 use Rattle.std.proofs.Crossing.{crosses as owned}
 use Rattle.std.proofs.alloc.Global.TheSendSync as heap
+use Rattle.std.proofs.collections.HashMap.TheSendSync as map
+use Rattle.std.proofs.string.String.TheSendSync as string
+use Rattle.std.proofs.hash.BuildHasherDefault.TheSendSync as hasher
+use Rattle.std.proofs.hash.FoldHasher.TheSendSync as folds
+use Rattle.std.below.std_heap.proofs.GlobalAllocator.TheSendSync as allocator
 use Rattle.msb_values.proofs.list.List.TheSendSync as list
 use Rattle.msb_values.proofs.name.Name.TheSendSync as name
 use Rattle.msb_values.proofs.scope.Scope.TheSendSync as scope
@@ -21,6 +26,8 @@ use Rattle.build_world.proofs.world.World.TheSendSync as world
 use Rattle.build_world.specs.contracts.instance.Instance as Instance
 use Rattle.build_world.specs.contracts.instance.UsedTarget as UsedTarget
 use Rattle.build_world.specs.contracts.laid_out.Placed as Placed
+use Rattle.build_world.specs.contracts.used_targets.UsedTargets as UsedTargets
+use Rattle.build_world.specs.contracts.used_targets.UsedTargets.TheInside as Inside
 use Rattle.msb_files.proofs.journal.Journal.TheSendSync as journal
 use Rattle.result_cache.proofs.request.RequestKey.TheSendSync as key
 use Rattle.result_cache.proofs.run.RunId.TheSendSync as run
@@ -47,13 +54,19 @@ used-send = struct_send (Struct.shape UsedTarget.the_type) (name.the_send, (plac
 UsedTarget-send : IsSend UsedTarget.the_row
 UsedTarget-send = recorded_send _ _ _ UsedTarget.the_type.to_one used-send
 
+inside-send : IsSend Inside.the_row
+inside-send = recorded_send _ _ _ Inside.the_type.to_one (struct_send (Struct.shape Inside.the_type) (list.the_send UsedTarget.the_row UsedTarget-send, (search (map.the_send, string.the_send, hasher.the_send, folds.the_send, heap.the_send, allocator.the_frees, owned, sendable) depth 60 fits 20000, tt)))
+
+targets-send : IsSend UsedTargets.the_row
+targets-send = view_send _ _ _ _ _ inside-send
+
 instance-send : IsSend Instance.the_field.row
 instance-send = struct_send (Struct.shape Instance.the_type) (
   scope.the_field_send,
   (
     list.the_send TargetRow.the_row row.the_send,
     (
-      list.the_send UsedTarget.the_row UsedTarget-send,
+      targets-send,
       (list.the_send Name.the_row name.the_send, (list.the_send Name.the_row name.the_send, (list.the_send Text.the_row text.the_send, tt))),
     ),
   ),

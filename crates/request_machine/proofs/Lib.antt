@@ -2,7 +2,6 @@ pub mod Joining
 pub mod Answering
 pub mod Alike
 pub mod Errors
-pub mod Finding
 pub mod Learned
 pub mod Names
 pub mod Placing

@@ -106,7 +106,7 @@ fn no_targets<T>(alloc: Global) -> Result<Stage<T>, NoMemory>
 fn has_no_targets(instance: &Instance, key: &RequestKey) -> bool
     ensures { result ≡ has_no_targets (seen_instance instance.now) key.now }
 {
-    instance.targets.is_empty() && !key.named
+    instance.targets.as_slice().is_empty() && !key.named
 }
 
 fn stage_by<T>(

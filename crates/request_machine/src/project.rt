@@ -1,6 +1,4 @@
 ghost use Rattle.std.specs.Prelude.{◌≡◌, option_map, option_copied};
-ghost use Rattle.std.specs.List.{find};
-ghost use Rattle.std.specs.Str.{bytes_eq};
 ghost use Rattle.build_world.specs.Instances.{seen_target};
 ghost use Rattle.request_machine.specs.Requests.{target_at};
 ghost use Rattle.request_machine.specs.Seen.{seen_project};
@@ -23,12 +21,6 @@ impl<'a> Project<'a> {
     pub fn target(&self, name: &Name) -> Option<&'a UsedTarget>
         ensures { option_map seen_target (option_copied result) ≡ target_at (seen_project self.now) name.now }
     {
-        target_from(self.instance.targets.as_slice(), name)
+        self.instance.targets.find(name)
     }
-}
-
-fn target_from<'a>(targets: &'a [UsedTarget], name: &Name) -> Option<&'a UsedTarget>
-    ensures { option_copied result ≡ find (λ t. bytes_eq t.name name.now) targets.entry.now }
-{
-    targets.iter().find(|target| target.name == *name)
 }

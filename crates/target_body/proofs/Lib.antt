@@ -9,6 +9,5 @@ pub mod TaskSteps
 pub mod ChildSteps
 pub mod Faulting
 pub mod Telling
-pub mod Finding
 pub mod Deciding
 pub mod Treating

@@ -1,6 +1,4 @@
-ghost use Rattle.std.specs.Prelude.{◌≡◌, ◌<◌, ◌++◌, [], length, IfOk, IfSome, IsSome, OnErr, option_copied};
-ghost use Rattle.std.specs.List.{find};
-ghost use Rattle.std.specs.Str.{bytes_eq};
+ghost use Rattle.std.specs.Prelude.{◌≡◌, ◌<◌, ◌++◌, [], length, IfOk, IfSome, IsSome, OnErr};
 ghost use Rattle.build_meaning.specs.SoFar.{called, recorded};
 ghost use Rattle.build_world.specs.Instances.{seen_instance};
 ghost use Rattle.result_cache.specs.Journal.{Journal as Files};
@@ -16,7 +14,7 @@ use crate::frames::AtRun;
 use crate::site::Site;
 use crate::state::State;
 use crate::steps::{Ending, Step};
-use build_world::{Instance, UsedTarget, World};
+use build_world::{Instance, World};
 use msb_files::Journal;
 use msb_values::{Copied, List, NoMemory, Scope};
 use result_cache::{Record, RequestKey, RequestResult, RunId};
@@ -90,7 +88,7 @@ impl Body {
             Goes T.answer self.old.run run (standing_by run self.old.stand) results.now journal.old journal.new (T.calls tools.old) (T.calls tools.new) ask (standing_by run self.new.stand))) }
         ensures begun { OnErr result (BeginsWith (T.calls tools.old) (T.calls tools.new)) }
     {
-        let Some(target) = target_named(instance.targets.as_slice(), self.run.target.key()) else {
+        let Some(target) = instance.targets.find(&self.run.target) else {
             unreachable!()
         };
         let stand = mem::replace(&mut self.stand, Stand::Ended);
@@ -103,12 +101,6 @@ impl Body {
         self.stand = stand;
         Ok(ask)
     }
-}
-
-fn target_named<'t>(targets: &'t [UsedTarget], name: &str) -> Option<&'t UsedTarget>
-    ensures { option_copied result ≡ find (λ target. bytes_eq target.name name.now) targets.entry.now }
-{
-    targets.iter().find(|target| target.name.key() == name)
 }
 
 fn go_on<T: CountedTools>(

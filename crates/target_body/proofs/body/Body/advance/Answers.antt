@@ -4,20 +4,19 @@ use Rattle.build_world.specs.declared.instance.UsedTarget.{UsedTarget as MadeTar
 use Rattle.target_body.specs.Standings.{Fits, Goes, run_with, standing_by, target_named}
 use Rattle.target_body.specs.States.{Run}
 use Rattle.target_body.specs.declared.body.Stand.{Stand}
-use Rattle.target_body.proofs.Finding.{named_by}
 use Rattle.target_body.proofs.body.Body.advance.Goals as goal
 
 pub unreachable-requires : goal.unreachable-requires
 unreachable-requires g c =
     let none : target_named (seen_instance c.args.instance.now).targets c.args.self.now.run.target ≡ None =
-    named_by c.target_named.result c.args.instance.now.targets c.as_slice.result.now c.args.self.now.run.target c.key.result.now c.as_slice.ensures c.key.ensures c.target_named.ensures
+    sym c.find.ensures
     ∙ ap (λ (found : Option (Bor MadeTarget)). option_map seen_target (option_copied found)) c.in_default.is in
     cc (subst (λ (found : Option UsedTarget). IsSome found) none c.requires.target)
 
 pub go_on-requires : goal.go_on-requires
 go_on-requires g c =
     let named : target_named (seen_instance c.args.instance.now).targets c.args.self.now.run.target ≡ Some (seen_target c.in-Some.target.now) =
-    named_by c.target_named.result c.args.instance.now.targets c.as_slice.result.now c.args.self.now.run.target c.key.result.now c.as_slice.ensures c.key.ensures c.target_named.ensures
+    sym c.find.ensures
     ∙ ap (λ (found : Option (Bor MadeTarget)). option_map seen_target (option_copied found)) c.in-Some.is in
     let run : Run = run_with c.args.world.now c.args.self.now.run (seen_target c.in-Some.target.now) in
     subst (λ (stand : Stand). Fits (standing_by run stand) c.args.results.now) (sym c.replace-stand.ensures.value)
@@ -26,7 +25,7 @@ go_on-requires g c =
 pub returns-clause-goes : goal.returns-clause-goes
 returns-clause-goes g c =
     let named : target_named (seen_instance c.args.instance.now).targets c.args.self.now.run.target ≡ Some (seen_target c.in-Some.target.now) =
-    named_by c.target_named.result c.args.instance.now.targets c.as_slice.result.now c.args.self.now.run.target c.key.result.now c.as_slice.ensures c.key.ensures c.target_named.ensures
+    sym c.find.ensures
     ∙ ap (λ (found : Option (Bor MadeTarget)). option_map seen_target (option_copied found)) c.in-Some.is in
     let before : UsedTarget → Stand → Type 0 = λ target stand.
     (let run : Run = run_with c.args.world.now c.args.self.now.run target in
