@@ -9,3 +9,4 @@ pub mod Taking
 pub mod Hooking
 pub mod Starting
 pub mod Chunks
+pub mod OpenVisits

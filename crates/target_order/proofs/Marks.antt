@@ -22,22 +22,15 @@ seam visits d more y lt =
     let l = length-take-le d visits (omega arith) in
     ap (λ vs. set vs d y) e ∙ (ap (λ n. set (take d visits ++ visit_at visits d ∷ more) n y) (sym l) ∙ set_seam (take d visits) (visit_at visits d) y more)
 
-at_seam : (visits : List OpenVisit) (d : ℕ) (more : List OpenVisit) → d < length visits → visit_at (take (suc d) visits ++ more) d ≡ visit_at visits d
-at_seam visits d more lt =
-    let l = length-take-le (suc d) visits (omega arith) in
-    get_or_append_left (take (suc d) visits) more _ d (omega arith) ∙ get_or-take (suc d) visits d _ (omega arith)
-
--- what is noted in front of more visits
-pub noted_marked : (visits : List OpenVisit) (depth : ℕ) (step : Step) (passed : ℕ) (more : List OpenVisit) → depth ≤ length visits →
-    noted (take depth visits ++ more) depth step passed ≡ marked_visits visits depth step passed ++ more
-noted_marked visits zero step passed more h = refl
-noted_marked visits (suc d) step passed more h =
-    let lt : d < length visits = omega arith in
-    rw (at_seam visits d more lt) (seam visits d more _ lt ∙ sym (append_assoc (take d visits) _ more))
-
+-- what is noted of the innermost of some of the visits
 pub noted_top : (visits : List OpenVisit) (depth : ℕ) (step : Step) (passed : ℕ) → depth ≤ length visits → noted (take depth visits) depth step passed ≡ marked_visits visits depth step passed
-noted_top visits depth step passed h =
-    ap (λ vs. noted vs depth step passed) (sym (append-nil (take depth visits))) ∙ (noted_marked visits depth step passed [] h ∙ append-nil (marked_visits visits depth step passed))
+noted_top visits zero step passed h = refl
+noted_top visits (suc d) step passed h =
+    let lt : d < length visits = omega arith in
+    let at : visit_at (take (suc d) visits) d ≡ visit_at visits d = get_or-take (suc d) visits d _ (omega arith) in
+    let v = noted_visit (visit_at visits d) step passed in
+    ap (λ u. set (take (suc d) visits) d (noted_visit u step passed)) at
+    ∙ (ap (λ vs. set vs d v) (sym (append-nil (take (suc d) visits))) ∙ seam visits d [] v lt)
 
 -- the marked visits, innermost first
 pub marked_inner : (visits : List OpenVisit) (d : ℕ) (step : Step) (passed : ℕ) →

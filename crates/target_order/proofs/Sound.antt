@@ -12,10 +12,10 @@ use Rattle.target_order.specs.declared.visits.Asked.{Asked}
 use Rattle.target_order.specs.declared.visits.Asked.TheVariants.{Nothing, Condition, Depends as DependsOn, Body, Answered, End as TheEnd}
 use Rattle.target_order.specs.Progress.{Table, Progress, is_past, is_errors}
 use Rattle.target_order.specs.Search.{visit_at, is_request, asks_visit, is_over, IsPlaced, IsProgress, IsSound}
-use Rattle.target_order.specs.Steps.{noted, marked_visits, marked_passed, visiting, at_body, new_visit, taken, restored, top_target, IsPlace}
+use Rattle.target_order.specs.Steps.{marked_visits, marked_passed, visiting, at_body, new_visit, taken, restored, top_target, IsPlace}
 use Rattle.target_order.specs.declared.steps.Undo.{Undo}
 use Rattle.target_order.specs.Visit.{Name}
-use Rattle.target_order.proofs.Marks.{noted_marked, marked_placed, marked_errors, marked_length, marked_top, marked_target, at_end_of, one_more, reverse_last, set_inner}
+use Rattle.target_order.proofs.Marks.{marked_placed, marked_errors, marked_length, marked_top, marked_target, at_end_of, one_more, reverse_last, set_inner}
 
 pub body_sound : (p : Progress) (places : List ℕ) (depth : ℕ) (step : Step) (passed : ℕ) → IsSound p places → IsPlace p depth step → 0 < depth → is_errors step ≡ false → IsSound (at_body p depth step passed) places
 body_sound p places depth step passed sound place positive calm =
@@ -137,12 +137,11 @@ waits_still Answered e = refl
 waits_still TheEnd e = absurd (cc)
 
 -- the fields that a step leaves, as its progress
-pub taken_is : (p : Progress) (step : Step) (names : List Name) (n : ℕ) (top v : OpenVisit) (flags : List Bool) (errors : Bool) → n ≡ length p.visits → top ≡ visit_at p.visits (length p.visits - 1) →
-    v ≡ record { target = top.target; step = step; passed = 0; names = names } → flags ≡ cond (is_past step) (set p.has_run top.target true) p.has_run → errors ≡ is_errors step →
-    ◌≡◌ {A = Progress} (record p { visits = set p.visits (n - 1) v; has_run = flags; asked = Answered; failed = p.failed || errors }) (taken p step names)
-taken_is p step names n top v flags errors len at visit run fails = rw (len, visit, run, at, fails) refl
+pub taken_is : (p : Progress) (step : Step) (names : List Name) (top : OpenVisit) (visits : List OpenVisit) (flags : List Bool) (errors : Bool) → top ≡ visit_at p.visits (length p.visits - 1) →
+    visits ≡ set p.visits (length p.visits - 1) (record { target = top.target; step = step; passed = 0; names = names }) → flags ≡ cond (is_past step) (set p.has_run top.target true) p.has_run → errors ≡ is_errors step →
+    ◌≡◌ {A = Progress} (record p { visits = visits; has_run = flags; asked = Answered; failed = p.failed || errors }) (taken p step names)
+taken_is p step names top visits flags errors at are run fails = rw (are, run, at, fails) refl
 
-pub visiting_is : (p : Progress) (depth : ℕ) (step : Step) (passed k : ℕ) (visits : List OpenVisit) (front : ℕ) → visits ≡ noted (take depth p.visits ++ new_visit k ∷ []) depth step passed → depth ≤ length p.visits →
+pub visiting_is : (p : Progress) (depth : ℕ) (step : Step) (passed k : ℕ) (visits : List OpenVisit) (front : ℕ) → visits ≡ marked_visits p.visits depth step passed ++ new_visit k ∷ [] →
     front ≡ marked_passed p.passed depth passed → ◌≡◌ {A = Progress} (record p { visits = visits; passed = front; asked = Condition }) (visiting p depth step passed k)
-visiting_is p depth step passed k visits front is deep at =
-    let marked = is ∙ noted_marked p.visits depth step passed (new_visit k ∷ []) deep in rw (marked, at) refl
+visiting_is p depth step passed k visits front is at = rw (is, at) refl

@@ -3,7 +3,7 @@ use Rattle.std.proofs.Common.{◌≡◌, ℕ, suc, ◌+◌, ◌<◌, ◌≤◌, 
 use Rattle.std.specs.Prelude.{reverse}
 use Rattle.std.specs.List.{list_any, IsDistinct, AllByRecursion}
 use Rattle.std.proofs.Math.Seq.{take-suc}
-use Rattle.std.proofs.lemmas.List.{reverse-append, length-reverse, length-take-le, take_all, get_or_read, length-map, get_or-map, drop-append-le}
+use Rattle.std.proofs.lemmas.List.{reverse-append, length-reverse, length-take-le, take_all, length-map, get_or-map, drop-append-le}
 use Rattle.std.proofs.lemmas.Grind.{common_steps}
 use Rattle.std.proofs.lemmas.Bool.{ne_eqb}
 use Rattle.std.proofs.lemmas.Bool.Decides.{nat_tests}
@@ -21,10 +21,6 @@ inner_all visits = ap reverse (take_all (length visits) visits (omega arith))
 
 pub inner_length : (visits : List OpenVisit) (d : ℕ) → d ≤ length visits → length (reverse (take d visits)) ≡ d
 inner_length visits d h = length-reverse (take d visits) ∙ length-take-le d visits h
-
--- what an index of the stack reads
-pub visit_read : (held visits : List OpenVisit) (d : ℕ) (v : OpenVisit) → held ≡ visits → d < length visits → v ≡ get_or held d v → v ≡ visit_at visits d
-visit_read held visits d v same h e = get_or_read visits d v h (e ∙ ap (λ vs. get_or vs d v) same) _
 
 -- The targets of open visits are distinct, since each is led to by its own place.
 apart : (x : ℕ) (ts places : List ℕ) (i j : ℕ) → get_or places x 0 ≡ i → i < j → ((d : ℕ) → d < length ts → get_or places (get_or ts d 0) 0 ≡ j + d) → AllByRecursion (λ y. eqb x y ≡ false) ts

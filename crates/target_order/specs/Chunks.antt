@@ -10,6 +10,9 @@ abbrev pub joined : {T : Type 0} → List (List T) → List T
 joined [] = []
 joined (chunk ∷ chunks) = chunk ++ joined chunks
 
--- chunks of that length alone
+-- chunks of this length alone
+abbrev pub AreOf : {T : Type 0} → ℕ → List (List T) → Type 0
+AreOf len chunks = (k : ℕ) → k < length chunks → length (slice_index_or chunks k []) ≡ len
+
 abbrev pub AreFull : {T : Type 0} → List (List T) → Type 0
-AreFull chunks = (k : ℕ) → k < length chunks → length (slice_index_or chunks k []) ≡ width
+AreFull chunks = AreOf width chunks

@@ -10,3 +10,4 @@ pub mod Steps
 pub mod Shared
 pub mod Fields
 pub mod Chunks
+pub mod OpenVisits

@@ -16,8 +16,9 @@ pub struct SharedArray<T> {
     chunks: Arc<List<Chunk<T>>>,
 }
 
+/// Entries that the copies of a chunk share.
 #[derive(Drop)]
-struct Chunk<T> {
+pub struct Chunk<T> {
     entries: Arc<List<T>>,
 }
 
@@ -91,7 +92,7 @@ impl<T> Copied for SharedArray<T> {
 }
 
 impl<T> Chunk<T> {
-    fn as_slice(&self) -> &[T]
+    pub fn as_slice(&self) -> &[T]
         ensures { result.now ≡ self.now }
     {
         self.entries.as_slice()
@@ -99,7 +100,7 @@ impl<T> Chunk<T> {
 }
 
 impl<T: Drop> Chunk<T> {
-    fn of(alloc: Global, entries: Vec<T>) -> Result<Chunk<T>, NoMemory>
+    pub fn of(alloc: Global, entries: Vec<T>) -> Result<Chunk<T>, NoMemory>
         ensures { IfOk result (λ c. c ≡ entries.items) }
     {
         Ok(Chunk {

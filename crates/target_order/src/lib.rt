@@ -9,6 +9,7 @@ mod asks;
 mod cursor;
 mod hooks;
 mod numbers;
+mod open_visits;
 mod row;
 mod search;
 mod shared;

@@ -40,7 +40,7 @@ impl OrderWalk {
         ensures known { result.now.target < length self.now.table.names }
         ensures within { is_request result.now.step ≡ false }
     {
-        &self.visits[depth - 1]
+        self.visits.get(depth - 1)
     }
 
     /// The list that this step of a visit goes through.
@@ -126,7 +126,7 @@ impl OrderWalk {
         ensures absent { IfNone result ((d : ℕ) → d < depth → (visit_at self.now.visits d).target ≢ target) }
     {
         let place = self.places.get(target);
-        if place < depth && self.visits[place].target == target {
+        if place < depth && self.visits.get(place).target == target {
             Some(place)
         } else {
             None
@@ -143,7 +143,7 @@ impl OrderWalk {
         if place + 1 == cursor.depth {
             cursor.step
         } else {
-            self.visits[place].step
+            self.visits.get(place).step
         }
     }
 

@@ -1,12 +1,13 @@
-ghost use Rattle.std.specs.Prelude.{◌≡◌, ◌≢◌, ◌<◌, ◌≤◌, ◌-◌, ◌^◌, ◌||◌, ◌∷◌, ◌++◌, [], ℕ, true, false, map, length, take, IfOk, OnOk, OnErr, slice_index_or, slice_set, vec_len, if◌then◌else◌};
+ghost use Rattle.std.specs.Prelude.{◌≡◌, ◌≢◌, ◌<◌, ◌≤◌, ◌-◌, ◌^◌, ◌||◌, ◌∷◌, ◌++◌, [], ℕ, true, false, map, length, IfOk, OnOk, OnErr, slice_index_or, slice_set, if◌then◌else◌};
 ghost use Rattle.target_order.specs.Progress.{name_at, is_errors, is_past};
 ghost use Rattle.target_order.specs.AsksLeft.{asks_left};
 ghost use Rattle.target_order.specs.Answers.{Asks, asked_by, is_refused};
 ghost use Rattle.target_order.specs.Search.{visit_at, is_request, is_going, asks_visit, IsCursor, IsProgress, HasStopped, circle_at};
-ghost use Rattle.target_order.specs.Steps.{going, going_asks, ask_of, visiting, at_body, ended, taken, undo_of, restored, top_target, noted, marked_passed, came, CanCome, IsPlace};
+ghost use Rattle.target_order.specs.Steps.{going, going_asks, ask_of, visiting, at_body, ended, taken, undo_of, restored, top_target, marked_visits, marked_passed, came, CanCome, IsPlace};
 
 use crate::array::SharedArray;
 use crate::cursor::{Cursor, Stop};
+use crate::open_visits::OpenVisits;
 use crate::shared::SharedNames;
 use crate::visits::{Asked, OpenVisit, Step};
 use crate::{OrderAsk, OrderWalk};
@@ -38,7 +39,7 @@ impl OrderWalk {
         ensures kept { OnErr result (self.new ≡ self.old) }
     {
         let top = self.visits.len() - 1;
-        let target = self.visits[top].target;
+        let target = self.visits.get(top).target;
         let visit = OpenVisit {
             target,
             step,
@@ -47,7 +48,7 @@ impl OrderWalk {
         };
         let has_run = with_run(alloc, &self.has_run, target, step)?;
         let undo = Undo {
-            visit: mem::replace(&mut self.visits[top], visit),
+            visit: self.visits.replace_last(visit),
             has_run: mem::replace(&mut self.has_run, has_run),
             asked: self.asked,
             failed: self.failed,
@@ -100,9 +101,8 @@ impl OrderWalk {
             asked,
             failed,
         } = undo;
-        let top = self.visits.len() - 1;
         self.has_run = has_run;
-        self.visits[top] = visit;
+        self.visits.replace_last(visit);
         self.asked = asked;
         self.failed = failed;
     }
@@ -146,7 +146,7 @@ impl OrderWalk {
     {
         match stop {
             Stop::Visit(target) => self.visit(alloc, depth, step, passed + 1, target)?,
-            Stop::Body => self.wait_for_body(depth, step, passed),
+            Stop::Body => self.wait_for_body(alloc, depth, step, passed)?,
             Stop::Finished | Stop::Stopped => self.end(false),
             Stop::Circle(_) | Stop::Unknown => self.end(true),
         }
@@ -188,7 +188,7 @@ impl OrderWalk {
     {
         let mut names = List::new(alloc);
         for at in place..depth {
-            let target = self.visits[at].target;
+            let target = self.visits.get(at).target;
             names.push(self.table.name(target).copy()?)?;
         }
         names.push(back.copy()?)?;
@@ -218,24 +218,31 @@ impl OrderWalk {
             names: SharedNames::none(),
         };
         let places = self.places.with(alloc, target, depth)?;
-        open_at(&mut self.visits, depth, step, passed, visit)?;
+        self.visits = with_visit(alloc, &self.visits, depth, step, passed, visit)?;
         self.places = places;
         self.passed = request_passed(self.passed, depth, passed);
         self.asked = Asked::Condition;
         Ok(())
     }
 
-    /// Stays in the innermost of so many visits, for its body.
-    fn wait_for_body(&mut self, depth: usize, step: Step, passed: usize)
+    /// Stays in the innermost of so many visits, for its body; where there is no memory, the walk stays.
+    fn wait_for_body(
+        &mut self,
+        alloc: Global,
+        depth: usize,
+        step: Step,
+        passed: usize,
+    ) -> Result<(), NoMemory>
         requires place { IsPlace self.old depth step }
         requires going { is_going self.old.asked ≡ true }
         requires some { 0 < depth }
         requires calm { is_errors step ≡ false }
-        ensures { self.new ≡ at_body self.old depth step passed }
+        ensures ok { OnOk result (self.new ≡ at_body self.old depth step passed) }
+        ensures err { OnErr result (self.new ≡ self.old) }
     {
-        self.visits.truncate(depth);
-        note(&mut self.visits, depth, step, passed);
+        self.visits = marked(alloc, &self.visits, depth, step, passed)?;
         self.asked = Asked::Body;
+        Ok(())
     }
 
     fn end(&mut self, failed: bool)
@@ -246,46 +253,37 @@ impl OrderWalk {
     }
 }
 
-/// Opens a visit inside the visits through this depth, in place of those that are over.
-fn open_at(
-    visits: &mut Vec<OpenVisit>,
+/// The visits through this depth, the innermost at this place of its list, and another inside them.
+fn with_visit(
+    alloc: Global,
+    visits: &OpenVisits,
     depth: usize,
     step: Step,
     passed: usize,
     visit: OpenVisit,
-) -> Result<(), NoMemory>
-    requires { depth ≤ vec_len visits.old }
-    ensures ok { OnOk result (visits.new.items ≡ noted (take depth visits.old.items ++ visit ∷ []) depth step passed) }
-    ensures err { OnErr result (visits.new.items ≡ visits.old.items) }
+) -> Result<OpenVisits, NoMemory>
+    requires { depth ≤ length visits.now }
+    ensures { IfOk result (λ opened. opened ≡ marked_visits visits.now depth step passed ++ visit ∷ []) }
 {
-    push_at(visits, depth, visit)?;
-    note(visits, depth, step, passed);
-    Ok(())
+    let mut opened = marked(alloc, visits, depth, step, passed)?;
+    opened.push(alloc, visit)?;
+    Ok(opened)
 }
 
-/// Puts a visit on the visits through this depth, in place of those that are over.
-fn push_at(visits: &mut Vec<OpenVisit>, depth: usize, visit: OpenVisit) -> Result<(), NoMemory>
-    requires { depth ≤ vec_len visits.old }
-    ensures ok { OnOk result (visits.new.items ≡ take depth visits.old.items ++ visit ∷ []) }
-    ensures err { OnErr result (visits.new.items ≡ visits.old.items) }
+/// The visits through this depth, the innermost at this place of its list.
+fn marked(
+    alloc: Global,
+    visits: &OpenVisits,
+    depth: usize,
+    step: Step,
+    passed: usize,
+) -> Result<OpenVisits, NoMemory>
+    requires { depth ≤ length visits.now }
+    ensures { IfOk result (λ marked. marked ≡ marked_visits visits.now depth step passed) }
 {
-    let last = visits.len();
-    visits.push(visit)?;
-    visits.swap(depth, last);
-    visits.truncate(depth + 1);
-    Ok(())
-}
-
-/// Notes where the innermost of so many visits stands.
-fn note(visits: &mut Vec<OpenVisit>, depth: usize, step: Step, passed: usize)
-    requires { depth ≤ vec_len visits.old }
-    ensures { visits.new.items ≡ noted visits.old.items depth step passed }
-{
-    if depth > 0 {
-        let visit = &mut visits[depth - 1];
-        visit.step = step;
-        visit.passed = passed;
-    }
+    let mut marked = visits.through(alloc, depth)?;
+    marked.note(step, passed);
+    Ok(marked)
 }
 
 /// What has run, where the visit of this target goes on at this step: past its body the target has run.

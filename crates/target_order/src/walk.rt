@@ -10,9 +10,10 @@ ghost use Rattle.target_order.specs.declared.asks.OrderAsk.TheVariants.{Depends}
 ghost use Rattle.target_order.specs.declared.visits.Asked.TheVariants.{Condition, Depends as DependsOn};
 
 use crate::array::SharedArray;
+use crate::open_visits::OpenVisits;
 use crate::shared::SharedNames;
 use crate::table::SharedTable;
-use crate::visits::{Asked, OpenVisit, Step};
+use crate::visits::{Asked, Step};
 use crate::{OrderAnswer, OrderAsk, TargetRow};
 use msb_values::{Copied, List, Name, NoMemory};
 use std::alloc::Global;
@@ -28,7 +29,7 @@ pub struct OrderWalk {
     /// How many of them are behind it.
     pub(crate) passed: usize,
     /// The open visits, innermost last.
-    pub(crate) visits: Vec<OpenVisit>,
+    pub(crate) visits: OpenVisits,
     /// Of each target, the depth of its open visit, if that visit is its own.
     pub(crate) places: SharedArray<usize>,
     pub(crate) has_run: SharedArray<bool>,
@@ -65,7 +66,7 @@ impl OrderWalk {
             table,
             wanted: SharedNames::of(alloc, targets)?,
             passed: 0,
-            visits: Vec::new(alloc),
+            visits: OpenVisits::new(alloc)?,
             places: SharedArray::of(alloc, 0, count)?,
             has_run: SharedArray::of(alloc, false, count)?,
             asked: Asked::Nothing,
@@ -130,28 +131,18 @@ impl OrderWalk {
 }
 
 impl Copied for OrderWalk {
-    /// The same walk, which goes on apart from this one. The copies share the project's table, all lists of names and
-    /// what is noted of each target, so that a copy costs as much as its open visits.
+    /// The same walk, which goes on apart from this one. The copies share the project's table, all lists of names, what
+    /// is noted of each target and the outer open visits, so that a copy costs no more where these are many.
     fn copy(&self) -> Result<OrderWalk, NoMemory> {
         Ok(OrderWalk {
             table: self.table.copy()?,
             wanted: self.wanted.copy()?,
             passed: self.passed,
-            visits: copied(&self.visits)?,
+            visits: self.visits.copy()?,
             places: self.places.copy()?,
             has_run: self.has_run.copy()?,
             asked: self.asked,
             failed: self.failed,
         })
     }
-}
-
-fn copied(visits: &Vec<OpenVisit>) -> Result<Vec<OpenVisit>, NoMemory>
-    ensures { IfOk result (λ copies. copies.items ≡ visits.now.items) }
-{
-    let mut copies = Vec::with_capacity(*visits.allocator(), visits.len())?;
-    for visit in visits {
-        copies.push(visit.copy()?)?;
-    }
-    Ok(copies)
 }

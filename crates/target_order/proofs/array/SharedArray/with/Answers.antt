@@ -11,7 +11,7 @@ bounds-as_slice-at g c =
     let i = c.args.index in
     let held : c.as_slice.result.now ≡ chunks = c.as_slice.ensures ∙ c.deref.ensures in
     let lt = subst (λ xs. i < length xs) (sym c.self.view_is) c.requires in
-    subst (λ cs. i / 256 < length cs) (sym held) (at_chunk chunks c.self.invariant i lt)
+    subst (λ cs. i / 256 < length cs) (sym held) (at_chunk 256 (omega arith) chunks c.self.invariant i lt)
 
 pub index_mut-requires : goal.index_mut-requires
 index_mut-requires g c =
@@ -19,10 +19,10 @@ index_mut-requires g c =
     let i = c.args.index in
     let held : c.as_slice.result.now ≡ chunks = c.as_slice.ensures ∙ c.deref.ensures in
     let lt = subst (λ xs. i < length xs) (sym c.self.view_is) c.requires in
-    let chunk = get_or_read chunks (i / 256) _ (at_chunk chunks c.self.invariant i lt) (c.index-as_slice-at.is ∙ ap (λ cs. get_or cs (i / 256) c.index-as_slice-at.result) held) [] in
+    let chunk = get_or_read chunks (i / 256) _ (at_chunk 256 (omega arith) chunks c.self.invariant i lt) (c.index-as_slice-at.is ∙ ap (λ cs. get_or cs (i / 256) c.index-as_slice-at.result) held) [] in
     let entries = c.in_ok-entries.ensures ∙ (c.as_slice-2.ensures ∙ chunk) in
     let len : vec_len c.in_ok-entries.entries ≡ length c.in_ok-entries.entries.items = search rules in
-    let below = subst (λ xs. i % 256 < length xs) (sym entries) (in_chunk chunks c.self.invariant i lt) in
+    let below = subst (λ xs. i % 256 < length xs) (sym entries) (in_chunk 256 (omega arith) chunks c.self.invariant i lt) in
     omega arith
 
 pub index_mut-requires-2 : goal.index_mut-requires-2
@@ -32,7 +32,7 @@ index_mut-requires-2 g c =
     let lt = subst (λ xs. i < length xs) (sym c.self.view_is) c.requires in
     let copies : c.into_vec-chunks.result.items ≡ chunks = c.into_vec-chunks.ensures ∙ (c.in_ok-copy.ensures ∙ c.deref-2.ensures) in
     let len : vec_len c.into_vec-chunks.result ≡ length c.into_vec-chunks.result.items = search rules in
-    let below = subst (λ cs. i / 256 < length cs) (sym copies) (at_chunk chunks c.self.invariant i lt) in
+    let below = subst (λ cs. i / 256 < length cs) (sym copies) (at_chunk 256 (omega arith) chunks c.self.invariant i lt) in
     omega arith
 
 pub returns : goal.returns
@@ -41,9 +41,9 @@ returns g c =
     let i = c.args.index in
     let held : c.as_slice.result.now ≡ chunks = c.as_slice.ensures ∙ c.deref.ensures in
     let lt = subst (λ xs. i < length xs) (sym c.self.view_is) c.requires in
-    let chunk = get_or_read chunks (i / 256) _ (at_chunk chunks c.self.invariant i lt) (c.index-as_slice-at.is ∙ ap (λ cs. get_or cs (i / 256) c.index-as_slice-at.result) held) [] in
+    let chunk = get_or_read chunks (i / 256) _ (at_chunk 256 (omega arith) chunks c.self.invariant i lt) (c.index-as_slice-at.is ∙ ap (λ cs. get_or cs (i / 256) c.index-as_slice-at.result) held) [] in
     let entries = c.in_ok-entries.ensures ∙ (c.as_slice-2.ensures ∙ chunk) in
     let copies : c.into_vec-chunks.result.items ≡ chunks = c.into_vec-chunks.ensures ∙ (c.in_ok-copy.ensures ∙ c.deref-2.ensures) in
     let made = c.in_ok-chunks.ensures ∙ ap (λ xs. set xs (i % 256) c.args.entry) entries in
     let all = c.in_ok-new.ensures.ok ∙ (c.from.ensures ∙ (ap (λ cs. set cs (i / 256) c.in_ok-chunks.field-0) copies ∙ ap (λ x. set chunks (i / 256) x) made)) in
-    ap joined all ∙ (joined_write chunks c.self.invariant i lt c.args.entry ∙ ap (λ xs. set xs i c.args.entry) c.self.view_is)
+    ap joined all ∙ (joined_write 256 (omega arith) chunks c.self.invariant i lt c.args.entry ∙ ap (λ xs. set xs i c.args.entry) c.self.view_is)

@@ -4,7 +4,7 @@ use Rattle.target_order.specs.declared.visits.OpenVisit.{OpenVisit}
 use Rattle.target_order.specs.Visit.{Name}
 use Rattle.target_order.specs.Progress.{name_at}
 use Rattle.target_order.specs.Search.{visit_at}
-use Rattle.target_order.proofs.Stack.{part_more, visit_read}
+use Rattle.target_order.proofs.Stack.{part_more}
 use Rattle.target_order.proofs.walk.OrderWalk.circle.Goals as goal
 
 pub loop-at-preserved : goal.loop-at-preserved
@@ -13,8 +13,8 @@ loop-at-preserved c =
     let at = c.loop-at.at in
     let order : c.args.place ≤ at = c.loop-at.auto.at in
     let lt : at < length p.visits = let d = c.requires.deep in let t = c.loop-at-test.true in omega arith in
-    let visit = visit_read c.self.inside.visits.items p.visits at c.index.result.now (ap (λ q. q.visits) c.self.view_is) lt c.index.ensures in
-    let name = c.in_ok-copy.ensures ∙ (c.name.ensures ∙ (ap (λ q. get_or q.table.names c.index.result.now.target []) c.self.view_is ∙ ap (λ (v : OpenVisit). name_at p.table v.target) visit)) in
+    let visit = c.get.ensures ∙ ap (λ q. visit_at q.visits at) c.self.view_is in
+    let name = c.in_ok-copy.ensures ∙ (c.name.ensures ∙ (ap (λ q. get_or q.table.names c.get.result.now.target []) c.self.view_is ∙ ap (λ (v : OpenVisit). name_at p.table v.target) visit)) in
     let part = drop c.args.place (take at p.visits) in
     c.in_ok-push.ensures.ok
     ∙ (ap (λ ns. ns ++ c.in_ok-copy.field-0 ∷ []) c.loop-at.invariant

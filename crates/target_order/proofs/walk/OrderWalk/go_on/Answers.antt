@@ -1,4 +1,4 @@
-use Rattle.std.proofs.Common.{◌≡◌, ◌≤◌, length, rules, ap, sym, ◌∙◌, subst}
+use Rattle.std.proofs.Common.{◌≤◌, length, ap, sym, ◌∙◌, subst}
 use Rattle.target_order.specs.AsksLeft.{asks_left}
 use Rattle.target_order.specs.Answers.{Asks}
 use Rattle.target_order.specs.Search.{inner, IsBelow, IsSound}
@@ -15,8 +15,7 @@ returns-clause-asks c =
     let cursor = c.search-stop.result.0 in
     let stop = c.search-stop.result.1 in
     let sound = subst (λ q. IsSound q c.self.inside.places) c.self.view_is c.self.invariant in
-    let held : c.len-depth.result ≡ length c.self.inside.visits.items = search rules in
-    let len = held ∙ ap (λ q. length q.visits) c.self.view_is in
+    let len = c.len-depth.ensures ∙ ap (λ q. length q.visits) c.self.view_is in
     let below = subst (λ n. IsBelow p (inner p n) c.below.result) len c.below.ensures.place in
     let at = is_at p c.below.result cursor (sound.progress.failed (going_still p.asked c.requires)) (c.below.ensures.depth ∙ len) below c.search-stop.ensures.goes in
     let next = comes_next p c.self.inside.places cursor stop sound at c.search-stop.ensures.stops in
@@ -29,8 +28,7 @@ returns-clause-fewer c =
     let cursor = c.search-stop.result.0 in
     let stop = c.search-stop.result.1 in
     let sound = subst (λ q. IsSound q c.self.inside.places) c.self.view_is c.self.invariant in
-    let held : c.len-depth.result ≡ length c.self.inside.visits.items = search rules in
-    let len = held ∙ ap (λ q. length q.visits) c.self.view_is in
+    let len = c.len-depth.ensures ∙ ap (λ q. length q.visits) c.self.view_is in
     let below = subst (λ n. IsBelow p (inner p n) c.below.result) len c.below.ensures.place in
     let at = is_at p c.below.result cursor (sound.progress.failed (going_still p.asked c.requires)) (c.below.ensures.depth ∙ len) below c.search-stop.ensures.goes in
     subst (λ walk. asks_left walk ≤ going_asks p) (sym c.in_ok-come_to.ensures.ok) (comes_fewer p c.self.inside.places cursor stop sound at c.search-stop.ensures.stops)
