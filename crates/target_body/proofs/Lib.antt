@@ -11,3 +11,4 @@ pub mod Faulting
 pub mod Telling
 pub mod Deciding
 pub mod Treating
+pub mod Parts
