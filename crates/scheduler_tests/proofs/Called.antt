@@ -1,0 +1,31 @@
+-- Calls and their results as pairs, and the end of a loop over both at once.
+use Rattle.std.proofs.Common.{◌≡◌, ◌≤◌, ◌⊎◌, ℕ, List, [], ◌∷◌, length, min, drop, refl, ap, ◌∙◌, inl, inr, arith}
+use Rattle.std.specs.List.{flat_map, zip}
+use Rattle.std.proofs.lemmas.Grind.{common_steps}
+use Rattle.result_cache.specs.declared.record.Segment.{Segment}
+use Rattle.result_cache.specs.declared.record.Segment.TheVariants.{Call}
+use Rattle.result_cache.specs.declared.request.RequestKey.{RequestKey}
+use Rattle.result_cache.specs.declared.request.RequestResult.{RequestResult}
+use Rattle.build_meaning.specs.SoFar.{called}
+use Rattle.scheduler_tests.specs.Plans.{call_segment}
+
+pub called_pairs : (keys : List RequestKey) (results : List RequestResult) → flat_map call_segment (zip keys results) ≡ called keys results
+called_pairs [] results = refl
+called_pairs (key ∷ keys) [] = refl
+called_pairs (key ∷ keys) (result ∷ results) = ap (λ (l : List Segment). Call key result.runs ∷ l) (called_pairs keys results)
+
+zip-no_second : {A B : Type 0} (xs : List A) → zip {X = B} xs [] ≡ []
+zip-no_second [] = refl
+zip-no_second (x ∷ xs) = refl
+
+past : {X : Type 0} (xs : List X) (n : ℕ) → length xs ≤ n → drop n xs ≡ []
+past xs n h = grind (arith, common_steps)
+
+shorter : (n a b : ℕ) → n ≡ min a b → (a ≤ n) ⊎ (b ≤ n)
+shorter n a b e = grind arith
+
+pub zip-past : {A B : Type 0} (n : ℕ) (xs : List A) (ys : List B) → n ≡ min (length xs) (length ys) → zip (drop n xs) (drop n ys) ≡ []
+zip-past n xs ys e = elim (shorter n (length xs) (length ys) e) [
+  | inl h ↦ ap (λ l. zip l (drop n ys)) (past xs n h)
+  | inr h ↦ ap (zip (drop n xs)) (past ys n h) ∙ zip-no_second (drop n xs)
+]

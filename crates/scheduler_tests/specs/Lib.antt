@@ -1,0 +1,4 @@
+pub mod Plans
+pub mod Standings
+pub mod Scripts
+pub mod Trials
