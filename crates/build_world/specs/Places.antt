@@ -5,6 +5,7 @@ use Rattle.std.specs.Option.{option_map, option_or}
 use Rattle.std.specs.Str.{bytes_eq}
 use Rattle.build_world.specs.declared.instance.UsedTarget.{UsedTarget}
 
+-- the place of the first target of a name, from 0 on
 abbrev pub place_of : List ℕ → List UsedTarget → Option ℕ
 place_of name [] = None
 place_of name (t ∷ ts) = cond (bytes_eq t.name name) (Some 0) (option_map suc (place_of name ts))

@@ -37,6 +37,7 @@ impl Model for UsedTargets {
 }
 
 impl UsedTargets {
+    /// These targets, with an index of their names; the one error is want of memory.
     pub fn of(alloc: Global, targets: List<UsedTarget>) -> Result<UsedTargets, NoMemory>
         ensures { IfOk result (λ t. t ≡ targets) }
     {
@@ -44,13 +45,14 @@ impl UsedTargets {
         Ok(UsedTargets { targets, places })
     }
 
+    /// The targets in order.
     pub fn as_slice(&self) -> &[UsedTarget]
         ensures { result.now ≡ self.now }
     {
         self.targets.as_slice()
     }
 
-    /// The first target of this name.
+    /// The first target of this name. This takes no memory.
     pub fn find(&self, name: &Name) -> Option<&UsedTarget>
         ensures { option_map seen_target (option_copied result) ≡ find (λ t. bytes_eq t.name name.now) (map seen_target self.now) }
     {
