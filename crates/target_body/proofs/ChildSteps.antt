@@ -1,26 +1,17 @@
 -- The steps of the children of a target, in order.
-use Rattle.std.proofs.Common.{◌≡◌, ◌∙◌, ◌++◌, ◌∷◌, ◌<◌, [], ℕ, suc, List, Result, Ok, Err, IfOk, Option, ap, drop, drop-cons, length, subst, sym}
+use Rattle.std.proofs.Common.{◌≡◌, ◌∙◌, ◌∷◌, ◌<◌, ℕ, suc, List, Result, IfOk, ap, drop, drop-cons, length, subst, sym}
 use Rattle.msb_laws.specs.Results.{map_ok}
-use Rattle.msb_values.specs.declared.change.Change.{Change}
-use Rattle.msb_values.specs.declared.item.Item.{Item}
-use Rattle.msb_values.specs.declared.note.Note.TheVariants.{Fail}
-use Rattle.msb_values.specs.declared.scope.Scope.{Scope}
 use Rattle.msb_elements.specs.Nodes.{name_of}
 use Rattle.build_world.specs.Elements.{At, children_of}
-use Rattle.build_world.specs.Faults.{fault_text}
-use Rattle.build_world.specs.declared.fault.EvalFault.{EvalFault}
 use Rattle.result_cache.specs.Journal.{Journal}
-use Rattle.msb_files.specs.Views.{View, paths}
-use Rattle.msb_items.specs.Places.{item_place}
-use Rattle.msb_items.specs.TargetGroups.{all_applied, group_changes}
 use Rattle.task_trait.specs.declared.tools.ToolInput.{ToolInput}
 use Rattle.target_incremental.specs.declared.decision.Choice.{Choice}
-use Rattle.target_body.specs.Children.{Kind, child, child_by, group, kind_of}
+use Rattle.target_body.specs.Children.{Kind, child, child_by, kind_of}
 use Rattle.target_body.specs.Left.{IsOfChild, child_frames, child_left, children_frames, waiting_task}
 use Rattle.target_body.specs.Moments.{GoesOn, Moment, Plays, done_at, moment, reached_by, state_at}
 use Rattle.target_body.specs.Played.{Player, played, reached_then, waits}
 use Rattle.target_body.specs.Seen.{child_at, ended, seen_done, seen_state}
-use Rattle.target_body.specs.States.{Run, State, Stopped, faulted, no_scope, or_stop, part_after_all, place_in, settled, with_changes_seen, without_scope}
+use Rattle.target_body.specs.States.{Run, State, Stopped, settled}
 use Rattle.target_body.specs.Work.{Work, and_then, done, each_in_turn, followed_by, unless_stopped}
 use Rattle.target_body.specs.declared.frames.AtTask.{AtTask}
 use Rattle.target_body.specs.declared.state.State.{State as Held}
@@ -71,30 +62,3 @@ module _ (p : Player) (run : Run) (choice : Choice) where
       ap (λ (k : Kind). played p (followed_by (child_by k run choice e s) f) (seen_done held journal tools)) named
       ∙ ap (λ (w : Work (Result State Stopped)). played p (followed_by w f) (seen_done held journal tools)) is
       ∙ over_as held after journal tools final (map_ok settled (ended ending (seen_state mid journal))) settled_so (kept_then ∙ kept)
-
--- a group, in the files and the project that it is handed
-pub group_seen : (seen view : View) (written path : List ℕ) (scope : Scope) (e : At) → seen ≡ view → written ≡ path
-    → group_changes (item_place (paths seen) written scope) e ≡ group_changes (item_place (paths view) path scope) e
-group_seen seen view written path scope e viewed named =
-    ap (λ (v : View). group_changes (item_place (paths v) written scope) e) viewed
-    ∙ ap (λ (project : List ℕ). group_changes (item_place (paths view) project scope) e) named
-
--- a group, whose changes the scope has at once
-module _ (run : Run) (e : At) (held : Held) (journal : Journal) where
-  pub group_taken : (changes all : List Change) (scope : Scope) (part : Option (List ℕ × List Item)) → group_changes (place_in run (seen_state held journal) held.scope) e ≡ Ok changes
-      → scope ≡ all_applied changes held.scope → part ≡ part_after_all changes held.part → all ≡ held.changes ++ changes
-      → ◌≡◌ {A = Result State Stopped} (Ok (seen_state (record held { scope = scope; part = part; changes = all }) journal)) (group run e (seen_state held journal))
-  group_taken changes all scope part is applied_so part_so added =
-      let s : State = seen_state held journal in
-      ap {B = Result State Stopped} (λ (sc : Scope). Ok (record s { scope = sc; part = part; changes = all })) applied_so
-      ∙ ap {B = Result State Stopped} (λ (p : Option (List ℕ × List Item)). Ok (record s { scope = all_applied changes held.scope; part = p; changes = all })) part_so
-      ∙ ap {B = Result State Stopped} (λ (l : List Change). Ok (record s { scope = all_applied changes held.scope; part = part_after_all changes held.part; changes = l })) added
-      ∙ sym (ap (λ (r : Result (List Change) EvalFault). map_ok (λ changes. with_changes_seen changes s) (or_stop (without_scope s) r)) is)
-
-  pub group_stops : (fault : EvalFault) (after : Held) → group_changes (place_in run (seen_state held journal) held.scope) e ≡ Err fault
-      → after ≡ record held { scope = no_scope; notes = held.notes ++ Fail (fault_text fault) ∷ [] }
-      → ◌≡◌ {A = Result State Stopped} (Err (faulted (seen_state after journal))) (group run e (seen_state held journal))
-  group_stops fault after is noted =
-      let s : State = seen_state held journal in
-      ap {B = Result State Stopped} (λ (h : Held). Err (faulted (seen_state h journal))) noted
-      ∙ sym (ap (λ (r : Result (List Change) EvalFault). map_ok (λ changes. with_changes_seen changes s) (or_stop (without_scope s) r)) is)

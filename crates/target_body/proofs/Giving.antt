@@ -1,14 +1,12 @@
 -- What is taken of a task that has answered.
-use Rattle.std.proofs.Common.{◌≡◌, ◌∙◌, ◌++◌, ◌==◌, ◌<◌, ℕ, List, [], ◌∷◌, Bool, true, false, Result, Ok, Err, IfOk, eqb-true, ap, refl, sym, subst, length}
+use Rattle.std.proofs.Common.{◌≡◌, ◌∙◌, ◌++◌, ◌==◌, ◌<◌, ℕ, List, [], ◌∷◌, Bool, true, false, Result, Ok, Err, IfOk, eqb-true, ap, sym, subst, length}
 use Rattle.msb_laws.specs.Results as results
 use Rattle.msb_expand.specs.Reserved.{folder_of}
 use Rattle.msb_expand.specs.declared.lens.Bucket.{Bucket}
-use Rattle.msb_values.specs.declared.note.Note.{Note}
 use Rattle.build_world.specs.Elements.{At}
 use Rattle.build_world.specs.declared.fault.EvalFault.{EvalFault}
 use Rattle.result_cache.specs.Journal.{Journal}
 use Rattle.result_cache.specs.declared.record.Segment.{Segment}
-use Rattle.result_cache.specs.declared.request.RequestKey.{RequestKey}
 use Rattle.result_cache.specs.declared.request.RequestResult.{RequestResult}
 use Rattle.task_msbuild.specs.Gathered.{gathered}
 use Rattle.task_msbuild.specs.Plans.{next_calls, plan_of}
@@ -34,7 +32,6 @@ use Rattle.target_body.specs.declared.steps.Ending.{Ending}
 use Rattle.target_body.specs.declared.frames.AtCall.{AtCall}
 use Rattle.target_body.specs.declared.steps.Step.{Step}
 use Rattle.target_body.specs.declared.steps.Step.TheVariants.{Over}
-use Rattle.target_body.proofs.Playing.{follow_on}
 use Rattle.target_body.proofs.PlannedCalls.{calls_over, made_first, results_on}
 use Rattle.target_body.proofs.Stepping.{plays_then, regrouped}
 

@@ -1,5 +1,5 @@
 -- What is not in a list.
-use Rattle.std.proofs.Common.{◌≡◌, ℕ, List, map, Option, None, get_or, length, ◌≤◌, arith, inl, inr}
+use Rattle.std.proofs.Common.{◌≡◌, ℕ, List, map, None, get_or, arith, inl, inr}
 use Rattle.std.specs.List.{slice_get}
 use Rattle.std.proofs.lemmas.List.{get_or_past, length-map}
 use Rattle.std.proofs.lemmas.Option.{slice_get_cases}

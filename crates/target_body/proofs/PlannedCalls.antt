@@ -1,5 +1,5 @@
 -- The calls of an MSBuild task, from the next ones on.
-use Rattle.std.proofs.Common.{◌≡◌, ◌<◌, ◌≤◌, ◌+◌, ℕ, zero, suc, List, [], ◌∷◌, ◌++◌, Bool, true, false, length, take, drop, Result, ap, arith, refl, subst, sym, ◌∙◌, length-append, length-drop, if◌then◌else◌}
+use Rattle.std.proofs.Common.{◌≡◌, ◌<◌, ◌≤◌, ℕ, zero, suc, List, [], ◌∷◌, ◌++◌, Bool, true, false, length, take, drop, arith, refl, length-append, length-drop, if◌then◌else◌}
 use Rattle.std.proofs.lemmas.List.{drop_all}
 use Rattle.msb_values.specs.declared.note.Note.{Note}
 use Rattle.result_cache.specs.Journal.{Journal}
@@ -10,7 +10,7 @@ use Rattle.task_msbuild.specs.declared.plans.Plan.{Plan}
 use Rattle.target_texts.specs.declared.on_error.OnError.{OnError}
 use Rattle.target_body.specs.Answers.{in_order, made}
 use Rattle.target_body.specs.Left.{made_from, rest_at_once, results_left, waiting}
-use Rattle.target_body.specs.Played.{Player, Done, Reached, waits, played}
+use Rattle.target_body.specs.Played.{Player, Done, waits, played}
 use Rattle.target_body.specs.States.{State, with_journal}
 use Rattle.target_body.specs.Work.{Work, done, calls, followed_by}
 use Rattle.target_body.specs.declared.frames.AtCall.{AtCall}

@@ -1,7 +1,7 @@
 -- One part after another: how parts are put together doesn't matter, and a run gets as far by its parts as by itself.
 use Rattle.std.proofs.Common.{◌≡◌, refl}
 use Rattle.target_body.specs.Work.{Work, done, writes, uses, calls, followed_by}
-use Rattle.target_body.specs.Played.{Player, Done, Reached, with_write, with_tool, played, reached_then}
+use Rattle.target_body.specs.Played.{Player, Done, with_write, with_tool, played, reached_then}
 
 pub follow_on : {R S T : Type 0} (w : Work R) (f : R → Work S) (g : S → Work T) → followed_by (followed_by w f) g ≡ followed_by w (λ end. followed_by (f end) g)
 follow_on (done end) f g = refl

@@ -1,5 +1,5 @@
 -- How a task is answered: by the tasks that are built in, by the requests that it calls, or by a tool. (Task element; MSBuild tasks; MSBuild task)
-use Rattle.std.specs.Prelude.{ℕ, List, [], ◌∷◌, ◌++◌, Bool, true, false, Result, Ok, Err, codes, if◌then◌else◌}
+use Rattle.std.specs.Prelude.{ℕ, List, [], ◌∷◌, ◌++◌, Bool, true, false, Result, Ok, Err, codes}
 use Rattle.std.specs.Str.{bytes_eq}
 use Rattle.msb_values.specs.declared.put.Put.{Put}
 use Rattle.msb_expand.specs.Reserved.{folder_of}

@@ -1,7 +1,6 @@
 -- The children of a target. (Target element; PropertyGroup element; ItemGroup element; Task element)
-use Rattle.std.specs.Prelude.{ℕ, List, [], ◌∷◌, ◌||◌, Bool, true, false, Result, Ok, Err, codes, if◌then◌else◌}
+use Rattle.std.specs.Prelude.{ℕ, List, ◌||◌, Result, Ok, codes, if◌then◌else◌}
 use Rattle.std.specs.Str.{bytes_eq}
-use Rattle.msb_laws.specs.Results as results
 use Rattle.msb_laws.specs.Results.{map_ok}
 use Rattle.msb_elements.specs.Nodes.{name_of}
 use Rattle.build_world.specs.Elements.{At, children_of}

@@ -1,5 +1,5 @@
 -- Where the run of a target waits for the results of calls, and what is left of it then: what the machine's stack stands for. (MSBuild task)
-use Rattle.std.specs.Prelude.{◌≡◌, ℕ, suc, List, [], ◌∷◌, ◌++◌, length, drop, Bool, true, false, Result, Ok, Err}
+use Rattle.std.specs.Prelude.{◌≡◌, ℕ, suc, List, [], ◌∷◌, ◌++◌, length, drop, Bool, true, false, Result}
 use Rattle.msb_laws.specs.Results.{map_ok}
 use Rattle.msb_expand.specs.declared.lens.Bucket.{Bucket}
 use Rattle.result_cache.specs.Journal.{Journal}

@@ -1,5 +1,5 @@
 -- A bucket of a target: what is decided of it, its children, and what it returns. (Target element; Incremental builds)
-use Rattle.std.specs.Prelude.{ℕ, List, [], ◌∷◌, length, Bool, true, false, Option, Some, None, option_map, Result, Ok, Err, codes}
+use Rattle.std.specs.Prelude.{ℕ, List, length, Option, Some, None, option_map, Result, Ok, Err, codes}
 use Rattle.msb_laws.specs.Results.{map_ok}
 use Rattle.msb_values.specs.declared.item.Item.{Item}
 use Rattle.msb_values.specs.declared.scope.Scope.{Scope}
@@ -12,7 +12,7 @@ use Rattle.target_incremental.specs.Decisions.{decision}
 use Rattle.target_incremental.specs.declared.decision.Choice.{Choice}
 use Rattle.target_incremental.specs.declared.decision.Choice.TheVariants.{Run as RunAll, Skip, Nothing, Part}
 use Rattle.target_body.specs.Work.{Work, done, followed_by, unless_stopped, and_then}
-use Rattle.target_body.specs.States.{Run, State, Stopped, state_at, faulted, failed, or_stop, entered, on_part, with_decision, view_of, place_in}
+use Rattle.target_body.specs.States.{Run, State, Stopped, faulted, failed, or_stop, entered, on_part, with_decision, view_of, place_in}
 use Rattle.target_body.specs.Children.{children}
 use Rattle.target_texts.specs.Lists.{Lists, lists_by}
 use Rattle.target_texts.specs.Returned.{in_target}

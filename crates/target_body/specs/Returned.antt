@@ -1,5 +1,5 @@
 -- The items that a bucket of a target returns. (Target element: Returns)
-use Rattle.std.specs.Prelude.{ℕ, List, [], Option, Some, None, Result, Ok, Err}
+use Rattle.std.specs.Prelude.{ℕ, List, [], Option, Some, None, Result, Ok}
 use Rattle.msb_laws.specs.Results.{map_ok}
 use Rattle.msb_expand.specs.declared.lens.Bucket.{Bucket}
 use Rattle.build_world.specs.declared.fault.EvalFault.{EvalFault}

@@ -1,5 +1,5 @@
 -- Where the body of a run stands between its calls, and what its next step is by the definition of bodies. (Target element; MSBuild task)
-use Rattle.std.specs.Prelude.{◌≡◌, ℕ, List, [], ◌∷◌, ◌++◌, length, map, Option, Some, None}
+use Rattle.std.specs.Prelude.{◌≡◌, ℕ, List, [], ◌∷◌, ◌++◌, length, map, Option}
 use Rattle.std.specs.List.{find}
 use Rattle.std.specs.Str.{bytes_eq}
 use Rattle.msb_values.specs.declared.scope.Scope.{Scope}
@@ -8,10 +8,10 @@ use Rattle.result_cache.specs.declared.record.Segment.{Segment}
 use Rattle.result_cache.specs.declared.request.RequestKey.{RequestKey}
 use Rattle.result_cache.specs.declared.request.RequestResult.{RequestResult}
 use Rattle.result_cache.specs.declared.run.RunId.{RunId}
-use Rattle.build_meaning.specs.SoFar.{ToolUse, SoFar, called, recorded}
-use Rattle.build_meaning.specs.Stop.{Stop, Stopped, ends, asks, run_on}
+use Rattle.build_meaning.specs.SoFar.{ToolUse, called, recorded}
+use Rattle.build_meaning.specs.Stop.{Stop, ends, asks, run_on}
 use Rattle.build_meaning.specs.Walk.{Body}
-use Rattle.build_world.specs.Instances.{Instance, UsedTarget, seen_target}
+use Rattle.build_world.specs.Instances.{UsedTarget}
 use Rattle.build_world.specs.declared.world.World.{World}
 use Rattle.task_trait.specs.declared.tools.ToolAnswer.{ToolAnswer}
 use Rattle.task_trait.specs.declared.tools.ToolInput.{ToolInput}
