@@ -9,7 +9,6 @@ use Rattle.target_body.specs.Standings.{tool_use}
 use Rattle.request_machine.specs.Positions.{position_of}
 use Rattle.request_machine.specs.Worlds.{world_of}
 use Rattle.request_machine.specs.declared.request.Request.{Request}
-use Rattle.request_machine.specs.declared.walk.Site.{Site}
 use Rattle.request_machine.specs.declared.walk.Walk.{Walk}
 
 module _ {T : Type 0} (calls : T → List (List ℕ × ToolInput)) where
@@ -21,9 +20,9 @@ module _ {T : Type 0} (calls : T → List (List ℕ × ToolInput)) where
   abbrev pub walk_position : Walk T → Position ToolInput ToolAnswer
   walk_position w = request_position w.request
 
-  -- the tools that were used at a site
-  abbrev pub site_uses : Site T → List (ToolUse ToolInput)
-  site_uses s = map tool_use (calls s.tools)
+  -- how tools were used
+  abbrev pub tools_used : T → List (ToolUse ToolInput)
+  tools_used tools = map tool_use (calls tools)
 
 -- the world of a walk, by what its tools answer
 abbrev pub walk_world : {T : Type 0} → (List ℕ → ToolInput → ToolAnswer) → Walk T → World ToolInput ToolAnswer

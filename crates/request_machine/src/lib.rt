@@ -29,4 +29,4 @@ mod visiting;
 mod walk;
 
 pub use root::root_key;
-pub use walk::{Site, Walk, WorldRef};
+pub use walk::{Walk, WorldRef};

@@ -11,13 +11,6 @@ use result_cache::{RequestKey, Table};
 use std::alloc::Global;
 use task_trait::CountedTools;
 
-/// What a node has for every walk that it advances: what the build is given, and its tools.
-#[derive(Drop)]
-pub struct Site<'a, T: CountedTools> {
-    pub world: &'a World,
-    pub tools: T,
-}
-
 /// What tells the world of a walk.
 #[derive(Clone, Copy)]
 pub struct WorldRef<'a> {
@@ -71,12 +64,13 @@ impl<'a, T: CountedTools> Walk<'a, T> {
 
 impl<'a, T: CountedTools> Walker for Walk<'a, T> {
     ghost use Rattle.std.specs.Prelude.{◌≡◌};
-    ghost use Rattle.request_machine.specs.WalkPosition.{site_uses, walk_position, walk_world};
+    ghost use Rattle.request_machine.specs.WalkPosition.{tools_used, walk_position, walk_world};
     ghost use Rattle.request_machine.specs.Worlds.{world_of};
     ghost use Rattle.task_trait.specs.declared.tools.ToolAnswer.{ToolAnswer};
     ghost use Rattle.task_trait.specs.declared.tools.ToolInput.{ToolInput};
 
-    type Place = Site<'a, T>;
+    /// The tools of the node that advances it.
+    type Place = T;
 
     type Origin = WorldRef<'a>;
 
@@ -94,7 +88,7 @@ impl<'a, T: CountedTools> Walker for Walk<'a, T> {
 
     ghost learnt = { λ walk. walk.learnt.finished };
 
-    ghost used = { site_uses T.calls };
+    ghost used = { tools_used T.calls };
 
     fn origin(&self) -> WorldRef<'a> {
         WorldRef {
@@ -114,10 +108,8 @@ impl<'a, T: CountedTools> Walker for Walk<'a, T> {
         Ok(())
     }
 
-    fn advance(&mut self, place: &mut Site<'a, T>, answer: &Answer) -> Result<Ask, NoMemory> {
-        let ask = self
-            .request
-            .advance(&self.learnt, &mut place.tools, answer)?;
+    fn advance(&mut self, tools: &mut T, answer: &Answer) -> Result<Ask, NoMemory> {
+        let ask = self.request.advance(&self.learnt, tools, answer)?;
         self.asked += 1;
         Ok(ask)
     }
