@@ -1,4 +1,5 @@
 pub mod Building
+pub mod Calling
 pub mod Claims
 pub mod Committing
 pub mod Compared

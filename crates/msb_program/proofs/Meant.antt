@@ -88,7 +88,7 @@ module _ (options : Options) (key : InstanceKey) (files : List File) (given : Wo
   same_file_work None work x y = x ∙ sym y
   same_file_work (Some file) work x y = same_instance_work (evaluated files key) work x y
 
-same_work : (options : Options) (files : List File) (given : World) (path : Result (List ℕ) NormalFault) (work : Work) → IsWorkAt options files path work → IsWorkAt options files path (Build given) → work ≡ Build given
+pub same_work : (options : Options) (files : List File) (given : World) (path : Result (List ℕ) NormalFault) (work : Work) → IsWorkAt options files path work → IsWorkAt options files path (Build given) → work ≡ Build given
 same_work options files given (Ok path) work x y = let key : InstanceKey = key_at path options in same_file_work options key files given (file_at path files) work x y
 same_work options files given (Err fault) work x y = x ∙ sym y
 
@@ -105,10 +105,10 @@ module _ (tools : Answering) (words : List (List ℕ)) (told : Option (List File
   meant_within : (outcome : Outcome) → IsOutcomeOf tools means.build.options means.build.files outcome → outcome ≡ meant
   meant_within outcome is = meant_at outcome (subst (λ (limit : Option LoadFault). IsOutcomeWithin tools means.build.options means.build.files limit outcome) means.build.within is)
 
-  same_options : (options : Options) → options_in words ≡ Some options → options ≡ means.build.options
+  pub same_options : (options : Options) → options_in words ≡ Some options → options ≡ means.build.options
   same_options options asked = ap (λ (o : Option Options). elim o [ None ↦ options | Some found ↦ found ]) (sym asked ∙ means.build.asked)
 
-  same_files : (files : List File) → IfSome told (λ those. files ≡ those) → files ≡ means.build.files
+  pub same_files : (files : List File) → IfSome told (λ those. files ≡ those) → files ≡ means.build.files
   same_files files told_are = subst (λ those. IfSome those (λ found. files ≡ found)) means.build.told_are told_are
 
   -- every outcome of the words and the loaded files is what the build means

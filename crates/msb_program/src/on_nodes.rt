@@ -11,14 +11,15 @@ use build_outcome::Outcome;
 use build_scheduler::{Core, Walker};
 use build_world::World;
 use msb_values::NoMemory;
-use request_machine::{Site, Walk, root_key};
+use request_machine::{Walk, root_key};
 use result_cache::RequestKey;
 use std::alloc::Global;
 use std::sync::Wait;
 use std::thread::Threads;
 use task_trait::{Counted, CountedTools, Tools};
 
-/// What is given is built on several nodes, each in a thread of its own. They share tools, which each of them counts by itself.
+/// What is given is built on up to so many nodes, each in a thread of its own, as there is work for them. They share tools, which
+/// each of them counts by itself.
 pub fn built_on<R: Threads + Wait + Sync, T: Tools + Sync>(
     rt: &R,
     alloc: Global,
@@ -31,42 +32,40 @@ pub fn built_on<R: Threads + Wait + Sync, T: Tools + Sync>(
     ensures outcome { IfOk result (λ o. ∥ IsOutcome (world_of T.answer world.now) low o ∥₁) }
     ensures status { IfOk result (λ o. IsCompletion o.status ⊎ IsRefusal o.status) }
 {
-    let places = sites(alloc, nodes, world, tools)?;
-    built_at(rt, alloc, low, world, places)
+    let counted = counted(alloc, nodes, tools)?;
+    built_at(rt, alloc, low, world, counted)
 }
 
-// What is given is built, on a node for each site.
+// What is given is built, on a node for each of these tools.
 fn built_at<'a, R: Threads + Wait + Sync, T: CountedTools + Send + Drop>(
     rt: &R,
     alloc: Global,
     low: bool,
     world: &'a World,
-    places: Vec<Site<'a, T>>,
+    tools: Vec<T>,
 ) -> Result<Outcome, NoMemory>
-    requires { (0 < vec_len places) × (vec_len places ≤ 64) }
+    requires { (0 < vec_len tools) × (vec_len tools ≤ 64) }
     ensures outcome { IfOk result (λ o. ∥ IsOutcome (world_of T.answer world.entry.now) low o ∥₁) }
     ensures status { IfOk result (λ o. IsCompletion o.status ⊎ IsRefusal o.status) }
 {
     let key = root_key(world)?;
     let walk = Walk::start(alloc, world)?;
-    built_with(rt, alloc, key, walk, places, low)
+    built_with(rt, alloc, key, walk, tools, low)
 }
 
-// A site for each node.
-fn sites<'a, T: Tools>(
+// The tools for each node, which counts its calls by itself.
+fn counted<'a, T: Tools>(
     alloc: Global,
     nodes: u32,
-    world: &'a World,
     tools: &'a T,
-) -> Result<Vec<Site<'a, Counted<'a, T>>>, NoMemory>
-    ensures { IfOk result (λ sites. vec_len sites ≡ nodes) }
+) -> Result<Vec<Counted<'a, T>>, NoMemory>
+    ensures { IfOk result (λ counted. vec_len counted ≡ nodes) }
 {
-    let mut sites = Vec::new(alloc);
+    let mut counted = Vec::new(alloc);
     for _ in 0..nodes {
-        let tools = Counted::new(alloc, tools)?;
-        sites.push(Site { world, tools })?;
+        counted.push(Counted::new(alloc, tools)?)?;
     }
-    Ok(sites)
+    Ok(counted)
 }
 
 // The request of a walk that had no answer yet is built, on a node for each place. Of any walk, since it is dear to drop a core

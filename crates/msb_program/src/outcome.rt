@@ -1,6 +1,7 @@
 //! What is made of the work that is left.
 
 ghost use Rattle.std.specs.Prelude.{◌≡◌, ◌⊎◌, ◌<◌, ◌≤◌, IfOk};
+ghost use Rattle.msb_program.specs.Calls.{AreCallsFor};
 ghost use Rattle.msb_program.specs.Outcomes.{ComesOf, HasStatus, IsBuild, IsCompletion, IsRefusal};
 
 use crate::alone::built;
@@ -25,6 +26,7 @@ pub fn outcome_alone<T: CountedTools>(
     ensures outcome { IfOk result (ComesOf T.answer options.now.low work) }
     ensures status { IfOk result (λ o. IsCompletion o.status ⊎ IsRefusal o.status) }
     ensures uncalled { (IsBuild work → ⊥) → T.calls tools.new ≡ T.calls tools.old }
+    ensures calls { IfOk result (λ o. AreCallsFor T.answer options.now.low work o (T.calls tools.old) (T.calls tools.new)) }
 {
     match work {
         Work::Told(outcome) => Ok(outcome),

@@ -6,6 +6,7 @@ ghost use Rattle.msb_words.specs.Options.{options_in};
 ghost use Rattle.build_report.specs.Line.{line};
 ghost use Rattle.msb_program.specs.Outcomes.{HasProject, IsCompletion, IsRefusal, load_fault_text, fault_status};
 ghost use Rattle.msb_program.specs.Endings.{Ends, EndsMade, EndsTrial, Printed, PrintedAll, PrintedFront, Silent, printing, saving};
+ghost use Rattle.msb_program.specs.Calls.{AreMeantCalls, IsUndone};
 ghost use Rattle.msb_program.specs.Answers.{Answers, AsksForBuild, AsksForTrial, loading};
 ghost use Rattle.msb_program.specs.Prepared.{IsLeft, IsPrepared};
 ghost use Rattle.msb_program.specs.Meanings.{AnswersMeant, Means};
@@ -52,7 +53,9 @@ pub fn run<R: Threads + Wait + Sync, S: Store, K: Sink, T: Tools + Sync>(
     answered_on(rt, alloc, words, store, sink, tools)
 }
 
-/// The same on one node, whatever the number of nodes that the words tell. It starts no thread and always returns.
+/// The same on one node, whatever the number of nodes that the words tell. It starts no thread and always returns. A build
+/// that is done, of a whole and steady world, has called the tools for each run of its meaning as one body of that run does, in
+/// order; where no calls are made at once, a run has one body alone, so they were called as often as in the meaning.
 pub fn run_alone<S: Store, K: Sink, T: CountedTools>(
     alloc: Global,
     words: &[String],
@@ -64,6 +67,7 @@ pub fn run_alone<S: Store, K: Sink, T: CountedTools>(
     ensures meaning { (meant : TheOutcome) → Means T.answer (map string_bytes words.now) (S.tree store.old) meant → AnswersMeant (map string_bytes words.now) (loading (S.tree store.old) (S.fault_count store.old) (S.fault_count store.new) (S.failures store.old) (S.failures store.new)) (saving (S.tree store.old) (S.tree store.new)) (printing (K.fault_count sink.old) (K.fault_count sink.new) (K.told sink.old) (K.told sink.new)) meant result }
     ensures uncalled { (AsksForBuild (options_in (map string_bytes words.now)) → ⊥) → T.calls tools.new ≡ T.calls tools.old }
     ensures untouched { AsksForTrial (options_in (map string_bytes words.now)) → store.new ≡ store.old }
+    ensures calls { (meant : TheOutcome) (m : Means T.answer (map string_bytes words.now) (S.tree store.old) meant) → IsCompletion result → ∥ AreMeantCalls m.out (T.calls tools.old) (T.calls tools.new) ∥₁ }
 {
     answered_alone(alloc, words, store, sink, tools)
 }
@@ -79,6 +83,7 @@ fn answered_alone<S: Store, K: Sink, T: CountedTools>(
     ensures answer { Answers T.answer (map string_bytes words.now) (loading (S.tree store.old) (S.fault_count store.old) (S.fault_count store.new) (S.failures store.old) (S.failures store.new)) (saving (S.tree store.old) (S.tree store.new)) (printing (K.fault_count sink.old) (K.fault_count sink.new) (K.told sink.old) (K.told sink.new)) result }
     ensures uncalled { (AsksForBuild (options_in (map string_bytes words.now)) → ⊥) → T.calls tools.new ≡ T.calls tools.old }
     ensures untouched { AsksForTrial (options_in (map string_bytes words.now)) → store.new ≡ store.old }
+    ensures calls { (meant : TheOutcome) (m : Means T.answer (map string_bytes words.now) (S.tree store.old) meant) → IsCompletion result → ∥ AreMeantCalls m.out (T.calls tools.old) (T.calls tools.new) ∥₁ }
 {
     match prepare(alloc, words, store, sink) {
         Prepared::Ended(status) => status,
@@ -132,6 +137,7 @@ fn prepare<S: Store, K: Sink>(
 ) -> Prepared
     ensures prepared { IsPrepared (map string_bytes words.now) (loading (S.tree store.old) (S.fault_count store.old) (S.fault_count store.new) (S.failures store.old) (S.failures store.new)) (saving (S.tree store.old) (S.tree store.new)) (printing (K.fault_count sink.old) (K.fault_count sink.new) (K.told sink.old) (K.told sink.new)) result }
     ensures untouched { AsksForTrial (options_in (map string_bytes words.now)) → store.new ≡ store.old }
+    ensures undone { IsUndone result }
 {
     let options = match read_words(alloc, words) {
         Ok(options) => options,
@@ -153,7 +159,8 @@ fn prepare<S: Store, K: Sink>(
 // What is left to do for a project over the files of a tree.
 fn work_left(alloc: Global, options: Options, tree: Tree) -> Prepared
     requires { HasProject options }
-    ensures { IsLeft options tree.files result }
+    ensures left { IsLeft options tree.files result }
+    ensures undone { IsUndone result }
 {
     match work_within(alloc, &options, tree) {
         Ok(work) => Prepared::Ready(options, work),

@@ -13,7 +13,7 @@ use build_scheduler::{Core, End, Walker};
 use build_world::World;
 use msb_files::{JView, Journal};
 use msb_values::NoMemory;
-use request_machine::{Site, Walk, root_key};
+use request_machine::{Walk, root_key};
 use result_cache::{RequestKey, RequestResult, RunId, Table};
 use std::alloc::Global;
 use task_trait::CountedTools;
@@ -34,20 +34,9 @@ pub fn built_and_counted<T: CountedTools>(
 ) -> Result<Tried, NoMemory>
     ensures { IfOk result (λ t. ∥ IsTried (world_of T.answer world.now) t ∥₁) }
 {
-    let mut site = Site {
-        world,
-        tools: &mut *tools,
-    };
-    tried_at(alloc, &mut site)
-}
-
-// What the site is given is built.
-fn tried_at<'a, T: CountedTools>(alloc: Global, site: &mut Site<'a, T>) -> Result<Tried, NoMemory>
-    ensures { IfOk result (λ t. ∥ IsTried (world_of T.answer site.old.world.now) t ∥₁) }
-{
-    let key = root_key(site.world)?;
-    let walk = Walk::start(alloc, site.world)?;
-    tried_by(alloc, key, walk, site)
+    let key = root_key(world)?;
+    let walk = Walk::start(alloc, world)?;
+    tried_by(alloc, key, walk, tools)
 }
 
 // The request of a walk that had no answer yet is built. Of any walk, since it is dear to drop a core of real ones.

@@ -3,6 +3,9 @@ use Rattle.build_meaning.specs.World.{World}
 use Rattle.build_meaning.specs.declared.event.Event.{Event}
 use Rattle.build_outcome.specs.Outcomes.{IsOutcome}
 use Rattle.build_plain.specs.Driven.{NoneAssigned}
+use Rattle.build_plain.specs.Used.{Uses, UnlessMemory}
+use Rattle.msb_program.specs.Calls.{IsUsedFor}
+use Rattle.msb_program.proofs.Calling.{all_used_for}
 use Rattle.msb_program.proofs.Building.{known_statuses, none_at_first, outcomes_are}
 use Rattle.msb_program.proofs.alone.built_by.Goals as goal
 
@@ -24,3 +27,14 @@ returns-clause-outcome g c =
 
 pub returns-clause-status : goal.returns-clause-status
 returns-clause-status g c = known_statuses c.of.result c.of.ensures.status
+
+pub returns-clause-used : goal.returns-clause-used
+returns-clause-used g c =
+    let m = g.W.Walker in
+    let core = c.build_alone.new.core in
+    let first = c.in_ok-core.core in
+    let from = m.used c.args.place.now in
+    let to = m.used c.build_alone.new.place in
+    subst (λ (w : World m.Input m.Output). IfOk c.of.result (λ o. ∥ IsUsedFor w c.args.low o from to ∥₁)) (c.build_alone.ensures.world ∙ c.in_ok-core.ensures.world)
+    (all_used_for (m.world_of core.world) c.args.low first.history.events core.history.events core.end c.of.result from to c.in_ok-core.ensures.history
+    (subst (λ (w : World m.Input m.Output). UnlessMemory core.end ∥ Uses w first.history.events core.history.events from to ∥₁) (sym c.build_alone.ensures.world) c.build_alone.ensures.uses) c.of.ensures.outcome)

@@ -1,5 +1,7 @@
-use Rattle.std.proofs.Common.{[]}
+use Rattle.std.proofs.Common.{[], map}
+use Rattle.std.specs.Prelude.{string_bytes}
 use Rattle.msb_paths.specs.Refused.{normal_path}
+use Rattle.msb_program.proofs.Calling.{done_calls, no_trial_meant}
 use Rattle.msb_program.proofs.Ready.{build_of_words, ready_answers}
 use Rattle.msb_program.proofs.TrialEnded.{no_trial, trial_answers}
 use Rattle.msb_program.proofs.Working.{has_status}
@@ -30,3 +32,16 @@ pub returns-in-Ready-clause-untouched : goal.returns-in-Ready-clause-untouched
 returns-in-Ready-clause-untouched g c = λ trial.
     let ready = c.in-Ready.ensures.prepared in
     absurd (no_trial _ c.in-Ready.options ready.asked ready.project trial)
+
+pub returns-in-Ended-clause-calls : goal.returns-in-Ended-clause-calls
+returns-in-Ended-clause-calls g c = λ meant m done. absurd (c.in-Ended.ensures.undone done)
+
+pub returns-in-Trial-clause-calls : goal.returns-in-Trial-clause-calls
+returns-in-Trial-clause-calls g c = λ meant m done.
+    absurd (no_trial_meant g.T.CountedTools.answer (map string_bytes c.args.words.now) (g.S.Store.tree c.args.store.now) meant m c.in-Trial.options c.in-Trial.ensures.prepared.asked c.in-Trial.ensures.prepared.trial)
+
+pub returns-in-Ready-clause-calls : goal.returns-in-Ready-clause-calls
+returns-in-Ready-clause-calls g c = λ meant m done.
+    let ready = c.in-Ready.ensures.prepared in
+    done_calls g.T.CountedTools.answer (map string_bytes c.args.words.now) (g.S.Store.tree c.args.store.now) meant m c.in-Ready.options ready.files c.in-Ready.work c.outcome_alone-made.result
+    (g.T.CountedTools.calls c.args.tools.now) (g.T.CountedTools.calls c.outcome_alone-made.new.tools) _ _ _ _ c.end.result ready.asked ready.loaded ready.is c.outcome_alone-made.ensures.calls c.end.ensures done
