@@ -1,6 +1,5 @@
 -- What the closed board gives: the events continue those of the start, they are legal in its world, and an end is told.
-use Rattle.std.proofs.Common.{◌≡◌, ℕ, zero, suc, true, List, [], ◌∷◌, ◌++◌, length, take, drop, Option, Some, None, refl, ap, sym, ◌∙◌, subst, arith}
-use Rattle.std.proofs.lemmas.List.{append-nil}
+use Rattle.std.proofs.Common.{◌≡◌, true, List, Option, Some, None, ap, sym, ◌∙◌, subst}
 use Rattle.std.proofs.Math.Logic.{∥∥₁_elim, ∥∥₁_map₂, ∥∥₁_prop}
 use Rattle.std.specs.Prelude.{IsSome}
 use mathlib.Core.List.{IsPrefix}
@@ -39,19 +38,3 @@ built-told w v events (Some (Circular runs)) e h = ∥∥₁_elim e ∥∥₁_pr
 built-told w v events (Some (TooDeep keys)) e h = ∥∥₁_elim e ∥∥₁_prop (λ e. subst (λ (v : World _ _). IsEnd v events (Some (TooDeep keys))) e h)
 built-told w v events (Some (TooMany instance)) e h = ∥∥₁_elim e ∥∥₁_prop (λ e. subst (λ (v : World _ _). IsEnd v events (Some (TooMany instance))) e h)
 built-told w v events (Some NoMemory) e h = tt
-
--- a slice that was lent whole comes back whole
-drop-short : {X : Type 0} (ys : List X) (n : ℕ) → length ys ≡ n → drop n ys ≡ []
-drop-short [] zero e = refl
-drop-short [] (suc n) e = refl
-drop-short (y ∷ ys) zero e = absurd (omega arith)
-drop-short (y ∷ ys) (suc n) e = drop-short ys n (omega arith)
-
-take-all : {X : Type 0} (xs : List X) (n : ℕ) → n ≡ length xs → take n xs ≡ xs
-take-all [] zero e = refl
-take-all [] (suc n) e = refl
-take-all (x ∷ xs) zero e = absurd (omega arith)
-take-all (x ∷ xs) (suc n) e = ap (λ l. x ∷ l) (take-all xs n (omega arith))
-
-pub lent-whole : {X : Type 0} (xs ys : List X) (n : ℕ) → length xs ≡ length ys → n ≡ length ys → take n (xs ++ drop (length xs) ys) ≡ xs
-lent-whole xs ys n e f = ap (λ l. take n (xs ++ l)) (drop-short ys (length xs) (sym e)) ∙ (ap (take n) (append-nil xs) ∙ take-all xs n (f ∙ sym e))

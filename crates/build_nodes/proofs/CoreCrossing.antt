@@ -1,9 +1,11 @@
 -- A core, and what its nodes share, may cross threads where its walks and the origin of its world may.
-use mir.Syntax.{Ty}
+use mathlib.Core.List.{[], ◌∷◌}
+use mir.Syntax.{Sym, Ty}
 use denote.RattleType.{RattleType}
 use denote.Exit.{no}
 use denote.Param.{arg, param}
 use denote.Struct.Declared as Struct
+use denote.Struct.Tuple.{TupleAt, type_at}
 use denote.Enum.Declared as Enum
 use denote.Param.Send.{IsSend, IsSync, sendable, view_send, view_sync, recorded_send, recorded_sync, arg_send, param_send, struct_send, struct_sync, enum_send}
 use Rattle.std.specs.contracts.alloc.Global as Heap
@@ -38,6 +40,12 @@ use Rattle.build_nodes.specs.contracts.shared.Shared as Shared
 use Rattle.build_nodes.specs.contracts.shared.SharedHistories.TheImpl as histories
 use Rattle.build_scheduler.specs.contracts.walker.Answer as Answer
 use Rattle.build_nodes.proofs.Crossing.{Entries-send, key-send, InstanceKey-send, run-send, RunId-send, request-send, RequestKey-send, told-send, RequestResult-send, Table-send}
+
+-- a closure may cross where the three values that it has may
+pub captured-send : (name : Sym) (A B C : RattleType) → IsSend A → IsSend B → IsSend C → IsSend (TupleAt name (A ∷ B ∷ C ∷ []))
+captured-send name A B C a b c =
+    let captures = type_at name (A ∷ B ∷ C ∷ []) in
+    recorded_send _ _ _ captures.to_one (struct_send (Struct.shape captures) (a, (b, (c, tt))))
 
 Event-send : IsSend Event.the_row
 Event-send = recorded_send _ _ _ Event.the_type.to_one (enum_send (Enum.shape Event.the_type) (
@@ -125,8 +133,8 @@ module _ (W P O : RattleType) (g : Walker.Ghosts W.Denot P.Denot O.Denot) (s : I
   pub shared-crosses : (δ : Ty) → IsSend (param 0 (arg δ no (Shared.the_row W P O g)))
   shared-crosses δ = param_send 0 _ (arg_send δ no _ Shared-send)
 
-  pub node-crosses : IsSend P → (δ : Ty) → IsSend (param 1 (arg δ no (Node.the_row W P O g)))
-  node-crosses p δ = param_send 1 _ (arg_send δ no _ (recorded_send _ _ _ (Node.the_type W P O g).to_one (struct_send (Struct.shape (Node.the_type W P O g)) (search sendable, (seat-send (Shared.the_row W P O g) (Core.the_row W P O g) (Option.the_row Event.the_row) (histories.ghosts W P O g histories.no_dict histories.no_dict histories.no_dict) Shared-send, (p, tt))))))
+  pub Node-send : IsSend P → IsSend (Node.the_row W P O g)
+  Node-send p = recorded_send _ _ _ (Node.the_type W P O g).to_one (struct_send (Struct.shape (Node.the_type W P O g)) (search sendable, (seat-send (Shared.the_row W P O g) (Core.the_row W P O g) (Option.the_row Event.the_row) (histories.ghosts W P O g histories.no_dict histories.no_dict histories.no_dict) Shared-send, (p, tt))))
 
   pub board-crosses : IsSync (Board.the_row (Shared.the_row W P O g) (Core.the_row W P O g) (Option.the_row Event.the_row) (histories.ghosts W P O g histories.no_dict histories.no_dict histories.no_dict))
   board-crosses = board-sync (Shared.the_row W P O g) (Core.the_row W P O g) (Option.the_row Event.the_row) (histories.ghosts W P O g histories.no_dict histories.no_dict histories.no_dict) Shared-send

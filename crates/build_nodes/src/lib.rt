@@ -3,6 +3,9 @@
 //!
 //! A node takes the core, brings back the walk that it has advanced, takes the least request that is ready, and gives the core
 //! back before it advances that request's walk. `specs/Turns.antt` says what it knows of the walk meanwhile.
+//!
+//! The first node works alone until a second request is ready. Each later one starts the next before it advances its first walk,
+//! so that at any time one node at most is started for which there was no work yet.
 #![tactic(auto)]
 
 mod core_turns;

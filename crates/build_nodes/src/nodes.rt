@@ -1,4 +1,4 @@
-ghost use Rattle.std.specs.Prelude.{◌≡◌, ◌+◌, ◌-◌, ◌<◌, ◌≤◌, [], All, true, false, is_some, vec_len, vec_capacity, length, IfOk, IsSome, IsSomeAnd};
+ghost use Rattle.std.specs.Prelude.{◌≡◌, ◌+◌, ◌-◌, ◌<◌, ◌≤◌, [], All, true, false, is_some, vec_len, vec_capacity, IfOk, IfSome, IsSome, IsSomeAnd, None};
 ghost use mathlib.Core.List.{IsPrefix};
 ghost use Rattle.build_scheduler.specs.Ends.{IsEnd};
 ghost use Rattle.build_scheduler.specs.Own.{seen_by};
@@ -9,7 +9,7 @@ ghost use Rattle.build_nodes.specs.Seats.{HasSeenEnd, IsSeated};
 ghost use Rattle.build_nodes.specs.Turns.{IsAnswered, IsBrought, IsNext};
 
 use crate::shared::Shared;
-use crate::turn::{Answered, Asking, Brought, Next};
+use crate::turn::{Answered, Asking, Brought, Next, Turn};
 use build_scheduler::{Core, Walker};
 use msb_values::NoMemory;
 use std::alloc::Global;
@@ -29,14 +29,13 @@ where
     place: W::Place,
 }
 
-/// Takes the core, does what the node is to do while it has it, gives it back, and says what the node does next. There is
-/// nothing to do next once the end is told.
+/// Takes the core, does what the node is to do while it has it, gives it back, and says what the node does next.
 fn take_turn<W: Walker + Send>(
     board: &Board<Shared<W>>,
     seat: &mut Seat<Shared<W>>,
     number: u32,
     brought: Brought<W>,
-) -> Option<Next<W>>
+) -> Turn<W>
 where
     W::Place: Send,
     W::Origin: Send,
@@ -45,20 +44,26 @@ where
     requires brought { IsSomeAnd seat.old.world (λ first. IsBrought (seen_by W.world W.position W.asked W.learnt) (W.world_of first.world) seat.old.seen brought) }
     ensures home { seat.new.has_state ≡ false }
     ensures kept { (seat.new.board ≡ seat.old.board) × (seat.new.share ≡ seat.old.share) × (seat.new.world ≡ seat.old.world) }
-    ensures next { IsSomeAnd seat.new.world (λ first. IsNext (seen_by W.world W.position W.asked W.learnt) (W.world_of first.world) seat.new.seen result) }
+    ensures next { IsSomeAnd seat.new.world (λ first. IsNext (seen_by W.world W.position W.asked W.learnt) (W.world_of first.world) seat.new.seen result.next) }
 {
     let mut shared = match board.take(seat) {
         Taken::State(shared) => shared,
-        Taken::Held => return Some(Next::Missed(brought)),
+        Taken::Held => {
+            return Turn {
+                next: Some(Next::Missed(brought)),
+                more: false,
+            };
+        }
     };
     let before = shared.events();
     let next = shared.turn(number, brought);
     let after = shared.events();
+    let more = shared.has_ready();
     board.give(seat, shared);
     if after != before {
         board.wake_one();
     }
-    next
+    Turn { next, more }
 }
 
 /// Advances a walk, while others may have the core.
@@ -114,24 +119,57 @@ where
     }
 }
 
-/// Takes turns until the end is told.
-fn work<R: Wait, W: Walker + Send>(rt: &R, board: &Board<Shared<W>>, node: &mut Node<W>)
+/// Takes turns until the end is told, and brings this to the first.
+fn work<R: Wait, W: Walker + Send>(
+    rt: &R,
+    board: &Board<Shared<W>>,
+    node: &mut Node<W>,
+    mut brought: Brought<W>,
+)
 where
     W::Place: Send + Drop,
     W::Origin: Send,
-    requires { IsSeated board.now node.old.seat }
+    requires seated { IsSeated board.now node.old.seat }
+    requires brought { IsSomeAnd node.old.seat.world (λ first. IsBrought (seen_by W.world W.position W.asked W.learnt) (W.world_of first.world) node.old.seat.seen brought) }
     ensures seated { IsSeated board.now node.new.seat }
     ensures ended { HasSeenEnd node.new.seat }
 {
-    let mut brought = Brought::Nothing;
     for _ in rt.forever() {
-        match take_turn(board, &mut node.seat, node.number, brought) {
+        match take_turn(board, &mut node.seat, node.number, brought).next {
             Some(next) => brought = go_on(rt, board, node, next),
             None => break,
         }
     }
     // Each node that leaves wakes another, so all leave.
     board.wake_one();
+}
+
+/// Takes turns until the end is told or there is a walk to advance. A node that is alone advances walks itself while no other
+/// request is ready.
+fn take_turns<R: Wait, W: Walker + Send>(
+    rt: &R,
+    board: &Board<Shared<W>>,
+    node: &mut Node<W>,
+    alone: bool,
+) -> Option<Answered<W>>
+where
+    W::Place: Send + Drop,
+    W::Origin: Send,
+    requires { IsSeated board.now node.old.seat }
+    ensures seated { IsSeated board.now node.new.seat }
+    ensures answered { IfSome result (λ a. IsSomeAnd node.new.seat.world (λ first. ∥ IsAnswered (seen_by W.world W.position W.asked W.learnt) (W.world_of first.world) node.new.seat.seen a ∥₁)) }
+    ensures ended { result ≡ None → HasSeenEnd node.new.seat }
+{
+    let mut brought = Brought::Nothing;
+    for _ in rt.forever() {
+        let Turn { next, more } = take_turn(board, &mut node.seat, node.number, brought);
+        match next {
+            Some(Next::Advance(answered)) if more || !alone => return Some(answered),
+            Some(next) => brought = go_on(rt, board, node, next),
+            None => return None,
+        }
+    }
+    unreachable!()
 }
 
 /// A board for the nodes of a core, with the core at home. Where there is no memory, the core is let go.
@@ -179,30 +217,78 @@ where
     }
 }
 
-/// Runs all nodes, each in a thread of its own, to the end.
+/// Runs nodes to the end: one in this thread, and the others in threads of their own, as there is work for them. `alone` says
+/// that no other node is started.
+#[cycle(runs)]
 fn run_all<R: Threads + Wait + Sync, W: Walker + Send>(
     rt: &R,
     board: &Board<Shared<W>>,
-    all: &mut [Node<W>],
-)
+    alone: bool,
+    mut nodes: Vec<Node<W>>,
+) -> Vec<Node<W>>
 where
     W::Place: Send + Drop,
     W::Origin: Send,
-    requires some { 0 < length all.old }
-    requires seated { All (λ n. IsSeated board.now n.seat) all.old }
-    ensures seated { All (λ n. IsSeated board.now n.seat) all.new }
-    ensures ended { All (λ n. HasSeenEnd n.seat) all.new }
+    requires { All (λ n. IsSeated board.now n.seat) nodes.items }
+    ensures seated { All (λ n. IsSeated board.now n.seat) result.items }
+    ensures ended { All (λ n. HasSeenEnd n.seat) result.items }
+    ensures room { (vec_len result ≡ vec_len nodes) × (vec_capacity result ≡ vec_capacity nodes) }
 {
-    let nodes = all.len();
-    thread::for_each_mut(
-        rt,
-        all,
-        nodes,
-        &|_, node: &mut Node<W>|
-            requires { IsSeated board.now node.now.seat }
-            ensures { IsSeated board.entry.now node.exit.now.seat × HasSeenEnd node.exit.now.seat }
-        { work(rt, board, node) },
-    );
+    let Some(mut node) = nodes.pop() else {
+        return nodes;
+    };
+    if nodes.is_empty() {
+        work(rt, board, &mut node, Brought::Nothing);
+        nodes.push_reserved(node);
+        return nodes;
+    }
+    match take_turns(rt, board, &mut node, alone) {
+        Some(answered) => run_both(rt, board, node, answered, nodes),
+        None => {
+            // The others see the end as well, each at its first turn.
+            let mut ended = run_all(rt, board, alone, nodes);
+            ended.push_reserved(node);
+            ended
+        }
+    }
+}
+
+/// Runs a node in this thread and the others in another, which begins before the node advances its walk: so while there are
+/// nodes to start, one that is not at work is there for the next request that is ready.
+#[cycle(runs)]
+fn run_both<R: Threads + Wait + Sync, W: Walker + Send>(
+    rt: &R,
+    board: &Board<Shared<W>>,
+    node: Node<W>,
+    answered: Answered<W>,
+    others: Vec<Node<W>>,
+) -> Vec<Node<W>>
+where
+    W::Place: Send + Drop,
+    W::Origin: Send,
+    requires seated { IsSeated board.now node.seat × All (λ n. IsSeated board.now n.seat) others.items }
+    requires answered { IsSomeAnd node.seat.world (λ first. ∥ IsAnswered (seen_by W.world W.position W.asked W.learnt) (W.world_of first.world) node.seat.seen answered ∥₁) }
+    requires room { vec_len others < vec_capacity others }
+    ensures seated { All (λ n. IsSeated board.now n.seat) result.items }
+    ensures ended { All (λ n. HasSeenEnd n.seat) result.items }
+    ensures room { (vec_len result ≡ vec_len others + 1) × (vec_capacity result ≡ vec_capacity others) }
+{
+    let there = move || -> Vec<Node<W>>
+        requires { All (λ n. IsSeated board.now n.seat) others.items }
+        ensures { All (λ n. IsSeated board.entry.now n.seat) result.items × All (λ n. HasSeenEnd n.seat) result.items × (vec_len result ≡ vec_len others) × (vec_capacity result ≡ vec_capacity others) }
+    { run_all(rt, board, false, others) };
+    let here = move || -> Node<W>
+        requires { IsSeated board.now node.seat × IsSomeAnd node.seat.world (λ first. ∥ IsAnswered (seen_by W.world W.position W.asked W.learnt) (W.world_of first.world) node.seat.seen answered ∥₁) }
+        ensures { IsSeated board.entry.now result.seat × HasSeenEnd result.seat }
+    {
+        let mut node = node;
+        let brought = advance(&mut node, answered);
+        work(rt, board, &mut node, brought);
+        node
+    };
+    let (mut all, node) = thread::join(rt, there, here);
+    all.push_reserved(node);
+    all
 }
 
 /// Joins the seat of a node that has seen the end.
@@ -251,9 +337,10 @@ where
     }
 }
 
-/// Builds on several nodes, one for each place and each in a thread of its own, until the core's end is told. Each node takes
-/// the least request that is ready. Want of memory, a cycle of runs and a limit that is passed end the build. Where there is no
-/// memory to begin with, nothing has run. (Building projects in parallel.)
+/// Builds on several nodes, one for each place and each in a thread of its own, until the core's end is told. Nodes are
+/// started as there is work for them, and each takes the least request that is ready. Want of memory, a cycle of runs and
+/// a limit that is passed end the build. Where there is no memory to begin with, nothing has run. (Building projects in
+/// parallel.)
 pub fn build_with<R: Threads + Wait + Sync, W: Walker + Send>(
     rt: &R,
     alloc: Global,
@@ -274,7 +361,7 @@ where
     let mut all = Vec::with_capacity(alloc, places.len())?;
     let (board, mut seat) = open_board(alloc, core)?;
     split_all(&board, &mut seat, places, &mut all);
-    run_all(rt, &board, all.as_mut_slice());
-    join_all(&board, &mut seat, all);
+    let ended = run_all(rt, &board, true, all);
+    join_all(&board, &mut seat, ended);
     Ok(board.close(seat).into_core())
 }

@@ -49,6 +49,11 @@ impl<W: Walker> Shared<W> {
         few_events(&self.core);
         next
     }
+
+    /// Whether a request is ready. Nodes are started by it, and no contract goes by it.
+    pub(crate) fn has_ready(&self) -> bool {
+        self.core.ready().is_some()
+    }
 }
 
 /// A list has fewer entries than this, and so has the history with the mark of an end.

@@ -38,3 +38,12 @@ pub(crate) enum Next<W> {
     /// No request is ready: it sleeps while the history has this number.
     Park(u64),
 }
+
+/// What a turn of a node comes to.
+#[derive(Drop)]
+pub(crate) struct Turn<W> {
+    /// There is nothing to do next once the end is told.
+    pub next: Option<Next<W>>,
+    /// Whether another request is ready.
+    pub more: bool,
+}

@@ -1,28 +1,17 @@
-use Rattle.std.proofs.Common.{◌≡◌, All, arith, length, ap, subst, sym, ◌∙◌}
+use Rattle.std.proofs.Common.{◌≡◌, ap, sym, ◌∙◌}
 use Rattle.std.proofs.Math.Logic.{∥∥₁_map}
 use Rattle.build_meaning.proofs.EventsKeepLawful.{some-is}
 use Rattle.build_scheduler.specs.Own.{seen_by}
 use Rattle.build_scheduler.proofs.Stopping.{end-told}
 use Rattle.build_nodes.specs.Marked.{marked}
-use Rattle.build_nodes.specs.Seats.{HasSeenEnd, IsSeated}
-use Rattle.build_nodes.proofs.Built.{built-continues, built-ended, built-legal, built-told, lent-whole}
+use Rattle.build_nodes.proofs.Built.{built-continues, built-ended, built-legal, built-told}
 use Rattle.build_nodes.proofs.CoreCrossing.{shared-crosses}
 use Rattle.build_nodes.proofs.nodes.build_with.Goals as goal
 
-pub run_all-requires-clause-seated : goal.run_all-requires-clause-seated
-run_all-requires-clause-seated g c κs within = subst (All (λ n. IsSeated c.in_ok-board.board n.seat)) (sym c.as_mut_slice.ensures.value) c.split_all.ensures.nodes.1
-
-pub join_all-requires-clause-seated : goal.join_all-requires-clause-seated
-join_all-requires-clause-seated g c κs within =
-    let items = c.split_all.new.all.items in
-    let kept : length c.run_all.new.all ≡ length items = c.run_all.auto.all ∙ ap length c.as_mut_slice.ensures.value in
-    subst (All (λ n. IsSeated c.in_ok-board.board n.seat)) (sym (lent-whole c.run_all.new.all items c.split_all.new.all.len kept (omega (arith, c.split_all.new.all.ok.0)))) c.run_all.ensures.seated
-
-pub join_all-requires-clause-ended : goal.join_all-requires-clause-ended
-join_all-requires-clause-ended g c κs within =
-    let items = c.split_all.new.all.items in
-    let kept : length c.run_all.new.all ≡ length items = c.run_all.auto.all ∙ ap length c.as_mut_slice.ensures.value in
-    subst (All (λ n. HasSeenEnd n.seat)) (sym (lent-whole c.run_all.new.all items c.split_all.new.all.len kept (omega (arith, c.split_all.new.all.ok.0)))) c.run_all.ensures.ended
+pub invariant_of-core : goal.invariant_of-core
+invariant_of-core g c =
+    let core = c.args.core in
+    record { legal = core.legal; indexed = core.indexed; counted = core.counted; few = core.few; nested = core.nested; stops = core.stops; behind = core.behind }
 
 pub close-requires-send-S : goal.close-requires-send-S
 close-requires-send-S g c κs within = shared-crosses _ _ _ g.W.Walker c.type_bounds.send-W c.type_bounds.send-W-Origin _

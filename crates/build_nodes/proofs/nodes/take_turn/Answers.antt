@@ -35,20 +35,8 @@ give-requires-clause-continues g c κs within =
 pub wake_one-requires-send-S : goal.wake_one-requires-send-S
 wake_one-requires-send-S g c κs within = shared-crosses _ _ _ g.W.Walker c.type_bounds.send-W c.type_bounds.send-W-Origin _
 
-pub returns-then-after-before-clause-next : goal.returns-then-after-before-clause-next
-returns-then-after-before-clause-next g c =
-    let m = g.W.Walker in
-    let seen = seen_by m.world m.position m.asked m.learnt in
-    let before = c.in-State.shared in
-    let after = c.turn-next.new.self in
-    let past = marked after.core.history.events after.core.end in
-    let same = ap (λ s. s.value) c.turn-next.ensures.first in
-    let world = ap (λ s. s.world) c.give.ensures ∙ (ap (λ s. s.world) c.in-State.ensures.state ∙ c.in-State.ensures.world) in
-    next-seated seen before.first.value (λ first. m.world_of first.world) c.give.new.seat.world past c.give.new.seat.seen c.turn-next.result world (ap (λ s. s.seen) c.give.ensures)
-    (next-there seen (m.world_of after.core.world) (m.world_of before.first.value.world) past (∥∥₁_map after.same (λ e. e ∙ ap (λ first. m.world_of first.world) same)) c.turn-next.result c.turn-next.ensures.next)
-
-pub returns-else-after-before-clause-next : goal.returns-else-after-before-clause-next
-returns-else-after-before-clause-next g c =
+pub returns-clause-next : goal.returns-clause-next
+returns-clause-next g c =
     let m = g.W.Walker in
     let seen = seen_by m.world m.position m.asked m.learnt in
     let before = c.in-State.shared in

@@ -1,0 +1,11 @@
+use Rattle.std.specs.Prelude.{IsSomeAnd}
+use Rattle.build_scheduler.specs.Own.{seen_by}
+use Rattle.build_nodes.specs.Seats.{IsSeated}
+use Rattle.build_nodes.specs.Turns.{IsBrought}
+use Rattle.build_nodes.proofs.nodes.take_turns.Given as goal
+
+abbrev pub invariant-loop : goal.invariant-loop
+invariant-loop g l =
+    let m = g.W.Walker in
+    IsSeated l.initial.node.seat.board l.node.seat
+    × IsSomeAnd l.node.seat.world (λ first. IsBrought (seen_by m.world m.position m.asked m.learnt) (m.world_of first.world) l.node.seat.seen l.brought)
