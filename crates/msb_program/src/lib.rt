@@ -1,11 +1,11 @@
 //! The top calls of the build engine: from the words of the command line to the files that are written and the bytes that are
 //! printed.
 //!
-//! The way in is [`run`], which hands the work to [`run_alone`]: words to options, the store's files to a tree, options and tree
-//! to what is left to do, a build to its outcome, the outcome's files to the store, and then its text to the sink. Which outcomes
-//! there are stands in one definition, `IsOutcomeOf` in `specs/Outcomes.antt`; how one ends, in `specs/Endings.antt`; what each
-//! status says, in `specs/Answers.antt`; and what it says where the world of a build is whole and steady, in
-//! `specs/Meanings.antt`. What a trial prints stands in `specs/Trials.antt`.
+//! The way in is [`run`]: words to options, the store's files to a tree, options and tree to what is left to do, a build to its
+//! outcome, the outcome's files to the store, and then its text to the sink; [`run_alone`] does the same on one node. Which
+//! outcomes there are stands in one definition, `IsOutcomeOf` in `specs/Outcomes.antt`; how one ends, in `specs/Endings.antt`;
+//! what each status says, in `specs/Answers.antt`; what it says where the world of a build is whole and steady, in
+//! `specs/Meanings.antt`; and which tools a build calls, in `specs/Calls.antt`. What a trial prints stands in `specs/Trials.antt`.
 #![tactic(auto)]
 
 mod alone;
