@@ -1,76 +1,71 @@
-use msb_values::{Change, Copied, Defaults, Item, List, Lists, Name, NoMemory, Pairs, Scope, Text};
+use crate::given::{gives, item, name, pairs, push_pairs, shown, texts};
+use msb_values::{
+    Change, Copied, Defaults, Item, List, Lists, NoMemory, Pairs, Scope, SharedItems, Text,
+};
 use std::alloc::Global;
 use std::test::Fail;
-
-pub fn name(alloc: Global, text: &str) -> Result<Name, Fail> {
-    Ok(Name::read(alloc, text)?)
-}
-
-/// In each line a name and its text, with a `=` between.
-pub fn pairs(alloc: Global, rows: &str) -> Result<Pairs, Fail> {
-    let mut pairs = Pairs::new(alloc);
-    for row in rows.lines() {
-        let (key, value) = row.split_once('=').ok_or("a name and its text")?;
-        pairs.insert(name(alloc, key)?, Text::of(alloc, value)?)?;
-    }
-    Ok(pairs)
-}
-
-pub fn shown(alloc: Global, pairs: &Pairs) -> Result<String, NoMemory> {
-    let mut shown = String::new(alloc);
-    for (name, value) in pairs.iter() {
-        let (name, value) = (name.key(), value.as_str());
-        shown.push_str(format!(in alloc; "{name}={value};")?.as_str())?;
-    }
-    Ok(shown)
-}
-
-fn item(alloc: Global, ident: &str, meta: &str) -> Result<Item, Fail> {
-    Ok(Item {
-        ident: Text::of(alloc, ident)?,
-        recursive: Text::of(alloc, "")?,
-        meta: pairs(alloc, meta)?,
-    })
-}
 
 /// The items of these identities, with a space between, which all have this metadata.
 fn items(alloc: Global, idents: &str, meta: &str) -> Result<List<Item>, Fail> {
     let mut items = List::new(alloc);
     for ident in idents.split(' ') {
-        items.push(item(alloc, ident, meta)?)?;
+        push_item(alloc, &mut items, ident, meta)?;
     }
     Ok(items)
 }
 
-fn texts(alloc: Global, words: &str) -> Result<List<Text>, Fail> {
-    let mut texts = List::new(alloc);
-    for word in words.split(' ') {
-        texts.push(Text::of(alloc, word)?)?;
-    }
-    Ok(texts)
+fn push_item(alloc: Global, items: &mut List<Item>, ident: &str, meta: &str) -> Result<(), Fail> {
+    Ok(items.push(item(alloc, ident, meta)?)?)
 }
 
 /// Adds items, takes them away, or sets their metadata.
 fn change(alloc: Global, verb: &str, idents: &str, meta: &str) -> Result<Change, Fail> {
-    let kind = name(alloc, "X")?;
-    Ok(match verb {
-        "add" => Change::AddItems(kind, items(alloc, idents, meta)?),
-        "remove" => Change::RemoveItems(kind, texts(alloc, idents)?),
-        _ => Change::SetMeta(kind, items(alloc, idents, "")?, pairs(alloc, meta)?),
-    })
+    match verb {
+        "add" => added(alloc, idents, meta),
+        "remove" => removed(alloc, idents),
+        _ => set(alloc, idents, meta),
+    }
 }
 
-/// Each item's identity and its metadata.
-fn listed(alloc: Global, scope: &Scope) -> Result<String, Fail> {
-    let mut text = String::new(alloc);
+fn added(alloc: Global, idents: &str, meta: &str) -> Result<Change, Fail> {
+    Ok(Change::AddItems(name(alloc, "X")?, items(alloc, idents, meta)?))
+}
+
+fn removed(alloc: Global, idents: &str) -> Result<Change, Fail> {
+    Ok(Change::RemoveItems(name(alloc, "X")?, texts(alloc, idents)?))
+}
+
+fn set(alloc: Global, idents: &str, meta: &str) -> Result<Change, Fail> {
     let kind = name(alloc, "X")?;
-    if let Some(items) = scope.items.get(&kind) {
-        for item in items.as_slice() {
-            let (ident, meta) = (item.ident.as_str(), shown(alloc, &item.meta)?);
-            text.push_str(format!(in alloc; "{ident} {meta}")?.as_str())?;
-        }
-    }
+    Ok(Change::SetMeta(kind, items(alloc, idents, "")?, pairs(alloc, meta)?))
+}
+
+/// Makes a copy of a change in a scope.
+fn apply(alloc: Global, scope: &mut Scope, change: &Change) -> Result<(), NoMemory> {
+    scope.apply(alloc, &change.copy()?)
+}
+
+/// Each item's identity and its metadata, of a copy of the scope.
+fn listed(alloc: Global, scope: &Scope) -> Result<Text, NoMemory> {
+    let mut text = Text::of(alloc, "")?;
+    push_all(&mut text, &scope.copy()?.items)?;
     Ok(text)
+}
+
+fn push_all(text: &mut Text, lists: &Lists) -> Result<(), NoMemory> {
+    for (_, items) in lists.iter() {
+        push_items(text, items)?;
+    }
+    Ok(())
+}
+
+fn push_items(text: &mut Text, items: &SharedItems) -> Result<(), NoMemory> {
+    for item in items.as_slice() {
+        text.push_str(item.ident.as_str())?;
+        text.push_str(" ")?;
+        push_pairs(text, &item.meta)?;
+    }
+    Ok(())
 }
 
 fn empty_scope(alloc: Global) -> Scope {
@@ -80,6 +75,17 @@ fn empty_scope(alloc: Global) -> Scope {
         items: Lists::new(alloc),
         defaults: Defaults::new(alloc),
     }
+}
+
+/// Changes the items of a scope.
+fn changed(
+    alloc: Global,
+    scope: &mut Scope,
+    verb: &str,
+    idents: &str,
+    meta: &str,
+) -> Result<(), Fail> {
+    Ok(apply(alloc, scope, &change(alloc, verb, idents, meta)?)?)
 }
 
 #[test]
@@ -95,20 +101,25 @@ fn changes_are_applied(rt: HostRuntime) -> Result<(), Fail> {
         ("remove", "c B", "", "a m=2;n=3;a m=1;"),
         ("remove", "A", "", ""),
     ] {
-        let change = change(alloc, verb, idents, meta)?;
-        scope.apply(alloc, &change.copy()?)?;
-        let scope = scope.copy()?;
-        assert_eq!(rt; listed(alloc, &scope)?.as_str(), wanted);
+        changed(alloc, &mut scope, verb, idents, meta)?;
+        gives(&rt, listed(alloc, &scope), wanted)?;
     }
     Ok(())
 }
 
+fn property(alloc: Global, key: &str, value: &str) -> Result<Change, Fail> {
+    Ok(Change::SetProp(name(alloc, key)?, Text::of(alloc, value)?))
+}
+
+/// The properties of a scope in which this one alone is set.
+fn properties(alloc: Global, change: &Change) -> Result<Text, NoMemory> {
+    let mut scope = empty_scope(alloc);
+    scope.apply(alloc, change)?;
+    shown(alloc, &scope.props)
+}
+
 #[test]
 fn properties_are_set(rt: HostRuntime) -> Result<(), Fail> {
-    let alloc = rt.alloc();
-    let mut scope = empty_scope(alloc);
-    let change = Change::SetProp(name(alloc, "P")?, Text::of(alloc, "2")?);
-    scope.apply(alloc, &change)?;
-    assert_eq!(rt; shown(alloc, &scope.props)?.as_str(), "p=2;");
-    Ok(())
+    let change = property(rt.alloc(), "P", "2")?;
+    gives(&rt, properties(rt.alloc(), &change), "p=2;")
 }

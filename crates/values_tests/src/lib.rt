@@ -4,4 +4,8 @@
 #[cfg(test)]
 mod changes;
 #[cfg(test)]
+mod given;
+#[cfg(test)]
+mod texts;
+#[cfg(test)]
 mod values;
