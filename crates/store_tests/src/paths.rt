@@ -1,128 +1,165 @@
-use msb_paths::{NormalFault, PathFault, is_normal, join, normal_path, normalize, parts};
+use crate::checks::{is_fault, is_so, is_text};
+use msb_paths::{NormalFault, PathFault, Word, is_normal, join, normal_path, normalize, parts};
 use std::alloc::{AllocError, Global};
-use std::test::Fail;
+use std::fmt::Debug;
+use std::process::Abort;
 
-#[test]
-fn normalizes(rt: HostRuntime) -> Result<(), Fail> {
-    for (base, text, want) in [
-        ("", "a.proj", "a.proj"),
-        ("app", "app.proj", "app/app.proj"),
-        ("app", "../common.props", "common.props"),
-        ("src/x", "..\\y\\.\\b.c", "src/y/b.c"),
-        ("src", "/a//b/", "a/b"),
-        ("src", "\\a", "a"),
-        ("a/b", "", "a/b"),
-        ("a/b", "...", "a/b/..."),
-        ("", "a/é/../ü.c", "a/ü.c"),
-    ] {
-        let path = normalize(rt.alloc(), base, text)?;
-        assert_eq!(rt; path.as_str(), want, "{text} on {base}");
-    }
-    for (base, text, want) in [
-        ("", "..", PathFault::AboveRoot),
-        ("a", "../..", PathFault::AboveRoot),
-        ("a", "/..", PathFault::AboveRoot),
-        ("", "../../a", PathFault::AboveRoot),
-        ("", "", PathFault::Empty),
-        ("a", "..", PathFault::Empty),
-        ("a", "/./", PathFault::Empty),
-    ] {
-        assert_eq!(rt;
-            normalize(rt.alloc(), base, text).err(),
-            Some(want),
-            "{text} on {base}"
-        );
-    }
-    Ok(())
+fn is_word<R: Abort, E: Debug>(rt: &R, word: Result<Word, E>, want: &str, text: &str, base: &str) {
+    let word = word.expect(rt, text);
+    is_text(rt, word.as_str(), want, text, base);
 }
 
+// A base, a text that is read on it, and the normal path.
+const NORMALIZED: [(&str, &str, &str); 9] = [
+    ("", "a.proj", "a.proj"),
+    ("app", "app.proj", "app/app.proj"),
+    ("app", "../common.props", "common.props"),
+    ("src/x", "..\\y\\.\\b.c", "src/y/b.c"),
+    ("src", "/a//b/", "a/b"),
+    ("src", "\\a", "a"),
+    ("a/b", "", "a/b"),
+    ("a/b", "...", "a/b/..."),
+    ("", "a/é/../ü.c", "a/ü.c"),
+];
+
 #[test]
-fn normal_paths_have_no_control_character(rt: HostRuntime) -> Result<(), Fail> {
-    for (text, want) in [
-        ("a\tb", Some(NormalFault::ControlCharacter)),
-        ("x/\u{1f}", Some(NormalFault::ControlCharacter)),
-        ("a\tb/../c", None),
-        ("../..", Some(NormalFault::AboveRoot)),
-        ("..", Some(NormalFault::Empty)),
-        ("b.c", None),
-    ] {
+fn normalizes(rt: HostRuntime) {
+    for (base, text, want) in &NORMALIZED {
+        is_word(&rt, normalize(rt.alloc(), base, text), want, text, base);
+    }
+}
+
+// A base, a text that is read on it, and why that is no path.
+const REFUSED: [(&str, &str, PathFault); 7] = [
+    ("", "..", PathFault::AboveRoot),
+    ("a", "../..", PathFault::AboveRoot),
+    ("a", "/..", PathFault::AboveRoot),
+    ("", "../../a", PathFault::AboveRoot),
+    ("", "", PathFault::Empty),
+    ("a", "..", PathFault::Empty),
+    ("a", "/./", PathFault::Empty),
+];
+
+#[test]
+fn refuses_paths(rt: HostRuntime) {
+    for (base, text, want) in &REFUSED {
+        let path = normalize(rt.alloc(), base, text);
+        is_fault(&rt, path, Some(*want), text, base);
+    }
+}
+
+// A text, and why it is read as no normal path.
+const CONTROLLED: [(&str, Option<NormalFault>); 6] = [
+    ("a\tb", Some(NormalFault::ControlCharacter)),
+    ("x/\u{1f}", Some(NormalFault::ControlCharacter)),
+    ("a\tb/../c", None),
+    ("../..", Some(NormalFault::AboveRoot)),
+    ("..", Some(NormalFault::Empty)),
+    ("b.c", None),
+];
+
+#[test]
+fn normal_paths_have_no_control_character(rt: HostRuntime) {
+    for (text, want) in &CONTROLLED {
         let path = normal_path(rt.alloc(), "a", text);
-        assert_eq!(rt; path.err(), want, "{text}");
+        is_fault(&rt, path, *want, text, "a");
     }
-    Ok(())
 }
+
+// A path, and whether it is normal.
+const TOLD: [(&str, bool); 11] = [
+    ("a", true),
+    ("a/b.c/...", true),
+    ("a b/ü", true),
+    ("", false),
+    ("/a", false),
+    ("a/", false),
+    ("a//b", false),
+    ("a/./b", false),
+    ("..", false),
+    ("a\\b", false),
+    ("a\tb", false),
+];
 
 #[test]
 fn tells_normal_paths(rt: HostRuntime) {
-    for (path, want) in [
-        ("a", true),
-        ("a/b.c/...", true),
-        ("a b/ü", true),
-        ("", false),
-        ("/a", false),
-        ("a/", false),
-        ("a//b", false),
-        ("a/./b", false),
-        ("..", false),
-        ("a\\b", false),
-        ("a\tb", false),
-    ] {
-        assert_eq!(rt; is_normal(path), want, "{path}");
+    for (path, want) in &TOLD {
+        is_so(&rt, is_normal(path), *want, path, "");
     }
 }
 
+// A folder, a file, and the path of the file in the folder.
+const JOINED: [(&str, &str, &str); 4] = [
+    ("", "a", "a"),
+    ("a", "b.c", "a/b.c"),
+    ("a/", "b.c", "a/b.c"),
+    ("/", "a", "/a"),
+];
+
 #[test]
-fn joins_and_parts(rt: HostRuntime) -> Result<(), Fail> {
-    for (folder, file, want) in [
-        ("", "a", "a"),
-        ("a", "b.c", "a/b.c"),
-        ("a/", "b.c", "a/b.c"),
-        ("/", "a", "/a"),
-    ] {
-        let path = join(rt.alloc(), folder, file)?;
-        assert_eq!(rt; path.as_str(), want, "{file} in {folder}");
+fn joins(rt: HostRuntime) {
+    for (folder, file, want) in &JOINED {
+        is_word(&rt, join(rt.alloc(), folder, file), want, file, folder);
     }
-    for (text, folder, name, extension) in [
-        ("src/a.c", "src/", "a", ".c"),
-        ("..\\x\\a.tar.gz", "..\\x\\", "a.tar", ".gz"),
-        ("a.b/c", "a.b/", "c", ""),
-        ("é.ü", "", "é", ".ü"),
-        (".git", "", "", ".git"),
-        ("a/", "a/", "", ""),
-        ("", "", "", ""),
-    ] {
-        let split = parts(rt.alloc(), text)?;
-        assert_eq!(rt; split.relative_dir.as_str(), folder, "{text}");
-        assert_eq!(rt; split.filename.as_str(), name, "{text}");
-        assert_eq!(rt; split.extension.as_str(), extension, "{text}");
+}
+
+// A path, its folder, its name and its extension.
+const PARTS: [(&str, &str, &str, &str); 7] = [
+    ("src/a.c", "src/", "a", ".c"),
+    ("..\\x\\a.tar.gz", "..\\x\\", "a.tar", ".gz"),
+    ("a.b/c", "a.b/", "c", ""),
+    ("é.ü", "", "é", ".ü"),
+    (".git", "", "", ".git"),
+    ("a/", "a/", "", ""),
+    ("", "", "", ""),
+];
+
+#[test]
+fn tells_parts(rt: HostRuntime) {
+    for row in &PARTS {
+        has_parts(&rt, rt.alloc(), row);
     }
-    Ok(())
+}
+
+fn has_parts<R: Abort>(
+    rt: &R,
+    alloc: Global,
+    (text, folder, name, extension): &(&str, &str, &str, &str),
+) {
+    let split = parts(alloc, text).expect(rt, text);
+    is_text(rt, split.relative_dir.as_str(), folder, text, "");
+    is_text(rt, split.filename.as_str(), name, text, "");
+    is_text(rt, split.extension.as_str(), extension, text, "");
 }
 
 /// Every text of up to six characters over those that matter, on two bases, against a plain program.
 #[test]
-fn agrees_on_short_texts(rt: HostRuntime) -> Result<(), Fail> {
+fn agrees_on_short_texts(rt: HostRuntime) {
     for number in 0..19_531u32 {
-        let text = short_text(rt.alloc(), number)?;
-        for base in ["", "a/b"] {
-            let want = plain_path(rt.alloc(), base, text.as_str())?;
-            match normalize(rt.alloc(), base, text.as_str()) {
-                Ok(path) => {
-                    assert_eq!(rt; path.as_str(), want.as_str(), "{text} on {base}");
-                    assert!(rt; is_normal(path.as_str()), "{text} on {base}");
-                }
-                Err(fault) => {
-                    let said = if fault == PathFault::AboveRoot {
-                        "above"
-                    } else {
-                        ""
-                    };
-                    assert_eq!(rt; said, want.as_str(), "{text} on {base}");
-                }
-            }
-        }
+        agrees_on_bases(&rt, rt.alloc(), number);
     }
-    Ok(())
+}
+
+fn agrees_on_bases<R: Abort>(rt: &R, alloc: Global, number: u32) {
+    let text = short_text(alloc, number).expect(rt, "a short text");
+    agrees(rt, alloc, "", text.as_str());
+    agrees(rt, alloc, "a/b", text.as_str());
+}
+
+fn agrees<R: Abort>(rt: &R, alloc: Global, base: &str, text: &str) {
+    let want = plain_path(alloc, base, text).expect(rt, text);
+    is_plain(rt, normalize(alloc, base, text), want.as_str(), text, base);
+}
+
+fn is_plain<R: Abort>(rt: &R, got: Result<Word, PathFault>, want: &str, text: &str, base: &str) {
+    match got {
+        Ok(path) => {
+            is_text(rt, path.as_str(), want, text, base);
+            is_so(rt, is_normal(path.as_str()), true, text, base);
+        }
+        Err(PathFault::AboveRoot) => is_text(rt, "above", want, text, base),
+        Err(PathFault::Empty | PathFault::Memory) => is_text(rt, "", want, text, base),
+    }
 }
 
 /// The text of a number: its digits to the base five, without a leading zero digit.
@@ -156,31 +193,32 @@ fn plain_path(alloc: Global, base: &str, text: &str) -> Result<String, AllocErro
     let mut segment = String::new(alloc);
     for character in text.chars() {
         if character == '/' || character == '\\' {
-            path = plain_step(alloc, path, segment.as_str())?;
+            path = plain_step(alloc, path.as_str(), segment.as_str())?;
             segment = String::new(alloc);
         } else {
             segment.push(character)?;
         }
     }
-    plain_step(alloc, path, segment.as_str())
+    plain_step(alloc, path.as_str(), segment.as_str())
 }
 
-fn plain_step(alloc: Global, path: String, segment: &str) -> Result<String, AllocError> {
-    if path.as_str() == "above" || segment == "" || segment == "." {
-        return Ok(path);
+fn plain_step(alloc: Global, path: &str, segment: &str) -> Result<String, AllocError> {
+    if path == "above" || segment.is_empty() || segment == "." {
+        return String::from_str(alloc, path);
     }
-    if segment != ".." {
-        return if path.as_str() == "" {
-            String::from_str(alloc, segment)
-        } else {
-            format!(in alloc; "{path}/{segment}")
-        };
+    if segment == ".." {
+        return plain_parent(alloc, path);
     }
-    if path.as_str() == "" {
-        return String::from_str(alloc, "above");
+    if path.is_empty() {
+        return String::from_str(alloc, segment);
     }
-    match path.as_str().rsplit_once('/') {
+    format!(in alloc; "{path}/{segment}")
+}
+
+fn plain_parent(alloc: Global, path: &str) -> Result<String, AllocError> {
+    match path.rsplit_once('/') {
         Some((folder, _)) => String::from_str(alloc, folder),
+        None if path.is_empty() => String::from_str(alloc, "above"),
         None => Ok(String::new(alloc)),
     }
 }
