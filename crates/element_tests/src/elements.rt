@@ -1,31 +1,62 @@
-use msb_elements::{ReadFault, read_project};
+use crate::given::{gives, project_of, same};
+use msb_elements::{Element, Place, ReadFault, read_project};
+use msb_values::{NoMemory, Text};
 use std::alloc::{AllocError, Global};
+use std::process::Abort;
 use std::test::Fail;
 
 /// The fault's number in the order of [`ReadFault`], with its place and its details.
-fn shown(alloc: Global, fault: &ReadFault) -> Result<String, AllocError> {
+fn push_fault(shown: &mut String, fault: &ReadFault) -> Result<(), AllocError> {
     match fault {
-        ReadFault::NotJson => format!(in alloc; "1"),
-        ReadFault::NotElement(place) => format!(in alloc; "2 {place}"),
-        ReadFault::UnknownElement(place) => format!(in alloc; "3 {place}"),
-        ReadFault::Misplaced(place) => format!(in alloc; "4 {place}"),
-        ReadFault::MissingAttribute(place, name) => format!(in alloc;
-            "5 {place} {}",
-            name.as_str()
-        ),
+        ReadFault::NotJson => shown.push_str("1"),
+        ReadFault::NotElement(place) => push_place(shown, "2", place),
+        ReadFault::UnknownElement(place) => push_place(shown, "3", place),
+        ReadFault::Misplaced(place) => push_place(shown, "4", place),
+        ReadFault::MissingAttribute(place, name) => push_missing(shown, place, name.as_str()),
         ReadFault::BothAttributes(place, one, other) => {
-            format!(in alloc; "6 {place} {} {}", one.as_str(), other.as_str())
+            push_both(shown, place, one.as_str(), other.as_str())
         }
-        ReadFault::BadName(place, at) => format!(in alloc; "7 {place} {at}"),
-        ReadFault::Memory => format!(in alloc; "no memory"),
+        ReadFault::BadName(place, at) => push_bad_name(shown, place, *at),
+        ReadFault::Memory => shown.push_str("no memory"),
     }
 }
 
-fn answer(alloc: Global, text: &str) -> Result<String, Fail> {
+fn push_place(shown: &mut String, number: &str, place: &Place) -> Result<(), AllocError> {
+    write!(shown, "{number} {place}")
+}
+
+fn push_missing(shown: &mut String, place: &Place, name: &str) -> Result<(), AllocError> {
+    push_place(shown, "5", place)?;
+    push_word(shown, name)
+}
+
+fn push_both(shown: &mut String, place: &Place, one: &str, other: &str) -> Result<(), AllocError> {
+    push_place(shown, "6", place)?;
+    push_word(shown, one)?;
+    push_word(shown, other)
+}
+
+fn push_bad_name(shown: &mut String, place: &Place, at: u64) -> Result<(), AllocError> {
+    push_place(shown, "7", place)?;
+    write!(shown, " {at}")
+}
+
+fn push_word(shown: &mut String, word: &str) -> Result<(), AllocError> {
+    shown.push_str(" ")?;
+    shown.push_str(word)
+}
+
+fn push_answer(alloc: Global, shown: &mut String, text: &str) -> Result<(), AllocError> {
     match read_project(alloc, text.as_bytes()) {
-        Ok(_) => Ok(String::from_str(alloc, "no fault")?),
-        Err(fault) => Ok(shown(alloc, &fault)?),
+        Ok(_) => shown.push_str("no fault"),
+        Err(fault) => push_fault(shown, &fault),
     }
+}
+
+fn answer(alloc: Global, text: &str) -> Result<Text, NoMemory> {
+    let mut shown = String::new(alloc);
+    push_answer(alloc, &mut shown, text)?;
+    Ok(Text::from(shown))
 }
 
 /// Whole files.
@@ -197,76 +228,125 @@ const TARGET: &str =
     r#"{"e":"Project","c":[{"e":"Target","a":{"Name":"Build","DependsOnTargets":"Clean"},"c":[
     {"e":"Message"},{"e":"PropertyGroup","c":[{"e":"Note","t":"plain text"}]}]}]}"#;
 
+fn has<R: Abort>(rt: &R, value: Option<&str>, wanted: Option<&str>) {
+    assert_eq!(*rt; value, wanted);
+}
+
+fn stands_at<R: Abort>(rt: &R, alloc: Global, element: &Element, place: &str) -> Result<(), Fail> {
+    assert_eq!(*rt; element.place().to_string(alloc)?.as_str(), place);
+    Ok(())
+}
+
+fn check_root<R: Abort>(rt: &R, alloc: Global, root: &Element) -> Result<(), Fail> {
+    same(rt, root.name(), "Project");
+    assert_eq!(*rt; root.count(), 1);
+    stands_at(rt, alloc, root, "/")?;
+    match root.child(0) {
+        Some(target) => check_target(rt, alloc, target),
+        None => Err(Fail::new("a target")),
+    }
+}
+
+fn check_target<R: Abort>(rt: &R, alloc: Global, target: &Element) -> Result<(), Fail> {
+    has(rt, target.attribute("Name"), Some("Build"));
+    has(rt, target.attribute("name"), None);
+    has(rt, first_attribute(target), Some("DependsOnTargets"));
+    match target.children().last() {
+        Some(group) => check_group(rt, alloc, group),
+        None => Err(Fail::new("a group")),
+    }
+}
+
+fn first_attribute(element: &Element) -> Option<&str> {
+    match element.attributes().first() {
+        Some((name, _)) => Some(name.as_str()),
+        None => None,
+    }
+}
+
+fn check_group<R: Abort>(rt: &R, alloc: Global, group: &Element) -> Result<(), Fail> {
+    let Some(note) = group.child(0) else {
+        return Err(Fail::new("a note"));
+    };
+    same(rt, note.text(), "plain text");
+    stands_at(rt, alloc, note, "/0/1/0")
+}
+
 #[test]
 fn elements_are_read_with_their_places(rt: HostRuntime) -> Result<(), Fail> {
-    let Ok(project) = read_project(rt.alloc(), TARGET.as_bytes()) else {
-        return Err(Fail::from("a project"));
-    };
-    let root = &project.root;
-    assert_eq!(rt; root.name(), "Project");
-    assert_eq!(rt; root.place().to_string(rt.alloc())?.as_str(), "/");
-    assert_eq!(rt; root.count(), 1);
-    let target = root.child(0).ok_or("a target")?;
-    assert_eq!(rt; target.attribute("Name"), Some("Build"));
-    assert_eq!(rt; target.attribute("name"), None);
-    let first = target.attributes().first().ok_or("an attribute")?;
-    assert_eq!(rt; first.0.as_str(), "DependsOnTargets");
-    let group = target.children().last().ok_or("a group")?;
-    let note = group.child(0).ok_or("a note")?;
-    assert_eq!(rt; note.text(), "plain text");
-    assert_eq!(rt; note.place().to_string(rt.alloc())?.as_str(), "/0/1/0");
-    Ok(())
+    let project = project_of(rt.alloc(), TARGET)?;
+    check_root(&rt, rt.alloc(), &project.root)
 }
 
 fn nested(alloc: Global, inner: &str) -> Result<String, AllocError> {
     let mut text = String::new(alloc);
-    for _ in 0..63 {
-        text.push_str(r#"{"e":"Project","c":["#)?;
-    }
+    push_times(&mut text, r#"{"e":"Project","c":["#)?;
     text.push_str(inner)?;
-    for _ in 0..63 {
-        text.push_str("]}")?;
-    }
+    push_times(&mut text, "]}")?;
     Ok(text)
+}
+
+fn push_times(text: &mut String, piece: &str) -> Result<(), AllocError> {
+    for _ in 0..63 {
+        text.push_str(piece)?;
+    }
+    Ok(())
+}
+
+fn nested_answer(alloc: Global, inner: &str) -> Result<Text, NoMemory> {
+    let text = nested(alloc, inner)?;
+    answer(alloc, text.as_str())
 }
 
 /// 63 arrays in as many objects, and one or two objects more: the first text is read, and refused for what it says.
 #[test]
 fn no_more_than_127_levels_are_read(rt: HostRuntime) -> Result<(), Fail> {
-    let text = nested(rt.alloc(), r#"{"e":"A"}"#)?;
-    assert_eq!(rt; answer(rt.alloc(), text.as_str())?.as_str(), "4 /0");
-    let text = nested(rt.alloc(), r#"{"e":"A","a":{}}"#)?;
-    assert_eq!(rt; answer(rt.alloc(), text.as_str())?.as_str(), "1");
+    for (inner, fault) in [(r#"{"e":"A"}"#, "4 /0"), (r#"{"e":"A","a":{}}"#, "1")] {
+        gives(&rt, inner, nested_answer(rt.alloc(), inner), fault)?;
+    }
     Ok(())
+}
+
+/// How many children each child has.
+fn counts(alloc: Global, element: &Element) -> Result<Text, NoMemory> {
+    let mut counts = String::new(alloc);
+    for child in element.children() {
+        push_count(&mut counts, child.count())?;
+    }
+    Ok(Text::from(counts))
+}
+
+fn push_count(counts: &mut String, count: usize) -> Result<(), AllocError> {
+    write!(counts, "{count} ")
 }
 
 #[test]
 fn nothing_below_project_extensions_is_kept(rt: HostRuntime) -> Result<(), Fail> {
     let text =
         r#"{"e":"Project","c":[{"e":"ProjectExtensions","t":"kept"},{"e":"ProjectExtensions","c":[{"e":"A"},1]},{"e":"Choose","c":[{"e":"When","a":{"Condition":""}}]}]}"#;
-    let Ok(project) = read_project(rt.alloc(), text.as_bytes()) else {
-        return Err(Fail::from("a project"));
-    };
-    let mut counts = Vec::new(rt.alloc());
-    for child in project.root.children() {
-        counts.push(child.count())?;
-    }
-    assert_eq!(rt; counts.as_slice(), [0usize, 0, 1].as_slice());
-    Ok(())
+    let project = project_of(rt.alloc(), text)?;
+    gives(&rt, text, counts(rt.alloc(), &project.root), "0 0 1 ")
 }
 
 #[test]
 fn files_are_refused_by_the_table(rt: HostRuntime) -> Result<(), Fail> {
-    for (text, fault) in FILES.iter() {
-        assert_eq!(rt; answer(rt.alloc(), text)?.as_str(), *fault, "{text}");
+    for (text, fault) in &FILES {
+        gives(&rt, text, answer(rt.alloc(), text), fault)?;
     }
-    for (child, fault) in CHILDREN.iter() {
-        let text = format!(in rt.alloc(); r#"{{"e":"Project","c":[{child}]}}"#)?;
-        assert_eq!(rt;
-            answer(rt.alloc(), text.as_str())?.as_str(),
-            *fault,
-            "{child}"
-        );
+    Ok(())
+}
+
+fn child_answer(alloc: Global, child: &str) -> Result<Text, NoMemory> {
+    let mut text = String::from_str(alloc, r#"{"e":"Project","c":["#)?;
+    text.push_str(child)?;
+    text.push_str("]}")?;
+    answer(alloc, text.as_str())
+}
+
+#[test]
+fn children_are_refused_by_the_table(rt: HostRuntime) -> Result<(), Fail> {
+    for (child, fault) in &CHILDREN {
+        gives(&rt, child, child_answer(rt.alloc(), child), fault)?;
     }
     Ok(())
 }
@@ -329,29 +409,121 @@ impl Draws {
     }
 
     fn group(&mut self) -> &'static str {
-        GROUPS.get(self.below(5) as usize).copied().unwrap_or("")
+        match GROUPS.get(self.below(5) as usize) {
+            Some(group) => group,
+            None => "",
+        }
+    }
+
+    fn fault(
+        &mut self,
+    ) -> Option<&'static (&'static str, &'static str, &'static str, &'static str)> {
+        FAULTS.get(self.below(10) as usize)
     }
 }
 
-/// Opens an element whose last child so far is to come; gives its number.
-fn open(
-    draws: &mut Draws,
-    head: &mut String,
-    tail: &mut String,
-    place: &mut String,
-) -> Result<(), AllocError> {
-    let before = draws.below(4);
-    for _ in 0..before {
-        head.push_str(draws.group())?;
-        head.push_str(",")?;
+/// A project file before and behind a group that is to come, and the place of that group.
+#[derive(Drop)]
+struct Frame {
+    head: String,
+    tail: String,
+    place: String,
+}
+
+impl Frame {
+    fn new(alloc: Global) -> Result<Frame, AllocError> {
+        Ok(Frame {
+            head: String::from_str(alloc, r#"{"e":"Project","c":["#)?,
+            tail: String::new(alloc),
+            place: String::new(alloc),
+        })
     }
-    write!(place, "/{before}")?;
-    tail.insert_str(0, "]}")?;
-    for _ in 0..draws.below(3) {
-        tail.insert_str(0, draws.group())?;
-        tail.insert_str(0, ",")?;
+
+    /// A drawn place among groups without a fault, in drawn levels of Choose.
+    fn drawn(alloc: Global, draws: &mut Draws) -> Result<Frame, AllocError> {
+        let mut frame = Frame::new(alloc)?;
+        frame.open(draws)?;
+        for _ in 0..draws.below(3) {
+            frame.open_choose(draws)?;
+        }
+        Ok(frame)
+    }
+
+    /// Opens an element whose last child so far is to come; adds that child's number.
+    fn open(&mut self, draws: &mut Draws) -> Result<(), AllocError> {
+        let before = draws.below(4);
+        push_groups(&mut self.head, draws, before)?;
+        write!(self.place, "/{before}")?;
+        self.tail.insert_str(0, "]}")?;
+        let behind = draws.below(3);
+        insert_groups(&mut self.tail, draws, behind)
+    }
+
+    fn open_choose(&mut self, draws: &mut Draws) -> Result<(), AllocError> {
+        self.head.push_str(r#"{"e":"Choose","c":[{"e":"When","a":{"Condition":""},"c":["#)?;
+        self.tail.insert_str(0, "]}")?;
+        self.place.push_str("/0")?;
+        self.open(draws)
+    }
+
+    fn text(&self, alloc: Global, group: &str) -> Result<String, AllocError> {
+        let mut text = String::from_str(alloc, self.head.as_str())?;
+        text.push_str(group)?;
+        text.push_str(self.tail.as_str())?;
+        Ok(text)
+    }
+
+    fn fault(
+        &self,
+        alloc: Global,
+        number: &str,
+        below: &str,
+        details: &str,
+    ) -> Result<String, AllocError> {
+        let mut fault = String::from_str(alloc, number)?;
+        push_word(&mut fault, self.place.as_str())?;
+        fault.push_str(below)?;
+        fault.push_str(details)?;
+        Ok(fault)
+    }
+}
+
+fn push_groups(text: &mut String, draws: &mut Draws, count: u64) -> Result<(), AllocError> {
+    for _ in 0..count {
+        text.push_str(draws.group())?;
+        text.push_str(",")?;
     }
     Ok(())
+}
+
+fn insert_groups(text: &mut String, draws: &mut Draws, count: u64) -> Result<(), AllocError> {
+    for _ in 0..count {
+        text.insert_str(0, draws.group())?;
+        text.insert_str(0, ",")?;
+    }
+    Ok(())
+}
+
+fn check_drawn<R: Abort>(rt: &R, alloc: Global, draws: &mut Draws) -> Result<(), Fail> {
+    let frame = Frame::drawn(alloc, draws)?;
+    match draws.fault() {
+        Some((group, number, below, details)) => {
+            let fault = frame.fault(alloc, number, below, details)?;
+            check_fault(rt, alloc, &frame, group, fault.as_str())
+        }
+        None => Err(Fail::new("a fault")),
+    }
+}
+
+fn check_fault<R: Abort>(
+    rt: &R,
+    alloc: Global,
+    frame: &Frame,
+    group: &str,
+    fault: &str,
+) -> Result<(), Fail> {
+    let text = frame.text(alloc, group)?;
+    gives(rt, text.as_str(), answer(alloc, text.as_str()), fault)
 }
 
 /// A fault at a drawn place among groups without one, in drawn levels of Choose.
@@ -359,27 +531,7 @@ fn open(
 fn the_fault_that_was_put_in_is_found(rt: HostRuntime) -> Result<(), Fail> {
     let mut draws = Draws { state: 2026 };
     for _ in 0..400 {
-        let mut head = String::from_str(rt.alloc(), r#"{"e":"Project","c":["#)?;
-        let mut tail = String::new(rt.alloc());
-        let mut place = String::new(rt.alloc());
-        open(&mut draws, &mut head, &mut tail, &mut place)?;
-        for _ in 0..draws.below(3) {
-            head.push_str(r#"{"e":"Choose","c":[{"e":"When","a":{"Condition":""},"c":["#)?;
-            tail.insert_str(0, "]}")?;
-            place.push_str("/0")?;
-            open(&mut draws, &mut head, &mut tail, &mut place)?;
-        }
-        let (group, number, below, details) = FAULTS
-            .get(draws.below(10) as usize)
-            .copied()
-            .ok_or("a fault")?;
-        let text = format!(in rt.alloc(); "{head}{group}{tail}")?;
-        let fault = format!(in rt.alloc(); "{number} {place}{below}{details}")?;
-        assert_eq!(rt;
-            answer(rt.alloc(), text.as_str())?.as_str(),
-            fault.as_str(),
-            "{text}"
-        );
+        check_drawn(&rt, rt.alloc(), &mut draws)?;
     }
     Ok(())
 }

@@ -7,4 +7,6 @@ mod elements;
 #[cfg(test)]
 mod faults;
 #[cfg(test)]
+mod given;
+#[cfg(test)]
 mod order;

@@ -1,7 +1,10 @@
 ghost use Rattle.std.specs.Prelude.{◌≡◌, true, IfOk, IfSome};
-ghost use Rattle.target_order.specs.Answers.{fits, asked_by};
+ghost use Rattle.target_order.specs.Answers.{Fits, fits, asked_by};
+ghost use Rattle.target_order.specs.declared.asks.OrderAnswer.TheVariants.{First};
+ghost use Rattle.target_order.specs.declared.visits.Asked.TheVariants.{Body};
 
-use msb_values::{Copied, List, Name};
+use crate::given::gives;
+use msb_values::{Copied, List, Name, NameFault, NoMemory, Text};
 use std::alloc::Global;
 use std::test::Fail;
 use target_order::{OrderAnswer, OrderAsk, OrderWalk, TargetRow};
@@ -74,38 +77,58 @@ const STORIES: [(&str, &str, &str); 18] = [
 ];
 
 /// The names behind this mark.
-fn listed(alloc: Global, line: &str, mark: char) -> Result<List<Name>, Fail> {
+fn listed(alloc: Global, line: &str, mark: char) -> Result<List<Name>, NameFault> {
     let mut list = List::new(alloc);
     for piece in line.split(' ') {
         if let Some(name) = piece.strip_prefix(mark) {
-            if !name.is_empty() {
-                list.push(Name::read_target(alloc, name)?)?;
-            }
+            push_listed(alloc, &mut list, name)?;
         }
     }
     Ok(list)
 }
 
-fn name_of(line: &str) -> &str {
-    line.split(' ').next().unwrap_or("")
-}
-
-fn rows(alloc: Global, project: &str) -> Result<List<TargetRow>, Fail> {
-    let mut list = List::new(alloc);
-    for line in project.split(';') {
-        list.push(TargetRow {
-            name: Name::read_target(alloc, name_of(line))?,
-            before: listed(alloc, line, '<')?,
-            after: listed(alloc, line, '>')?,
-        })?;
+fn push_listed(alloc: Global, list: &mut List<Name>, name: &str) -> Result<(), NameFault> {
+    if name.is_empty() {
+        return Ok(());
     }
-    Ok(list)
+    push_name(alloc, list, name)
 }
 
-fn wanted(alloc: Global, text: &str) -> Result<List<Name>, Fail> {
+fn push_name(alloc: Global, list: &mut List<Name>, name: &str) -> Result<(), NameFault> {
+    Ok(list.push(Name::read_target(alloc, name)?)?)
+}
+
+fn name_of(line: &str) -> &str {
+    match line.split_once(' ') {
+        Some((name, _)) => name,
+        None => line,
+    }
+}
+
+fn row(alloc: Global, line: &str) -> Result<TargetRow, NameFault> {
+    Ok(TargetRow {
+        name: Name::read_target(alloc, name_of(line))?,
+        before: listed(alloc, line, '<')?,
+        after: listed(alloc, line, '>')?,
+    })
+}
+
+fn push_row(alloc: Global, rows: &mut List<TargetRow>, line: &str) -> Result<(), NameFault> {
+    Ok(rows.push(row(alloc, line)?)?)
+}
+
+fn rows(alloc: Global, project: &str) -> Result<List<TargetRow>, NameFault> {
+    let mut rows = List::new(alloc);
+    for line in project.split(';') {
+        push_row(alloc, &mut rows, line)?;
+    }
+    Ok(rows)
+}
+
+fn wanted(alloc: Global, text: &str) -> Result<List<Name>, NameFault> {
     let mut list = List::new(alloc);
     for name in text.split(' ') {
-        list.push(Name::read_target(alloc, name)?)?;
+        push_name(alloc, &mut list, name)?;
     }
     Ok(list)
 }
@@ -119,76 +142,126 @@ fn line_of<'a>(project: &'a str, name: &Name) -> &'a str {
     ""
 }
 
-/// What a story answers to an ask, if it goes on, and what its trace says of the ask: `a?` its Condition, `a:` its
-/// DependsOnTargets, `a!` its body, then `done`, a circle or `no a`.
-fn told(
-    alloc: Global,
-    project: &str,
-    ask: &OrderAsk,
-    trace: &mut String,
-) -> Result<Option<OrderAnswer>, Fail>
-    ensures { IfOk result (λ told. IfSome told (λ answer. fits (asked_by ask.now) answer ≡ true)) }
-{
+/// What the trace says of an ask: `a?` its Condition, `a:` its DependsOnTargets, `a!` its body, then `done`, a circle
+/// or `no a`.
+fn push_told(trace: &mut Text, ask: &OrderAsk) -> Result<(), NoMemory> {
     match ask {
-        OrderAsk::Condition(name) => {
-            write!(trace, "{}? ", name.key())?;
-            let holds = !line_of(project, name).contains('~');
-            Ok(Some(OrderAnswer::Truth(holds)))
-        }
-        OrderAsk::Depends(name) => {
-            write!(trace, "{}: ", name.key())?;
-            let names = listed(alloc, line_of(project, name), ':')?;
-            Ok(Some(OrderAnswer::Names(names)))
-        }
-        OrderAsk::Body(name) => {
-            write!(trace, "{}! ", name.key())?;
-            let line = line_of(project, name);
-            if !line.contains('!') {
-                return Ok(Some(OrderAnswer::Ok));
-            }
-            Ok(Some(OrderAnswer::Failed(listed(alloc, line, '!')?)))
-        }
-        OrderAsk::Done => {
-            write!(trace, "done")?;
-            Ok(None)
-        }
-        OrderAsk::Circle(names) => {
-            for name in names.as_slice() {
-                write!(trace, "({}", name.key())?;
-            }
-            Ok(None)
-        }
-        OrderAsk::Unknown(name) => {
-            write!(trace, "no {}", name.key())?;
-            Ok(None)
-        }
+        OrderAsk::Condition(name) => push_words(trace, name.key(), "? "),
+        OrderAsk::Depends(name) => push_words(trace, name.key(), ": "),
+        OrderAsk::Body(name) => push_words(trace, name.key(), "! "),
+        OrderAsk::Done => trace.push_str("done"),
+        OrderAsk::Circle(names) => push_circle(trace, names.as_slice()),
+        OrderAsk::Unknown(name) => push_words(trace, "no ", name.key()),
     }
 }
 
-fn trace(alloc: Global, project: &str, targets: &str) -> Result<String, Fail> {
-    let mut walk = OrderWalk::start(alloc, &rows(alloc, project)?, &wanted(alloc, targets)?)?;
-    let mut trace = String::new(alloc);
+fn push_words(trace: &mut Text, first: &str, second: &str) -> Result<(), NoMemory> {
+    trace.push_str(first)?;
+    trace.push_str(second)
+}
+
+fn push_circle(trace: &mut Text, names: &[Name]) -> Result<(), NoMemory> {
+    for name in names {
+        push_words(trace, "(", name.key())?;
+    }
+    Ok(())
+}
+
+/// Puts what a story answers to an ask in the place of the answer; says whether the story goes on.
+fn reply(
+    alloc: Global,
+    project: &str,
+    ask: &OrderAsk,
+    answer: &mut OrderAnswer,
+) -> Result<bool, NameFault>
+    ensures { IfOk result (λ goes_on. goes_on ≡ true → fits (asked_by ask.now) answer.new ≡ true) }
+{
+    match ask {
+        OrderAsk::Condition(name) => {
+            let holds = !line_of(project, name).contains('~');
+            *answer = OrderAnswer::Truth(holds);
+        }
+        OrderAsk::Depends(name) => {
+            *answer = OrderAnswer::Names(listed(alloc, line_of(project, name), ':')?);
+        }
+        OrderAsk::Body(name) => *answer = outcome(alloc, line_of(project, name))?,
+        OrderAsk::Done | OrderAsk::Circle(_) | OrderAsk::Unknown(_) => return Ok(false),
+    }
+    Ok(true)
+}
+
+/// How the body of this line's target ends.
+fn outcome(alloc: Global, line: &str) -> Result<OrderAnswer, NameFault>
+    ensures { IfOk result (λ answer. fits Body answer ≡ true) }
+{
+    if !line.contains('!') {
+        return Ok(OrderAnswer::Ok);
+    }
+    Ok(OrderAnswer::Failed(listed(alloc, line, '!')?))
+}
+
+fn start(alloc: Global, project: &str, targets: &str) -> Result<OrderWalk, NameFault>
+    ensures { IfOk result (λ walk. Fits walk First) }
+{
+    let rows = rows(alloc, project)?;
+    let targets = wanted(alloc, targets)?;
+    Ok(OrderWalk::start(alloc, &rows, &targets)?)
+}
+
+/// Goes on with a copy of the walk.
+fn advance(alloc: Global, walk: &mut OrderWalk, answer: &OrderAnswer) -> Result<OrderAsk, NoMemory>
+    requires { Fits walk.old answer.now }
+    ensures { IfOk result (λ ask. walk.new.asked ≡ asked_by ask) }
+{
+    let mut later = walk.copy()?;
+    let ask = later.advance(alloc, answer)?;
+    *walk = later;
+    Ok(ask)
+}
+
+/// Goes on by one ask, and says whether the story goes on behind it.
+fn step(
+    alloc: Global,
+    project: &str,
+    walk: &mut OrderWalk,
+    answer: &mut OrderAnswer,
+    trace: &mut Text,
+) -> Result<bool, NameFault>
+    requires { Fits walk.old answer.old }
+    ensures { IfOk result (λ goes_on. goes_on ≡ true → Fits walk.new answer.new) }
+{
+    let ask = advance(alloc, walk, answer)?;
+    push_told(trace, &ask)?;
+    reply(alloc, project, &ask, answer)
+}
+
+/// Adds the trace of a story; says whether it fails.
+fn trace(alloc: Global, project: &str, targets: &str, trace: &mut Text) -> Result<bool, NameFault> {
+    let mut walk = start(alloc, project, targets)?;
     let mut answer = OrderAnswer::First;
     for _ in 0..100 {
-        let mut later = walk.copy()?;
-        let ask = later.advance(alloc, &answer)?;
-        walk = later;
-        match told(alloc, project, &ask, &mut trace)? {
-            Some(next) => answer = next,
-            None => break,
+        if !step(alloc, project, &mut walk, &mut answer, trace)? {
+            break;
         }
     }
-    if walk.failed() {
-        trace.push_str(" failed")?;
+    Ok(walk.failed())
+}
+
+fn traced(alloc: Global, project: &str, targets: &str) -> Result<Text, NoMemory> {
+    let mut traced = Text::of(alloc, "")?;
+    match trace(alloc, project, targets, &mut traced) {
+        Ok(true) => traced.push_str(" failed")?,
+        Ok(false) => {}
+        Err(NameFault::BadName(_)) => traced.push_str(" bad name")?,
+        Err(NameFault::Memory) => return Err(NoMemory),
     }
-    Ok(trace)
+    Ok(traced)
 }
 
 #[test]
 fn stories(rt: HostRuntime) -> Result<(), Fail> {
     for (project, targets, expected) in &STORIES {
-        let traced = trace(rt.alloc(), project, targets)?;
-        assert_eq!(rt; traced.as_str(), *expected, "in {project}");
+        gives(&rt, project, traced(rt.alloc(), project, targets), expected)?;
     }
     Ok(())
 }
