@@ -1,8 +1,10 @@
-use msb_condition::{Comparison, Cond, CondFault, Function, Operand, condition_holds, parse};
+use msb_condition::{Comparison, Cond, Function, Operand, condition_holds, parse};
 use msb_expand::{Lens, Use};
+use msb_expression::{Expr, NoRoom, Word};
 use msb_paths::Present;
-use msb_values::{Cause, Defaults, Lists, Name, Pairs, Scope, Text};
-use std::alloc::Global;
+use msb_values::{Cause, Defaults, Lists, Name, NameFault, NoMemory, Pairs, Scope, Text};
+use std::alloc::{AllocError, Global};
+use std::process::Abort;
 use std::test::Fail;
 
 /// A condition, and its form or its refusal.
@@ -138,13 +140,23 @@ impl Present for NoFiles {
     }
 }
 
-/// A scope of these properties, in each line one with its value.
-fn scope(alloc: Global, rows: &str) -> Result<Scope, Fail> {
-    let mut props = Pairs::new(alloc);
+fn put(alloc: Global, pairs: &mut Pairs, row: &str) -> Result<(), NameFault> {
+    let (name, value) = cut(row, "=");
+    Ok(pairs.insert(Name::read(alloc, name)?, Text::of(alloc, value)?)?)
+}
+
+/// In each line a name and its text, with a `=` between.
+fn pairs(alloc: Global, rows: &str) -> Result<Pairs, NameFault> {
+    let mut pairs = Pairs::new(alloc);
     for row in rows.lines() {
-        let (name, value) = cut(row, "=");
-        props.insert(Name::read(alloc, name)?, Text::of(alloc, value)?)?;
+        put(alloc, &mut pairs, row)?;
     }
+    Ok(pairs)
+}
+
+/// A scope of these properties, in each line one with its value.
+fn scope(alloc: Global, rows: &str) -> Result<Scope, NameFault> {
+    let props = pairs(alloc, rows)?;
     Ok(Scope {
         globals: Pairs::new(alloc),
         props,
@@ -153,20 +165,37 @@ fn scope(alloc: Global, rows: &str) -> Result<Scope, Fail> {
     })
 }
 
-fn push_operand(alloc: Global, shown: &mut Text, operand: &Operand) -> Result<(), Fail> {
+/// Wants this text of a call, which was made for the row.
+fn gives<R: Abort>(
+    rt: &R,
+    row: &str,
+    text: Result<Text, NoMemory>,
+    wanted: &str,
+) -> Result<(), Fail> {
+    assert_eq!(*rt; text?.as_str(), wanted, "{row}");
+    Ok(())
+}
+
+fn push_word(shown: &mut Text, word: Result<Word, NoRoom>) -> Result<(), NoMemory> {
+    match word {
+        Ok(word) => shown.push_str(word.as_str()),
+        Err(NoRoom) => Err(NoMemory),
+    }
+}
+
+fn push_operand(alloc: Global, shown: &mut Text, operand: &Operand) -> Result<(), NoMemory> {
     match operand {
         Operand::Text(expr) => {
             shown.push_str("'")?;
-            shown.push_str(expr.text(alloc)?.as_str())?;
-            shown.push_str("'")?;
+            push_word(shown, expr.text(alloc))?;
+            shown.push_str("'")
         }
         Operand::Call(function, inner) => {
             shown.push_str(opening_of(*function))?;
             push_operand(alloc, shown, inner)?;
-            shown.push_str(")")?;
+            shown.push_str(")")
         }
     }
-    Ok(())
 }
 
 fn opening_of(function: Function) -> &'static str {
@@ -188,75 +217,97 @@ fn sign_of(comparison: Comparison) -> &'static str {
 }
 
 #[cycle(shown)]
-fn push_others(alloc: Global, shown: &mut Text, sign: &str, others: &[Cond]) -> Result<(), Fail> {
+fn push_others(
+    alloc: Global,
+    shown: &mut Text,
+    sign: &str,
+    others: &[Cond],
+) -> Result<(), NoMemory> {
     for other in others {
         shown.push_str(sign)?;
         push_cond(alloc, shown, other)?;
     }
-    shown.push_str("]")?;
-    Ok(())
+    shown.push_str("]")
 }
 
 #[cycle(shown)]
-fn push_cond(alloc: Global, shown: &mut Text, cond: &Cond) -> Result<(), Fail> {
+fn push_cond(alloc: Global, shown: &mut Text, cond: &Cond) -> Result<(), NoMemory> {
     match cond {
-        Cond::Empty => {}
+        Cond::Empty => Ok(()),
         Cond::Or(first, others) => {
             shown.push_str("[")?;
             push_cond(alloc, shown, first)?;
-            push_others(alloc, shown, "|", others)?;
+            push_others(alloc, shown, "|", others)
         }
         Cond::And(first, others) => {
             shown.push_str("[")?;
             push_cond(alloc, shown, first)?;
-            push_others(alloc, shown, "&", others)?;
+            push_others(alloc, shown, "&", others)
         }
         Cond::Not(inner) => {
             shown.push_str("!")?;
-            push_cond(alloc, shown, inner)?;
+            push_cond(alloc, shown, inner)
         }
         Cond::Compare(comparison, left, right) => {
             push_operand(alloc, shown, left)?;
             shown.push_str(sign_of(*comparison))?;
-            push_operand(alloc, shown, right)?;
+            push_operand(alloc, shown, right)
         }
-        Cond::Truth(operand) => push_operand(alloc, shown, operand)?,
+        Cond::Truth(operand) => push_operand(alloc, shown, operand),
     }
-    Ok(())
 }
 
-fn form_of(alloc: Global, text: &str) -> Result<Text, Fail> {
+fn shown(alloc: Global, cond: &Cond) -> Result<Text, NoMemory> {
     let mut shown = Text::of(alloc, "")?;
-    match parse(alloc, text) {
-        Ok(cond) => push_cond(alloc, &mut shown, &cond)?,
-        Err(fault) => shown = Cause::from(fault).shown(alloc)?,
-    }
+    push_cond(alloc, &mut shown, cond)?;
     Ok(shown)
+}
+
+fn told(alloc: Global, cause: Cause) -> Result<Text, NoMemory> {
+    cause.shown(alloc)
+}
+
+fn form_of(alloc: Global, text: &str) -> Result<Text, NoMemory> {
+    match parse(alloc, text) {
+        Ok(cond) => shown(alloc, &cond),
+        Err(fault) => told(alloc, Cause::from(fault)),
+    }
 }
 
 #[test]
 fn conditions_are_read_or_refused(rt: HostRuntime) -> Result<(), Fail> {
-    let blank = form_of(rt.alloc(), " \t\r\n")?;
-    assert_eq!(rt; blank.as_str(), "");
+    gives(&rt, "blanks", form_of(rt.alloc(), " \t\r\n"), "")?;
     for row in FORMS.lines() {
         let (text, wanted) = cut(row, " => ");
-        let found = form_of(rt.alloc(), text)?;
-        assert_eq!(rt; found.as_str(), wanted, "{text}");
+        gives(&rt, text, form_of(rt.alloc(), text), wanted)?;
     }
     Ok(())
 }
 
-fn texts_of(alloc: Global, text: &str) -> Result<Text, Fail> {
-    let mut shown = Text::of(alloc, "")?;
-    let Ok(cond) = parse(alloc, text) else {
-        return Ok(shown);
-    };
-    let mut texts = Vec::new(alloc);
-    cond.push_texts(&mut texts)?;
-    for text in &texts {
-        shown.push_str(text.text(alloc)?.as_str())?;
+fn push_texts(alloc: Global, shown: &mut Text, texts: &[&Expr]) -> Result<(), NoMemory> {
+    for text in texts {
+        push_word(shown, text.text(alloc))?;
         shown.push_str("|")?;
     }
+    Ok(())
+}
+
+fn push_texts_in(alloc: Global, shown: &mut Text, cond: &Cond) -> Result<(), NoMemory> {
+    let mut texts = Vec::new(alloc);
+    cond.push_texts(&mut texts)?;
+    push_texts(alloc, shown, &texts)
+}
+
+fn push_texts_of(alloc: Global, shown: &mut Text, text: &str) -> Result<(), NoMemory> {
+    match parse(alloc, text) {
+        Ok(cond) => push_texts_in(alloc, shown, &cond),
+        Err(_) => Ok(()),
+    }
+}
+
+fn texts_of(alloc: Global, text: &str) -> Result<Text, NoMemory> {
+    let mut shown = Text::of(alloc, "")?;
+    push_texts_of(alloc, &mut shown, text)?;
     Ok(shown)
 }
 
@@ -264,54 +315,82 @@ fn texts_of(alloc: Global, text: &str) -> Result<Text, Fail> {
 fn the_texts_of_conditions_stand_from_the_left(rt: HostRuntime) -> Result<(), Fail> {
     for row in TEXTS.lines() {
         let (text, wanted) = cut(row, " => ");
-        let found = texts_of(rt.alloc(), text)?;
-        assert_eq!(rt; found.as_str(), wanted, "{text}");
+        gives(&rt, text, texts_of(rt.alloc(), text), wanted)?;
     }
     Ok(())
 }
 
-fn nested(alloc: Global, opening: &str, closing: &str, times: usize) -> Result<String, Fail> {
-    let front = opening.repeat(alloc, times)?;
-    let back = closing.repeat(alloc, times)?;
-    Ok(format!(in alloc; "{front}a{back}")?)
+fn nested(alloc: Global, opening: &str, closing: &str, times: usize) -> Result<String, AllocError> {
+    let mut text = opening.repeat(alloc, times)?;
+    text.push_str("a")?;
+    text.push_str(closing.repeat(alloc, times)?.as_str())?;
+    Ok(text)
+}
+
+fn nested_form(
+    alloc: Global,
+    opening: &str,
+    closing: &str,
+    times: usize,
+) -> Result<Text, NoMemory> {
+    let text = nested(alloc, opening, closing, times)?;
+    form_of(alloc, text.as_str())
+}
+
+/// Whether a text is read as a condition.
+pub fn is_read(alloc: Global, text: &str) -> bool {
+    parse(alloc, text).is_ok()
+}
+
+fn is_read_nested(
+    alloc: Global,
+    opening: &str,
+    closing: &str,
+    times: usize,
+) -> Result<bool, NoMemory> {
+    let text = nested(alloc, opening, closing, times)?;
+    Ok(is_read(alloc, text.as_str()))
 }
 
 #[test]
 fn conditions_nest_to_64(rt: HostRuntime) -> Result<(), Fail> {
     let alloc = rt.alloc();
-    for (opening, closing, refusal) in [
+    for (opening, closing, refusal) in &[
         ("!", "", "16 Syntax 64"),
         ("(", ")", "16 Syntax 64"),
         ("Exists(", ")", "16 Syntax 454"),
     ] {
-        let deep = nested(alloc, opening, closing, 64)?;
-        assert!(rt; parse(alloc, deep.as_str()).is_ok());
-        let deeper = nested(alloc, opening, closing, 65)?;
-        let found = form_of(alloc, deeper.as_str())?;
-        assert_eq!(rt; found.as_str(), refusal);
+        assert!(rt; is_read_nested(alloc, opening, closing, 64)?);
+        gives(
+            &rt,
+            opening,
+            nested_form(alloc, opening, closing, 65),
+            refusal,
+        )?;
     }
     Ok(())
 }
 
-fn truth_of(alloc: Global, scope: &Scope, text: Option<&str>) -> Result<Text, Fail> {
+fn truth_of(alloc: Global, scope: &Scope, text: Option<&str>) -> Result<Text, NoMemory> {
     let lens = Lens::new(scope, "a.proj", "a.proj", Use::All);
     match condition_holds(alloc, &lens, &NoFiles, text) {
-        Ok(true) => Ok(Text::of(alloc, "true")?),
-        Ok(false) => Ok(Text::of(alloc, "false")?),
-        Err(cause) => Ok(cause.shown(alloc)?),
+        Ok(true) => Text::of(alloc, "true"),
+        Ok(false) => Text::of(alloc, "false"),
+        Err(cause) => told(alloc, cause),
     }
+}
+
+fn check_truths<R: Abort>(rt: &R, alloc: Global, scope: &Scope) -> Result<(), Fail> {
+    gives(rt, "no condition", truth_of(alloc, scope, None), "true")?;
+    for row in TRUTHS.lines() {
+        let (text, wanted) = cut(row, " => ");
+        gives(rt, text, truth_of(alloc, scope, Some(text)), wanted)?;
+    }
+    Ok(())
 }
 
 #[test]
 fn conditions_hold_or_not(rt: HostRuntime) -> Result<(), Fail> {
-    let alloc = rt.alloc();
-    let scope = scope(alloc, PROPS)?;
-    let absent = truth_of(alloc, &scope, None)?;
-    assert_eq!(rt; absent.as_str(), "true");
-    for row in TRUTHS.lines() {
-        let (text, wanted) = cut(row, " => ");
-        let found = truth_of(alloc, &scope, Some(text))?;
-        assert_eq!(rt; found.as_str(), wanted, "{text}");
-    }
-    Ok(())
+    let scope = scope(rt.alloc(), PROPS)?;
+    check_truths(&rt, rt.alloc(), &scope)
 }
