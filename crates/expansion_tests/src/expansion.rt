@@ -1,10 +1,13 @@
-use crate::scenes::{cut, item, name, pairs, put, scope};
+use crate::scenes::{cut, gives, item, pairs, put, put_list, scope, told};
 use msb_expand::{
     Bucket, Entry, Lens, Use, expand_entries, expand_list, expand_names, expand_text, metadata,
     with_defaults,
 };
-use msb_values::{Cause, Copied, Item, List, Lists, Name, Pairs, Scope, SharedItems, Text};
+use msb_values::{
+    Cause, Copied, Defaults, Item, List, Lists, Name, NameFault, NoMemory, Pairs, Scope, Text,
+};
 use std::alloc::Global;
+use std::process::Abort;
 use std::test::Fail;
 
 const PROPS: &str = "P=v
@@ -22,7 +25,8 @@ const WORDS: &str = "STRASSE,straße,İ,i̇,ΣΑΣ,σας,ﬁ,FI";
 
 /// Where an expression stands, the expression, and the text that it denotes. Behind `list` it is the list: each
 /// identity with a `|` behind it, and the metadata of the last item. Behind `entries` each identity that a reference
-/// gave stands in parentheses. `names` are those of targets, and `metadata` is that of the item at hand.
+/// gave stands in parentheses. `names` are those of targets, `metadata` is that of the item at hand, and `defaults` is
+/// the item at hand with the defaults of its type.
 const VALUES: &str =
     "property: $(P)@( C -> '%( K )$(P)' , ';' )%( C . K ) => v@(C->'%(K)v',';')%(C.K)
 property: $(Ref)$(missing) => x@(C)
@@ -103,50 +107,60 @@ names: a;1b => 7 BadName 0
 metadata: M => own
 metadata: K => none
 metadata: Extension => .c
-metadata: Z => ";
+metadata: Z => 
+defaults: src/o.c => src/o.c|{d=def}{k=none}{m=own}";
 
 /// A scope, the item `src/o.c` of type C, and a bucket of one item of C.
-#[derive(Drop)]
-struct Scene {
-    scope: Scope,
-    kind: Name,
-    own: Item,
-    bucket: Bucket,
+#[derive(Clone, Copy)]
+struct Scene<'a> {
+    scope: &'a Scope,
+    kind: &'a Name,
+    own: &'a Item,
+    bucket: &'a Bucket,
 }
 
-impl Scene {
-    fn of(alloc: Global) -> Result<Scene, Fail> {
-        let mut scope = scope(alloc, PROPS)?;
-        put(alloc, &mut scope.items, "C", FILES)?;
-        put(alloc, &mut scope.items, "W", WORDS)?;
-        put(alloc, &mut scope.items, "Up", "../../x")?;
-        put(alloc, &mut scope.items, "G", "a  G=src/*.c")?;
-        let included = included(alloc, &scope)?;
-        let included = SharedItems::of(alloc, included)?;
-        scope.items.insert(name(alloc, "X")?, included)?;
-        let defaults = pairs(alloc, "K=none\nD=def")?;
-        scope.defaults.insert(name(alloc, "C")?, defaults)?;
-        Ok(Scene {
-            scope,
-            kind: name(alloc, "C")?,
-            own: item(alloc, "src/o.c  M=own")?,
-            bucket: bucket(alloc)?,
-        })
-    }
-
-    fn at(&self, place: &str) -> Lens<'_> {
+impl<'a> Scene<'a> {
+    fn at(&self, place: &str) -> Lens<'a> {
         let lens = Lens::new(
-            &self.scope,
+            self.scope,
             "app/app.proj",
             "build/common.props",
             usage(place),
         );
         match place {
-            "definition" | "own" => lens.with_own(&self.kind, &self.own),
-            "target" => lens.with_bucket(&self.bucket),
+            "definition" | "own" => lens.with_own(self.kind, self.own),
+            "target" => lens.with_bucket(self.bucket),
             _ => lens,
         }
     }
+}
+
+fn put_items(alloc: Global, items: &mut Lists) -> Result<(), NameFault> {
+    put(alloc, items, "C", FILES)?;
+    put(alloc, items, "W", WORDS)?;
+    put(alloc, items, "Up", "../../x")?;
+    put(alloc, items, "G", "a  G=src/*.c")
+}
+
+fn put_defaults(alloc: Global, defaults: &mut Defaults) -> Result<(), NameFault> {
+    let of_c = pairs(alloc, "K=none\nD=def")?;
+    Ok(defaults.insert(Name::read(alloc, "C")?, of_c)?)
+}
+
+/// The list of an Include, of which an escaped semicolon cuts nothing.
+fn included(alloc: Global, scope: &Scope) -> Result<List<Item>, Fail> {
+    let lens = Lens::new(scope, "a.proj", "a.proj", Use::All);
+    match expand_list(alloc, &lens, "a%3Bb;c") {
+        Ok(items) => Ok(items),
+        Err(_) => Err(Fail::new("no list")),
+    }
+}
+
+fn fill(alloc: Global, scope: &mut Scope) -> Result<(), Fail> {
+    put_items(alloc, &mut scope.items)?;
+    put_defaults(alloc, &mut scope.defaults)?;
+    let included = included(alloc, scope)?;
+    Ok(put_list(alloc, &mut scope.items, "X", included)?)
 }
 
 fn usage(place: &str) -> Use {
@@ -159,171 +173,247 @@ fn usage(place: &str) -> Use {
     }
 }
 
-/// The list of an Include, of which an escaped semicolon cuts nothing.
-fn included(alloc: Global, scope: &Scope) -> Result<List<Item>, Fail> {
-    let lens = Lens::new(scope, "a.proj", "a.proj", Use::All);
-    match expand_list(alloc, &lens, "a%3Bb;c") {
-        Ok(items) => Ok(items),
-        Err(_) => Err(Fail::new("no list")),
-    }
+fn push_value(
+    alloc: Global,
+    values: &mut List<(Option<Name>, Name, Text)>,
+    of: Option<Name>,
+    text: &str,
+) -> Result<(), NameFault> {
+    let key = Name::read(alloc, "K")?;
+    Ok(values.push((of, key, Text::of(alloc, text)?))?)
 }
 
-fn bucket(alloc: Global) -> Result<Bucket, Fail> {
-    let mut values = List::new(alloc);
-    values.push((None, name(alloc, "K")?, Text::of(alloc, "kb")?))?;
-    let of_c = Some(name(alloc, "C")?);
-    values.push((of_c, name(alloc, "K")?, Text::of(alloc, "k;c")?))?;
-    let mut lists = Lists::new(alloc);
-    put(alloc, &mut lists, "C", "src/a.c")?;
-    Ok(Bucket { values, lists })
+fn fill_bucket(alloc: Global, bucket: &mut Bucket) -> Result<(), NameFault> {
+    push_value(alloc, &mut bucket.values, None, "kb")?;
+    let of_c = Name::read(alloc, "C")?;
+    push_value(alloc, &mut bucket.values, Some(of_c), "k;c")?;
+    put(alloc, &mut bucket.lists, "C", "src/a.c")
 }
 
-fn shown_items(alloc: Global, items: &[Item]) -> Result<Text, Fail> {
-    let mut shown = Text::of(alloc, "")?;
+fn bucket(alloc: Global) -> Result<Bucket, NameFault> {
+    let mut bucket = Bucket {
+        values: List::new(alloc),
+        lists: Lists::new(alloc),
+    };
+    fill_bucket(alloc, &mut bucket)?;
+    Ok(bucket)
+}
+
+fn push_between(shown: &mut Text, before: &str, text: &str, behind: &str) -> Result<(), NoMemory> {
+    shown.push_str(before)?;
+    shown.push_str(text)?;
+    shown.push_str(behind)
+}
+
+fn push_items(shown: &mut Text, items: &[Item]) -> Result<(), NoMemory> {
     for item in items {
-        shown.push_str(item.ident.as_str())?;
-        shown.push_str("|")?;
+        push_between(shown, "", item.ident.as_str(), "|")?;
     }
-    if let Some(item) = items.last() {
-        push_pairs(&mut shown, &item.meta)?;
+    match items.last() {
+        Some(item) => push_pairs(shown, &item.meta),
+        None => Ok(()),
     }
-    Ok(shown)
 }
 
-fn shown_entries(alloc: Global, entries: &[Entry]) -> Result<Text, Fail> {
-    let mut shown = Text::of(alloc, "")?;
+fn push_entry(shown: &mut Text, entry: &Entry) -> Result<(), NoMemory> {
+    let ident = entry.item.ident.as_str();
+    if entry.written {
+        return push_between(shown, "", ident, "|");
+    }
+    push_between(shown, "(", ident, ")|")
+}
+
+fn push_entries(shown: &mut Text, entries: &[Entry]) -> Result<(), NoMemory> {
     for entry in entries {
-        let (before, behind) = if entry.written {
-            ("", "|")
-        } else {
-            ("(", ")|")
-        };
-        shown.push_str(before)?;
-        shown.push_str(entry.item.ident.as_str())?;
-        shown.push_str(behind)?;
+        push_entry(shown, entry)?;
     }
-    if let Some(entry) = entries.last() {
-        push_pairs(&mut shown, &entry.item.meta)?;
+    match entries.last() {
+        Some(entry) => push_pairs(shown, &entry.item.meta),
+        None => Ok(()),
     }
-    Ok(shown)
 }
 
-fn push_pairs(shown: &mut Text, pairs: &Pairs) -> Result<(), Fail> {
+fn push_pairs(shown: &mut Text, pairs: &Pairs) -> Result<(), NoMemory> {
     for (name, value) in pairs.iter() {
-        shown.push_str("{")?;
-        shown.push_str(name.key())?;
-        shown.push_str("=")?;
-        shown.push_str(value.as_str())?;
-        shown.push_str("}")?;
+        push_between(shown, "{", name.key(), "=")?;
+        push_between(shown, "", value.as_str(), "}")?;
     }
     Ok(())
 }
 
-fn shown_names(alloc: Global, names: &[Name]) -> Result<Text, Fail> {
-    let mut shown = Text::of(alloc, "")?;
+fn push_names(shown: &mut Text, names: &[Name]) -> Result<(), NoMemory> {
     for name in names {
-        shown.push_str(name.key())?;
-        shown.push_str("|")?;
+        push_between(shown, "", name.key(), "|")?;
     }
+    Ok(())
+}
+
+fn shown_items(alloc: Global, items: &[Item]) -> Result<Text, NoMemory> {
+    let mut shown = Text::of(alloc, "")?;
+    push_items(&mut shown, items)?;
     Ok(shown)
 }
 
-fn text_of(alloc: Global, lens: &Lens<'_>, source: &str) -> Result<Text, Fail> {
+fn shown_entries(alloc: Global, entries: &[Entry]) -> Result<Text, NoMemory> {
+    let mut shown = Text::of(alloc, "")?;
+    push_entries(&mut shown, entries)?;
+    Ok(shown)
+}
+
+fn shown_names(alloc: Global, names: &[Name]) -> Result<Text, NoMemory> {
+    let mut shown = Text::of(alloc, "")?;
+    push_names(&mut shown, names)?;
+    Ok(shown)
+}
+
+fn text_of(alloc: Global, lens: &Lens<'_>, source: &str) -> Result<Text, NoMemory> {
     match expand_text(alloc, lens, source) {
         Ok(text) => Ok(text),
-        Err(cause) => Ok(cause.shown(alloc)?),
+        Err(cause) => told(alloc, cause),
     }
 }
 
-fn list_of(alloc: Global, lens: &Lens<'_>, source: &str) -> Result<Text, Fail> {
+fn list_of(alloc: Global, lens: &Lens<'_>, source: &str) -> Result<Text, NoMemory> {
     match expand_list(alloc, lens, source) {
         Ok(items) => shown_items(alloc, items.as_slice()),
-        Err(cause) => Ok(cause.shown(alloc)?),
+        Err(cause) => told(alloc, cause),
     }
 }
 
-fn entries_of(alloc: Global, lens: &Lens<'_>, source: &str) -> Result<Text, Fail> {
+fn entries_of(alloc: Global, lens: &Lens<'_>, source: &str) -> Result<Text, NoMemory> {
     match expand_entries(alloc, lens, source) {
         Ok(entries) => shown_entries(alloc, entries.as_slice()),
-        Err(cause) => Ok(cause.shown(alloc)?),
+        Err(cause) => told(alloc, cause),
     }
 }
 
-fn names_of(alloc: Global, lens: &Lens<'_>, source: &str) -> Result<Text, Fail> {
+fn names_of(alloc: Global, lens: &Lens<'_>, source: &str) -> Result<Text, NoMemory> {
     match expand_names(alloc, lens, source) {
         Ok(names) => shown_names(alloc, names.as_slice()),
-        Err(cause) => Ok(cause.shown(alloc)?),
+        Err(cause) => told(alloc, cause),
     }
 }
 
-fn metadata_of(alloc: Global, scene: &Scene, key: &str) -> Result<Text, Fail> {
-    let key = name(alloc, key)?;
-    match metadata(alloc, &scene.at("own"), &scene.kind, &scene.own, &key) {
+fn metadata_at(alloc: Global, scene: &Scene<'_>, key: &Name) -> Result<Text, NoMemory> {
+    match metadata(alloc, &scene.at("own"), scene.kind, scene.own, key) {
         Ok(value) => Ok(value),
-        Err(fault) => Ok(Cause::from(fault).shown(alloc)?),
+        Err(fault) => told(alloc, Cause::from(fault)),
     }
 }
 
-fn outcome(alloc: Global, scene: &Scene, place: &str, source: &str) -> Result<Text, Fail> {
+fn metadata_of(alloc: Global, scene: &Scene<'_>, key: &str) -> Result<Text, NoMemory> {
+    match Name::read(alloc, key) {
+        Ok(key) => metadata_at(alloc, scene, &key),
+        Err(NameFault::BadName(_)) => Text::of(alloc, "no name"),
+        Err(NameFault::Memory) => Err(NoMemory),
+    }
+}
+
+fn item_with_defaults(alloc: Global, scene: &Scene<'_>) -> Result<Text, NoMemory> {
+    let item = with_defaults(alloc, &scene.at("own"), scene.kind, scene.own)?;
+    shown_items(alloc, &[item])
+}
+
+fn outcome(alloc: Global, scene: &Scene<'_>, place: &str, source: &str) -> Result<Text, NoMemory> {
     let (kind, rest) = cut(place, " ");
     match kind {
         "list" => list_of(alloc, &scene.at(rest), source),
         "entries" => entries_of(alloc, &scene.at(rest), source),
         "names" => names_of(alloc, &scene.at("items"), source),
         "metadata" => metadata_of(alloc, scene, source),
+        "defaults" => item_with_defaults(alloc, scene),
         _ => text_of(alloc, &scene.at(kind), source),
     }
 }
 
-#[test]
-fn expressions_have_their_values(rt: HostRuntime) -> Result<(), Fail> {
-    let scene = Scene::of(rt.alloc())?;
+fn check_row<R: Abort>(rt: &R, alloc: Global, scene: &Scene<'_>, row: &str) -> Result<(), Fail> {
+    let (place, rest) = cut(row, ": ");
+    let (source, wanted) = cut(rest, " => ");
+    gives(rt, source, outcome(alloc, scene, place, source), wanted)
+}
+
+fn check_rows<R: Abort>(rt: &R, alloc: Global, scene: &Scene<'_>) -> Result<(), Fail> {
     for row in VALUES.lines() {
-        let (place, rest) = cut(row, ": ");
-        let (source, wanted) = cut(rest, " => ");
-        let found = outcome(rt.alloc(), &scene, place, source)?;
-        assert_eq!(rt; found.as_str(), wanted, "{source}");
+        check_row(rt, alloc, scene, row)?;
     }
     Ok(())
 }
 
+fn check_in_bucket<R: Abort>(
+    rt: &R,
+    alloc: Global,
+    scope: &Scope,
+    bucket: &Bucket,
+) -> Result<(), Fail> {
+    let kind = Name::read(alloc, "C")?;
+    let own = item(alloc, "src/o.c  M=own")?;
+    let scene = Scene {
+        scope,
+        kind: &kind,
+        own: &own,
+        bucket,
+    };
+    check_rows(rt, alloc, &scene)
+}
+
+fn check_filled<R: Abort>(rt: &R, alloc: Global, scope: &mut Scope) -> Result<(), Fail> {
+    fill(alloc, scope)?;
+    let bucket = bucket(alloc)?;
+    check_in_bucket(rt, alloc, scope, &bucket)
+}
+
 #[test]
-fn an_item_has_the_defaults_of_its_type(rt: HostRuntime) -> Result<(), Fail> {
-    let alloc = rt.alloc();
-    let scene = Scene::of(alloc)?;
-    let item = with_defaults(alloc, &scene.at("own"), &scene.kind, &scene.own)?;
-    let found = shown_items(alloc, &[item])?;
-    assert_eq!(rt; found.as_str(), "src/o.c|{d=def}{k=none}{m=own}");
-    Ok(())
+fn expressions_have_their_values(rt: HostRuntime) -> Result<(), Fail> {
+    let mut scope = scope(rt.alloc(), PROPS)?;
+    check_filled(&rt, rt.alloc(), &mut scope)
+}
+
+fn double(text: &mut Text) -> Result<(), NoMemory> {
+    let half = text.copy()?;
+    text.push_str("-")?;
+    text.push_str(half.as_str())
 }
 
 /// A text of 4,194,303 bytes.
-fn long_text(alloc: Global) -> Result<Text, Fail> {
+fn long_text(alloc: Global) -> Result<Text, NoMemory> {
     let mut long = Text::of(alloc, "0123456789abcde")?;
     for _ in 0..18 {
-        let half = long.copy()?;
-        long.push_str("-")?;
-        long.push_str(half.as_str())?;
+        double(&mut long)?;
     }
     Ok(long)
 }
 
+fn put_long(alloc: Global, props: &mut Pairs) -> Result<(), NameFault> {
+    let long = long_text(alloc)?;
+    Ok(props.insert(Name::read(alloc, "Long")?, long)?)
+}
+
+fn has_length<R: Abort>(rt: &R, text: Result<Text, NoMemory>, length: usize) -> Result<(), Fail> {
+    assert_eq!(*rt; text?.as_str().len(), length);
+    Ok(())
+}
+
+fn check_long<R: Abort>(rt: &R, alloc: Global, scope: &mut Scope) -> Result<(), Fail> {
+    put_long(alloc, &mut scope.props)?;
+    let lens = Lens::new(scope, "app/app.proj", "build/common.props", usage("early"));
+    has_length(rt, text_of(alloc, &lens, "$(Long)a"), 4_194_304)?;
+    gives(
+        rt,
+        "a text",
+        text_of(alloc, &lens, "$(Long)ab"),
+        "14 TooLong",
+    )?;
+    has_length(rt, list_of(alloc, &lens, "$(Long)"), 4_194_304)?;
+    gives(
+        rt,
+        "a list",
+        list_of(alloc, &lens, "$(Long);a"),
+        "14 TooLong",
+    )
+}
+
 #[test]
 fn an_expansion_has_at_most_four_mebibytes(rt: HostRuntime) -> Result<(), Fail> {
-    let alloc = rt.alloc();
-    let mut scene = Scene::of(alloc)?;
-    scene
-        .scope
-        .props
-        .insert(name(alloc, "Long")?, long_text(alloc)?)?;
-    let lens = scene.at("early");
-    let text = text_of(alloc, &lens, "$(Long)a")?;
-    assert_eq!(rt; text.as_str().len(), 4_194_304);
-    let text = text_of(alloc, &lens, "$(Long)ab")?;
-    assert_eq!(rt; text.as_str(), "14 TooLong");
-    let list = list_of(alloc, &lens, "$(Long)")?;
-    assert_eq!(rt; list.as_str().len(), 4_194_304);
-    let list = list_of(alloc, &lens, "$(Long);a")?;
-    assert_eq!(rt; list.as_str(), "14 TooLong");
-    Ok(())
+    let mut scope = scope(rt.alloc(), PROPS)?;
+    check_long(&rt, rt.alloc(), &mut scope)
 }

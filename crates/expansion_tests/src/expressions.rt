@@ -1,5 +1,6 @@
-use crate::scenes::cut;
-use msb_expression::{ExprFault, parse};
+use crate::scenes::{cut, gives};
+use msb_expression::{Expr, ExprFault, NoRoom, Word, parse};
+use msb_values::{NoMemory, Text};
 use std::alloc::{AllocError, Global};
 use std::test::Fail;
 
@@ -65,27 +66,46 @@ $(A.B) => BadName(3)
 a@(X->'$(P)@(Y => NestedTransform(12)
 @(X->F('@(')->'@(') => NestedTransform(16)";
 
-/// The texts of a text's parts, each with a `|` behind it, or its refusal.
-fn shown(alloc: Global, text: &str) -> Result<String, Fail> {
-    let mut shown = String::new(alloc);
-    match parse(alloc, text) {
-        Ok(expr) => {
-            for part in expr.parts.as_slice() {
-                shown.push_str(part.text(alloc)?.as_str())?;
-                shown.push_str("|")?;
-            }
+fn push_part(shown: &mut Text, part: Result<Word, NoRoom>) -> Result<(), NoMemory> {
+    match part {
+        Ok(part) => {
+            shown.push_str(part.as_str())?;
+            shown.push_str("|")
         }
-        Err(fault) => shown = format!(in alloc; "{fault:?}")?,
+        Err(NoRoom) => Err(NoMemory),
     }
+}
+
+fn push_parts(alloc: Global, shown: &mut Text, expr: &Expr) -> Result<(), NoMemory> {
+    for part in expr.parts.as_slice() {
+        push_part(shown, part.text(alloc))?;
+    }
+    Ok(())
+}
+
+fn shown_parts(alloc: Global, expr: &Expr) -> Result<Text, NoMemory> {
+    let mut shown = Text::of(alloc, "")?;
+    push_parts(alloc, &mut shown, expr)?;
     Ok(shown)
+}
+
+fn shown_fault(alloc: Global, fault: ExprFault) -> Result<Text, NoMemory> {
+    Ok(Text::from(format!(in alloc; "{fault:?}")?))
+}
+
+/// The texts of a text's parts, each with a `|` behind it, or its refusal.
+fn shown(alloc: Global, text: &str) -> Result<Text, NoMemory> {
+    match parse(alloc, text) {
+        Ok(expr) => shown_parts(alloc, &expr),
+        Err(fault) => shown_fault(alloc, fault),
+    }
 }
 
 #[test]
 fn texts_are_read_or_refused(rt: HostRuntime) -> Result<(), Fail> {
     for row in FORMS.lines() {
         let (text, wanted) = cut(row, " => ");
-        let found = shown(rt.alloc(), text)?;
-        assert_eq!(rt; found.as_str(), wanted);
+        gives(&rt, text, shown(rt.alloc(), text), wanted)?;
     }
     Ok(())
 }
@@ -101,22 +121,31 @@ const PIECES: [&str; 24] = [
     "b1", "X-", "7", "->'", "F(", "')", "','",
 ];
 
+fn random_piece(seed: &mut u64) -> &'static str {
+    *seed = seed
+        .wrapping_mul(6_364_136_223_846_793_005)
+        .wrapping_add(1_442_695_040_888_963_407);
+    PIECES[(*seed >> 40) as usize % 24]
+}
+
 fn random_text(alloc: Global, seed: &mut u64) -> Result<String, AllocError> {
     let mut text = String::new(alloc);
     for _ in 0..8 {
-        *seed = seed
-            .wrapping_mul(6_364_136_223_846_793_005)
-            .wrapping_add(1_442_695_040_888_963_407);
-        text.push_str(PIECES[(*seed >> 40) as usize % 24])?;
+        text.push_str(random_piece(seed))?;
     }
     Ok(text)
 }
 
+fn is_read_behind(alloc: Global, front: &str, end: &str) -> Result<bool, AllocError> {
+    let mut text = String::from_str(alloc, front)?;
+    text.push_str(end)?;
+    Ok(parse(alloc, text.as_str()).is_ok())
+}
+
 /// Whether a text that begins so is read, by trying each end.
 fn goes_on(alloc: Global, front: &str) -> Result<bool, AllocError> {
-    for end in ENDS {
-        let text = format!(in alloc; "{front}{end}")?;
-        if parse(alloc, text.as_str()).is_ok() {
+    for end in &ENDS {
+        if is_read_behind(alloc, front, end)? {
             return Ok(true);
         }
     }
@@ -135,24 +164,38 @@ fn is_bad_at(alloc: Global, text: &str, place: u64) -> Result<bool, AllocError> 
     Ok(goes_on(alloc, front)? && !goes_on(alloc, through)?)
 }
 
+fn is_unclosed_at(alloc: Global, text: &str, place: u64) -> Result<bool, AllocError> {
+    Ok(place == text.len() as u64 && goes_on(alloc, text)?)
+}
+
+fn is_fault_of(alloc: Global, text: &str, fault: ExprFault) -> Result<bool, AllocError> {
+    match fault {
+        ExprFault::Unclosed(place) => is_unclosed_at(alloc, text, place),
+        ExprFault::BadName(place) => is_bad_at(alloc, text, place),
+        ExprFault::BadTransform(place) => is_bad_at(alloc, text, place),
+        ExprFault::NestedTransform(place) => is_bad_at(alloc, text, place),
+        ExprFault::Memory => Ok(false),
+    }
+}
+
 /// Whether the answer is the one that the grammar gives, as far as readings tell.
 fn is_as_defined(alloc: Global, text: &str) -> Result<bool, AllocError> {
     match parse(alloc, text) {
         Ok(_) => Ok(true),
-        Err(ExprFault::Unclosed(place)) => Ok(place == text.len() as u64 && goes_on(alloc, text)?),
-        Err(ExprFault::BadName(place)) => is_bad_at(alloc, text, place),
-        Err(ExprFault::BadTransform(place)) => is_bad_at(alloc, text, place),
-        Err(ExprFault::NestedTransform(place)) => is_bad_at(alloc, text, place),
-        Err(ExprFault::Memory) => Ok(false),
+        Err(fault) => is_fault_of(alloc, text, fault),
     }
+}
+
+fn is_random_as_defined(alloc: Global, seed: &mut u64) -> Result<bool, AllocError> {
+    let text = random_text(alloc, seed)?;
+    is_as_defined(alloc, text.as_str())
 }
 
 #[test]
 fn random_texts_are_refused_at_their_bad_byte(rt: HostRuntime) -> Result<(), Fail> {
     let mut seed = 1;
     for _ in 0..20_000 {
-        let text = random_text(rt.alloc(), &mut seed)?;
-        assert!(rt; is_as_defined(rt.alloc(), text.as_str())?);
+        assert!(rt; is_random_as_defined(rt.alloc(), &mut seed)?);
     }
     Ok(())
 }
