@@ -1,12 +1,13 @@
 //! Builds that end.
 
-use crate::parts::{items, notes, run};
+use crate::parts::{is, items, notes, run};
 use build_report::shown;
 use msb_files::Journal;
-use msb_values::{List, Name, Put, Text, Text8};
+use msb_values::{List, Name, NameFault, NoMemory, Put, Text, Text8};
 use result_cache::Decision::{Failed, NothingToDo, Part, Ran, UpToDate};
-use result_cache::{Decision, Record, RecordRef, RequestResult, Returned};
+use result_cache::{Decision, Record, RecordRef, RequestResult, Returned, RunId};
 use std::alloc::Global;
+use std::process::Abort;
 use std::test::Fail;
 
 /// A run: its instance, its target, what was decided of each bucket, and its notes.
@@ -20,7 +21,10 @@ type Run = (
 /// What the root request gives: whether it succeeded, the error text or none, and the items that each target returns.
 type Root = (bool, &'static str, &'static [&'static [&'static str]]);
 
-const BUILDS: &[(&[Run], Root, &str)] = &[
+/// Runs, the result of the root request, and the text.
+type Build = (&'static [Run], Root, &'static str);
+
+const BUILDS: &[Build] = &[
     // A message.
     (
         &[("a.proj", "Build", &[Ran], &["-hi"])],
@@ -107,85 +111,145 @@ const BUILDS: &[(&[Run], Root, &str)] = &[
 
 #[test]
 fn builds_are_shown(rt: HostRuntime) -> Result<(), Fail> {
-    let alloc = rt.alloc();
-    for (runs, root, want) in BUILDS {
-        let journal = journal(alloc, runs)?;
-        let root = result(alloc, root)?;
-        for low in [false, true] {
-            let text = shown(alloc, &root, &journal, low)?;
-            assert_eq!(rt; str::from_utf8(text.as_bytes())?, *want);
-        }
+    for build in BUILDS {
+        is_shown(&rt, rt.alloc(), build)?;
     }
     Ok(())
 }
+
+/// The text of a build is the same whether low messages are asked for or not, since it has none.
+fn is_shown<R: Abort>(rt: &R, alloc: Global, build: &Build) -> Result<(), Fail> {
+    let (runs, root, want) = build;
+    is(rt, build_text(alloc, runs, root, false), want)?;
+    is(rt, build_text(alloc, runs, root, true), want)
+}
+
+const WITH_LOW_MESSAGES: &[Run] = &[
+    ("a.proj", "A", &[Ran], &["~1", "-2", "~3", "?4"]),
+    ("a.proj", "B", &[Ran], &["~5"]),
+];
 
 #[test]
 fn low_messages_are_shown_where_they_are_asked_for(rt: HostRuntime) -> Result<(), Fail> {
-    let alloc = rt.alloc();
-    let runs: &[Run] = &[
-        ("a.proj", "A", &[Ran], &["~1", "-2", "~3", "?4"]),
-        ("a.proj", "B", &[Ran], &["~5"]),
-    ];
+    let root: Root = (true, "", &[]);
+    is(
+        &rt,
+        build_text(rt.alloc(), WITH_LOW_MESSAGES, &root, false),
+        "a.proj : a ran\n  2\n  warning: 4\na.proj : b ran\nreturned 0\nbuild succeeded\n",
+    )?;
+    is(
+        &rt,
+        build_text(rt.alloc(), WITH_LOW_MESSAGES, &root, true),
+        "a.proj : a ran\n  1\n  2\n  3\n  warning: 4\na.proj : b ran\n  5\nreturned 0\nbuild succeeded\n",
+    )
+}
+
+fn build_text(alloc: Global, runs: &[Run], root: &Root, low: bool) -> Result<Text8, NameFault> {
     let journal = journal(alloc, runs)?;
-    let root = result(alloc, &(true, "", &[]))?;
-    for (low, want) in [
-        (
-            false,
-            "a.proj : a ran\n  2\n  warning: 4\na.proj : b ran\nreturned 0\nbuild succeeded\n",
-        ),
-        (
-            true,
-            "a.proj : a ran\n  1\n  2\n  3\n  warning: 4\na.proj : b ran\n  5\nreturned 0\nbuild succeeded\n",
-        ),
-    ] {
-        let text = shown(alloc, &root, &journal, low)?;
-        assert_eq!(rt; str::from_utf8(text.as_bytes())?, want);
-    }
-    Ok(())
+    shown_of(alloc, result(alloc, root), &journal, low)
+}
+
+fn shown_of(
+    alloc: Global,
+    root: Result<RequestResult, NameFault>,
+    journal: &Journal,
+    low: bool,
+) -> Result<Text8, NameFault> {
+    Ok(shown(alloc, &root?, journal, low)?)
 }
 
 /// A journal of these runs, each of which has written a file.
-fn journal(alloc: Global, runs: &[Run]) -> Result<Journal, Fail> {
+fn journal(alloc: Global, runs: &[Run]) -> Result<Journal, NameFault> {
     let mut journal = Journal::new(alloc)?;
-    for (instance, target, decisions, texts) in runs {
-        let run = run(alloc, instance, target)?;
-        let put = Put {
-            path: Text::of(alloc, target)?,
-            bytes: Text8::new(alloc),
-        };
-        journal.wrote(alloc, &run, 0, put)?;
-        let made = Record {
-            ok: true,
-            decisions: List::of(alloc, decisions)?,
-            items: List::new(alloc),
-            changes: List::new(alloc),
-            notes: notes(alloc, texts)?,
-            segments: List::new(alloc),
-        };
-        journal.ended(alloc, &run, RecordRef::new(alloc, made)?)?;
+    for run in runs {
+        add_run(alloc, &mut journal, run)?;
     }
     Ok(journal)
 }
 
-fn result(alloc: Global, root: &Root) -> Result<RequestResult, Fail> {
-    let (ok, error, lists) = root;
-    let mut returned = List::new(alloc);
-    for idents in *lists {
-        returned.push(Returned {
-            target: Name::read(alloc, "T")?,
-            items: items(alloc, idents)?,
-        })?;
-    }
-    let error = if error.is_empty() {
-        None
-    } else {
-        Some(Text::of(alloc, error)?)
+fn add_run(alloc: Global, journal: &mut Journal, entry: &Run) -> Result<(), NameFault> {
+    let (instance, target, decisions, texts) = entry;
+    let run = run(alloc, instance, target)?;
+    end_run(
+        alloc,
+        journal,
+        &run,
+        target,
+        record(alloc, decisions, texts),
+    )
+}
+
+fn end_run(
+    alloc: Global,
+    journal: &mut Journal,
+    run: &RunId,
+    path: &str,
+    made: Result<RecordRef, NameFault>,
+) -> Result<(), NameFault> {
+    let made = made?;
+    add_write(alloc, journal, run, path)?;
+    Ok(journal.ended(alloc, run, made)?)
+}
+
+fn add_write(
+    alloc: Global,
+    journal: &mut Journal,
+    run: &RunId,
+    path: &str,
+) -> Result<(), NoMemory> {
+    let put = Put {
+        path: Text::of(alloc, path)?,
+        bytes: Text8::new(alloc),
     };
+    journal.wrote(alloc, run, 0, put)
+}
+
+fn record(alloc: Global, decisions: &[Decision], texts: &[&str]) -> Result<RecordRef, NameFault> {
+    let made = Record {
+        ok: true,
+        notes: notes(alloc, texts)?,
+        decisions: List::of(alloc, decisions)?,
+        items: List::new(alloc),
+        changes: List::new(alloc),
+        segments: List::new(alloc),
+    };
+    Ok(RecordRef::new(alloc, made)?)
+}
+
+fn result(alloc: Global, root: &Root) -> Result<RequestResult, NameFault> {
+    let (ok, error, lists) = root;
     Ok(RequestResult {
         ok: *ok,
         evaluated: true,
-        returned,
+        returned: returned(alloc, lists)?,
+        error: error_text(alloc, error)?,
         runs: List::new(alloc),
-        error,
     })
+}
+
+fn returned(alloc: Global, lists: &[&[&str]]) -> Result<List<Returned>, NameFault> {
+    let mut returned = List::new(alloc);
+    for idents in lists {
+        add_returned(alloc, &mut returned, idents)?;
+    }
+    Ok(returned)
+}
+
+fn add_returned(
+    alloc: Global,
+    returned: &mut List<Returned>,
+    idents: &[&str],
+) -> Result<(), NameFault> {
+    let entry = Returned {
+        target: Name::read(alloc, "T")?,
+        items: items(alloc, idents)?,
+    };
+    Ok(returned.push(entry)?)
+}
+
+fn error_text(alloc: Global, text: &str) -> Result<Option<Text>, NoMemory> {
+    if text.is_empty() {
+        return Ok(None);
+    }
+    Ok(Some(Text::of(alloc, text)?))
 }
