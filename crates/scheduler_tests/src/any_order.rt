@@ -16,7 +16,6 @@ use build_scheduler::{Answer, Ask, Claimed, Core, End, Event, RequestFault, Walk
 use msb_values::{Copied, List, NoMemory};
 use result_cache::{RequestKey, RunId, Table};
 use std::alloc::Global;
-use std::test::Fail;
 
 /// A request with a node, whose walk asks this.
 #[derive(Drop)]
@@ -68,8 +67,16 @@ impl<W: Walker> AnyOrder<W> {
     }
 }
 
-/// What a build of a plan leaves whose events come in the order of this seed, and are looked at.
-pub fn in_any_order(alloc: Global, plan: &Plan, seed: u64) -> Result<Left, Fail> {
+/// What a build leaves whose events are looked at.
+#[derive(Drop)]
+pub struct Watched {
+    pub left: Left,
+    /// The first rule that was broken; empty where none was.
+    pub broken: &'static str,
+}
+
+/// What a build of a plan leaves whose events come in the order of this seed.
+pub fn in_any_order(alloc: Global, plan: &Plan, seed: u64) -> Result<Watched, NoMemory> {
     let key = plan.root.copy()?;
     let walk = Script::start(alloc, plan)?;
     built(alloc, key, walk, &mut (), Random::new(seed))
@@ -81,35 +88,48 @@ fn built<W: Walker>(
     walk: W,
     place: &mut W::Place,
     random: Random,
-) -> Result<Left, Fail>
+) -> Result<Watched, NoMemory>
     requires key { key ≡ (W.world walk).root }
     requires begins { W.position walk ≡ begins (W.world walk) key [] }
     requires asked { W.asked walk ≡ 0 }
     requires learnt { W.learnt walk ≡ [] }
 {
-    let mut watch = Watch::new(alloc)?;
     let core = Core::new(alloc, key, walk)?;
     let mut build = AnyOrder::new(alloc, core);
-    played(alloc, &mut build, &mut watch, place, random)
+    played(alloc, &mut build, place, random)
+}
+
+fn played<W: Walker>(
+    alloc: Global,
+    build: &mut AnyOrder<W>,
+    place: &mut W::Place,
+    random: Random,
+) -> Result<Watched, NoMemory> {
+    let mut watch = Watch::new(alloc)?;
+    play(build, &mut watch, place, random)?;
+    Ok(Watched {
+        left: Left::of(alloc, build.core())?,
+        broken: watch.broken(),
+    })
 }
 
 /// The build goes on to its end.
-fn played<W: Walker>(
-    alloc: Global,
+fn play<W: Walker>(
     build: &mut AnyOrder<W>,
     watch: &mut Watch,
     place: &mut W::Place,
     random: Random,
-) -> Result<Left, Fail> {
+) -> Result<(), NoMemory> {
     let mut random = random;
     for _ in 0..MOST_TURNS {
         build.turn(place, random.next())?;
         watch.look(build.core())?;
         if build.core().end().is_some() {
-            return Ok(Left::of(alloc, build.core())?);
+            return Ok(());
         }
     }
-    Err(Fail::from("the build comes to its end"))
+    watch.rule(false, "the build comes to its end");
+    Ok(())
 }
 
 /// A build that has not ended after so many turns goes on no more.
@@ -181,7 +201,7 @@ fn are_of_others(events: &[Event], id: u64, number: usize) -> bool
 }
 
 /// The request that an event is of.
-fn request_of(event: &Event) -> u64
+pub(crate) fn request_of(event: &Event) -> u64
     ensures { result ≡ whose event.now }
 {
     match event {

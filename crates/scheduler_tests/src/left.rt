@@ -1,7 +1,7 @@
 use build_scheduler::{Core, End, Walker};
 use indexmap::IndexMap;
 use msb_values::{Copied, NoMemory};
-use result_cache::{RecordRef, RunId};
+use result_cache::{RecordRef, RunId, Table};
 use std::alloc::Global;
 
 /// What a build has left.
@@ -15,35 +15,60 @@ pub struct Left {
 
 impl Left {
     pub fn of<W: Walker>(alloc: Global, core: &Core<W>) -> Result<Left, NoMemory> {
-        Ok(Left {
-            end: copied_end(core.end())?,
-            records: records_of(alloc, core)?,
-            events: core.history().len(),
-        })
+        left_of(alloc, core.end(), core.table(), core.history().len())
     }
+}
+
+fn left_of(
+    alloc: Global,
+    end: Option<&End>,
+    table: &Table,
+    events: usize,
+) -> Result<Left, NoMemory> {
+    Ok(Left {
+        end: copied_end(end)?,
+        records: records_of(alloc, table)?,
+        events,
+    })
 }
 
 fn copied_end(end: Option<&End>) -> Result<Option<End>, NoMemory> {
-    let copied = match end {
-        None => return Ok(None),
-        Some(End::Root(told)) => End::Root(told.copy()?),
-        Some(End::Circular(runs)) => End::Circular(runs.copy()?),
-        Some(End::TooDeep(keys)) => End::TooDeep(keys.copy()?),
-        Some(End::TooMany(instance)) => End::TooMany(instance.copy()?),
-        Some(End::NoMemory) => End::NoMemory,
-    };
-    Ok(Some(copied))
+    match end {
+        Some(end) => Ok(Some(copy_of(end)?)),
+        None => Ok(None),
+    }
 }
 
-fn records_of<W: Walker>(
-    alloc: Global,
-    core: &Core<W>,
-) -> Result<IndexMap<RunId, RecordRef>, NoMemory> {
+fn copy_of(end: &End) -> Result<End, NoMemory> {
+    match end {
+        End::Root(told) => Ok(End::Root(told.copy()?)),
+        End::Circular(runs) => Ok(End::Circular(runs.copy()?)),
+        End::TooDeep(keys) => Ok(End::TooDeep(keys.copy()?)),
+        End::TooMany(instance) => Ok(End::TooMany(instance.copy()?)),
+        End::NoMemory => Ok(End::NoMemory),
+    }
+}
+
+fn records_of(alloc: Global, table: &Table) -> Result<IndexMap<RunId, RecordRef>, NoMemory> {
     let mut records = IndexMap::new(alloc);
-    for at in 0..core.table().finished_count() {
-        if let Some((run, made)) = core.table().finished_at(at) {
-            records.insert(run.copy()?, made.copy()?)?;
+    add_records(&mut records, table)?;
+    Ok(records)
+}
+
+fn add_records(records: &mut IndexMap<RunId, RecordRef>, table: &Table) -> Result<(), NoMemory> {
+    for at in 0..table.finished_count() {
+        if let Some((run, made)) = table.finished_at(at) {
+            add_record(records, run.copy()?, made.copy()?)?;
         }
     }
-    Ok(records)
+    Ok(())
+}
+
+fn add_record(
+    records: &mut IndexMap<RunId, RecordRef>,
+    run: RunId,
+    made: RecordRef,
+) -> Result<(), NoMemory> {
+    records.insert(run, made)?;
+    Ok(())
 }

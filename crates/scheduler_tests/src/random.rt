@@ -35,8 +35,19 @@ impl Random {
 /// target or two.
 pub fn world(alloc: Global, seed: u64, may_call_all: bool) -> Result<Plan, NoMemory> {
     let mut random = Random::new(seed);
-    let mut plan = Plan::new(alloc, worlds::request(alloc, 0, 2)?);
+    let mut plan = worlds::rooted(alloc, 2)?;
     let projects = random.below(4).saturating_add(3);
+    add_runs(alloc, &mut plan, &mut random, projects, may_call_all)?;
+    Ok(plan)
+}
+
+fn add_runs(
+    alloc: Global,
+    plan: &mut Plan,
+    random: &mut Random,
+    projects: u64,
+    may_call_all: bool,
+) -> Result<(), NoMemory> {
     for number in 0..projects.saturating_mul(2) {
         let project = number / 2;
         let first = if may_call_all {
@@ -44,10 +55,10 @@ pub fn world(alloc: Global, seed: u64, may_call_all: bool) -> Result<Plan, NoMem
         } else {
             project.saturating_add(1)
         };
-        let calls = some_of(alloc, &mut random, first, projects)?;
-        plan.call(worlds::run(alloc, project, number % 2)?, calls)?;
+        let calls = some_of(alloc, random, first, projects)?;
+        worlds::add_run(plan, worlds::run(alloc, project, number % 2), calls)?;
     }
-    Ok(plan)
+    Ok(())
 }
 
 /// Requests of some of these projects.
@@ -58,10 +69,11 @@ fn some_of(
     end: u64,
 ) -> Result<List<RequestKey>, NoMemory> {
     let mut calls = List::new(alloc);
+    let most = end.saturating_sub(first).max(3);
     for project in first..end {
-        if random.below(end.saturating_sub(first).max(3)) < 2 {
+        if random.below(most) < 2 {
             let targets = random.below(2).saturating_add(1);
-            calls.push(worlds::request(alloc, project, targets)?)?;
+            worlds::add_request(&mut calls, worlds::request(alloc, project, targets))?;
         }
     }
     Ok(calls)
