@@ -1,10 +1,11 @@
 //! The built-in tasks over a tree of `a.txt`, `l.txt`, `out/x.c`, `src/sub/y.c` and `src/x.c`.
 
+use crate::parts::{cut, is, parameters, push_metadata, tree};
 use file_store::{File, Tree};
 use msb_files::{FileView, Journal};
-use msb_values::{Item, List, Name, Note, Pairs, Put, Text, Text8};
-use std::alloc::Global;
-use std::fmt::Write;
+use msb_values::{Item, List, Name, NameFault, NoMemory, Note, Put, Text, Text8};
+use std::alloc::{AllocError, Global};
+use std::process::Abort;
 use std::test::Fail;
 use task_kit::{call, foreign_input, foreign_output};
 use task_trait::{Failure, Param, TaskOutput, ToolAnswer, ToolInput};
@@ -99,312 +100,408 @@ app@createitem Include=../src/*.c,c|Exclude=../src/*,d => ok include(c)
 @readlinesfromfile File=a.txt => unknown
 @exec Command=x => unknown";
 
-/// What stands before and behind the first of these texts.
-fn cut<'a>(text: &'a str, at: &str) -> (&'a str, &'a str) {
-    match text.split_once(at) {
-        Some(parts) => parts,
-        None => (text, ""),
+const FILES: &[(&str, &str)] = &[
+    ("a.txt", "a"),
+    ("l.txt", "1\n"),
+    ("out/x.c", "x"),
+    ("src/sub/y.c", "y"),
+    ("src/x.c", "x"),
+];
+
+fn files(alloc: Global) -> Result<List<File>, NoMemory> {
+    let mut files = List::new(alloc);
+    for (path, text) in FILES {
+        add_file(alloc, &mut files, path, text)?;
     }
+    Ok(files)
 }
 
-/// An item with this K, unless it is empty.
-fn item(alloc: Global, entry: &str) -> Result<Item, Fail> {
-    let (ident, value) = cut(entry, "^");
-    let mut meta = Pairs::new(alloc);
-    if !value.is_empty() {
-        meta.insert(Name::read(alloc, "K")?, Text::of(alloc, value)?)?;
-    }
-    Ok(Item {
-        ident: Text::of(alloc, ident)?,
-        recursive: Text::of(alloc, "")?,
-        meta,
-    })
-}
-
-fn parameters(alloc: Global, rows: &str) -> Result<List<Param>, Fail> {
-    let mut params = List::new(alloc);
-    for row in rows.split('|') {
-        let (key, value) = cut(row, "=");
-        let mut items = List::new(alloc);
-        for entry in value.split(',') {
-            if !value.is_empty() {
-                items.push(item(alloc, entry)?)?;
-            }
-        }
-        if !key.is_empty() {
-            params.push(Param {
-                name: Name::read(alloc, key)?,
-                items,
-            })?;
-        }
-    }
-    Ok(params)
-}
-
-fn file(alloc: Global, path: &str, text: &str) -> Result<File, Fail> {
-    Ok(File {
+fn add_file(alloc: Global, files: &mut List<File>, path: &str, text: &str) -> Result<(), NoMemory> {
+    let file = File {
         path: Text::of(alloc, path)?,
         bytes: Text8::of(alloc, text.as_bytes())?,
         stamp: 1,
-    })
+    };
+    files.push(file)
 }
 
-fn tree(alloc: Global) -> Result<Tree, Fail> {
-    let mut files = List::new(alloc);
-    for (path, text) in [
-        ("a.txt", "a"),
-        ("l.txt", "1\n"),
-        ("out/x.c", "x"),
-        ("src/sub/y.c", "y"),
-        ("src/x.c", "x"),
-    ] {
-        files.push(file(alloc, path, text)?)?;
-    }
-    Ok(Tree::of(files).ok_or("the files are in order")?)
-}
-
-fn push_outputs(shown: &mut String, outputs: &[Param]) -> Result<(), Fail> {
+fn push_outputs(shown: &mut String, outputs: &[Param]) -> Result<(), NoMemory> {
     for param in outputs {
-        write!(shown, " {}", param.name.key())?;
-        for item in param.items.as_slice() {
-            write!(shown, "({}", item.ident.as_str())?;
-            if !item.recursive.as_str().is_empty() {
-                write!(shown, " in {}", item.recursive.as_str())?;
-            }
-            for (name, value) in item.meta.iter() {
-                write!(shown, " {}={}", name.key(), value.as_str())?;
-            }
-            shown.push(')')?;
-        }
+        shown.push(' ')?;
+        shown.push_str(param.name.key())?;
+        push_items(shown, param.items.as_slice())?;
     }
     Ok(())
 }
 
-fn push_files(shown: &mut String, files: &[Put]) -> Result<(), Fail> {
+fn push_items(shown: &mut String, items: &[Item]) -> Result<(), NoMemory> {
+    for item in items {
+        push_item(shown, item)?;
+    }
+    Ok(())
+}
+
+fn push_item(shown: &mut String, item: &Item) -> Result<(), NoMemory> {
+    shown.push('(')?;
+    shown.push_str(item.ident.as_str())?;
+    if !item.recursive.as_str().is_empty() {
+        shown.push_str(" in ")?;
+        shown.push_str(item.recursive.as_str())?;
+    }
+    push_metadata(shown, &item.meta)?;
+    Ok(shown.push(')')?)
+}
+
+fn push_files(shown: &mut String, files: &[Put]) -> Result<(), NoMemory> {
     for put in files {
-        write!(shown, " {}=", put.path.as_str())?;
-        for byte in put.bytes.as_bytes() {
-            shown.push(if *byte == b'\n' { '/' } else { *byte as char })?;
-        }
+        shown.push(' ')?;
+        shown.push_str(put.path.as_str())?;
+        shown.push('=')?;
+        push_bytes(shown, put.bytes.as_bytes())?;
     }
     Ok(())
 }
 
-fn push_notes(shown: &mut String, notes: &[Note]) -> Result<(), Fail> {
+fn push_bytes(shown: &mut String, bytes: &[u8]) -> Result<(), NoMemory> {
+    for byte in bytes {
+        shown.push(if *byte == b'\n' { '/' } else { *byte as char })?;
+    }
+    Ok(())
+}
+
+fn push_notes(shown: &mut String, notes: &[Note]) -> Result<(), NoMemory> {
     for note in notes {
-        let (kind, text) = match note {
-            Note::Low(text) => ('~', text),
-            Note::Message(text) => ('-', text),
-            Note::Warning(text) => ('?', text),
-            Note::Fail(text) => ('!', text),
-        };
-        write!(shown, " {kind}[{}]", text.as_str())?;
+        push_note(shown, note)?;
     }
     Ok(())
 }
 
-fn shown(alloc: Global, output: &TaskOutput) -> Result<String, Fail> {
+fn push_note(shown: &mut String, note: &Note) -> Result<(), NoMemory> {
+    let (kind, text) = match note {
+        Note::Low(text) => (" ~[", text),
+        Note::Message(text) => (" -[", text),
+        Note::Warning(text) => (" ?[", text),
+        Note::Fail(text) => (" ![", text),
+    };
+    shown.push_str(kind)?;
+    shown.push_str(text.as_str())?;
+    Ok(shown.push(']')?)
+}
+
+fn shown(alloc: Global, output: &TaskOutput) -> Result<String, NoMemory> {
     let mut shown = String::from_str(alloc, if output.ok { "ok" } else { "failed" })?;
-    push_outputs(&mut shown, output.outputs.as_slice())?;
-    push_files(&mut shown, output.files.as_slice())?;
-    push_notes(&mut shown, output.notes.as_slice())?;
+    push_output(&mut shown, output)?;
     Ok(shown)
 }
 
-/// What a task makes over a tree, in a run that has written this much before; nothing where it is no built-in task.
-fn made(alloc: Global, tree: &Tree, row: &str, written: u64) -> Result<Option<TaskOutput>, Fail> {
+fn push_output(shown: &mut String, output: &TaskOutput) -> Result<(), NoMemory> {
+    push_outputs(shown, output.outputs.as_slice())?;
+    push_files(shown, output.files.as_slice())?;
+    push_notes(shown, output.notes.as_slice())
+}
+
+/// What a task answers over a tree, in a run that has written this much before.
+fn answer(alloc: Global, tree: &Tree, row: &str, written: u64) -> Result<ToolAnswer, NameFault> {
     let (dir, rest) = cut(row, "@");
     let (task, rows) = cut(rest, " ");
-    let journal = Journal::new(alloc)?;
-    let view = FileView::of(tree, &journal);
     let input = ToolInput {
-        params: parameters(alloc, rows)?,
+        params: parameters(alloc, rows, "K")?,
         files: List::new(alloc),
     };
-    match call(
+    let name = Name::read(alloc, task)?;
+    Ok(answer_to(alloc, tree, &name, dir, &input, written)?)
+}
+
+fn answer_to(
+    alloc: Global,
+    tree: &Tree,
+    name: &Name,
+    dir: &str,
+    input: &ToolInput,
+    written: u64,
+) -> Result<ToolAnswer, NoMemory> {
+    let journal = Journal::new(alloc)?;
+    call(
         alloc,
-        &Name::read(alloc, task)?,
+        name,
         dir,
-        &view,
-        &input,
+        &FileView::of(tree, &journal),
+        input,
         written,
-    )? {
-        ToolAnswer::Made(output) => Ok(Some(output)),
-        ToolAnswer::Unknown => Ok(None),
+    )
+}
+
+fn answer_text(alloc: Global, answer: Result<ToolAnswer, NameFault>) -> Result<String, NameFault> {
+    match answer? {
+        ToolAnswer::Made(output) => Ok(shown(alloc, &output)?),
+        ToolAnswer::Unknown => Ok(String::from_str(alloc, "unknown").map_err(NoMemory::from)?),
     }
 }
 
 #[test]
 fn tasks_answer(rt: HostRuntime) -> Result<(), Fail> {
-    let alloc = rt.alloc();
-    let tree = tree(alloc)?;
+    let tree = tree(files(rt.alloc()))?;
+    all_answer(&rt, rt.alloc(), &tree)
+}
+
+fn all_answer<R: Abort>(rt: &R, alloc: Global, tree: &Tree) -> Result<(), Fail> {
     for row in ROWS.lines() {
-        let (row, wanted) = cut(row, " => ");
-        let shown = match made(alloc, &tree, row, 0)? {
-            Some(output) => shown(alloc, &output)?,
-            None => String::from_str(alloc, "unknown")?,
-        };
-        assert_eq!(rt; shown.as_str(), wanted, "{row}");
+        answers(rt, alloc, tree, row)?;
     }
     Ok(())
 }
 
-/// A tree of one file of this many bytes.
-fn tree_of_size(alloc: Global, size: usize) -> Result<Tree, Fail> {
+fn answers<R: Abort>(rt: &R, alloc: Global, tree: &Tree, row: &str) -> Result<(), Fail> {
+    let (row, want) = cut(row, " => ");
+    is(
+        rt,
+        answer_text(alloc, answer(alloc, tree, row, 0)),
+        want,
+        row,
+    )
+}
+
+/// One file of this many bytes.
+fn file_of_size(alloc: Global, size: usize) -> Result<List<File>, NoMemory> {
     let mut files = List::new(alloc);
-    files.push(File {
+    let file = File {
         path: Text::of(alloc, "big")?,
         bytes: Text8::from(vec![in alloc; b'x'; size]?),
         stamp: 1,
-    })?;
-    Ok(Tree::of(files).ok_or("one file is in order")?)
+    };
+    files.push(file)?;
+    Ok(files)
 }
 
-/// The sizes of the files that a task writes, over a file of this many bytes and in a run that has written so much before;
-/// and its notes.
-fn sizes(alloc: Global, row: &str, size: usize, written: u64) -> Result<String, Fail> {
-    let mut sizes = String::new(alloc);
-    if let Some(output) = made(alloc, &tree_of_size(alloc, size)?, row, written)? {
-        for put in output.files.as_slice() {
-            write!(sizes, " {}", put.bytes.len())?;
-        }
-        push_notes(&mut sizes, output.notes.as_slice())?;
+/// The sizes of the files that a task writes, and its notes.
+fn sizes(alloc: Global, answer: Result<ToolAnswer, NameFault>) -> Result<String, NameFault> {
+    match answer? {
+        ToolAnswer::Made(output) => Ok(sizes_of(alloc, &output)?),
+        ToolAnswer::Unknown => Ok(String::new(alloc)),
     }
+}
+
+fn sizes_of(alloc: Global, output: &TaskOutput) -> Result<String, NoMemory> {
+    let mut sizes = String::new(alloc);
+    push_sizes(alloc, &mut sizes, output.files.as_slice())?;
+    push_notes(&mut sizes, output.notes.as_slice())?;
     Ok(sizes)
 }
 
-// A file may have 16,777,216 bytes, and a run may write 67,108,864.
+fn push_sizes(alloc: Global, sizes: &mut String, files: &[Put]) -> Result<(), NoMemory> {
+    for put in files {
+        push_size(alloc, sizes, put.bytes.len())?;
+    }
+    Ok(())
+}
+
+fn push_size(alloc: Global, sizes: &mut String, size: usize) -> Result<(), AllocError> {
+    sizes.push_str(format!(in alloc; " {size}")?.as_str())
+}
+
+const COPY: &str = "@copy SourceFiles=big|DestinationFiles=./c";
+
+const APPEND: &str = "@writelinestofile File=./big|Lines=x";
+
+/// A task, the size of the file that it reads, how much its run has written before, and the sizes of the files that it writes
+/// and its notes. A file may have 16,777,216 bytes, and a run may write 67,108,864.
+type Limit = (&'static str, usize, u64, &'static str);
+
+const LIMITS: &[Limit] = &[
+    (COPY, 16_777_216, 50_331_648, " 16777216"),
+    (COPY, 16_777_217, 0, " ![copy: too large ./c]"),
+    (
+        APPEND,
+        16_777_215,
+        0,
+        " ![writelinestofile: too large ./big]",
+    ),
+    (APPEND, 0, 67_108_862, " 2"),
+    (
+        APPEND,
+        0,
+        67_108_863,
+        " ![writelinestofile: too large ./big]",
+    ),
+    (COPY, 0, 67_108_864, " 0"),
+    (COPY, 0, 67_108_865, " ![copy: too large ./c]"),
+    (COPY, 1, u64::MAX, " ![copy: too large ./c]"),
+];
+
 #[test]
 fn files_and_runs_have_limits(rt: HostRuntime) -> Result<(), Fail> {
-    let alloc = rt.alloc();
-    let copy = "@copy SourceFiles=big|DestinationFiles=./c";
-    let append = "@writelinestofile File=./big|Lines=x";
-    for (row, size, written, wanted) in [
-        (copy, 16_777_216, 50_331_648, " 16777216"),
-        (copy, 16_777_217, 0, " ![copy: too large ./c]"),
-        (
-            append,
-            16_777_215,
-            0,
-            " ![writelinestofile: too large ./big]",
-        ),
-        (append, 0, 67_108_862, " 2"),
-        (
-            append,
-            0,
-            67_108_863,
-            " ![writelinestofile: too large ./big]",
-        ),
-        (copy, 0, 67_108_864, " 0"),
-        (copy, 0, 67_108_865, " ![copy: too large ./c]"),
-        (copy, 1, u64::MAX, " ![copy: too large ./c]"),
-    ] {
-        let sizes = sizes(alloc, row, size, written)?;
-        assert_eq!(rt; sizes.as_str(), wanted, "{row} {size} {written}");
+    for limit in LIMITS {
+        has_limit(&rt, rt.alloc(), limit)?;
     }
     Ok(())
 }
 
-fn push_handed(shown: &mut String, input: &ToolInput) -> Result<(), Fail> {
-    for file in input.files.as_slice() {
-        let there = file.content.is_some();
-        write!(shown, "{} {there} ", file.path.as_str())?;
-    }
-    Ok(())
+fn has_limit<R: Abort>(rt: &R, alloc: Global, limit: &Limit) -> Result<(), Fail> {
+    let (row, size, written, want) = limit;
+    let tree = tree(file_of_size(alloc, *size))?;
+    let got = sizes(alloc, answer(alloc, &tree, row, *written));
+    is_within(rt, got, want, row, *size, *written)
 }
 
-fn push_failure(shown: &mut String, failure: &Failure) -> Result<(), Fail> {
-    match failure {
-        Failure::BadParameter(name) => write!(shown, "bad {}", name.as_str())?,
-        _ => shown.push_str("another failure")?,
-    }
+/// The text is made, and it is the one that is wanted for a row with these numbers.
+fn is_within<R: Abort>(
+    rt: &R,
+    got: Result<String, NameFault>,
+    want: &str,
+    row: &str,
+    size: usize,
+    written: u64,
+) -> Result<(), Fail> {
+    let got = got?;
+    assert_eq!(*rt; got.as_str(), want, "{row} {size} {written}");
     Ok(())
 }
 
 /// What is handed to a tool: each file's path, and whether it is there; or why it can't be called.
-fn handed(alloc: Global, rows: &str) -> Result<String, Fail> {
-    let tree = tree(alloc)?;
+fn handed(alloc: Global, tree: &Tree, rows: &str) -> Result<String, NameFault> {
+    let params = parameters(alloc, rows, "K")?;
+    Ok(handed_of(alloc, tree, params)?)
+}
+
+fn handed_of(alloc: Global, tree: &Tree, params: List<Param>) -> Result<String, NoMemory> {
     let journal = Journal::new(alloc)?;
-    let view = FileView::of(&tree, &journal);
+    let view = FileView::of(tree, &journal);
+    shown_input(alloc, foreign_input(alloc, "src", &view, params))
+}
+
+fn shown_input(alloc: Global, input: Result<ToolInput, Failure>) -> Result<String, NoMemory> {
     let mut shown = String::new(alloc);
-    match foreign_input(alloc, "src", &view, parameters(alloc, rows)?) {
+    match input {
         Ok(input) => push_handed(&mut shown, &input)?,
         Err(failure) => push_failure(&mut shown, &failure)?,
     }
     Ok(shown)
 }
 
-#[test]
-fn tools_are_handed_files(rt: HostRuntime) -> Result<(), Fail> {
-    let alloc = rt.alloc();
-    for (rows, wanted) in [
-        (
-            "Sources=x.c,../no.c,/a.txt",
-            "src/x.c true no.c false a.txt true ",
-        ),
-        ("Sources=", ""),
-        ("Other=x.c", ""),
-        ("Sources=x.c,..", "bad sources"),
-    ] {
-        let shown = handed(alloc, rows)?;
-        assert_eq!(rt; shown.as_str(), wanted, "{rows}");
+fn push_handed(shown: &mut String, input: &ToolInput) -> Result<(), NoMemory> {
+    for file in input.files.as_slice() {
+        let there = file.content.is_some();
+        shown.push_str(file.path.as_str())?;
+        shown.push_str(if there { " true " } else { " false " })?;
     }
     Ok(())
 }
 
-/// What is taken from a tool that writes files of three bytes at these paths, in a run that has written this much before.
-fn taken(alloc: Global, ok: bool, paths: &str, written: u64) -> Result<String, Fail> {
+fn push_failure(shown: &mut String, failure: &Failure) -> Result<(), NoMemory> {
+    match failure {
+        Failure::BadParameter(name) => {
+            shown.push_str("bad ")?;
+            shown.push_str(name.as_str())?;
+        }
+        _ => shown.push_str("another failure")?,
+    }
+    Ok(())
+}
+
+const HANDED: &[(&str, &str)] = &[
+    (
+        "Sources=x.c,../no.c,/a.txt",
+        "src/x.c true no.c false a.txt true ",
+    ),
+    ("Sources=", ""),
+    ("Other=x.c", ""),
+    ("Sources=x.c,..", "bad sources"),
+];
+
+#[test]
+fn tools_are_handed_files(rt: HostRuntime) -> Result<(), Fail> {
+    let tree = tree(files(rt.alloc()))?;
+    all_are_handed(&rt, rt.alloc(), &tree)
+}
+
+fn all_are_handed<R: Abort>(rt: &R, alloc: Global, tree: &Tree) -> Result<(), Fail> {
+    for (rows, want) in HANDED {
+        is(rt, handed(alloc, tree, rows), want, rows)?;
+    }
+    Ok(())
+}
+
+/// What a tool has made that writes files of three bytes at these paths.
+fn made(alloc: Global, ok: bool, paths: &str) -> Result<TaskOutput, NameFault> {
+    Ok(TaskOutput {
+        ok,
+        outputs: parameters(alloc, "Out=x", "K")?,
+        files: written_files(alloc, paths)?,
+        notes: one_note(alloc)?,
+    })
+}
+
+fn written_files(alloc: Global, paths: &str) -> Result<List<Put>, NoMemory> {
     let mut files = List::new(alloc);
     for path in paths.split(',') {
-        files.push(Put {
-            path: Text::of(alloc, path)?,
-            bytes: Text8::of(alloc, b"abc")?,
-        })?;
+        add_written(alloc, &mut files, path)?;
     }
+    Ok(files)
+}
+
+fn add_written(alloc: Global, files: &mut List<Put>, path: &str) -> Result<(), NoMemory> {
+    let put = Put {
+        path: Text::of(alloc, path)?,
+        bytes: Text8::of(alloc, b"abc")?,
+    };
+    files.push(put)
+}
+
+fn one_note(alloc: Global) -> Result<List<Note>, NoMemory> {
     let mut notes = List::new(alloc);
     notes.push(Note::Message(Text::of(alloc, "note")?))?;
-    let made = TaskOutput {
-        ok,
-        outputs: parameters(alloc, "Out=x")?,
-        files,
-        notes,
-    };
-    let name = Name::read(alloc, "Tool")?;
-    let output = foreign_output(alloc, &name, ToolAnswer::Made(made), written)?;
-    shown(alloc, &output)
+    Ok(notes)
 }
+
+/// What is taken from a tool, in a run that has written this much before.
+fn taken(alloc: Global, answer: ToolAnswer, written: u64) -> Result<String, NameFault> {
+    let name = Name::read(alloc, "Tool")?;
+    let output = foreign_output(alloc, &name, answer, written)?;
+    Ok(shown(alloc, &output)?)
+}
+
+/// Whether a tool succeeds, the paths at which it writes, how much its run has written before, and what is taken.
+type Taken = (bool, &'static str, u64, &'static str);
+
+const TAKEN: &[Taken] = &[
+    (true, "a,b/c", 67_108_858, "ok out(x) a=abc b/c=abc -[note]"),
+    (false, "a,b/c", 0, "failed out(x) a=abc b/c=abc -[note]"),
+    (
+        true,
+        "a,b/c",
+        67_108_859,
+        "failed out(x) a=abc -[note] ![tool: too large b/c]",
+    ),
+    (
+        true,
+        "a,./b,c",
+        0,
+        "failed out(x) a=abc -[note] ![tool: bad path ./b]",
+    ),
+    (
+        true,
+        "/a",
+        67_108_864,
+        "failed out(x) -[note] ![tool: bad path /a]",
+    ),
+];
 
 #[test]
 fn tools_answers_are_taken(rt: HostRuntime) -> Result<(), Fail> {
-    let alloc = rt.alloc();
-    for (ok, paths, written, wanted) in [
-        (true, "a,b/c", 67_108_858, "ok out(x) a=abc b/c=abc -[note]"),
-        (false, "a,b/c", 0, "failed out(x) a=abc b/c=abc -[note]"),
-        (
-            true,
-            "a,b/c",
-            67_108_859,
-            "failed out(x) a=abc -[note] ![tool: too large b/c]",
-        ),
-        (
-            true,
-            "a,./b,c",
-            0,
-            "failed out(x) a=abc -[note] ![tool: bad path ./b]",
-        ),
-        (
-            true,
-            "/a",
-            67_108_864,
-            "failed out(x) -[note] ![tool: bad path /a]",
-        ),
-    ] {
-        let shown = taken(alloc, ok, paths, written)?;
-        assert_eq!(rt; shown.as_str(), wanted, "{paths} {written}");
+    for row in TAKEN {
+        is_taken(&rt, rt.alloc(), row)?;
     }
-    let name = Name::read(alloc, "Tool")?;
-    let output = foreign_output(alloc, &name, ToolAnswer::Unknown, 0)?;
-    let shown = shown(alloc, &output)?;
-    assert_eq!(rt; shown.as_str(), "failed ![tool: unknown task]");
-    Ok(())
+    is(
+        &rt,
+        taken(rt.alloc(), ToolAnswer::Unknown, 0),
+        "failed ![tool: unknown task]",
+        "unknown",
+    )
+}
+
+fn is_taken<R: Abort>(rt: &R, alloc: Global, row: &Taken) -> Result<(), Fail> {
+    let (ok, paths, written, want) = row;
+    let made = made(alloc, *ok, paths)?;
+    let got = taken(alloc, ToolAnswer::Made(made), *written);
+    is_within(rt, got, want, paths, 3, *written)
 }

@@ -6,3 +6,5 @@
 mod built_in;
 #[cfg(test)]
 mod msbuild;
+#[cfg(test)]
+mod parts;

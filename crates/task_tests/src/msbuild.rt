@@ -1,13 +1,14 @@
 //! The MSBuild task over a tree of `a.proj`, `b.proj` and `app/c.proj`.
 
+use crate::parts::{add_pair, cut, is, item, parameters, push_metadata, tree};
 use file_store::{File, Tree};
-use msb_values::{Copied, InstanceKey, Item, List, Name, Note, Pairs, Text, Text8};
+use msb_values::{InstanceKey, Item, List, Name, NameFault, NoMemory, Note, Pairs, Text, Text8};
 use result_cache::{RequestKey, RequestResult, Returned};
-use std::alloc::Global;
-use std::fmt::Write;
+use std::alloc::{AllocError, Global};
+use std::process::Abort;
 use std::test::Fail;
 use task_msbuild::{Plan, gather, plan};
-use task_trait::{Param, ToolInput};
+use task_trait::{Param, TaskOutput, ToolInput};
 
 /// The folder of the caller, the parameters with `|` between them, whose items have a `,` between them and perhaps
 /// AdditionalProperties behind a `^`; and the requests with `/` between them, how they are called, and the notes.
@@ -70,243 +71,362 @@ app Projects=a.proj => ! msbuild: no project a.proj
  Projects=a.proj|Targets=1|StopOnFirstFailure=x|SkipNonexistentProjects=x => ! msbuild: bad skipnonexistentprojects
  Projects=a.proj|Targets=1|StopOnFirstFailure=x => ! msbuild: bad stoponfirstfailure";
 
-/// What stands before and behind the first of these texts.
-fn cut<'a>(text: &'a str, at: &str) -> (&'a str, &'a str) {
-    match text.split_once(at) {
-        Some(parts) => parts,
-        None => (text, ""),
-    }
-}
-
-fn text(alloc: Global, text: &str) -> Result<Text, Fail> {
-    Ok(Text::of(alloc, text)?)
-}
-
-fn name(alloc: Global, text: &str) -> Result<Name, Fail> {
-    Ok(Name::read(alloc, text)?)
-}
-
-/// An item with this metadata, unless its text is empty.
-fn item(alloc: Global, ident: &str, metadata: &str, value: &str) -> Result<Item, Fail> {
-    let mut meta = Pairs::new(alloc);
-    if !value.is_empty() {
-        meta.insert(name(alloc, metadata)?, text(alloc, value)?)?;
-    }
-    Ok(Item {
-        ident: text(alloc, ident)?,
-        recursive: text(alloc, "")?,
-        meta,
-    })
-}
-
-fn parameter(alloc: Global, row: &str) -> Result<Param, Fail> {
-    let (key, value) = cut(row, "=");
-    let mut items = List::new(alloc);
-    for entry in value.split(',') {
-        if !value.is_empty() {
-            let (ident, additional) = cut(entry, "^");
-            items.push(item(alloc, ident, "AdditionalProperties", additional)?)?;
-        }
-    }
-    Ok(Param {
-        name: name(alloc, key)?,
-        items,
-    })
-}
-
-fn tree(alloc: Global) -> Result<Tree, Fail> {
+fn files(alloc: Global) -> Result<List<File>, NoMemory> {
     let mut files = List::new(alloc);
-    for path in ["a.proj", "app/c.proj", "b.proj"] {
-        files.push(File {
-            path: text(alloc, path)?,
-            bytes: Text8::new(alloc),
-            stamp: 1,
-        })?;
-    }
-    Ok(Tree::of(files).ok_or("the files are in order")?)
+    add_file(alloc, &mut files, "a.proj")?;
+    add_file(alloc, &mut files, "app/c.proj")?;
+    add_file(alloc, &mut files, "b.proj")?;
+    Ok(files)
 }
 
-/// The plan for a folder and parameters, of a caller with two global properties.
-fn planned(alloc: Global, row: &str) -> Result<Plan, Fail> {
+fn add_file(alloc: Global, files: &mut List<File>, path: &str) -> Result<(), NoMemory> {
+    files.push(File {
+        path: Text::of(alloc, path)?,
+        bytes: Text8::new(alloc),
+        stamp: 1,
+    })
+}
+
+/// The caller's global properties.
+fn globals(alloc: Global) -> Result<Pairs, NameFault> {
+    let mut globals = Pairs::new(alloc);
+    add_pair(alloc, &mut globals, "C", "1")?;
+    add_pair(alloc, &mut globals, "D", "2")?;
+    Ok(globals)
+}
+
+/// The plan for a folder and parameters.
+fn planned(alloc: Global, tree: &Tree, row: &str) -> Result<Plan, NameFault> {
     let (dir, rows) = cut(row, " ");
-    let mut params = List::new(alloc);
-    for row in rows.split('|') {
-        params.push(parameter(alloc, row)?)?;
-    }
     let input = ToolInput {
-        params,
+        params: parameters(alloc, rows, "AdditionalProperties")?,
         files: List::new(alloc),
     };
-    let mut globals = Pairs::new(alloc);
-    globals.insert(name(alloc, "C")?, text(alloc, "1")?)?;
-    globals.insert(name(alloc, "D")?, text(alloc, "2")?)?;
-    Ok(plan(alloc, &tree(alloc)?, dir, &globals, &input)?)
+    planned_in(alloc, tree, dir, globals(alloc), &input)
 }
 
-fn push_call(shown: &mut String, alloc: Global, call: &RequestKey) -> Result<(), Fail> {
+fn planned_in(
+    alloc: Global,
+    tree: &Tree,
+    dir: &str,
+    globals: Result<Pairs, NameFault>,
+    input: &ToolInput,
+) -> Result<Plan, NameFault> {
+    Ok(plan(alloc, tree, dir, &globals?, input)?)
+}
+
+/// A word, and ahead of it a space where there are others.
+fn push_word(shown: &mut String, word: &str) -> Result<(), AllocError> {
     if !shown.is_empty() {
-        shown.push('/')?;
+        shown.push(' ')?;
     }
-    write!(shown, "{}", call.instance.shown(alloc)?.as_str())?;
+    shown.push_str(word)
+}
+
+fn push_calls(alloc: Global, shown: &mut String, calls: &[RequestKey]) -> Result<(), NoMemory> {
+    for call in calls {
+        if !shown.is_empty() {
+            shown.push('/')?;
+        }
+        push_instance(alloc, shown, &call.instance)?;
+        push_targets(shown, call)?;
+    }
+    Ok(())
+}
+
+fn push_instance(
+    alloc: Global,
+    shown: &mut String,
+    instance: &InstanceKey,
+) -> Result<(), NoMemory> {
+    Ok(shown.push_str(instance.shown(alloc)?.as_str())?)
+}
+
+fn push_targets(shown: &mut String, call: &RequestKey) -> Result<(), NoMemory> {
     if !call.named {
         shown.push_str(" default")?;
     }
     let mut between = ' ';
     for target in call.targets.as_slice() {
-        write!(shown, "{between}{}", target.key())?;
+        shown.push(between)?;
+        shown.push_str(target.key())?;
         between = ';';
     }
     Ok(())
 }
 
-fn push_notes(shown: &mut String, notes: &[Note]) -> Result<(), Fail> {
+fn push_notes(shown: &mut String, notes: &[Note]) -> Result<(), NoMemory> {
     for note in notes {
-        match note {
-            Note::Fail(text) => write!(shown, " ! {}", text.as_str())?,
-            _ => shown.push_str(" another note")?,
-        }
+        push_note(shown, note)?;
     }
     Ok(())
 }
 
-fn shown(alloc: Global, plan: &Plan) -> Result<String, Fail> {
-    let mut shown = String::new(alloc);
-    for call in plan.calls.as_slice() {
-        push_call(&mut shown, alloc, call)?;
+fn push_note(shown: &mut String, note: &Note) -> Result<(), NoMemory> {
+    match note {
+        Note::Fail(text) => {
+            push_word(shown, "!")?;
+            push_word(shown, text.as_str())?;
+        }
+        _ => push_word(shown, "another note")?,
     }
+    Ok(())
+}
+
+fn push_plan(alloc: Global, shown: &mut String, plan: &Plan) -> Result<(), NoMemory> {
+    push_calls(alloc, shown, plan.calls.as_slice())?;
     if plan.calls.is_empty() && plan.notes.is_empty() {
-        shown.push_str("nothing")?;
+        push_word(shown, "nothing")?;
     }
     if plan.parallel {
-        shown.push_str(" at once")?;
+        push_word(shown, "at once")?;
     }
     if plan.stop_first {
-        shown.push_str(" until one fails")?;
+        push_word(shown, "until one fails")?;
     }
-    push_notes(&mut shown, plan.notes.as_slice())?;
+    push_notes(shown, plan.notes.as_slice())?;
     if plan.ok != plan.notes.is_empty() {
-        shown.push_str(" not so")?;
+        push_word(shown, "not so")?;
     }
+    Ok(())
+}
+
+fn plan_text(alloc: Global, plan: Result<Plan, NameFault>) -> Result<String, NameFault> {
+    let plan = plan?;
+    let mut shown = String::new(alloc);
+    push_plan(alloc, &mut shown, &plan)?;
     Ok(shown)
 }
 
 #[test]
 fn calls_are_planned(rt: HostRuntime) -> Result<(), Fail> {
+    let tree = tree(files(rt.alloc()))?;
+    all_are_planned(&rt, rt.alloc(), &tree)
+}
+
+fn all_are_planned<R: Abort>(rt: &R, alloc: Global, tree: &Tree) -> Result<(), Fail> {
     for row in PLANS.lines() {
-        let (row, wanted) = cut(row, " => ");
-        let plan = planned(rt.alloc(), row)?;
-        let shown = shown(rt.alloc(), &plan)?;
-        assert_eq!(rt; shown.as_str().trim_start(), wanted, "{row}");
+        is_planned(rt, alloc, tree, row)?;
     }
     Ok(())
 }
 
+fn is_planned<R: Abort>(rt: &R, alloc: Global, tree: &Tree, row: &str) -> Result<(), Fail> {
+    let (row, want) = cut(row, " => ");
+    is(rt, plan_text(alloc, planned(alloc, tree, row)), want, row)
+}
+
+/// Whether a request succeeds, whether its project could be evaluated, and its error or none.
+type Outcome = (bool, bool, &'static str);
+
 /// A result with an item that a target has returned, or with an error.
-fn outcome(
-    alloc: Global,
-    ok: bool,
-    evaluated: bool,
-    error: Option<&str>,
-) -> Result<RequestResult, Fail> {
-    let mut items = List::new(alloc);
-    items.push(item(alloc, "x%3By", "K", "a%25")?)?;
-    let mut returned = List::new(alloc);
-    returned.push(Returned {
-        target: name(alloc, "Build")?,
-        items,
-    })?;
-    let error = match error {
-        Some(error) => Some(text(alloc, error)?),
-        None => None,
-    };
+fn result(alloc: Global, outcome: &Outcome) -> Result<RequestResult, NameFault> {
+    let (ok, evaluated, error) = outcome;
     Ok(RequestResult {
-        ok,
-        evaluated,
-        returned,
+        ok: *ok,
+        evaluated: *evaluated,
+        returned: returned(alloc)?,
+        error: error_text(alloc, error)?,
         runs: List::new(alloc),
-        error,
     })
 }
 
-fn gathered(alloc: Global, plan: &Plan, results: &List<RequestResult>) -> Result<String, Fail> {
-    if results.len() > plan.calls.len() {
-        return Ok(String::from_str(alloc, "more results than calls")?);
-    }
-    let output = gather(alloc, plan, results)?;
-    let mut shown = String::from_str(alloc, if output.ok { "ok" } else { "failed" })?;
-    for param in output.outputs.as_slice() {
-        write!(shown, " {}", param.name.key())?;
-        for item in param.items.as_slice() {
-            write!(shown, " ({}", item.ident.as_str())?;
-            for (name, value) in item.meta.iter() {
-                write!(shown, " {}={}", name.key(), value.as_str())?;
-            }
-            shown.push(')')?;
-        }
-    }
-    push_notes(&mut shown, output.notes.as_slice())?;
-    Ok(shown)
+fn returned(alloc: Global) -> Result<List<Returned>, NameFault> {
+    let mut returned = List::new(alloc);
+    let entry = Returned {
+        target: Name::read(alloc, "Build")?,
+        items: one_item(alloc)?,
+    };
+    returned.push(entry)?;
+    Ok(returned)
 }
 
-/// How many calls come next behind so many results, of which the last failed.
-fn next_after(alloc: Global, row: &str, made: usize) -> Result<usize, Fail> {
-    let plan = planned(alloc, row)?;
-    let mut results = List::new(alloc);
-    for number in 0..made {
-        results.push(outcome(alloc, number + 1 < made, true, None)?)?;
-    }
-    Ok(plan.next(&results).len())
+fn one_item(alloc: Global) -> Result<List<Item>, NameFault> {
+    let mut items = List::new(alloc);
+    items.push(item(alloc, "x%3By", "K", "a%25")?)?;
+    Ok(items)
 }
+
+fn error_text(alloc: Global, text: &str) -> Result<Option<Text>, NoMemory> {
+    if text.is_empty() {
+        return Ok(None);
+    }
+    Ok(Some(Text::of(alloc, text)?))
+}
+
+fn add_result(
+    results: &mut List<RequestResult>,
+    made: Result<RequestResult, NameFault>,
+) -> Result<(), NameFault> {
+    Ok(results.push(made?)?)
+}
+
+/// So many results, of which the last failed.
+fn results_until_one_fails(alloc: Global, count: usize) -> Result<List<RequestResult>, NameFault> {
+    let mut results = List::new(alloc);
+    for number in 0..count {
+        add_result(&mut results, result(alloc, &(number + 1 < count, true, "")))?;
+    }
+    Ok(results)
+}
+
+/// How many calls come next behind these results.
+fn next_after(
+    plan: Result<Plan, NameFault>,
+    results: Result<List<RequestResult>, NameFault>,
+) -> Result<usize, NameFault> {
+    let plan = plan?;
+    Ok(plan.next(&results?).len())
+}
+
+const ONE_BY_ONE: &str = " Projects=a.proj,b.proj,a.proj";
+
+const AT_ONCE: &str = " Projects=a.proj,b.proj,a.proj|BuildInParallel=true|StopOnFirstFailure=true";
+
+const STOPPING: &str = " Projects=a.proj,b.proj,a.proj|StopOnFirstFailure=true";
+
+/// The parameters, how many results are there, of which the last failed, and how many calls come next.
+const TURNS: &[(&str, usize, usize)] = &[
+    (ONE_BY_ONE, 0, 1),
+    (ONE_BY_ONE, 2, 1),
+    (ONE_BY_ONE, 3, 0),
+    (AT_ONCE, 0, 3),
+    (AT_ONCE, 3, 0),
+    (STOPPING, 0, 1),
+    (STOPPING, 1, 0),
+];
 
 #[test]
 fn calls_are_made_in_turn(rt: HostRuntime) -> Result<(), Fail> {
-    let alloc = rt.alloc();
-    let one_by_one = " Projects=a.proj,b.proj,a.proj";
-    let at_once = " Projects=a.proj,b.proj,a.proj|BuildInParallel=true|StopOnFirstFailure=true";
-    let stopping = " Projects=a.proj,b.proj,a.proj|StopOnFirstFailure=true";
-    for (row, made, next) in [
-        (one_by_one, 0, 1),
-        (one_by_one, 2, 1),
-        (one_by_one, 3, 0),
-        (at_once, 0, 3),
-        (at_once, 3, 0),
-        (stopping, 0, 1),
-        (stopping, 1, 0),
-    ] {
-        assert_eq!(rt; next_after(alloc, row, made)?, next);
+    let tree = tree(files(rt.alloc()))?;
+    all_are_made_in_turn(&rt, rt.alloc(), &tree)
+}
+
+fn all_are_made_in_turn<R: Abort>(rt: &R, alloc: Global, tree: &Tree) -> Result<(), Fail> {
+    for (row, made, next) in TURNS {
+        let results = results_until_one_fails(alloc, *made);
+        are_next(rt, planned(alloc, tree, row), results, *next, row)?;
     }
     Ok(())
+}
+
+fn are_next<R: Abort>(
+    rt: &R,
+    plan: Result<Plan, NameFault>,
+    results: Result<List<RequestResult>, NameFault>,
+    want: usize,
+    row: &str,
+) -> Result<(), Fail> {
+    assert_eq!(*rt; next_after(plan, results)?, want, "{row}");
+    Ok(())
+}
+
+fn push_outputs(shown: &mut String, outputs: &[Param]) -> Result<(), NoMemory> {
+    for param in outputs {
+        push_word(shown, param.name.key())?;
+        push_items(shown, param.items.as_slice())?;
+    }
+    Ok(())
+}
+
+fn push_items(shown: &mut String, items: &[Item]) -> Result<(), NoMemory> {
+    for item in items {
+        shown.push_str(" (")?;
+        shown.push_str(item.ident.as_str())?;
+        push_metadata(shown, &item.meta)?;
+        shown.push(')')?;
+    }
+    Ok(())
+}
+
+fn push_output(shown: &mut String, output: &TaskOutput) -> Result<(), NoMemory> {
+    push_word(shown, if output.ok { "ok" } else { "failed" })?;
+    push_outputs(shown, output.outputs.as_slice())?;
+    push_notes(shown, output.notes.as_slice())
+}
+
+fn push_gathered(
+    alloc: Global,
+    shown: &mut String,
+    plan: &Plan,
+    results: &List<RequestResult>,
+) -> Result<(), NoMemory> {
+    if results.len() > plan.calls.len() {
+        return Ok(push_word(shown, "more results than calls")?);
+    }
+    let output = gather(alloc, plan, results)?;
+    push_output(shown, &output)
+}
+
+fn gathered(
+    alloc: Global,
+    plan: Result<Plan, NameFault>,
+    results: &List<RequestResult>,
+) -> Result<String, NameFault> {
+    let plan = plan?;
+    let mut shown = String::new(alloc);
+    push_gathered(alloc, &mut shown, &plan, results)?;
+    Ok(shown)
+}
+
+fn results(alloc: Global, outcomes: &[Outcome]) -> Result<List<RequestResult>, NameFault> {
+    let mut results = List::new(alloc);
+    for outcome in outcomes {
+        add_result(&mut results, result(alloc, outcome))?;
+    }
+    Ok(results)
+}
+
+/// What is gathered of these outcomes of the calls of a plan is the text that is wanted.
+fn is_gathered<R: Abort>(
+    rt: &R,
+    alloc: Global,
+    plan: Result<Plan, NameFault>,
+    outcomes: &[Outcome],
+    want: &str,
+) -> Result<(), Fail> {
+    let results = results(alloc, outcomes)?;
+    is(rt, gathered(alloc, plan, &results), want, "gathered")
 }
 
 #[test]
 fn results_are_gathered(rt: HostRuntime) -> Result<(), Fail> {
-    let alloc = rt.alloc();
-    let plan = planned(alloc, " Projects=b.proj,a.proj,no.proj,b.proj,a.proj")?;
-    let mut results = List::new(alloc);
-    let none = gathered(alloc, &plan, &results)?;
-    assert_eq!(rt;
-        none.as_str(),
-        "failed targetoutputs ! msbuild: no project no.proj"
-    );
-    results.push(outcome(alloc, true, true, None)?)?;
-    results.push(outcome(alloc, false, true, Some("no targets"))?)?;
-    results.push(outcome(alloc, false, false, Some("b.proj /: 1 NotJson"))?)?;
-    results.push(outcome(alloc, false, true, None)?)?;
-    let all = gathered(alloc, &plan, &results)?;
-    assert_eq!(rt;
-        all.as_str(),
+    let tree = tree(files(rt.alloc()))?;
+    failures_are_gathered(&rt, rt.alloc(), &tree)?;
+    items_are_gathered(&rt, rt.alloc(), &tree)
+}
+
+fn failures_are_gathered<R: Abort>(rt: &R, alloc: Global, tree: &Tree) -> Result<(), Fail> {
+    let row = " Projects=b.proj,a.proj,no.proj,b.proj,a.proj";
+    is_gathered(
+        rt,
+        alloc,
+        planned(alloc, tree, row),
+        &[],
+        "failed targetoutputs ! msbuild: no project no.proj",
+    )?;
+    is_gathered(
+        rt,
+        alloc,
+        planned(alloc, tree, row),
+        &[
+            (true, true, ""),
+            (false, true, "no targets"),
+            (false, false, "b.proj /: 1 NotJson"),
+            (false, true, ""),
+        ],
         "failed targetoutputs (x;y k=a% msbuildsourceprojectfile=/b.proj msbuildsourcetargetname=build) \
-! msbuild: no project no.proj ! a.proj [c=1;d=2]: no targets ! b.proj /: 1 NotJson ! a.proj [c=1;d=2]: request failed"
-    );
-    let plan = planned(alloc, " Projects=a.proj,b.proj")?;
-    let mut results = List::new(alloc);
-    results.push(outcome(alloc, true, true, None)?)?;
-    results.push(outcome(alloc, true, true, None)?)?;
-    let both = gathered(alloc, &plan, &results)?;
-    assert_eq!(rt;
-        both.as_str(),
+! msbuild: no project no.proj ! a.proj [c=1;d=2]: no targets ! b.proj /: 1 NotJson ! a.proj [c=1;d=2]: request failed",
+    )
+}
+
+fn items_are_gathered<R: Abort>(rt: &R, alloc: Global, tree: &Tree) -> Result<(), Fail> {
+    is_gathered(
+        rt,
+        alloc,
+        planned(alloc, tree, " Projects=a.proj,b.proj"),
+        &[(true, true, ""), (true, true, "")],
         "ok targetoutputs (x;y k=a% msbuildsourceprojectfile=/a.proj msbuildsourcetargetname=build) \
-(x;y k=a% msbuildsourceprojectfile=/b.proj msbuildsourcetargetname=build)"
-    );
-    Ok(())
+(x;y k=a% msbuildsourceprojectfile=/b.proj msbuildsourcetargetname=build)",
+    )
 }
