@@ -1,6 +1,8 @@
 //! Which entries of Include, Exclude, Remove and Update are patterns, and what they name.
 
 use crate::projects::shown;
+use std::alloc::Global;
+use std::process::Abort;
 use std::test::Fail;
 
 // The item elements of a group, and the items that are there after them.
@@ -71,46 +73,55 @@ const ENTRIES: &[(&str, &str)] = &[
     ),
 ];
 
+// The item elements of a group, and their fault.
+const FAULTS: &[(&str, &str)] = &[
+    (
+        r#"{"e":"Z","a":{"Include":"a**"}}"#,
+        "app/a.proj /0/0: 20 StarsInSegment",
+    ),
+    (
+        r#"{"e":"Z","a":{"Include":"a"}},{"e":"Z","a":{"Remove":"a**"}}"#,
+        "app/a.proj /0/1: 20 StarsInSegment",
+    ),
+    (
+        r#"{"e":"Z","a":{"FullPath":"x","Include":"a"}}"#,
+        "app/a.proj /0/0: 23 Reserved fullpath",
+    ),
+];
+
+/// Wants this of a group of these item elements, behind these elements.
+fn gives<R: Abort>(
+    rt: &R,
+    alloc: Global,
+    front: &str,
+    items: &str,
+    want: &str,
+) -> Result<(), Fail> {
+    let elements = format!(in alloc; "{front}{{\"e\":\"ItemGroup\",\"c\":[{items}]}}")?;
+    let told = shown(alloc, elements.as_str())?;
+    assert_eq!(*rt; told.as_bytes(), want.as_bytes(), "{items}");
+    Ok(())
+}
+
+const SOURCES: &str = r#"{"e":"PropertyGroup","c":[{"e":"Sources","t":"*.c"}]},"#;
+
+fn gives_items<R: Abort>(rt: &R, alloc: Global, items: &str, want: &str) -> Result<(), Fail> {
+    let want = format!(in alloc; "property sources=*.c\n{want}")?;
+    gives(rt, alloc, SOURCES, items, want.as_str())
+}
+
 #[test]
 fn entries_give_and_name_these_items(rt: HostRuntime) -> Result<(), Fail> {
-    let alloc = rt.alloc();
     for (items, want) in ENTRIES {
-        let elements = format!(in alloc;
-            "{{\"e\":\"PropertyGroup\",\"c\":[{{\"e\":\"Sources\",\"t\":\"*.c\"}}]}},{{\"e\":\"ItemGroup\",\"c\":[{items}]}}"
-        )?;
-        let want = format!(in alloc; "property sources=*.c\n{want}")?;
-        assert_eq!(rt;
-            shown(alloc, elements.as_str())?.as_bytes(),
-            want.as_bytes(),
-            "{items}"
-        );
+        gives_items(&rt, rt.alloc(), items, want)?;
     }
     Ok(())
 }
 
 #[test]
 fn faults_are_told_at_their_elements(rt: HostRuntime) -> Result<(), Fail> {
-    let alloc = rt.alloc();
-    for (items, want) in [
-        (
-            r#"{"e":"Z","a":{"Include":"a**"}}"#,
-            "app/a.proj /0/0: 20 StarsInSegment",
-        ),
-        (
-            r#"{"e":"Z","a":{"Include":"a"}},{"e":"Z","a":{"Remove":"a**"}}"#,
-            "app/a.proj /0/1: 20 StarsInSegment",
-        ),
-        (
-            r#"{"e":"Z","a":{"FullPath":"x","Include":"a"}}"#,
-            "app/a.proj /0/0: 23 Reserved fullpath",
-        ),
-    ] {
-        let group = format!(in alloc; "{{\"e\":\"ItemGroup\",\"c\":[{items}]}}")?;
-        assert_eq!(rt;
-            shown(alloc, group.as_str())?.as_bytes(),
-            want.as_bytes(),
-            "{items}"
-        );
+    for (items, want) in FAULTS {
+        gives(&rt, rt.alloc(), "", items, want)?;
     }
     Ok(())
 }
