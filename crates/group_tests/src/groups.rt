@@ -1,8 +1,15 @@
 //! Groups of properties and items, and what they change.
 
 use crate::stories::changes;
+use msb_values::{NoMemory, Text};
 use std::alloc::Global;
+use std::process::Abort;
 use std::test::Fail;
+
+fn gives<R: Abort>(rt: &R, told: Result<Text, Fail>, want: &str) -> Result<(), Fail> {
+    assert_eq!(*rt; told?.as_str(), want);
+    Ok(())
+}
 
 /// Elements of a PropertyGroup, and the changes.
 const PROPERTIES: &[(&str, &str)] = &[
@@ -306,65 +313,71 @@ const FAULTS: &[(&str, &str)] = &[
 
 #[test]
 fn property_groups_set_these_properties(rt: HostRuntime) -> Result<(), Fail> {
-    let differing = differing(rt.alloc(), "PropertyGroup", PROPERTIES)?;
-    assert_eq!(rt; differing.as_str(), "");
-    Ok(())
+    gives(&rt, differing(rt.alloc(), "PropertyGroup", PROPERTIES), "")
 }
 
 #[test]
 fn item_groups_make_these_changes(rt: HostRuntime) -> Result<(), Fail> {
-    let differing = differing(rt.alloc(), "ItemGroup", ITEMS)?;
-    assert_eq!(rt; differing.as_str(), "");
-    Ok(())
+    gives(&rt, differing(rt.alloc(), "ItemGroup", ITEMS), "")
 }
 
 #[test]
 fn item_groups_have_these_faults(rt: HostRuntime) -> Result<(), Fail> {
-    let differing = differing(rt.alloc(), "ItemGroup", FAULTS)?;
-    assert_eq!(rt; differing.as_str(), "");
-    Ok(())
+    gives(&rt, differing(rt.alloc(), "ItemGroup", FAULTS), "")
 }
 
 /// The elements of groups of which the changes are others than those beside them, and these changes.
-fn differing(alloc: Global, group: &str, rows: &[(&str, &str)]) -> Result<String, Fail> {
-    let mut differing = String::new(alloc);
+fn differing(alloc: Global, group: &str, rows: &[(&str, &str)]) -> Result<Text, Fail> {
+    let mut differing = Text::of(alloc, "")?;
     for (elements, want) in rows {
-        let group = format!(in alloc; "{{\"e\":\"{group}\",\"c\":[{elements}]}}")?;
-        let told = changes(alloc, group.as_str())?;
-        if told.as_str() != *want {
-            differing.push_str(elements)?;
-            differing.push_str(told.as_str())?;
-        }
+        let told = changes_of(alloc, group, elements)?;
+        push_differing(&mut differing, elements, told.as_str(), want)?;
     }
     Ok(differing)
 }
 
+fn changes_of(alloc: Global, group: &str, elements: &str) -> Result<Text, Fail> {
+    let group = format!(in alloc; "{{\"e\":\"{group}\",\"c\":[{elements}]}}")?;
+    changes(alloc, group.as_str())
+}
+
+fn push_differing(text: &mut Text, row: &str, told: &str, want: &str) -> Result<(), NoMemory> {
+    if told == want {
+        return Ok(());
+    }
+    text.push_str(row)?;
+    text.push_str(told)
+}
+
+/// Groups with a Condition, and the changes.
+const CONDITIONS: &[(&str, &str)] = &[
+    (
+        r#"{"e":"ItemGroup","a":{"Condition":"'@(X)' == ''"},"c":[{"e":"Z","a":{"Include":"a"}}]}"#,
+        "",
+    ),
+    (
+        r#"{"e":"PropertyGroup","a":{"Condition":"Exists('new.c')"},"c":[{"e":"Q","t":"1"}]}"#,
+        "set q=1\n",
+    ),
+    (
+        r#"{"e":"PropertyGroup","a":{"Condition":"'%(X.K)' == ''"},"c":[]}"#,
+        "app/a.proj /3/0: 12 MetadataHere",
+    ),
+    (
+        r#"{"e":"ItemGroup","a":{"Condition":"false","Label":"$("},"c":[{"e":"Z","a":{"Include":"a@(X)"}}]}"#,
+        "",
+    ),
+    (
+        r#"{"e":"ItemGroup","a":{"Condition":"'$(P)'"},"c":[]}"#,
+        "app/a.proj /3/0: 17 NotBoolean p",
+    ),
+];
+
 #[test]
 fn a_group_has_a_condition(rt: HostRuntime) -> Result<(), Fail> {
     let alloc = rt.alloc();
-    for (group, want) in [
-        (
-            r#"{"e":"ItemGroup","a":{"Condition":"'@(X)' == ''"},"c":[{"e":"Z","a":{"Include":"a"}}]}"#,
-            "",
-        ),
-        (
-            r#"{"e":"PropertyGroup","a":{"Condition":"Exists('new.c')"},"c":[{"e":"Q","t":"1"}]}"#,
-            "set q=1\n",
-        ),
-        (
-            r#"{"e":"PropertyGroup","a":{"Condition":"'%(X.K)' == ''"},"c":[]}"#,
-            "app/a.proj /3/0: 12 MetadataHere",
-        ),
-        (
-            r#"{"e":"ItemGroup","a":{"Condition":"false","Label":"$("},"c":[{"e":"Z","a":{"Include":"a@(X)"}}]}"#,
-            "",
-        ),
-        (
-            r#"{"e":"ItemGroup","a":{"Condition":"'$(P)'"},"c":[]}"#,
-            "app/a.proj /3/0: 17 NotBoolean p",
-        ),
-    ] {
-        assert_eq!(rt; changes(alloc, group)?.as_str(), want, "{group}");
+    for (group, want) in CONDITIONS {
+        gives(&rt, changes(alloc, group), want)?;
     }
     Ok(())
 }
