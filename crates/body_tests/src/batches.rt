@@ -1,6 +1,6 @@
 //! Targets in several buckets. (MSBuild batching.)
 
-use crate::stories::told;
+use crate::stories::{comes_to, told};
 use std::test::Fail;
 
 /// Attributes of the target, children, and what the run comes to.
@@ -98,8 +98,8 @@ const BATCHES: &[(&str, &str, &str)] = &[
 fn targets_are_run_in_buckets(rt: HostRuntime) -> Result<(), Fail> {
     let alloc = rt.alloc();
     for (attributes, children, want) in BATCHES {
-        let told = told(alloc, attributes, children)?;
-        assert_eq!(rt; told.as_str(), *want, "{attributes} {children}");
+        let told = told(alloc, attributes, children);
+        comes_to(&rt, told, attributes, children, want)?;
     }
     Ok(())
 }

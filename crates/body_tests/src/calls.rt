@@ -1,6 +1,6 @@
 //! Targets that call requests by the MSBuild task. (MSBuild task.)
 
-use crate::stories::told;
+use crate::stories::{comes_to, told};
 use std::test::Fail;
 
 /// Children, and what the run asks for and comes to. The request to `b.proj` succeeds with an item, that to `c.proj` fails, that to
@@ -56,7 +56,7 @@ const CALLS: &[(&str, &str)] = &[
 fn requests_are_called(rt: HostRuntime) -> Result<(), Fail> {
     let alloc = rt.alloc();
     for (children, want) in CALLS {
-        assert_eq!(rt; told(alloc, "", children)?.as_str(), *want, "{children}");
+        comes_to(&rt, told(alloc, "", children), "", children, want)?;
     }
     Ok(())
 }
@@ -64,13 +64,14 @@ fn requests_are_called(rt: HostRuntime) -> Result<(), Fail> {
 // A target in buckets calls in each of them, and each goes on where it was left.
 #[test]
 fn buckets_call(rt: HostRuntime) -> Result<(), Fail> {
-    let alloc = rt.alloc();
+    let attributes = r#","Outputs":"%(X.K)""#;
     let children =
         r#"{"e":"PropertyGroup","c":[{"e":"P","t":"$(P)1"}]},{"e":"MSBuild","a":{"Projects":"b.proj","Targets":"%(X.Identity)"}},{"e":"Message","a":{"Text":"$(P) @(X)"}}"#;
-    let told = told(alloc, r#","Outputs":"%(X.K)""#, children)?;
-    assert_eq!(rt;
-        told.as_str(),
-        "ask app/b.proj [g=g] a\nask app/b.proj [g=g] b\nask app/b.proj [g=g] c\nok: ran, ran\nset p=p1\nset p=p1\n- p1 a;b\n- p1 c\nreturns red blue\ncall app/b.proj [g=g] a: app/b.proj [g=g] a\ncall app/b.proj [g=g] b: app/b.proj [g=g] b\ncall app/b.proj [g=g] c: app/b.proj [g=g] c\n"
-    );
-    Ok(())
+    comes_to(
+        &rt,
+        told(rt.alloc(), attributes, children),
+        attributes,
+        children,
+        "ask app/b.proj [g=g] a\nask app/b.proj [g=g] b\nask app/b.proj [g=g] c\nok: ran, ran\nset p=p1\nset p=p1\n- p1 a;b\n- p1 c\nreturns red blue\ncall app/b.proj [g=g] a: app/b.proj [g=g] a\ncall app/b.proj [g=g] b: app/b.proj [g=g] b\ncall app/b.proj [g=g] c: app/b.proj [g=g] c\n",
+    )
 }

@@ -1,6 +1,6 @@
 //! The children of a target in order: groups, tasks and OnError elements. (Target element.)
 
-use crate::stories::told;
+use crate::stories::{comes_to, told};
 use std::test::Fail;
 
 /// Children, and what the run comes to.
@@ -61,7 +61,7 @@ const CHILDREN: &[(&str, &str)] = &[
 fn children_are_run_in_order(rt: HostRuntime) -> Result<(), Fail> {
     let alloc = rt.alloc();
     for (children, want) in CHILDREN {
-        assert_eq!(rt; told(alloc, "", children)?.as_str(), *want, "{children}");
+        comes_to(&rt, told(alloc, "", children), "", children, want)?;
     }
     Ok(())
 }

@@ -1,7 +1,9 @@
 //! What is decided of a target with Inputs and Outputs, and what it then does. (How to build incrementally.)
 
-use crate::stories::{told, told_in};
-use msb_values::Mode;
+use crate::stories::{comes_to, told, told_in};
+use msb_values::{Mode, NoMemory, Text};
+use std::alloc::Global;
+use std::process::Abort;
 use std::test::Fail;
 
 const RAN: &str = "ok: ran\n- called\n";
@@ -145,15 +147,36 @@ const INFERRED: &[(&str, &str)] = &[
     ),
 ];
 
+/// A child that tells that it is called.
+const CALLED: &str = r#"{"e":"Message","a":{"Text":"called"}}"#;
+
+/// Two texts, one behind the other.
+fn joined(alloc: Global, first: &str, last: &str) -> Result<Text, NoMemory> {
+    let mut text = Text::of(alloc, first)?;
+    text.push_str(last)?;
+    Ok(text)
+}
+
+/// Wants this of the run of a target with these Inputs, Outputs and children.
+fn decides<R: Abort>(
+    rt: &R,
+    alloc: Global,
+    lists: (&str, &str),
+    children: &str,
+    want: &str,
+) -> Result<(), Fail> {
+    let (inputs, outputs) = lists;
+    let attributes = format!(in alloc; ",\"Inputs\":\"{inputs}\",\"Outputs\":\"{outputs}\"")?;
+    let told = told(alloc, attributes.as_str(), children);
+    comes_to(rt, told, attributes.as_str(), children, want)
+}
+
 #[test]
 fn runs_are_decided(rt: HostRuntime) -> Result<(), Fail> {
     let alloc = rt.alloc();
-    for (inputs, outputs, comes_to, returned) in DECISIONS {
-        let attributes = format!(in alloc; ",\"Inputs\":\"{inputs}\",\"Outputs\":\"{outputs}\"")?;
-        let children = r#"{"e":"Message","a":{"Text":"called"}}"#;
-        let want = format!(in alloc; "{comes_to}{returned}")?;
-        let told = told(alloc, attributes.as_str(), children)?;
-        assert_eq!(rt; told.as_str(), want.as_str(), "{inputs} {outputs}");
+    for (inputs, outputs, decided, returned) in DECISIONS {
+        let want = joined(alloc, decided, returned)?;
+        decides(&rt, alloc, (inputs, outputs), CALLED, want.as_str())?;
     }
     Ok(())
 }
@@ -162,10 +185,8 @@ fn runs_are_decided(rt: HostRuntime) -> Result<(), Fail> {
 fn paths_may_be_bad(rt: HostRuntime) -> Result<(), Fail> {
     let alloc = rt.alloc();
     for (inputs, outputs, fault) in FAULTS {
-        let attributes = format!(in alloc; ",\"Inputs\":\"{inputs}\",\"Outputs\":\"{outputs}\"")?;
         let want = format!(in alloc; "failed: failed\n! app/a.proj /2: {fault}\n")?;
-        let told = told(alloc, attributes.as_str(), "")?;
-        assert_eq!(rt; told.as_str(), want.as_str(), "{inputs} {outputs}");
+        decides(&rt, alloc, (inputs, outputs), "", want.as_str())?;
     }
     Ok(())
 }
@@ -174,7 +195,6 @@ fn paths_may_be_bad(rt: HostRuntime) -> Result<(), Fail> {
 #[test]
 fn one_list_alone_decides_nothing(rt: HostRuntime) -> Result<(), Fail> {
     let alloc = rt.alloc();
-    let children = r#"{"e":"Message","a":{"Text":"called"}}"#;
     for (attributes, want) in [
         (r#","Inputs":"..""#, "ok: ran\n- called\n"),
         (
@@ -182,11 +202,8 @@ fn one_list_alone_decides_nothing(rt: HostRuntime) -> Result<(), Fail> {
             "ok: ran\n- called\nreturns two.o ..\n",
         ),
     ] {
-        assert_eq!(rt;
-            told(alloc, attributes, children)?.as_str(),
-            want,
-            "{attributes}"
-        );
+        let told = told(alloc, attributes, CALLED);
+        comes_to(&rt, told, attributes, CALLED, want)?;
     }
     Ok(())
 }
@@ -195,8 +212,8 @@ fn one_list_alone_decides_nothing(rt: HostRuntime) -> Result<(), Fail> {
 fn a_part_of_the_items_may_be_out_of_date(rt: HostRuntime) -> Result<(), Fail> {
     let alloc = rt.alloc();
     for (children, want) in PARTS {
-        let told = told(alloc, ONE_BY_ONE, children)?;
-        assert_eq!(rt; told.as_str(), *want, "{children}");
+        let told = told(alloc, ONE_BY_ONE, children);
+        comes_to(&rt, told, ONE_BY_ONE, children, want)?;
     }
     Ok(())
 }
@@ -222,9 +239,7 @@ fn other_lists_are_taken_whole(rt: HostRuntime) -> Result<(), Fail> {
             "ok: ran, up to date, up to date\n- one.c\nreturns one.o two.o three.o\n",
         ),
     ] {
-        let attributes = format!(in alloc; ",\"Inputs\":\"{inputs}\",\"Outputs\":\"{outputs}\"")?;
-        let told = told(alloc, attributes.as_str(), children)?;
-        assert_eq!(rt; told.as_str(), want, "{inputs} {outputs}");
+        decides(&rt, alloc, (inputs, outputs), children, want)?;
     }
     Ok(())
 }
@@ -233,8 +248,8 @@ fn other_lists_are_taken_whole(rt: HostRuntime) -> Result<(), Fail> {
 fn outputs_are_inferred(rt: HostRuntime) -> Result<(), Fail> {
     let alloc = rt.alloc();
     for (children, want) in INFERRED {
-        let told = told(alloc, SKIPPED, children)?;
-        assert_eq!(rt; told.as_str(), *want, "{children}");
+        let told = told(alloc, SKIPPED, children);
+        comes_to(&rt, told, SKIPPED, children, want)?;
     }
     Ok(())
 }
@@ -242,12 +257,10 @@ fn outputs_are_inferred(rt: HostRuntime) -> Result<(), Fail> {
 // Where there is nothing to do the children are passed over, whatever they are.
 #[test]
 fn children_are_passed_over(rt: HostRuntime) -> Result<(), Fail> {
-    let alloc = rt.alloc();
     let children =
         r#"{"e":"PropertyGroup","c":[{"e":"Q","t":"1"}]},{"e":"CreateItem","a":{"Include":"$("}}"#;
-    let told = told(alloc, r#","Inputs":"","Outputs":"two.o""#, children)?;
-    assert_eq!(rt; told.as_str(), "ok: nothing to do\nreturns two.o\n");
-    Ok(())
+    let want = "ok: nothing to do\nreturns two.o\n";
+    decides(&rt, rt.alloc(), ("", "two.o"), children, want)
 }
 
 #[test]
@@ -265,8 +278,8 @@ fn a_clean_build_runs_what_is_up_to_date(rt: HostRuntime) -> Result<(), Fail> {
             "ok: nothing to do\nreturns two.o\n",
         ),
     ] {
-        let told = told_in(alloc, Mode::Clean, attributes, children)?;
-        assert_eq!(rt; told.as_str(), want, "{attributes}");
+        let told = told_in(alloc, Mode::Clean, attributes, children);
+        comes_to(&rt, told, attributes, children, want)?;
     }
     Ok(())
 }

@@ -1,6 +1,6 @@
 //! Faults in the texts of a target's children: which of them comes first, and where it is told.
 
-use crate::stories::{told, told_imported};
+use crate::stories::{comes_to, told, told_imported};
 use std::test::Fail;
 
 /// Children, and the fault, which stops the run.
@@ -81,11 +81,8 @@ fn faults_stop_a_run(rt: HostRuntime) -> Result<(), Fail> {
     let alloc = rt.alloc();
     for (children, fault) in FAULTS {
         let want = format!(in alloc; "failed: failed\n! app/a.proj {fault}\n")?;
-        assert_eq!(rt;
-            told(alloc, "", children)?.as_str(),
-            want.as_str(),
-            "{children}"
-        );
+        let told = told(alloc, "", children);
+        comes_to(&rt, told, "", children, want.as_str())?;
     }
     Ok(())
 }
@@ -94,7 +91,7 @@ fn faults_stop_a_run(rt: HostRuntime) -> Result<(), Fail> {
 fn outputs_may_have_faults(rt: HostRuntime) -> Result<(), Fail> {
     let alloc = rt.alloc();
     for (children, want) in OUTPUT_FAULTS {
-        assert_eq!(rt; told(alloc, "", children)?.as_str(), *want, "{children}");
+        comes_to(&rt, told(alloc, "", children), "", children, want)?;
     }
     Ok(())
 }
@@ -120,8 +117,8 @@ fn an_imported_target_has_its_faults_in_its_file(rt: HostRuntime) -> Result<(), 
             "failed: failed\n- t\n! app/sub/t.targets /0/1: 13 UnknownFunction Nope\n",
         ),
     ] {
-        let told = told_imported(alloc, attributes, children)?;
-        assert_eq!(rt; told.as_str(), want, "{attributes} {children}");
+        let told = told_imported(alloc, attributes, children);
+        comes_to(&rt, told, attributes, children, want)?;
     }
     Ok(())
 }

@@ -1,6 +1,6 @@
 //! The items that a target returns. (Target element, Returns and KeepDuplicateOutputs.)
 
-use crate::stories::told;
+use crate::stories::{comes_to, told};
 use std::test::Fail;
 
 /// Attributes of the target, children, and what the run comes to.
@@ -86,8 +86,8 @@ const RETURNED: &[(&str, &str, &str)] = &[
 fn targets_return_items(rt: HostRuntime) -> Result<(), Fail> {
     let alloc = rt.alloc();
     for (attributes, children, want) in RETURNED {
-        let told = told(alloc, attributes, children)?;
-        assert_eq!(rt; told.as_str(), *want, "{attributes} {children}");
+        let told = told(alloc, attributes, children);
+        comes_to(&rt, told, attributes, children, want)?;
     }
     Ok(())
 }

@@ -7,18 +7,21 @@ ghost use Rattle.body_tests.specs.Readiness.{IsReady};
 
 use crate::echo::Echo;
 use crate::shown::{push_ask, push_record, push_uses};
-use build_world::{Instance, World};
+use build_world::{EvalFault, Instance, World};
 use file_store::{File, Tree};
 use msb_files::Journal;
 use msb_instance::evaluate;
-use msb_values::{Copied, InstanceKey, Item, List, Mode, Name, Pairs, Put, Text, Text8};
+use msb_values::{Copied, InstanceKey, Item, List, Mode, Name, NoMemory, Pairs, Put, Text, Text8};
 use result_cache::{RequestKey, RequestResult, Returned, RunId};
 use std::alloc::Global;
+use std::process::Abort;
 use std::test::Fail;
 use target_body::{Body, BodyAsk};
 use task_trait::{Counted, CountedTools};
 
-/// The project `app/a.proj`, up to the attributes of its target T.
+const PROJECT: &str = "app/a.proj";
+
+/// The project, up to the attributes of its target T.
 const FRONT: &str = r#"{"e":"Project","c":[
 {"e":"PropertyGroup","c":[{"e":"P","t":"p"}]},
 {"e":"ItemGroup","c":[
@@ -51,6 +54,18 @@ const LATER_FILES: &[(&str, &str, u64)] = &[
     ("app/two.o", "", 2),
 ];
 
+/// Wants this of the run of a target with these attributes and children.
+pub fn comes_to<R: Abort>(
+    rt: &R,
+    told: Result<Text, Fail>,
+    attributes: &str,
+    children: &str,
+    want: &str,
+) -> Result<(), Fail> {
+    assert_eq!(*rt; told?.as_str(), want, "{attributes} {children}");
+    Ok(())
+}
+
 /// What the run of a target comes to that has these attributes besides its Name and these children.
 pub fn told(alloc: Global, attributes: &str, children: &str) -> Result<Text, Fail> {
     told_in(alloc, Mode::Incremental, attributes, children)
@@ -69,25 +84,42 @@ pub fn told_imported(alloc: Global, attributes: &str, children: &str) -> Result<
 }
 
 fn told_of(alloc: Global, mode: Mode, project: &str, imported: &str) -> Result<Text, Fail> {
-    let key = key(alloc, "app/a.proj")?;
-    let world = World {
+    let world = world(alloc, mode, project, imported)?;
+    told_in_world(alloc, &world, &run(alloc, "T")?)
+}
+
+fn world(alloc: Global, mode: Mode, project: &str, imported: &str) -> Result<World, Fail> {
+    Ok(World {
         tree: tree(alloc, project, imported)?,
-        root: key.path.copy()?,
-        globals: key.globals.copy()?,
+        root: Text::of(alloc, PROJECT)?,
+        globals: globals(alloc)?,
         targets: List::new(alloc),
         mode,
-    };
-    if world.tree.find(key.path.as_str()).is_none() {
-        return Err(Fail::from("the project is there"));
+    })
+}
+
+fn told_in_world(alloc: Global, world: &World, run: &RunId) -> Result<Text, Fail> {
+    if world.tree.find(run.instance.path.as_str()).is_none() {
+        return Err(Fail::new("the project is there"));
     }
-    let Ok(instance) = evaluate(alloc, &world.tree, &key) else {
-        return Err(Fail::from("the project has no fault"));
-    };
-    let run = RunId {
-        instance: key,
-        target: Name::read(alloc, "T")?,
-    };
-    played(alloc, &world, &instance, &run)
+    told_of_outcome(
+        alloc,
+        world,
+        evaluate(alloc, &world.tree, &run.instance),
+        run,
+    )
+}
+
+fn told_of_outcome(
+    alloc: Global,
+    world: &World,
+    outcome: Result<Instance, EvalFault>,
+    run: &RunId,
+) -> Result<Text, Fail> {
+    match outcome {
+        Ok(instance) => played(alloc, world, &instance, run),
+        Err(_) => Err(Fail::new("the project has no fault")),
+    }
 }
 
 /// The requests that the run asks for, its record and its uses of tools.
@@ -95,15 +127,15 @@ fn played(alloc: Global, world: &World, instance: &Instance, run: &RunId) -> Res
     let Some(_) = instance.targets.find(&run.target) else {
         return Err(Fail::from("the target is there"));
     };
-    let mut told = String::new(alloc);
+    let mut told = Text::of(alloc, "")?;
     let mut tools = Counted::new(alloc, &Echo)?;
     push_run(&mut told, alloc, world, instance, run, &mut tools)?;
-    push_uses(&mut told, tools.calls())?;
-    Ok(Text::from(told))
+    push_uses(&mut told, alloc, tools.calls())?;
+    Ok(told)
 }
 
 fn push_run<T: CountedTools>(
-    told: &mut String,
+    told: &mut Text,
     alloc: Global,
     world: &World,
     instance: &Instance,
@@ -119,7 +151,7 @@ fn push_run<T: CountedTools>(
 
 /// The steps of the body up to its end.
 fn push_steps<T: CountedTools>(
-    told: &mut String,
+    told: &mut Text,
     alloc: Global,
     world: &World,
     instance: &Instance,
@@ -150,7 +182,7 @@ fn push_steps<T: CountedTools>(
 
 /// One step of the body, and the results of the requests that it asks for. At its end there are none.
 fn step<T: CountedTools>(
-    told: &mut String,
+    told: &mut Text,
     alloc: Global,
     world: &World,
     instance: &Instance,
@@ -177,7 +209,7 @@ fn step<T: CountedTools>(
 
 /// Writes out the requests that a body asks for, and gives what they give.
 fn asked(
-    told: &mut String,
+    told: &mut Text,
     alloc: Global,
     keys: &List<RequestKey>,
 ) -> Result<List<RequestResult>, Fail>
@@ -202,13 +234,9 @@ fn answers(alloc: Global, keys: &List<RequestKey>) -> Result<List<RequestResult>
 fn answer(alloc: Global, key: &RequestKey) -> Result<RequestResult, Fail> {
     match key.instance.path.as_str() {
         "app/b.proj" => succeeded(alloc, key),
-        "app/c.proj" => failed(alloc, true, None),
-        "app/d.proj" => failed(
-            alloc,
-            false,
-            Some(Text::of(alloc, "app/d.proj /: 1 NotJson")?),
-        ),
-        _ => failed(alloc, true, Some(Text::of(alloc, "unknown target nope")?)),
+        "app/c.proj" => Ok(failed(alloc, true, None)),
+        "app/d.proj" => Ok(failed_by(alloc, false, "app/d.proj /: 1 NotJson")?),
+        _ => Ok(failed_by(alloc, true, "unknown target nope")?),
     }
 }
 
@@ -217,41 +245,61 @@ fn succeeded(alloc: Global, key: &RequestKey) -> Result<RequestResult, Fail> {
         Some(target) => target.copy()?,
         None => Name::read(alloc, "Build")?,
     };
+    Ok(RequestResult {
+        ok: true,
+        evaluated: true,
+        returned: returned(alloc, &target)?,
+        runs: runs(alloc, key, &target)?,
+        error: None,
+    })
+}
+
+/// A run of a target in the instance of a request.
+fn runs(alloc: Global, key: &RequestKey, target: &Name) -> Result<List<RunId>, NoMemory> {
+    let mut runs = List::new(alloc);
+    runs.push(RunId {
+        instance: key.instance.copy()?,
+        target: target.copy()?,
+    })?;
+    Ok(runs)
+}
+
+fn returned(alloc: Global, target: &Name) -> Result<List<Returned>, NoMemory> {
+    let mut returned = List::new(alloc);
+    returned.push(Returned {
+        target: target.copy()?,
+        items: items(alloc)?,
+    })?;
+    Ok(returned)
+}
+
+fn items(alloc: Global) -> Result<List<Item>, NoMemory> {
     let mut items = List::new(alloc);
     items.push(Item {
         ident: Text::of(alloc, "b.out")?,
         recursive: Text::of(alloc, "")?,
         meta: Pairs::new(alloc),
     })?;
-    let mut runs = List::new(alloc);
-    runs.push(RunId {
-        instance: key.instance.copy()?,
-        target: target.copy()?,
-    })?;
-    let mut returned = List::new(alloc);
-    returned.push(Returned { target, items })?;
-    Ok(RequestResult {
-        ok: true,
-        evaluated: true,
-        returned,
-        runs,
-        error: None,
-    })
+    Ok(items)
 }
 
-fn failed(alloc: Global, evaluated: bool, error: Option<Text>) -> Result<RequestResult, Fail> {
-    Ok(RequestResult {
+fn failed_by(alloc: Global, evaluated: bool, error: &str) -> Result<RequestResult, NoMemory> {
+    Ok(failed(alloc, evaluated, Some(Text::of(alloc, error)?)))
+}
+
+fn failed(alloc: Global, evaluated: bool, error: Option<Text>) -> RequestResult {
+    RequestResult {
         ok: false,
         evaluated,
         returned: List::new(alloc),
         runs: List::new(alloc),
         error,
-    })
+    }
 }
 
 fn tree(alloc: Global, project: &str, imported: &str) -> Result<Tree, Fail> {
     let mut files = List::new(alloc);
-    files.push(file(alloc, "app/a.proj", project, 1)?)?;
+    files.push(file(alloc, PROJECT, project, 1)?)?;
     push_files(alloc, &mut files, FILES)?;
     files.push(file(alloc, "app/sub/t.targets", imported, 1)?)?;
     push_files(alloc, &mut files, LATER_FILES)?;
@@ -262,14 +310,14 @@ fn push_files(
     alloc: Global,
     files: &mut List<File>,
     more: &[(&str, &str, u64)],
-) -> Result<(), Fail> {
+) -> Result<(), NoMemory> {
     for (path, text, stamp) in more {
         files.push(file(alloc, path, text, *stamp)?)?;
     }
     Ok(())
 }
 
-fn file(alloc: Global, path: &str, text: &str, stamp: u64) -> Result<File, Fail> {
+fn file(alloc: Global, path: &str, text: &str, stamp: u64) -> Result<File, NoMemory> {
     Ok(File {
         path: Text::of(alloc, path)?,
         bytes: Text8::of(alloc, text.as_bytes())?,
@@ -277,26 +325,34 @@ fn file(alloc: Global, path: &str, text: &str, stamp: u64) -> Result<File, Fail>
     })
 }
 
-fn key(alloc: Global, path: &str) -> Result<InstanceKey, Fail> {
+fn globals(alloc: Global) -> Result<Pairs, Fail> {
     let mut globals = Pairs::new(alloc);
     globals.insert(Name::read(alloc, "G")?, Text::of(alloc, "g")?)?;
-    Ok(InstanceKey {
-        path: Text::of(alloc, path)?,
-        globals,
+    Ok(globals)
+}
+
+/// The run of a target of the project.
+fn run(alloc: Global, target: &str) -> Result<RunId, Fail> {
+    let instance = InstanceKey {
+        path: Text::of(alloc, PROJECT)?,
+        globals: globals(alloc)?,
+    };
+    Ok(RunId {
+        instance,
+        target: Name::read(alloc, target)?,
     })
 }
 
 /// A run ahead of this one has written `app/new.c`.
 fn journal(alloc: Global) -> Result<Journal, Fail> {
     let mut journal = Journal::new(alloc)?;
-    let run = RunId {
-        instance: key(alloc, "app/a.proj")?,
-        target: Name::read(alloc, "Before")?,
-    };
-    let put = Put {
+    journal.wrote(alloc, &run(alloc, "Before")?, 0, put(alloc)?)?;
+    Ok(journal)
+}
+
+fn put(alloc: Global) -> Result<Put, NoMemory> {
+    Ok(Put {
         path: Text::of(alloc, "app/new.c")?,
         bytes: Text8::of(alloc, b"")?,
-    };
-    journal.wrote(alloc, &run, 0, put)?;
-    Ok(journal)
+    })
 }

@@ -1,6 +1,8 @@
 //! Task elements: their buckets, their parameters, their Outputs, and what comes of one that fails. (Task element.)
 
-use crate::stories::told;
+use crate::stories::{comes_to, told};
+use std::alloc::Global;
+use std::process::Abort;
 use std::test::Fail;
 
 /// Children, and what the run comes to.
@@ -128,26 +130,29 @@ const FAILURES: &[(&str, &str)] = &[
 fn tasks_are_called(rt: HostRuntime) -> Result<(), Fail> {
     let alloc = rt.alloc();
     for (children, want) in TASKS {
-        assert_eq!(rt; told(alloc, "", children)?.as_str(), *want, "{children}");
+        comes_to(&rt, told(alloc, "", children), "", children, want)?;
     }
     Ok(())
 }
 
+/// Wants this of a failed task with this ContinueOnError, and another behind it.
+fn fails<R: Abort>(rt: &R, alloc: Global, written: &str, want: &str) -> Result<(), Fail> {
+    let children = format!(in alloc;
+        "{{\"e\":\"Error\",\"a\":{{\"ContinueOnError\":\"{written}\",\"Text\":\"e\"}}}},{{\"e\":\"Message\",\"a\":{{\"Text\":\"next\"}}}}"
+    )?;
+    let told = told(alloc, "", children.as_str());
+    comes_to(rt, told, "", children.as_str(), want)
+}
+
 #[test]
 fn a_task_may_fail(rt: HostRuntime) -> Result<(), Fail> {
-    let alloc = rt.alloc();
     for (written, want) in FAILURES {
-        let children = format!(in alloc;
-            "{{\"e\":\"Error\",\"a\":{{\"ContinueOnError\":\"{written}\",\"Text\":\"e\"}}}},{{\"e\":\"Message\",\"a\":{{\"Text\":\"next\"}}}}"
-        )?;
-        assert_eq!(rt;
-            told(alloc, "", children.as_str())?.as_str(),
-            *want,
-            "{written}"
-        );
+        fails(&rt, rt.alloc(), written, want)?;
     }
     Ok(())
 }
+
+const RETURNS: &str = r#","Returns":"r""#;
 
 // The errors of each bucket become warnings, and a run in which errors stay still returns its items.
 #[test]
@@ -172,8 +177,8 @@ fn a_run_goes_on_after_a_failure(rt: HostRuntime) -> Result<(), Fail> {
             "failed: failed\n! app/a.proj /2/0: 13 UnknownFunction Nope\n",
         ),
     ] {
-        let told = told(alloc, r#","Returns":"r""#, children)?;
-        assert_eq!(rt; told.as_str(), want, "{children}");
+        let told = told(alloc, RETURNS, children);
+        comes_to(&rt, told, RETURNS, children, want)?;
     }
     Ok(())
 }
