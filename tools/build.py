@@ -3,14 +3,16 @@
 
 usage: tools/build.py
 
-`rt all` does the work: it keeps in the folder `out` of each crate what is proved there, so that a build that was broken
-off goes on where it stood, and nothing is proved a second time. This file says on standard error how long it will take
-by measure, and tells each crate that is built. For that a built crate has in `out/built_from` the digest of all that it
-was built from. The status is 0 where the program is built.
+`rt lib` does the work, crate by crate: it keeps in the folder `out` of each what is proved there, so that a build that was
+broken off goes on where it stood, and nothing is proved a second time. Processors that no other crate waits for go to those
+that are proved. This file says on standard error how long it will take by measure, and tells each crate that is built. For
+that a built crate has in `out/built_from` the digest of all that it was built from. The status is 0 where the program is
+built.
 """
 
 import fcntl
 import hashlib
+import heapq
 import os
 import re
 import signal
@@ -22,10 +24,12 @@ from pathlib import Path
 TOP = Path(__file__).resolve().parent.parent
 PROGRAM = "msb"
 OUT = TOP / "crates" / PROGRAM / "out"
-LOG = OUT / "build.log"
 
-# What the proof of one crate may need, from the kit's guide.
-BYTES_A_CRATE = 3 << 30
+# What a job of a proof may need, from the kit's guide.
+BYTES_A_JOB = 3 << 30
+
+# How many times faster a proof is by one, two, three and four jobs, as measured.
+FASTER = (1.0, 1.6, 2.0, 2.3)
 
 # For a crate that was never measured: what a line of code, definition or proof cost in the others.
 SECONDS_A_LINE = 0.06
@@ -49,15 +53,17 @@ class Crate:
         found = [path for part in ("src", "specs", "proofs") for path in (self.folder / part).rglob("*")]
         return sorted(path for path in found if path.suffix in (".rt", ".antt"))
 
-    def all_below(self) -> set[str]:
-        return {name for other in self.below for name in {other.name, *other.all_below()}}
-
     def mark(self) -> Path:
         return self.folder / "out" / "built_from"
 
+    def log(self) -> Path:
+        return self.folder / "out" / "build.log"
+
+    def product(self) -> Path:
+        return OUT / PROGRAM if self.name == PROGRAM else self.folder / "out" / "rlib"
+
     def is_built(self) -> bool:
-        product = OUT / PROGRAM if self.name == PROGRAM else self.folder / "out" / "rlib"
-        return product.exists() and self.mark().exists() and self.mark().read_text() == self.digest
+        return self.product().exists() and self.mark().exists() and self.mark().read_text() == self.digest
 
 
 def read_crates() -> list[Crate]:
@@ -92,20 +98,53 @@ def measure(crates: list[Crate]) -> None:
 
 
 def room() -> int:
-    """How many crates may be proved side by side, by processors and memory."""
+    """How many jobs may run side by side, by processors and memory."""
     found = re.search(r"^MemAvailable: +(\d+) kB", Path("/proc/meminfo").read_text(), re.M)
-    memory = int(found.group(1)) * 1024 if found else BYTES_A_CRATE
-    return max(1, min(len(os.sched_getaffinity(0)), memory // BYTES_A_CRATE))
+    memory = int(found.group(1)) * 1024 if found else BYTES_A_JOB
+    return max(1, min(len(os.sched_getaffinity(0)), memory // BYTES_A_JOB))
 
 
-def expected_seconds(crates: list[Crate], waiting: list[Crate], places: int) -> float:
-    """How long the waiting crates take by their costs: each is handed to the first free place, and begins when all below it have ended."""
-    free, ends = [0.0] * places, {crate.name: 0.0 for crate in crates}
-    for crate in sorted(waiting, key=lambda crate: len(crate.all_below())):
-        free.sort()
-        begin = max([free[0], *(ends[other.name] for other in crate.below)])
-        free[0] = ends[crate.name] = begin + crate.seconds
-    return max(ends.values())
+class Order:
+    """Which of the waiting crates are begun next, and by how many jobs each."""
+
+    def __init__(self, waiting: list[Crate], places: int) -> None:
+        self.waiting = {crate.name: crate for crate in waiting}
+        self.begun: dict[str, int] = {}
+        self.places = places
+        # The time of each crate with the longest chain of those that stand on it: the longest comes first.
+        self.behind = {crate.name: 0.0 for crate in waiting}
+        for crate in reversed(waiting):
+            self.behind[crate.name] += crate.seconds
+            for other in crate.below:
+                if other.name in self.behind:
+                    self.behind[other.name] = max(self.behind[other.name], self.behind[crate.name])
+
+    def next(self) -> tuple[Crate, int] | None:
+        """The next crate and its jobs; none where no place is free, or no crate has all built that it stands on."""
+        ready = [crate for crate in self.waiting.values()
+                 if crate.name not in self.begun and not any(other.name in self.waiting for other in crate.below)]
+        free = self.places - sum(self.begun.values())
+        if not ready or free < 1:
+            return None
+        first = max(ready, key=lambda crate: self.behind[crate.name])
+        jobs = max(1, min(len(FASTER), free // len(ready)))
+        self.begun[first.name] = jobs
+        return first, jobs
+
+    def ended(self, crate: Crate) -> None:
+        del self.begun[crate.name], self.waiting[crate.name]
+
+
+def expected_seconds(waiting: list[Crate], places: int) -> float:
+    """How long the waiting crates take by their costs, in the order in which they are built."""
+    order, now, running = Order(waiting, places), 0.0, []
+    while order.waiting:
+        while begun := order.next():
+            crate, jobs = begun
+            heapq.heappush(running, (now + crate.seconds / FASTER[jobs - 1], crate.name))
+        now, name = heapq.heappop(running)
+        order.ended(order.waiting[name])
+    return now
 
 
 def clock(seconds: float) -> str:
@@ -116,50 +155,57 @@ def say(text: str) -> None:
     print(f"msb: {text}", file=sys.stderr, flush=True)
 
 
-class Steps:
-    """Commands that run one after another over one log, and what they have built so far."""
+class Build:
+    """The commands that prove and build crates, each over a log of its own."""
 
-    def __init__(self, waiting: list[Crate]) -> None:
-        self.waiting = {crate.name: crate for crate in waiting}
+    def __init__(self, waiting: list[Crate], places: int) -> None:
+        self.order = Order(waiting, places)
         self.number = len(waiting)
         self.began = time.monotonic()
-        self.process: subprocess.Popen | None = None
+        self.running: dict[int, tuple[Crate, subprocess.Popen]] = {}
 
-    def run(self, *words: str) -> int:
-        """Runs `rt` with these words in the program's folder, and tells each crate that is built meanwhile."""
-        self.process = subprocess.Popen(["rt", *words], cwd=OUT.parent, stdin=subprocess.DEVNULL, stdout=subprocess.PIPE,
-                                        stderr=subprocess.STDOUT, text=True, errors="replace", start_new_session=True)
-        with LOG.open("a") as log:
-            name = ""
-            for line in self.process.stdout:
-                log.write(line)
-                if line.startswith("== "):
-                    name = line[3:].strip()
-                elif line.startswith("logic=proved") and name in self.waiting and name != PROGRAM:
-                    self.built(name)
-        return self.process.wait()
+    def begin(self, crate: Crate, jobs: int) -> None:
+        # `rt run` is the command that leaves the built program.
+        words = ["run"] if crate.name == PROGRAM else ["lib"]
+        log = crate.log()
+        log.parent.mkdir(exist_ok=True)
+        with log.open("wb") as out:
+            process = subprocess.Popen(["rt", *words, "--jobs", str(jobs)], cwd=crate.folder, stdin=subprocess.DEVNULL,
+                                       stdout=out, stderr=subprocess.STDOUT, start_new_session=True)
+        self.running[process.pid] = crate, process
 
-    def built(self, name: str) -> None:
-        crate = self.waiting.pop(name)
+    def wait(self) -> bool:
+        """Waits for a command to end, and gives whether its crate is built."""
+        pid, status = os.wait()
+        if pid not in self.running:
+            return True
+        crate, process = self.running.pop(pid)
+        process.returncode = os.waitstatus_to_exitcode(status)
+        wanted = STATUS_WITHOUT_WORDS if crate.name == PROGRAM else 0
+        if process.returncode != wanted or not crate.product().exists():
+            log = crate.log()
+            say(f"{crate.name} was not built; the whole log is {log}, and this is its end:")
+            lines = log.read_text(errors="replace").splitlines(keepends=True)
+            print("".join(lines[-30:]), end="", file=sys.stderr)
+            return False
+        self.order.ended(crate)
         crate.mark().write_text(crate.digest)
         after = clock(time.monotonic() - self.began)
-        say(f"{self.number - len(self.waiting):2} of {self.number} built, after {after}: {name}")
+        say(f"{self.number - len(self.order.waiting):2} of {self.number} built, after {after}: {crate.name}")
+        return True
+
+    def run(self) -> int:
+        while self.order.waiting:
+            while begun := self.order.next():
+                self.begin(*begun)
+            if not self.wait():
+                return 1
+        return 0
 
     def stop(self) -> None:
         """Ends what still runs, with the processes that it started."""
-        if self.process and self.process.poll() is None:
-            os.killpg(self.process.pid, signal.SIGTERM)
-
-
-def build(steps: Steps, places: int) -> int:
-    if steps.run("all", "check", "--jobs", str(places)) == 0:
-        # `rt run` is the command that leaves the built program.
-        if steps.run("run") == STATUS_WITHOUT_WORDS and (OUT / PROGRAM).exists():
-            steps.built(PROGRAM)
-            return 0
-    say(f"the program was not built; the whole log is {LOG}, and this is its end:")
-    print("".join(LOG.read_text().splitlines(keepends=True)[-30:]), end="", file=sys.stderr)
-    return 1
+        for _, process in self.running.values():
+            os.killpg(process.pid, signal.SIGTERM)
 
 
 def main() -> int:
@@ -173,18 +219,17 @@ def main() -> int:
         if not waiting:
             return 0
         places = room()
-        minutes = max(1, round(expected_seconds(crates, waiting, places) / 60))
+        minutes = max(1, round(expected_seconds(waiting, places) / 60))
         say(f"proving and building {len(waiting)} of {len(crates)} crates, up to {places} side by side; "
             f"by measure this takes about {minutes} min")
-        LOG.write_text("")
-        steps = Steps(waiting)
+        build = Build(waiting, places)
         try:
-            return build(steps, places)
+            return build.run()
         except KeyboardInterrupt:
             say("broken off; the next command goes on from here")
             return 130
         finally:
-            steps.stop()
+            build.stop()
 
 
 if __name__ == "__main__":
