@@ -415,5 +415,6 @@ fn check_long<R: Abort>(rt: &R, alloc: Global, scope: &mut Scope) -> Result<(), 
 #[test]
 fn an_expansion_has_at_most_four_mebibytes(rt: HostRuntime) -> Result<(), Fail> {
     let mut scope = scope(rt.alloc(), PROPS)?;
+    fill(rt.alloc(), &mut scope)?;
     check_long(&rt, rt.alloc(), &mut scope)
 }
