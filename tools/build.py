@@ -4,10 +4,11 @@
 usage: tools/build.py
 
 `rt lib` does the work, crate by crate: it keeps in the folder `out` of each what is proved there, so that a build that was
-broken off goes on where it stood, and nothing is proved a second time. Processors that no other crate waits for go to those
-that are proved. This file says on standard error how long it will take by measure, and tells each crate that is built. For
-that a built crate has in `out/built_from` the digest of all that it was built from. The status is 0 where the program is
-built.
+broken off goes on where it stood, and nothing is proved a second time. While it works it keeps every other `rt` out of the
+crate and of all below it, so each crate is proved in a copy of these, and what is built is moved here. Processors that no
+other crate waits for go to those that are proved. This file says on standard error how long it will take by measure, and
+tells each crate that is built. For that a built crate has in `out/built_from` the digest of all that it was built from. The
+status is 0 where the program is built.
 """
 
 import fcntl
@@ -15,6 +16,7 @@ import hashlib
 import heapq
 import os
 import re
+import shutil
 import signal
 import subprocess
 import sys
@@ -24,6 +26,11 @@ from pathlib import Path
 TOP = Path(__file__).resolve().parent.parent
 PROGRAM = "msb"
 OUT = TOP / "crates" / PROGRAM / "out"
+COPIES = OUT / "copies"
+
+# What a crate is made of, and what is moved here of a copy in which it was proved.
+SOURCES = ("src", "specs", "proofs")
+RESULTS = ("rlib", "incremental")
 
 # What a job of a proof may need, from the kit's guide.
 BYTES_A_JOB = 3 << 30
@@ -41,17 +48,50 @@ STATUS_WITHOUT_WORDS = 2
 class Crate:
     """A crate of the repository: those that it stands on, what its proof is expected to cost, and what it is made of."""
 
-    def __init__(self, name: str, below: list["Crate"]) -> None:
-        self.name = name
+    def __init__(self, line: str, below: list["Crate"]) -> None:
+        self.line = line
+        self.name = line.split()[0].rstrip(":")
         self.below = below
-        self.folder = TOP / "crates" / name
+        self.all_below = list({it.name: it for other in below for it in [*other.all_below, other]}.values())
+        self.folder = TOP / "crates" / self.name
         self.seconds = 0.0
         self.digest = ""
 
     def sources(self) -> list[Path]:
         """Each file that a proof or a build of it reads."""
-        found = [path for part in ("src", "specs", "proofs") for path in (self.folder / part).rglob("*")]
+        found = [path for part in SOURCES for path in (self.folder / part).rglob("*")]
         return sorted(path for path in found if path.suffix in (".rt", ".antt"))
+
+    def workplace(self) -> Path:
+        """Where it is proved. Nothing is proved beside the program, so it needs no copy."""
+        return self.folder if self.name == PROGRAM else COPIES / self.name / "crates" / self.name
+
+    def prepare(self) -> None:
+        """Makes its workplace anew, over what a build that was broken off has left there."""
+        if self.name == PROGRAM:
+            return
+        top = COPIES / self.name
+        for crate in [*self.all_below, self]:
+            to = top / "crates" / crate.name
+            for part in SOURCES:
+                replace(crate.folder / part, to / part)
+        for crate in self.all_below:
+            replace(crate.folder / "out" / "rlib", top / "crates" / crate.name / "out" / "rlib")
+        kept = self.workplace() / "out" / "incremental"
+        if not kept.exists():
+            replace(self.folder / "out" / "incremental", kept)
+        (top / "crates.txt").write_text("".join(f"{it.line}\n" for it in [*self.all_below, self]))
+
+    def take(self) -> None:
+        """Moves here what was built in its workplace."""
+        if self.name == PROGRAM:
+            return
+        for part in RESULTS:
+            made, to = self.workplace() / "out" / part, self.folder / "out" / part
+            shutil.rmtree(to, ignore_errors=True)
+            if made.exists():
+                made.rename(to)
+        shutil.rmtree(COPIES / self.name)
 
     def mark(self) -> Path:
         return self.folder / "out" / "built_from"
@@ -66,16 +106,35 @@ class Crate:
         return self.product().exists() and self.mark().exists() and self.mark().read_text() == self.digest
 
 
+def link_or_copy(one: str, other: str) -> None:
+    """A second name for a proof or a part of a library, which are never written to once they are made; else a copy."""
+    if "/rlib/" not in one and not one.endswith(".oantt"):
+        shutil.copy2(one, other)
+        return
+    try:
+        os.link(one, other)
+    except OSError:
+        shutil.copy2(one, other)
+
+
+def replace(folder: Path, to: Path) -> None:
+    """Makes one folder what another one is."""
+    shutil.rmtree(to, ignore_errors=True)
+    if folder.exists():
+        shutil.copytree(folder, to, copy_function=link_or_copy)
+
+
 def read_crates() -> list[Crate]:
     """The program's crate and all that it stands on, lowest first."""
     lines = [line.split("#")[0] for line in (TOP / "crates.txt").read_text().splitlines()]
-    names = {head.split()[0]: rest.split() for head, _, rest in (line.partition(":") for line in lines) if head.strip()}
+    named = {line.split()[0].rstrip(":"): line for line in lines if line.strip()}
     crates: dict[str, Crate] = {}
 
     def crate_of(name: str) -> Crate:
         if name not in crates:
-            below = [crate_of(other) for other in names[name] if other in names]
-            crates[name] = Crate(name, below)
+            line = named[name]
+            below = [crate_of(other) for other in line.partition(":")[2].split() if other in named]
+            crates[name] = Crate(line, below)
         return crates[name]
 
     crate_of(PROGRAM)
@@ -127,7 +186,9 @@ class Order:
         if not ready or free < 1:
             return None
         first = max(ready, key=lambda crate: self.behind[crate.name])
-        jobs = max(1, min(len(FASTER), free // len(ready)))
+        # All wait for the longest chain, so its crate gets a second job even where one too many runs for a while.
+        least = 2 if self.behind[first.name] == max(self.behind[name] for name in self.waiting) else 1
+        jobs = min(self.places, len(FASTER), max(least, free // len(ready)))
         self.begun[first.name] = jobs
         return first, jobs
 
@@ -169,8 +230,9 @@ class Build:
         words = ["run"] if crate.name == PROGRAM else ["lib"]
         log = crate.log()
         log.parent.mkdir(exist_ok=True)
+        crate.prepare()
         with log.open("wb") as out:
-            process = subprocess.Popen(["rt", *words, "--jobs", str(jobs)], cwd=crate.folder, stdin=subprocess.DEVNULL,
+            process = subprocess.Popen(["rt", *words, "--jobs", str(jobs)], cwd=crate.workplace(), stdin=subprocess.DEVNULL,
                                        stdout=out, stderr=subprocess.STDOUT, start_new_session=True)
         self.running[process.pid] = crate, process
 
@@ -182,6 +244,8 @@ class Build:
         crate, process = self.running.pop(pid)
         process.returncode = os.waitstatus_to_exitcode(status)
         wanted = STATUS_WITHOUT_WORDS if crate.name == PROGRAM else 0
+        if process.returncode == wanted:
+            crate.take()
         if process.returncode != wanted or not crate.product().exists():
             log = crate.log()
             say(f"{crate.name} was not built; the whole log is {log}, and this is its end:")
