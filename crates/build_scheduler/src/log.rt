@@ -6,10 +6,16 @@ use std::alloc::Global;
 use std::marker::Model;
 
 /// The events of a core, in order, with the room that is taken for those to come.
-#[derive(Drop)]
 pub struct Log {
     events: Vec<Event>,
     room: usize,
+}
+
+// A drop that is written out is proved here alone.
+impl Drop for Log {
+    fn drop(self) {
+        let Log { events: _, room: _ } = self;
+    }
 }
 
 /// A history has no more events than this.

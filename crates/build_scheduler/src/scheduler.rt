@@ -28,7 +28,6 @@ use std::mem;
 /// Requests have numbers, from the root's 0. A walk is here, or with a node that has its request. Each call that changes the
 /// core is one event of its history, which is legal; what the core holds shows the state after it. (MSBuild task; Building
 /// projects in parallel.)
-#[derive(Drop)]
 pub struct Core<W: Walker> {
     pub(crate) world: W::Origin,
     pub(crate) history: Log,
@@ -49,6 +48,24 @@ pub struct Core<W: Walker> {
     ghost nested: { ∥ AreNested origins.items ∥₁ },
     ghost stops: { ∥ ShowsStop (W.world_of world) history.events end ∥₁ },
     ghost behind: { ∥ AreBehind (seen_by W.world W.position W.asked W.learnt) (W.world_of world) history.events slots.items ∥₁ },
+}
+
+// A drop that is written out is proved here alone.
+impl<W: Walker + Drop> Drop for Core<W> {
+    fn drop(self) {
+        let Core {
+            world: _,
+            history: _,
+            table: _,
+            origins: _,
+            slots: _,
+            making: _,
+            ready: _,
+            waiting: _,
+            instances: _,
+            end: _,
+        } = self;
+    }
 }
 
 impl<W: Walker> Core<W> {

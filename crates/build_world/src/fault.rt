@@ -7,11 +7,21 @@ use std::alloc::Global;
 /// Why a project is refused: the cause, with the file and the place of the element.
 ///
 /// A fault whose cause is [`Cause::Memory`] is want of memory; its file and place say nothing, and it is not printed.
-#[derive(Drop)]
 pub struct EvalFault {
     pub file: Text,
     pub place: Place,
     pub cause: Cause,
+}
+
+// A drop that is written out is proved here alone.
+impl Drop for EvalFault {
+    fn drop(self) {
+        let EvalFault {
+            file: _,
+            place: _,
+            cause: _,
+        } = self;
+    }
 }
 
 impl EvalFault {

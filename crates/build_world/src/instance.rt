@@ -3,7 +3,6 @@ use msb_values::{List, Name, Scope, Text};
 use target_order::TargetRow;
 
 /// The Target element that is used of all those with its name: the last one. (MSBuild targets.)
-#[derive(Drop)]
 pub struct UsedTarget {
     pub name: Name,
     pub at: Placed,
@@ -11,8 +10,18 @@ pub struct UsedTarget {
     pub file_has_returns: bool,
 }
 
+// A drop that is written out is proved here alone.
+impl Drop for UsedTarget {
+    fn drop(self) {
+        let UsedTarget {
+            name: _,
+            at: _,
+            file_has_returns: _,
+        } = self;
+    }
+}
+
 /// An evaluated project. (How MSBuild builds projects, evaluation phase.)
-#[derive(Drop)]
 pub struct Instance {
     pub scope: Scope,
     /// The targets in the order of the first element of each name, with those that they hook on.
@@ -24,4 +33,18 @@ pub struct Instance {
     pub default: List<Name>,
     /// The path of each import that was ignored, since its file was laid out before.
     pub duplicates: List<Text>,
+}
+
+// A drop that is written out is proved here alone.
+impl Drop for Instance {
+    fn drop(self) {
+        let Instance {
+            scope: _,
+            rows: _,
+            targets: _,
+            initial: _,
+            default: _,
+            duplicates: _,
+        } = self;
+    }
 }

@@ -13,11 +13,20 @@ use std::marker::Model;
 /// The targets of a project that are used, in order. Each is found by its name in near-constant time.
 ///
 /// Contracts see the list.
-#[derive(Drop)]
 pub struct UsedTargets {
     targets: List<UsedTarget>,
     /// Where the first target of each name stands.
     places: HashMap<String, usize>,
+}
+
+// A drop that is written out is proved here alone.
+impl Drop for UsedTargets {
+    fn drop(self) {
+        let UsedTargets {
+            targets: _,
+            places: _,
+        } = self;
+    }
 }
 
 impl Model for UsedTargets {

@@ -2,7 +2,6 @@ use file_store::Tree;
 use msb_values::{List, Mode, Name, Pairs, Text};
 
 /// What a build is given. (MSBuild command-line reference.)
-#[derive(Drop)]
 pub struct World {
     /// The files, as they stood at the start.
     pub tree: Tree,
@@ -13,4 +12,17 @@ pub struct World {
     /// The targets that are named, or none, for the default targets.
     pub targets: List<Name>,
     pub mode: Mode,
+}
+
+// A drop that is written out is proved here alone.
+impl Drop for World {
+    fn drop(self) {
+        let World {
+            tree: _,
+            root: _,
+            globals: _,
+            targets: _,
+            mode: _,
+        } = self;
+    }
 }

@@ -15,7 +15,6 @@ use std::alloc::Global;
 /// A store in memory, which tells its files.
 ///
 /// Its calls of `list`, `read` and `write` are numbered from 0, and some numbers may be chosen to fail.
-#[derive(Drop)]
 pub struct MemStore {
     tree: Tree,
     fail: Vec<u64>,
@@ -23,6 +22,20 @@ pub struct MemStore {
     faults: u64,
     failed_listings: u64,
     failed_reads: u64,
+}
+
+// A drop that is written out is proved here alone.
+impl Drop for MemStore {
+    fn drop(self) {
+        let MemStore {
+            tree: _,
+            fail: _,
+            calls: _,
+            faults: _,
+            failed_listings: _,
+            failed_reads: _,
+        } = self;
+    }
 }
 
 impl MemStore {

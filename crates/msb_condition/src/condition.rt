@@ -1,7 +1,6 @@
 use msb_expression::Expr;
 
 /// A condition, as its grammar reads it. (MSBuild conditions.)
-#[derive(Drop)]
 pub enum Cond {
     /// The condition of a text without tokens, which is true.
     Empty,
@@ -13,6 +12,20 @@ pub enum Cond {
     Compare(Comparison, Operand, Operand),
     /// An operand that is a truth value.
     Truth(Operand),
+}
+
+// A drop that is written out is proved here alone.
+impl Drop for Cond {
+    fn drop(self) {
+        match self {
+            Cond::Empty => {}
+            Cond::Or(_, _) => {}
+            Cond::And(_, _) => {}
+            Cond::Not(_) => {}
+            Cond::Truth(_) => {}
+            Cond::Compare(_, _, _) => {}
+        }
+    }
 }
 
 /// A side of a comparison, or a truth value.

@@ -14,13 +14,25 @@ pub struct Project {
 }
 
 /// An element of a project file.
-#[derive(Drop)]
 pub struct Element {
     place: Place,
     name: Text,
     attributes: Vec<(Text, Text)>,
     text: Text,
     pub(crate) children: Vec<Element>,
+}
+
+// A drop that is written out is proved here alone.
+impl Drop for Element {
+    fn drop(self) {
+        let Element {
+            place: _,
+            name: _,
+            attributes: _,
+            text: _,
+            children: _,
+        } = self;
+    }
 }
 
 impl Element {

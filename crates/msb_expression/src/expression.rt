@@ -1,13 +1,18 @@
 use crate::{List, Word};
 
 /// A text as its parts, in order.
-#[derive(Drop)]
 pub struct Expr {
     pub parts: Parts,
 }
 
+// A drop that is written out is proved here alone.
+impl Drop for Expr {
+    fn drop(self) {
+        let Expr { parts: _ } = self;
+    }
+}
+
 /// A part of a text. Names keep their case; two plain parts never stand side by side.
-#[derive(Drop)]
 pub enum Part {
     /// Text without a reference, never empty.
     Plain(Word),
@@ -17,6 +22,18 @@ pub enum Part {
     Meta(Option<Word>, Word),
     /// `@(Type steps, 'separator')`
     Items(Word, Steps, Option<Pieces>),
+}
+
+// A drop that is written out is proved here alone.
+impl Drop for Part {
+    fn drop(self) {
+        match self {
+            Part::Plain(_) => {}
+            Part::Prop(_) => {}
+            Part::Meta(_, _) => {}
+            Part::Items(_, _, _) => {}
+        }
+    }
 }
 
 /// What is done to the items of a reference, one step after another.

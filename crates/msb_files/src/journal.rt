@@ -19,11 +19,20 @@ use std::marker::Model;
 ///
 /// A copy takes a time and room that grow with the logarithm of the number of entries, and shares the rest. So does the time
 /// of a look for the content of a path, or for a run, which takes no memory; one for files below a folder takes the square.
-#[derive(Drop)]
 pub struct Journal {
     /// The newest first.
     layers: List<LayerRef>,
     count: usize,
+}
+
+// A drop that is written out is proved here alone.
+impl Drop for Journal {
+    fn drop(self) {
+        let Journal {
+            layers: _,
+            count: _,
+        } = self;
+    }
 }
 
 impl Model for Journal {

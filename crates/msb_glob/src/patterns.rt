@@ -16,11 +16,21 @@ use std::alloc::Global;
 use std::marker::Model;
 
 /// A pattern with wildcards, made normal on a base folder.
-#[derive(Drop)]
 pub struct Pattern {
     pub(crate) fixed: Text,
     pub(crate) folder: Word,
     pub(crate) parts: List<Part>,
+}
+
+// A drop that is written out is proved here alone.
+impl Drop for Pattern {
+    fn drop(self) {
+        let Pattern {
+            fixed: _,
+            folder: _,
+            parts: _,
+        } = self;
+    }
 }
 
 impl Model for Pattern {

@@ -1,4 +1,5 @@
-ghost use Rattle.std.specs.Prelude.{◌≡◌, ◌++◌, OnOk, OnErr};
+ghost use Rattle.std.specs.Prelude.{◌≡◌, ◌++◌, IfOk, OnOk, OnErr};
+ghost use Rattle.msb_values.specs.declared.change.Change.TheVariants.{SetProp, AddItems, RemoveItems, SetMeta};
 ghost use Rattle.msb_values.specs.Pairs.{changed_at};
 ghost use Rattle.msb_values.specs.Changes.{applied, with_added, without_named, with_metadata_on};
 
@@ -41,16 +42,38 @@ impl Copied for Scope {
 impl Copied for Change {
     fn copy(&self) -> Result<Change, NoMemory> {
         match self {
-            Change::SetProp(name, value) => Ok(Change::SetProp(name.copy()?, value.copy()?)),
-            Change::AddItems(kind, items) => Ok(Change::AddItems(kind.copy()?, items.copy()?)),
-            Change::RemoveItems(kind, texts) => {
-                Ok(Change::RemoveItems(kind.copy()?, texts.copy()?))
-            }
-            Change::SetMeta(kind, given, pairs) => {
-                Ok(Change::SetMeta(kind.copy()?, given.copy()?, pairs.copy()?))
-            }
+            Change::SetProp(name, value) => copied_property(name, value),
+            Change::AddItems(kind, items) => copied_addition(kind, items),
+            Change::RemoveItems(kind, texts) => copied_removal(kind, texts),
+            Change::SetMeta(kind, given, pairs) => copied_metadata(kind, given, pairs),
         }
     }
+}
+
+fn copied_property(name: &Name, value: &Text) -> Result<Change, NoMemory>
+    ensures { IfOk result (λ change. change ≡ SetProp name.now value.now) }
+{
+    Ok(Change::SetProp(name.copy()?, value.copy()?))
+}
+
+fn copied_addition(kind: &Name, items: &List<Item>) -> Result<Change, NoMemory>
+    ensures { IfOk result (λ change. change ≡ AddItems kind.now items.now) }
+{
+    Ok(Change::AddItems(kind.copy()?, items.copy()?))
+}
+
+fn copied_removal(kind: &Name, texts: &List<Text>) -> Result<Change, NoMemory>
+    ensures { IfOk result (λ change. change ≡ RemoveItems kind.now texts.now) }
+{
+    Ok(Change::RemoveItems(kind.copy()?, texts.copy()?))
+}
+
+fn copied_metadata(kind: &Name, given: &List<Item>, pairs: &Pairs) -> Result<Change, NoMemory>
+    ensures { IfOk result (λ change. change ≡ SetMeta kind.now given.now pairs.now) }
+{
+    let kind = kind.copy()?;
+    let given = given.copy()?;
+    Ok(Change::SetMeta(kind, given, pairs.copy()?))
 }
 
 fn add_items(

@@ -9,7 +9,6 @@ use std::fmt::Write;
 /// Why a project is refused, or why a run fails.
 ///
 /// Each cause has a number and a name, by which it is printed, and details.
-#[derive(Drop)]
 pub enum Cause {
     /// 0: the project holds a part that this engine does not have yet.
     NotYet,
@@ -65,6 +64,41 @@ pub enum Cause {
     NoValue(Text, Text, Text),
     /// Want of memory, which is not printed.
     Memory,
+}
+
+// A drop that is written out is proved here alone.
+impl Drop for Cause {
+    fn drop(self) {
+        match self {
+            Cause::NotYet => {}
+            Cause::NotJson => {}
+            Cause::NotElement => {}
+            Cause::UnknownElement => {}
+            Cause::Misplaced => {}
+            Cause::ItemsHere => {}
+            Cause::MetadataHere => {}
+            Cause::TooLong => {}
+            Cause::MixedList => {}
+            Cause::StarsInSegment => {}
+            Cause::ImportDepth => {}
+            Cause::Memory => {}
+            Cause::MissingAttribute(_) => {}
+            Cause::BadName(_) => {}
+            Cause::Unclosed(_) => {}
+            Cause::BadTransform(_) => {}
+            Cause::NestedTransform(_) => {}
+            Cause::UnknownFunction(_) => {}
+            Cause::Syntax(_) => {}
+            Cause::NotBoolean(_) => {}
+            Cause::BadPath(_) => {}
+            Cause::MissingImport(_) => {}
+            Cause::Reserved(_) => {}
+            Cause::NoList(_) => {}
+            Cause::BothAttributes(_, _) => {}
+            Cause::NotNumbers(_, _) => {}
+            Cause::NoValue(_, _, _) => {}
+        }
+    }
 }
 
 impl Cause {

@@ -7,10 +7,16 @@ use std::marker::Model;
 use std::sync::Arc;
 
 /// The items of a type, which copies share until one of them is changed. (MSBuild items.)
-#[derive(Drop)]
 pub struct SharedItems {
     /// None where there are no items, which takes no memory.
     shared: Option<Arc<List<Item>>>,
+}
+
+// A drop that is written out is proved here alone.
+impl Drop for SharedItems {
+    fn drop(self) {
+        let SharedItems { shared: _ } = self;
+    }
 }
 
 impl Model for SharedItems {
@@ -65,7 +71,8 @@ impl SharedItems {
     pub fn into_list(self, alloc: Global) -> Result<List<Item>, NoMemory>
         ensures { IfOk result (λ l. l ≡ self) }
     {
-        match self.shared {
+        let SharedItems { shared } = self;
+        match shared {
             Some(items) => Ok(Arc::unwrap_or_clone(items)?),
             None => Ok(List::new(alloc)),
         }

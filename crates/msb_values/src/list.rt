@@ -12,9 +12,15 @@ pub trait Copied: Sized {
 }
 
 /// A list, which contracts see as its entries.
-#[derive(Drop)]
 pub struct List<T> {
     entries: Vec<T>,
+}
+
+// A drop that is written out is proved here alone.
+impl<T: Drop> Drop for List<T> {
+    fn drop(self) {
+        let List { entries: _ } = self;
+    }
 }
 
 impl<T> Model for List<T> {
@@ -62,7 +68,8 @@ impl<T> List<T> {
     pub fn into_vec(self) -> Vec<T>
         ensures { result.items ≡ self }
     {
-        self.entries
+        let List { entries } = self;
+        entries
     }
 }
 

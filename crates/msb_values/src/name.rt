@@ -14,9 +14,15 @@ use std::marker::Model;
 /// The name of a property, an item type, a metadata, a task or a target.
 ///
 /// Names are compared without case, so a name is held and printed in lower case. (MSBuild properties; MSBuild targets.)
-#[derive(Drop)]
 pub struct Name {
     key: Text,
+}
+
+// A drop that is written out is proved here alone.
+impl Drop for Name {
+    fn drop(self) {
+        let Name { key: _ } = self;
+    }
 }
 
 impl Model for Name {
@@ -59,6 +65,13 @@ impl Name {
             Err(NameFault::BadName(_)) => Ok(None),
             Err(NameFault::Memory) => Err(NoMemory),
         }
+    }
+
+    fn into_key(self) -> Text
+        ensures { result ≡ self }
+    {
+        let Name { key } = self;
+        key
     }
 
     /// The name in lower case.
@@ -140,7 +153,7 @@ impl From<Name> for Text {
     ghost from_gives = { λ n t. t ≡ n };
 
     fn from(name: Name) -> Text {
-        name.key
+        name.into_key()
     }
 }
 

@@ -11,9 +11,15 @@ use std::marker::Model;
 use std::mem;
 
 /// What each of some names has: each name once, in byte order of the names.
-#[derive(Drop)]
 pub struct Named<T> {
     pub(crate) map: BTreeMap<Name, T>,
+}
+
+// A drop that is written out is proved here alone.
+impl<T: Drop> Drop for Named<T> {
+    fn drop(self) {
+        let Named { map: _ } = self;
+    }
 }
 
 /// Names with texts, as properties or metadata are.
@@ -128,7 +134,8 @@ impl<T: Drop> Named<T> {
     pub fn into_entries(self) -> btree_map::IntoIter<Name, T>
         ensures { result ≡ self }
     {
-        self.map.into_iter()
+        let Named { map } = self;
+        map.into_iter()
     }
 }
 

@@ -1,10 +1,16 @@
 use crate::{Copied, NoMemory, Text, Text8};
 
 /// A file that is to be written whole: its path from the root of the store, and its bytes.
-#[derive(Drop)]
 pub struct Put {
     pub path: Text,
     pub bytes: Text8,
+}
+
+// A drop that is written out is proved here alone.
+impl Drop for Put {
+    fn drop(self) {
+        let Put { path: _, bytes: _ } = self;
+    }
 }
 
 impl Copied for Put {

@@ -7,9 +7,15 @@ use std::marker::Model;
 use std::sync::Arc;
 
 /// A record that its copies share, in any threads.
-#[derive(Drop)]
 pub struct RecordRef {
     shared: Arc<Record>,
+}
+
+// A drop that is written out is proved here alone.
+impl Drop for RecordRef {
+    fn drop(self) {
+        let RecordRef { shared: _ } = self;
+    }
 }
 
 impl Model for RecordRef {

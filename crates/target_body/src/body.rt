@@ -33,10 +33,16 @@ pub enum BodyAsk {
 
 /// The body of a run: it goes on by itself, writes files into the journal and uses tools, until it calls requests or is over.
 /// (Target element; MSBuild task.)
-#[derive(Drop)]
 pub struct Body {
     pub(crate) run: RunId,
     pub(crate) stand: Stand,
+}
+
+// A drop that is written out is proved here alone.
+impl Drop for Body {
+    fn drop(self) {
+        let Body { run: _, stand: _ } = self;
+    }
 }
 
 #[derive(Drop)]

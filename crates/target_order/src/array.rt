@@ -11,15 +11,26 @@ const WIDTH: usize = 256;
 
 /// An array whose copies share its entries: a copy takes one handle, and a write copies one chunk and the list of the
 /// chunks.
-#[derive(Drop)]
 pub struct SharedArray<T> {
     chunks: Arc<List<Chunk<T>>>,
 }
 
+// A drop that is written out is proved here alone.
+impl<T: Drop> Drop for SharedArray<T> {
+    fn drop(self) {
+        let SharedArray { chunks: _ } = self;
+    }
+}
+
 /// Entries that the copies of a chunk share.
-#[derive(Drop)]
 pub struct Chunk<T> {
     entries: Arc<List<T>>,
+}
+
+impl<T: Drop> Drop for Chunk<T> {
+    fn drop(self) {
+        let Chunk { entries: _ } = self;
+    }
 }
 
 impl<T> Model for Chunk<T> {

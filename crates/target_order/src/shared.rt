@@ -6,9 +6,15 @@ use std::marker::Model;
 use std::sync::Arc;
 
 /// A list of names that its copies share.
-#[derive(Drop)]
 pub struct SharedNames {
     names: Option<Arc<List<Name>>>,
+}
+
+// A drop that is written out is proved here alone.
+impl Drop for SharedNames {
+    fn drop(self) {
+        let SharedNames { names: _ } = self;
+    }
 }
 
 impl Model for SharedNames {

@@ -13,9 +13,15 @@ use std::marker::Model;
 use std::sync::Arc;
 
 /// The targets of a project by their numbers, which the copies of a walk share.
-#[derive(Drop)]
 pub struct SharedTable {
     targets: Arc<Targets>,
+}
+
+// A drop that is written out is proved here alone.
+impl Drop for SharedTable {
+    fn drop(self) {
+        let SharedTable { targets: _ } = self;
+    }
 }
 
 #[derive(Drop)]

@@ -20,7 +20,6 @@ use std::alloc::Global;
 use std::marker::Model;
 
 /// One request's way through the targets of its project.
-#[derive(Drop)]
 pub struct OrderWalk {
     /// The targets of the project, with those that hook on them.
     pub(crate) table: SharedTable,
@@ -35,6 +34,22 @@ pub struct OrderWalk {
     pub(crate) has_run: SharedArray<bool>,
     pub(crate) asked: Asked,
     pub(crate) failed: bool,
+}
+
+// A drop that is written out is proved here alone.
+impl Drop for OrderWalk {
+    fn drop(self) {
+        let OrderWalk {
+            table: _,
+            wanted: _,
+            passed: _,
+            visits: _,
+            places: _,
+            has_run: _,
+            asked: _,
+            failed: _,
+        } = self;
+    }
 }
 
 impl Model for OrderWalk {

@@ -8,17 +8,32 @@ use msb_values::{Copied, Item, List, Name, NoMemory, Note, Put, Text, Text8};
 use std::alloc::Global;
 
 /// A task's parameter: its name, and its value as items. (Task element.)
-#[derive(Drop)]
 pub struct Param {
     pub name: Name,
     pub items: List<Item>,
 }
 
+// A drop that is written out is proved here alone.
+impl Drop for Param {
+    fn drop(self) {
+        let Param { name: _, items: _ } = self;
+    }
+}
+
 /// A file that a tool reads: its path, and its bytes if it is there.
-#[derive(Drop)]
 pub struct FileIn {
     pub path: Text,
     pub content: Option<Text8>,
+}
+
+// A drop that is written out is proved here alone.
+impl Drop for FileIn {
+    fn drop(self) {
+        let FileIn {
+            path: _,
+            content: _,
+        } = self;
+    }
 }
 
 /// What a tool is handed.

@@ -8,11 +8,6 @@ use Rattle.build_nodes.proofs.Built.{built-continues, built-ended, built-legal, 
 use Rattle.build_nodes.proofs.CoreCrossing.{shared-crosses}
 use Rattle.build_nodes.proofs.nodes.build_with.Goals as goal
 
-pub invariant_of-core : goal.invariant_of-core
-invariant_of-core g c =
-    let core = c.args.core in
-    record { legal = core.legal; indexed = core.indexed; counted = core.counted; few = core.few; nested = core.nested; stops = core.stops; behind = core.behind }
-
 pub close-requires-send-S : goal.close-requires-send-S
 close-requires-send-S g c κs within = shared-crosses _ _ _ g.W.Walker c.type_bounds.send-W c.type_bounds.send-W-Origin _
 

@@ -14,11 +14,6 @@ build_alone-requires g c =
     let core = c.in_ok-core.core in
     subst (λ (events : List Event). NoneAssigned (g.W.Walker.world_of core.world) events) (sym c.in_ok-core.ensures.history) (none_at_first (g.W.Walker.world_of core.world))
 
-pub invariant_of-core : goal.invariant_of-core
-invariant_of-core g c =
-    let core = c.build_alone.new.core in
-    record { legal = core.legal; indexed = core.indexed; counted = core.counted; few = core.few; nested = core.nested; stops = core.stops; behind = core.behind }
-
 pub returns-clause-outcome : goal.returns-clause-outcome
 returns-clause-outcome g c =
     let core = c.build_alone.new.core in

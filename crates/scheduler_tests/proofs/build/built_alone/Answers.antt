@@ -5,8 +5,3 @@ pub build_alone-requires : goal.build_alone-requires
 build_alone-requires g c =
     let core = c.in_ok-core.core in
     none_in_core (g.W.Walker.world_of core.world) core.history.events c.in_ok-core.ensures.history
-
-pub invariant_of-core : goal.invariant_of-core
-invariant_of-core g c =
-    let core = c.build_alone.new.core in
-    record { legal = core.legal; indexed = core.indexed; counted = core.counted; few = core.few; nested = core.nested; stops = core.stops; behind = core.behind }
