@@ -31,27 +31,22 @@ Exists(a.proj) < 1 => 18 NotNumbers true 1";
 #[test]
 fn operators_compare_each_kind_of_operand(rt: HostRuntime) -> Result<(), Fail> {
     for line in COMPARISONS.lines() {
-        let (condition, outcome) = line
-            .split_once(" => ")
-            .ok_or("a condition and its outcome")?;
-        compares(&rt, rt.alloc(), condition, outcome)?;
+        compares(&rt, rt.alloc(), line)?;
     }
     Ok(())
 }
 
-fn compares(rt: &impl Abort, alloc: Global, condition: &str, outcome: &str) -> Result<(), Fail> {
-    let project = format!(in alloc;
-        "{{\"e\":\"Project\",\"c\":[{{\"e\":\"Target\",\"a\":{{\"Name\":\"T\",\"Condition\":\"{condition}\"}},\"c\":[{{\"e\":\"Message\",\"a\":{{\"Text\":\"m\"}}}}]}}]}}"
-    )?;
+fn compares<R: Abort>(rt: &R, alloc: Global, line: &str) -> Result<(), Fail> {
+    let (condition, outcome) = line
+        .split_once(" => ")
+        .ok_or("a condition and its outcome")?;
+    let project = project(alloc, condition)?;
     let (status, told) = match outcome {
         "true" => (0, "a.proj : t ran\n  m\n"),
         "false" => (0, ""),
         _ => (1, "error: a.proj /0: "),
     };
-    let printed = match status {
-        0 => format!(in alloc; "{told}returned 0\nbuild succeeded\n")?,
-        _ => format!(in alloc; "{told}{outcome}\nreturned 0\nbuild failed\n")?,
-    };
+    let printed = printed(alloc, status, told, outcome)?;
     ends(
         rt,
         alloc,
@@ -60,4 +55,18 @@ fn compares(rt: &impl Abort, alloc: Global, condition: &str, outcome: &str) -> R
         status,
         printed.as_str(),
     )
+}
+
+// A project whose target has this Condition.
+fn project(alloc: Global, condition: &str) -> Result<String, Fail> {
+    Ok(format!(in alloc;
+        "{{\"e\":\"Project\",\"c\":[{{\"e\":\"Target\",\"a\":{{\"Name\":\"T\",\"Condition\":\"{condition}\"}},\"c\":[{{\"e\":\"Message\",\"a\":{{\"Text\":\"m\"}}}}]}}]}}"
+    )?)
+}
+
+fn printed(alloc: Global, status: u8, told: &str, outcome: &str) -> Result<String, Fail> {
+    Ok(match status {
+        0 => format!(in alloc; "{told}returned 0\nbuild succeeded\n"),
+        _ => format!(in alloc; "{told}{outcome}\nreturned 0\nbuild failed\n"),
+    }?)
 }

@@ -1,5 +1,8 @@
+use crate::checks::is_text;
 use build_report::{shown_eval, shown_targets};
-use msb_values::{Defaults, Item, List, Lists, Name, Pairs, Scope, SharedItems, Text, split_list};
+use msb_values::{
+    Defaults, Item, List, Lists, Name, Pairs, Scope, SharedItems, Text, Text8, split_list,
+};
 use std::alloc::Global;
 use std::test::Fail;
 use target_order::TargetRow;
@@ -51,10 +54,15 @@ fn pairs(alloc: Global, rows: &str) -> Result<Pairs, Fail> {
     let mut pairs = Pairs::new(alloc);
     for row in rows.lines() {
         if let Some((name, value)) = row.split_once("=") {
-            pairs.insert(Name::read(alloc, name)?, Text::of(alloc, value)?)?;
+            push_pair(alloc, &mut pairs, name, value)?;
         }
     }
     Ok(pairs)
+}
+
+fn push_pair(alloc: Global, pairs: &mut Pairs, name: &str, value: &str) -> Result<(), Fail> {
+    pairs.insert(Name::read(alloc, name)?, Text::of(alloc, value)?)?;
+    Ok(())
 }
 
 fn item(alloc: Global, rows: &str) -> Result<Item, Fail> {
@@ -68,26 +76,37 @@ fn item(alloc: Global, rows: &str) -> Result<Item, Fail> {
 
 fn items(alloc: Global, rows: &str) -> Result<SharedItems, Fail> {
     let mut items = List::new(alloc);
-    for rows in rows.split('>') {
-        if !rows.is_empty() {
-            items.push(item(alloc, rows)?)?;
-        }
+    for rows in rows.split('>').skip(1) {
+        items.push(item(alloc, rows)?)?;
     }
     Ok(SharedItems::of(alloc, items)?)
 }
 
-fn scope(alloc: Global) -> Result<Scope, Fail> {
+fn lists(alloc: Global) -> Result<Lists, Fail> {
     let mut lists = Lists::new(alloc);
-    lists.insert(Name::read(alloc, "Lone")?, items(alloc, ">x\nZ=")?)?;
-    lists.insert(Name::read(alloc, "F")?, items(alloc, FILES)?)?;
+    push_items(alloc, &mut lists, "Lone", ">x\nZ=")?;
+    push_items(alloc, &mut lists, "F", FILES)?;
+    Ok(lists)
+}
+
+fn push_items(alloc: Global, lists: &mut Lists, name: &str, rows: &str) -> Result<(), Fail> {
+    lists.insert(Name::read(alloc, name)?, items(alloc, rows)?)?;
+    Ok(())
+}
+
+fn defaults(alloc: Global) -> Result<Defaults, Fail> {
     let mut defaults = Defaults::new(alloc);
     let of_files = pairs(alloc, "Side=left%3B\nKind=none")?;
     defaults.insert(Name::read(alloc, "F")?, of_files)?;
+    Ok(defaults)
+}
+
+fn scope(alloc: Global) -> Result<Scope, Fail> {
     Ok(Scope {
         globals: pairs(alloc, "Dir=src")?,
         props: pairs(alloc, PROPS)?,
-        items: lists,
-        defaults,
+        items: lists(alloc)?,
+        defaults: defaults(alloc)?,
     })
 }
 
@@ -102,34 +121,42 @@ fn names(alloc: Global, text: &str) -> Result<List<Name>, Fail> {
 fn rows(alloc: Global, text: &str) -> Result<List<TargetRow>, Fail> {
     let mut rows = List::new(alloc);
     for name in text.split(';') {
-        rows.push(TargetRow {
-            name: Name::read_target(alloc, name)?,
-            before: List::new(alloc),
-            after: List::new(alloc),
-        })?;
+        rows.push(row(alloc, name)?)?;
     }
     Ok(rows)
 }
 
+fn row(alloc: Global, name: &str) -> Result<TargetRow, Fail> {
+    Ok(TargetRow {
+        name: Name::read_target(alloc, name)?,
+        before: List::new(alloc),
+        after: List::new(alloc),
+    })
+}
+
+fn evaluated(alloc: Global) -> Result<Text8, Fail> {
+    let duplicates = split_list(alloc, "common.props;in/a%20b.props")?;
+    Ok(shown_eval(alloc, &scope(alloc)?, &duplicates)?)
+}
+
+fn targets(alloc: Global, project: &str, initial: &str, default: &str) -> Result<Text8, Fail> {
+    let rows = rows(alloc, project)?;
+    let initial = names(alloc, initial)?;
+    let default = names(alloc, default)?;
+    Ok(shown_targets(alloc, &rows, &initial, &default)?)
+}
+
 #[test]
 fn an_evaluated_project_is_shown(rt: HostRuntime) -> Result<(), Fail> {
-    let alloc = rt.alloc();
-    let scope = scope(alloc)?;
-    let duplicates = split_list(alloc, "common.props;in/a%20b.props")?;
-    let shown = shown_eval(alloc, &scope, &duplicates)?;
-    assert_eq!(rt; shown.as_bytes(), EVAL.as_bytes());
+    is_text(&rt, evaluated(rt.alloc())?.as_bytes(), EVAL, "eval");
     Ok(())
 }
 
 #[test]
 fn targets_are_shown(rt: HostRuntime) -> Result<(), Fail> {
-    let alloc = rt.alloc();
-    for (project, initial, default, wanted) in TARGETS {
-        let rows = rows(alloc, project)?;
-        let initial = names(alloc, initial)?;
-        let default = names(alloc, default)?;
-        let shown = shown_targets(alloc, &rows, &initial, &default)?;
-        assert_eq!(rt; shown.as_bytes(), wanted.as_bytes());
+    for (project, initial, default, want) in &TARGETS {
+        let shown = targets(rt.alloc(), project, initial, default)?;
+        is_text(&rt, shown.as_bytes(), want, project);
     }
     Ok(())
 }

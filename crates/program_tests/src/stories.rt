@@ -302,13 +302,17 @@ fn projects_are_built_and_shown(rt: HostRuntime) -> Result<(), Fail> {
     Ok(())
 }
 
-fn is_told(rt: &impl Abort, alloc: Global, story: &str) -> Result<(), Fail> {
+fn is_told<R: Abort>(rt: &R, alloc: Global, story: &str) -> Result<(), Fail> {
     let (_, story) = story.split_once('\n').ok_or("a story has a title")?;
     let (project, runs) = story.split_once("$ ").ok_or("a story has a run")?;
     for run in runs.split("$ ") {
-        let (words, told) = run.split_once(" => ").ok_or("a run has a status")?;
-        let (status, printed) = told.split_once('\n').ok_or("a status ends its line")?;
-        ends(rt, alloc, project, words, status.parse::<u8>()?, printed)?;
+        ends_so(rt, alloc, project, run)?;
     }
     Ok(())
+}
+
+fn ends_so<R: Abort>(rt: &R, alloc: Global, project: &str, run: &str) -> Result<(), Fail> {
+    let (words, told) = run.split_once(" => ").ok_or("a run has a status")?;
+    let (status, printed) = told.split_once('\n').ok_or("a status ends its line")?;
+    ends(rt, alloc, project, words, status.parse::<u8>()?, printed)
 }

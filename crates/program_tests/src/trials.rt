@@ -1,12 +1,14 @@
-use crate::runs::{store, words};
+use crate::calls::status;
+use crate::checks::{is_same, is_text};
+use crate::runs::{answered_alone, store, words};
+use crate::words::fault_shown;
 use file_store::MemSink;
-use msb_program::{run, run_alone};
-use msb_words::{Options, WordFault, read_words};
+use msb_words::{Options, read_words};
 use std::alloc::Global;
-use std::fmt::Write;
 use std::process::Abort;
+use std::sync::Wait;
 use std::test::Fail;
-use task_trait::{Counted, NoTools};
+use std::thread::Threads;
 
 /// The words, and what they ask for: the seed, the size and the nodes.
 const WORDS: &str = "trial => usage
@@ -57,29 +59,30 @@ const TRIALS: [(&str, &str); 5] = [
     ),
 ];
 
-fn push_options(shown: &mut String, options: &Options) -> Result<(), Fail> {
+fn options_shown(alloc: Global, options: &Options) -> Result<String, Fail> {
     let action = options.action;
     let (seed, size, nodes) = (options.seed, options.size, options.nodes);
-    Ok(write!(shown, "{action:?} {seed} {size} {nodes}")?)
+    Ok(format!(in alloc; "{action:?} {seed} {size} {nodes}")?)
 }
 
 fn shown(alloc: Global, words: &[String]) -> Result<String, Fail> {
-    let mut shown = String::new(alloc);
     match read_words(alloc, words) {
-        Ok(options) => push_options(&mut shown, &options)?,
-        Err(WordFault::Usage) => shown.push_str("usage")?,
-        Err(WordFault::Memory) => shown.push_str("memory")?,
+        Ok(options) => options_shown(alloc, &options),
+        Err(fault) => fault_shown(alloc, fault),
     }
-    Ok(shown)
+}
+
+fn reads<R: Abort>(rt: &R, alloc: Global, row: &str) -> Result<(), Fail> {
+    let (line, want) = row.split_once(" => ").ok_or("a row has an arrow")?;
+    let shown = shown(alloc, words(alloc, line)?.as_slice())?;
+    is_text(rt, shown.as_bytes(), want, row);
+    Ok(())
 }
 
 #[test]
 fn words_of_trials_are_read(rt: HostRuntime) -> Result<(), Fail> {
     for row in WORDS.split('\n') {
-        let (line, want) = row.split_once(" => ").ok_or("a row has an arrow")?;
-        let words = words(rt.alloc(), line)?;
-        let shown = shown(rt.alloc(), &words)?;
-        assert_eq!(rt; shown.as_str(), want, "{row}");
+        reads(&rt, rt.alloc(), row)?;
     }
     Ok(())
 }
@@ -87,15 +90,23 @@ fn words_of_trials_are_read(rt: HostRuntime) -> Result<(), Fail> {
 // The store's first call would fail, so none is made.
 #[test]
 fn trials_are_told(rt: HostRuntime) -> Result<(), Fail> {
-    let alloc = rt.alloc();
-    for (line, printed) in TRIALS {
-        let words = words(alloc, line)?;
-        let mut store = store(alloc, "", 0)?;
-        let mut sink = MemSink::new(alloc, None)?;
-        let answer = run(&rt, alloc, &words, &mut store, &mut sink, &NoTools);
-        assert_eq!(rt; answer, 0, "{line}");
-        assert_eq!(rt; sink.bytes(), printed.as_bytes(), "{line}");
+    for (line, printed) in &TRIALS {
+        is_told(&rt, rt.alloc(), line, printed)?;
     }
+    Ok(())
+}
+
+fn is_told<R: Threads + Wait + Sync + Abort>(
+    rt: &R,
+    alloc: Global,
+    line: &str,
+    printed: &str,
+) -> Result<(), Fail> {
+    let mut store = store(alloc, "", 0)?;
+    let mut sink = MemSink::new(alloc, None)?;
+    let answer = status(rt, alloc, line, &mut store, &mut sink)?;
+    is_same(rt, answer, 0, line);
+    is_text(rt, sink.bytes(), printed, line);
     Ok(())
 }
 
@@ -103,25 +114,23 @@ fn trials_are_told(rt: HostRuntime) -> Result<(), Fail> {
 #[test]
 fn a_trial_on_one_node_is_told(rt: HostRuntime) -> Result<(), Fail> {
     let (line, printed) = TRIALS[2];
-    let words = words(rt.alloc(), line)?;
-    ends_alone(&rt, rt.alloc(), &words, None, 0, printed)?;
-    ends_alone(&rt, rt.alloc(), &words, Some(0), 6, "")
+    ends_alone(&rt, rt.alloc(), line, None, 0, printed)?;
+    ends_alone(&rt, rt.alloc(), line, Some(0), 6, "")
 }
 
 /// The words end on one node with this status and print this text, where a write of the sink may fail.
-fn ends_alone(
-    rt: &impl Abort,
+fn ends_alone<R: Abort>(
+    rt: &R,
     alloc: Global,
-    words: &[String],
+    line: &str,
     fail_at: Option<u64>,
     status: u8,
     printed: &str,
 ) -> Result<(), Fail> {
     let mut store = store(alloc, "", 0)?;
     let mut sink = MemSink::new(alloc, fail_at)?;
-    let mut tools = Counted::new(alloc, &NoTools)?;
-    let answer = run_alone(alloc, words, &mut store, &mut sink, &mut tools);
-    assert_eq!(rt; answer, status);
-    assert_eq!(rt; sink.bytes(), printed.as_bytes());
+    let (answer, _) = answered_alone(alloc, line, &mut store, &mut sink)?;
+    is_same(rt, answer, status, line);
+    is_text(rt, sink.bytes(), printed, line);
     Ok(())
 }

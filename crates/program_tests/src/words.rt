@@ -1,6 +1,9 @@
+use crate::checks::is_text;
+use msb_values::{Name, Pairs};
 use msb_words::{Options, WordFault, read_words};
 use std::alloc::{AllocError, Global};
 use std::fmt::Write;
+use std::process::Abort;
 use std::test::Fail;
 
 /// The words, with `|` between them, and what they ask for: the action and the project, `@` before each target, the
@@ -91,43 +94,69 @@ fn words_of(alloc: Global, row: &str) -> Result<Vec<String>, AllocError> {
     Ok(words)
 }
 
-fn push_options(shown: &mut String, options: &Options) -> Result<(), Fail> {
-    write!(shown, "{:?} {}", options.action, options.project.as_str())?;
-    for target in options.targets.as_slice() {
+fn push_targets(shown: &mut String, targets: &[Name]) -> Result<(), AllocError> {
+    for target in targets {
         write!(shown, " @{}", target.key())?;
-    }
-    for (name, value) in options.globals.iter() {
-        write!(shown, " {}={}", name.key(), value.as_str())?;
-    }
-    if options.nodes != 1 {
-        write!(shown, " {} nodes", options.nodes)?;
-    }
-    if options.clean {
-        shown.push_str(" clean")?;
-    }
-    if options.low {
-        shown.push_str(" low")?;
     }
     Ok(())
 }
 
-fn shown(alloc: Global, words: &[String]) -> Result<String, Fail> {
-    let mut shown = String::new(alloc);
-    match read_words(alloc, words) {
-        Ok(options) => push_options(&mut shown, &options)?,
-        Err(WordFault::Usage) => shown.push_str("usage")?,
-        Err(WordFault::Memory) => shown.push_str("memory")?,
+fn push_globals(shown: &mut String, globals: &Pairs) -> Result<(), AllocError> {
+    for (name, value) in globals.iter() {
+        write!(shown, " {}={}", name.key(), value.as_str())?;
     }
+    Ok(())
+}
+
+fn push_nodes(shown: &mut String, nodes: u32) -> Result<(), AllocError> {
+    match nodes {
+        1 => Ok(()),
+        _ => write!(shown, " {nodes} nodes"),
+    }
+}
+
+fn push_flag(shown: &mut String, is: bool, flag: &str) -> Result<(), AllocError> {
+    if is { shown.push_str(flag) } else { Ok(()) }
+}
+
+fn options_shown(alloc: Global, options: &Options) -> Result<String, Fail> {
+    let (action, project) = (options.action, options.project.as_str());
+    let mut shown = format!(in alloc; "{action:?} {project}")?;
+    push_targets(&mut shown, options.targets.as_slice())?;
+    push_globals(&mut shown, &options.globals)?;
+    push_nodes(&mut shown, options.nodes)?;
+    push_flag(&mut shown, options.clean, " clean")?;
+    push_flag(&mut shown, options.low, " low")?;
     Ok(shown)
+}
+
+/// How these tests show that words are refused.
+pub fn fault_shown(alloc: Global, fault: WordFault) -> Result<String, Fail> {
+    let shown = match fault {
+        WordFault::Usage => "usage",
+        WordFault::Memory => "memory",
+    };
+    Ok(String::from_str(alloc, shown)?)
+}
+
+fn shown(alloc: Global, words: &[String]) -> Result<String, Fail> {
+    match read_words(alloc, words) {
+        Ok(options) => options_shown(alloc, &options),
+        Err(fault) => fault_shown(alloc, fault),
+    }
+}
+
+fn reads<R: Abort>(rt: &R, alloc: Global, row: &str) -> Result<(), Fail> {
+    let (words, want) = row.split_once(" => ").ok_or("a row has an arrow")?;
+    let shown = shown(alloc, words_of(alloc, words)?.as_slice())?;
+    is_text(rt, shown.as_bytes(), want, row);
+    Ok(())
 }
 
 #[test]
 fn words_are_read(rt: HostRuntime) -> Result<(), Fail> {
     for row in ROWS.split('\n') {
-        let (words, want) = row.split_once(" => ").ok_or("a row has an arrow")?;
-        let words = words_of(rt.alloc(), words)?;
-        let shown = shown(rt.alloc(), words.as_slice())?;
-        assert_eq!(rt; shown.as_str(), want, "{row}");
+        reads(&rt, rt.alloc(), row)?;
     }
     Ok(())
 }
