@@ -1,7 +1,7 @@
 use file_store::{File, MemSink, MemStore, Store, Tree};
 use msb_program::run;
 use msb_values::{List, Text, Text8};
-use std::alloc::Global;
+use std::alloc::{AllocError, Global};
 use std::fmt::Write;
 use std::process::Abort;
 use std::str;
@@ -16,18 +16,25 @@ const OTHER: &str = "-- or on more nodes\n";
 /// A store with the files of a text, each behind a line of `@`, its stamp and its path, in byte order of their paths; the calls of
 /// these numbers fail.
 pub fn store(alloc: Global, files: &str, fail: &[u64]) -> Result<MemStore, Fail> {
+    Ok(MemStore::new(alloc, tree(alloc, files)?, fail.to_vec(alloc)?)?)
+}
+
+fn tree(alloc: Global, files: &str) -> Result<Tree, Fail> {
     let mut list = List::new(alloc);
     for file in files.split("@ ").skip(1) {
-        let (line, text) = file.split_once('\n').ok_or("a file has a line")?;
-        let (stamp, path) = line.split_once(' ').ok_or("a file has a stamp")?;
-        list.push(File {
-            path: Text::of(alloc, path)?,
-            bytes: Text8::of(alloc, text.as_bytes())?,
-            stamp: stamp.parse::<u64>()?,
-        })?;
+        list.push(file_of(alloc, file)?)?;
     }
-    let tree = Tree::of(list).ok_or("the paths are in order")?;
-    Ok(MemStore::new(alloc, tree, fail.to_vec(alloc)?)?)
+    Ok(Tree::of(list).ok_or("the paths are in order")?)
+}
+
+fn file_of(alloc: Global, file: &str) -> Result<File, Fail> {
+    let (line, text) = file.split_once('\n').ok_or("a file has a line")?;
+    let (stamp, path) = line.split_once(' ').ok_or("a file has a stamp")?;
+    Ok(File {
+        stamp: stamp.parse::<u64>()?,
+        path: Text::of(alloc, path)?,
+        bytes: Text8::of(alloc, text.as_bytes())?,
+    })
 }
 
 /// What the words of a line come to: the status, what is printed, and each file that is written, in the order of the writes. The
@@ -41,13 +48,29 @@ pub fn told<R: Threads + Wait + Sync, T: Tools + Sync>(
     tools: &T,
 ) -> Result<String, Fail> {
     let last = last_stamp(store.tree());
+    let mut text = printed(rt, alloc, line, store, fail_at, tools)?;
+    push_written(alloc, &mut text, store.tree(), last)?;
+    Ok(text)
+}
+
+// The status, and what is printed.
+fn printed<R: Threads + Wait + Sync, T: Tools + Sync>(
+    rt: &R,
+    alloc: Global,
+    line: &str,
+    store: &mut MemStore,
+    fail_at: Option<u64>,
+    tools: &T,
+) -> Result<String, Fail> {
     let words = words(alloc, line)?;
     let mut sink = MemSink::new(alloc, fail_at)?;
     let status = run(rt, alloc, &words, store, &mut sink, tools);
-    let mut text = format!(in alloc; "{status}\n")?;
-    text.push_str(str::from_utf8(sink.bytes())?)?;
-    push_written(alloc, &mut text, store.tree(), last)?;
-    Ok(text)
+    with_status(alloc, status, sink.bytes())
+}
+
+fn with_status(alloc: Global, status: u8, printed: &[u8]) -> Result<String, Fail> {
+    let text = str::from_utf8(printed)?;
+    Ok(format!(in alloc; "{status}\n{text}")?)
 }
 
 fn words(alloc: Global, line: &str) -> Result<Vec<String>, Fail> {
@@ -68,6 +91,14 @@ fn last_stamp(tree: &Tree) -> u64 {
 
 // Shows the files that were written behind this stamp: each write gives a greater one.
 fn push_written(alloc: Global, text: &mut String, tree: &Tree, last: u64) -> Result<(), Fail> {
+    let written = written(alloc, tree, last)?;
+    for file in &written {
+        push_file(text, file)?;
+    }
+    Ok(())
+}
+
+fn written(alloc: Global, tree: &Tree, last: u64) -> Result<Vec<&File>, AllocError> {
     let mut written = Vec::new(alloc);
     for file in tree.files.as_slice() {
         if file.stamp > last {
@@ -75,10 +106,7 @@ fn push_written(alloc: Global, text: &mut String, tree: &Tree, last: u64) -> Res
         }
     }
     written.sort_by_key(|file| file.stamp)?;
-    for file in &written {
-        push_file(text, file)?;
-    }
-    Ok(())
+    Ok(written)
 }
 
 fn push_file(text: &mut String, file: &File) -> Result<(), Fail> {
@@ -104,10 +132,20 @@ pub fn is_built_by_any<R: Threads + Wait + Sync + Abort>(
 ) -> Result<(), Fail> {
     let (files, steps) = story.split_once("$ ").ok_or("a story has a step")?;
     for nodes in [1, 2, 8] {
-        let mut store = store(alloc, files, &[])?;
-        for step in steps.split("$ ") {
-            is_done(rt, alloc, step, nodes, &mut store)?;
-        }
+        are_done(rt, alloc, steps, nodes, &mut store(alloc, files, &[])?)?;
+    }
+    Ok(())
+}
+
+fn are_done<R: Threads + Wait + Sync + Abort>(
+    rt: &R,
+    alloc: Global,
+    steps: &str,
+    nodes: u32,
+    store: &mut MemStore,
+) -> Result<(), Fail> {
+    for step in steps.split("$ ") {
+        is_done(rt, alloc, step, nodes, store)?;
     }
     Ok(())
 }
@@ -145,13 +183,21 @@ fn is_told<R: Threads + Wait + Sync + Abort>(
     let (line, outcomes) = run.split_once(" => ").ok_or("a run has an outcome")?;
     let line = format!(in alloc; "{line} --nodes {nodes}")?;
     let told = told(rt, alloc, line.as_str(), store, None, &NoTools)?;
-    let (first, other) = match outcomes.split_once(OTHER) {
+    is_one_of(rt, line.as_str(), told.as_str(), wanted(outcomes, nodes));
+    Ok(())
+}
+
+fn is_one_of(rt: &impl Abort, line: &str, told: &str, outcomes: (&str, &str)) {
+    let (first, other) = outcomes;
+    if told != other {
+        assert_eq!(rt; told, first, "{line}");
+    }
+}
+
+fn wanted(outcomes: &str, nodes: u32) -> (&str, &str) {
+    match outcomes.split_once(OTHER) {
         Some((first, other)) if nodes > 1 => (first, other),
         Some((first, _)) => (first, first),
         None => (outcomes, outcomes),
-    };
-    if told.as_str() != other {
-        assert_eq!(rt; told.as_str(), first, "{line}");
     }
-    Ok(())
 }

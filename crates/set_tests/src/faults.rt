@@ -170,10 +170,13 @@ fn a_failed_print_is_told<R: Threads + Wait + Sync + Abort>(
     line: &str,
 ) -> Result<(), Fail> {
     let mut store = store(alloc, SET, &[])?;
-    let told = told(rt, alloc, line, &mut store, Some(0), &NoTools)?;
     let meant = ending(alloc, "6", WRITTEN.len())?;
-    assert_eq!(rt; told.as_str(), meant.as_str(), "{line}");
-    Ok(())
+    ends(
+        rt,
+        line,
+        told(rt, alloc, line, &mut store, Some(0), &NoTools),
+        meant.as_str(),
+    )
 }
 
 // A status with its text, and the first of the files that the first build writes.
@@ -193,11 +196,20 @@ fn failed_calls_are_told<R: Threads + Wait + Sync + Abort>(
     let whole = whole_set(rt, alloc, line)?;
     for (call, fault) in CALLS.iter().enumerate() {
         let mut store = store(alloc, SET, &[call as u64])?;
-        let told = told(rt, alloc, line, &mut store, None, &NoTools)?;
         let meant = ending(alloc, fault, call.saturating_sub(READS))?;
-        assert_eq!(rt; told.as_str(), meant.as_str(), "{line}");
+        ends(
+            rt,
+            line,
+            told(rt, alloc, line, &mut store, None, &NoTools),
+            meant.as_str(),
+        )?;
         is_finished_by_the_next(rt, alloc, line, &mut store, whole.as_str())?;
     }
+    Ok(())
+}
+
+fn ends(rt: &impl Abort, line: &str, told: Result<String, Fail>, meant: &str) -> Result<(), Fail> {
+    assert_eq!(rt; told?.as_str(), meant, "{line}");
     Ok(())
 }
 
@@ -218,9 +230,7 @@ fn is_finished_by_the_next<R: Threads + Wait + Sync + Abort>(
 ) -> Result<(), Fail> {
     let told = told(rt, alloc, line, store, None, &NoTools)?;
     assert!(rt; told.as_str().starts_with("0\n"), "{told}");
-    let files = all_files(alloc, store)?;
-    assert_eq!(rt; files.as_str(), whole, "{line}");
-    Ok(())
+    ends(rt, line, all_files(alloc, store), whole)
 }
 
 // A status whose text can't be printed stands where it is no 0 or 1, and nothing is written.
@@ -237,8 +247,12 @@ fn refusals_need_no_sink<R: Threads + Wait + Sync + Abort>(
         ("build a.proj", 1, "5\n"),
     ] {
         let mut store = store(alloc, CIRCLE, &[fail])?;
-        let told = told(rt, alloc, line, &mut store, Some(0), &NoTools)?;
-        assert_eq!(rt; told.as_str(), meant, "{line}");
+        ends(
+            rt,
+            line,
+            told(rt, alloc, line, &mut store, Some(0), &NoTools),
+            meant,
+        )?;
     }
     Ok(())
 }

@@ -55,32 +55,48 @@ fn is_built_by_any<R: Threads + Wait + Sync + Abort>(
     let meant = meant(alloc, &set, size)?;
     for nodes in [1, 2, 4, 16, 64] {
         let mut store = MemStore::new(alloc, tallying(alloc, &set)?, Vec::new(alloc))?;
-        let tools = Gate::new();
-        let line = format!(in alloc; "build all.proj --nodes {nodes}")?;
-        let told = told(rt, alloc, line.as_str(), &mut store, None, &tools)?;
-        assert_eq!(rt; told.as_str(), meant.as_str(), "{seed} {line}");
-        assert_eq!(rt; tools.tallied(), 1 + u64::from(size), "{seed} {line}");
+        let tallied = is_built_as(rt, alloc, nodes, &mut store, meant.as_str())?;
+        assert_eq!(rt; tallied, 1 + u64::from(size), "{seed} {nodes}");
     }
     Ok(())
+}
+
+// Wants this of a build by so many nodes, and gives how many runs it made.
+fn is_built_as<R: Threads + Wait + Sync + Abort>(
+    rt: &R,
+    alloc: Global,
+    nodes: u32,
+    store: &mut MemStore,
+    meant: &str,
+) -> Result<u64, Fail> {
+    let tools = Gate::new();
+    let line = format!(in alloc; "build all.proj --nodes {nodes}")?;
+    let told = told(rt, alloc, line.as_str(), store, None, &tools)?;
+    assert_eq!(rt; told.as_str(), meant, "{line}");
+    Ok(tools.tallied())
 }
 
 // The set, in which each target tallies.
 fn tallying(alloc: Global, set: &Tree) -> Result<Tree, Fail> {
     let mut files = List::new(alloc);
     for file in set.files.as_slice() {
-        let text = str::from_utf8(file.bytes.as_bytes())?;
-        let tallying = text.replace(
-            alloc,
-            "],\"e\":\"Target\"",
-            ",{\"e\":\"Tally\"}],\"e\":\"Target\"",
-        )?;
-        files.push(File {
-            path: file.path.copy()?,
-            bytes: Text8::from(tallying.into_bytes()),
-            stamp: file.stamp,
-        })?;
+        files.push(tallying_file(alloc, file)?)?;
     }
     Ok(Tree::of(files).ok_or("the paths are in order")?)
+}
+
+fn tallying_file(alloc: Global, file: &File) -> Result<File, Fail> {
+    let text = str::from_utf8(file.bytes.as_bytes())?;
+    let tallying = text.replace(
+        alloc,
+        "],\"e\":\"Target\"",
+        ",{\"e\":\"Tally\"}],\"e\":\"Target\"",
+    )?;
+    Ok(File {
+        path: file.path.copy()?,
+        bytes: Text8::from(tallying.into_bytes()),
+        stamp: file.stamp,
+    })
 }
 
 // `all.proj` calls the projects by their numbers, and each calls none but those before it: so they end in this order, on any nodes.
@@ -100,8 +116,14 @@ fn meant(alloc: Global, set: &Tree, size: u32) -> Result<String, Fail> {
 fn push_output(alloc: Global, text: &mut String, set: &Tree, number: u32) -> Result<(), Fail> {
     writeln!(text, "> out/p{number}.txt\np{number}")?;
     let path = format!(in alloc; "p{number}.proj")?;
-    let file = set.find(path.as_str()).ok_or("the project is there")?;
-    for project in called(str::from_utf8(file.bytes.as_bytes())?).split(';') {
+    match set.find(path.as_str()) {
+        Some(file) => push_files_of_called(text, str::from_utf8(file.bytes.as_bytes())?),
+        None => Err(Fail::new("the project is there")),
+    }
+}
+
+fn push_files_of_called(text: &mut String, project: &str) -> Result<(), Fail> {
+    for project in called(project).split(';') {
         if let Some(name) = project.strip_suffix(".proj") {
             writeln!(text, "out/{name}.txt")?;
         }
