@@ -55,7 +55,7 @@ fn is_built_by_any<R: Threads + Wait + Sync + Abort>(
     let meant = meant(alloc, &set, size)?;
     for nodes in [1, 2, 4, 16, 64] {
         let mut store = MemStore::new(alloc, tallying(alloc, &set)?, Vec::new(alloc))?;
-        let tallied = is_built_as(rt, alloc, nodes, &mut store, meant.as_str())?;
+        let tallied = is_built_as(rt, alloc, seed, nodes, &mut store, meant.as_str())?;
         assert_eq!(rt; tallied, 1 + u64::from(size), "{seed} {nodes}");
     }
     Ok(())
@@ -65,6 +65,7 @@ fn is_built_by_any<R: Threads + Wait + Sync + Abort>(
 fn is_built_as<R: Threads + Wait + Sync + Abort>(
     rt: &R,
     alloc: Global,
+    seed: u32,
     nodes: u32,
     store: &mut MemStore,
     meant: &str,
@@ -72,7 +73,7 @@ fn is_built_as<R: Threads + Wait + Sync + Abort>(
     let tools = Gate::new();
     let line = format!(in alloc; "build all.proj --nodes {nodes}")?;
     let told = told(rt, alloc, line.as_str(), store, None, &tools)?;
-    assert_eq!(rt; told.as_str(), meant, "{line}");
+    assert_eq!(rt; told.as_str(), meant, "{seed} {line}");
     Ok(tools.tallied())
 }
 
