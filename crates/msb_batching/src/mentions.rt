@@ -10,7 +10,6 @@ use msb_values::{Copied, Name, NoMemory};
 use std::alloc::Global;
 
 /// What the texts of an element speak of, each once and in order.
-#[derive(Drop)]
 pub(crate) struct Mentions {
     /// The references to metadata.
     pub(crate) references: IndexSet<Reference>,
@@ -20,6 +19,18 @@ pub(crate) struct Mentions {
     pub(crate) qualified: IndexSet<Name>,
     /// All these lists.
     pub(crate) mentioned: IndexSet<Name>,
+}
+
+// A drop that is written out is proved here alone.
+impl Drop for Mentions {
+    fn drop(self) {
+        let Mentions {
+            references: _,
+            named: _,
+            qualified: _,
+            mentioned: _,
+        } = self;
+    }
 }
 
 impl Mentions {

@@ -7,10 +7,17 @@ use msb_values::{Name, NoMemory};
 use std::alloc::Global;
 
 /// A reference to metadata: `%(Name)` or `%(Type.Name)`. (MSBuild batching.)
-#[derive(Drop, PartialEq, Eq, Hash)]
+#[derive(PartialEq, Eq, Hash)]
 pub(crate) struct Reference {
     pub(crate) kind: Option<Name>,
     pub(crate) name: Name,
+}
+
+// A drop that is written out is proved here alone.
+impl Drop for Reference {
+    fn drop(self) {
+        let Reference { kind: _, name: _ } = self;
+    }
 }
 
 /// The reference, where its texts are names.

@@ -29,11 +29,20 @@ impl Drop for Cond {
 }
 
 /// A side of a comparison, or a truth value.
-#[derive(Drop)]
 pub enum Operand {
     /// A text between quotes, a reference or a word.
     Text(Expr),
     Call(Function, Box<Operand>),
+}
+
+// A drop that is written out is proved here alone.
+impl Drop for Operand {
+    fn drop(self) {
+        match self {
+            Operand::Text(_) => {}
+            Operand::Call(_, _) => {}
+        }
+    }
 }
 
 #[derive(Clone, Copy, Debug, PartialEq, Eq)]

@@ -15,10 +15,16 @@ use msb_values::Text;
 use std::alloc::Global;
 
 /// A list as far as it is read: its whole entries, and the entry that is open.
-#[derive(Drop)]
 pub(crate) struct Reading<'a> {
     pub(crate) whole: Whole,
     pub(crate) entry: OpenEntry<'a>,
+}
+
+// A drop that is written out is proved here alone.
+impl Drop for Reading<'_> {
+    fn drop(self) {
+        let Reading { whole: _, entry: _ } = self;
+    }
 }
 
 impl<'a> Reading<'a> {

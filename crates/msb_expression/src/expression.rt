@@ -37,7 +37,6 @@ impl Drop for Part {
 }
 
 /// What is done to the items of a reference, one step after another.
-#[derive(Drop)]
 pub enum Step {
     /// `->'transform'`
     Transform(Pieces),
@@ -45,8 +44,17 @@ pub enum Step {
     Call(Word, Args),
 }
 
+// A drop that is written out is proved here alone.
+impl Drop for Step {
+    fn drop(self) {
+        match self {
+            Step::Transform(_) => {}
+            Step::Call(_, _) => {}
+        }
+    }
+}
+
 /// A part of a text between quotes, where no `@(..)` is a reference, and `%(Name)` is one in a transform alone.
-#[derive(Drop)]
 pub enum Piece {
     /// Text without a reference, never empty.
     Plain(Word),
@@ -54,6 +62,17 @@ pub enum Piece {
     Prop(Word),
     /// `%(Name)`
     Meta(Word),
+}
+
+// A drop that is written out is proved here alone.
+impl Drop for Piece {
+    fn drop(self) {
+        match self {
+            Piece::Plain(_) => {}
+            Piece::Prop(_) => {}
+            Piece::Meta(_) => {}
+        }
+    }
 }
 
 pub type Parts = List<Part>;

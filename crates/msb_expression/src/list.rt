@@ -5,9 +5,15 @@ use std::alloc::Global;
 use std::marker::Model;
 
 /// A list that contracts see as its entries.
-#[derive(Drop)]
 pub struct List<T> {
     entries: Vec<T>,
+}
+
+// A drop that is written out is proved here alone.
+impl<T: Drop> Drop for List<T> {
+    fn drop(self) {
+        let List { entries: _ } = self;
+    }
 }
 
 impl<T> Model for List<T> {

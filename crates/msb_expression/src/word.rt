@@ -5,9 +5,15 @@ use std::alloc::Global;
 use std::marker::Model;
 
 /// A text that contracts see as its bytes in UTF-8.
-#[derive(Drop)]
 pub struct Word {
     string: String,
+}
+
+// A drop that is written out is proved here alone.
+impl Drop for Word {
+    fn drop(self) {
+        let Word { string: _ } = self;
+    }
 }
 
 impl Model for Word {

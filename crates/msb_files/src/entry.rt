@@ -18,15 +18,30 @@ pub enum JView<'a> {
 }
 
 /// An entry of a journal. Its copies share the run, the bytes and the record.
-#[derive(Drop)]
 pub(crate) struct Entry {
     kept: JEntry,
 }
 
-#[derive(Drop)]
+// A drop that is written out is proved here alone.
+impl Drop for Entry {
+    fn drop(self) {
+        let Entry { kept: _ } = self;
+    }
+}
+
 enum JEntry {
     Wrote(RunRef, u64, PutRef),
     Ended(RunRef, RecordRef),
+}
+
+// A drop that is written out is proved here alone.
+impl Drop for JEntry {
+    fn drop(self) {
+        match self {
+            JEntry::Wrote(_, _, _) => {}
+            JEntry::Ended(_, _) => {}
+        }
+    }
 }
 
 impl Model for Entry {

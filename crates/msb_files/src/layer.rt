@@ -17,7 +17,6 @@ use std::marker::Model;
 use std::sync::Arc;
 
 /// Entries that stand together in a journal, with an index by path and one by mark, both by hash, and the files in order.
-#[derive(Drop)]
 pub(crate) struct Layer {
     /// The newest first.
     entries: Vec<Entry>,
@@ -27,6 +26,18 @@ pub(crate) struct Layer {
     newest: HashMap<String, PutRef>,
     /// Of each number the runs whose entries have it.
     runs: HashMap<Option<u64>, HashSet<RunId>>,
+}
+
+// A drop that is written out is proved here alone.
+impl Drop for Layer {
+    fn drop(self) {
+        let Layer {
+            entries: _,
+            by_path: _,
+            newest: _,
+            runs: _,
+        } = self;
+    }
 }
 
 impl Model for Layer {
@@ -119,9 +130,15 @@ fn push_copies(entries: &mut Vec<Entry>, more: &[Entry]) -> Result<(), NoMemory>
 }
 
 /// A layer that all journals share that have it.
-#[derive(Drop)]
 pub(crate) struct LayerRef {
     shared: Arc<Layer>,
+}
+
+// A drop that is written out is proved here alone.
+impl Drop for LayerRef {
+    fn drop(self) {
+        let LayerRef { shared: _ } = self;
+    }
 }
 
 impl Model for LayerRef {

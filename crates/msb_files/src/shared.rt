@@ -11,16 +11,31 @@ use std::sync::Arc;
 
 /// A file that a run has written, which all journals that have it share, with the record of the run where the run has
 /// ended.
-#[derive(Drop)]
 pub(crate) struct PutRef {
     kept: KeptPut,
 }
 
-#[derive(Drop)]
+// A drop that is written out is proved here alone.
+impl Drop for PutRef {
+    fn drop(self) {
+        let PutRef { kept: _ } = self;
+    }
+}
+
 enum KeptPut {
     Own(Arc<Put>),
     /// The segment of this number in the record, which writes the file.
     Recorded(RecordRef, usize),
+}
+
+// A drop that is written out is proved here alone.
+impl Drop for KeptPut {
+    fn drop(self) {
+        match self {
+            KeptPut::Own(_) => {}
+            KeptPut::Recorded(_, _) => {}
+        }
+    }
 }
 
 impl Model for PutRef {
@@ -77,9 +92,15 @@ impl Copied for PutRef {
 }
 
 /// The run of an entry, which all journals that have the entry share.
-#[derive(Drop)]
 pub(crate) struct RunRef {
     shared: Arc<RunId>,
+}
+
+// A drop that is written out is proved here alone.
+impl Drop for RunRef {
+    fn drop(self) {
+        let RunRef { shared: _ } = self;
+    }
 }
 
 impl Model for RunRef {

@@ -16,13 +16,22 @@ use msb_values::{List, Text, escape};
 use std::alloc::Global;
 
 /// A path that a pattern stands for.
-#[derive(Drop)]
 pub struct Match {
     /// The pattern's fixed part as written, with `/`, and then the rest of the path, escaped; or where the path doesn't
     /// lie below the folder that the fixed part leads to, `/` and the whole path, escaped.
     pub ident: Word,
     /// The folders that the first `**` stands for, as few as it can, each with `/`, escaped.
     pub recursive: Word,
+}
+
+// A drop that is written out is proved here alone.
+impl Drop for Match {
+    fn drop(self) {
+        let Match {
+            ident: _,
+            recursive: _,
+        } = self;
+    }
 }
 
 /// The paths that a pattern stands for, in byte order.

@@ -5,7 +5,7 @@ ghost use Rattle.msb_values.specs.Escapes.{unescaped};
 ghost use Rattle.msb_glob.specs.Parsed.{fixed_text, below};
 
 use crate::errors::OutOfMemory;
-use msb_paths::{PathFault, Split, Word, normalize, parts};
+use msb_paths::{PathFault, Word, normalize, parts};
 use msb_values::unescape;
 use std::alloc::Global;
 
@@ -13,11 +13,8 @@ use std::alloc::Global;
 pub(crate) fn fixed_text(alloc: Global, text: &str) -> Result<Word, OutOfMemory>
     ensures { IfOk result (λ fixed. fixed ≡ fixed_text text.now) }
 {
-    let Split {
-        relative_dir,
-        filename: _,
-        extension: _,
-    } = parts(alloc, ahead_of(ahead_of(text, '*'), '?'))?;
+    let split = parts(alloc, ahead_of(ahead_of(text, '*'), '?'))?;
+    let (relative_dir, _, _) = split.parts();
     Ok(relative_dir)
 }
 

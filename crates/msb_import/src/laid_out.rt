@@ -8,10 +8,16 @@ use std::collections::BTreeSet;
 use std::marker::Model;
 
 /// The files that were laid out, in that order, which are looked up by their paths. Contracts see the list of the paths.
-#[derive(Drop)]
 pub struct LaidOut {
     files: Vec<Text>,
     known: BTreeSet<Text>,
+}
+
+// A drop that is written out is proved here alone.
+impl Drop for LaidOut {
+    fn drop(self) {
+        let LaidOut { files: _, known: _ } = self;
+    }
 }
 
 impl Model for LaidOut {
@@ -51,7 +57,8 @@ impl LaidOut {
     pub fn into_list(self) -> List<Text>
         ensures { result ≡ self }
     {
-        List::from(self.files)
+        let LaidOut { files, known: _ } = self;
+        List::from(files)
     }
 
     /// Whether a file at this path was laid out.

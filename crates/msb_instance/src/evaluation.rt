@@ -64,11 +64,12 @@ fn with_targets(
 ) -> Result<Instance, EvalFault>
     ensures { GivesFault seen_instance result (with_targets key.now (seen_layout laid) scope) }
 {
-    let Ok(targets) = used_targets(alloc, laid.elements) else {
+    let (elements, _, duplicates, initial, default) = laid.parts();
+    let Ok(targets) = used_targets(alloc, elements) else {
         return Err(EvalFault::memory(alloc));
     };
     let rows = rows(alloc, key.path.as_str(), &scope, targets.as_slice())?;
-    let Ok(default) = default_or_first(alloc, laid.default, targets.as_slice()) else {
+    let Ok(default) = default_or_first(alloc, default, targets.as_slice()) else {
         return Err(EvalFault::memory(alloc));
     };
     let Ok(targets) = UsedTargets::of(alloc, targets) else {
@@ -78,9 +79,9 @@ fn with_targets(
         scope,
         rows,
         targets,
-        initial: laid.initial,
+        initial,
         default,
-        duplicates: laid.duplicates,
+        duplicates,
     })
 }
 

@@ -19,12 +19,21 @@ use std::alloc::Global;
 use std::collections::BTreeSet;
 
 /// What the entries of an Exclude, a Remove or an Update name. (MSBuild items, wildcards to specify items.)
-#[derive(Drop)]
 pub(crate) struct ItemNames {
     /// The identity that each entry is, with `/` for each `\` and folded.
     idents: BTreeSet<Folded>,
     /// The patterns among the entries.
     patterns: List<Pattern>,
+}
+
+// A drop that is written out is proved here alone.
+impl Drop for ItemNames {
+    fn drop(self) {
+        let ItemNames {
+            idents: _,
+            patterns: _,
+        } = self;
+    }
 }
 
 impl ItemNames {

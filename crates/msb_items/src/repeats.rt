@@ -14,10 +14,17 @@ use std::mem;
 
 /// What two items have in common of which the second is left out: the identity without case, and the metadata with the
 /// defaults of the type.
-#[derive(Drop, PartialEq, Eq, Hash)]
+#[derive(PartialEq, Eq, Hash)]
 struct ItemKey {
     ident: Folded,
     meta: Pairs,
+}
+
+// A drop that is written out is proved here alone.
+impl Drop for ItemKey {
+    fn drop(self) {
+        let ItemKey { ident: _, meta: _ } = self;
+    }
 }
 
 impl ItemKey {
@@ -33,10 +40,16 @@ impl ItemKey {
 
 /// Items among which an equal one is found in a time that does not grow with their number. (Target element,
 /// KeepDuplicateOutputs.)
-#[derive(Drop)]
 pub struct KeyedItems {
     items: List<Item>,
     keys: HashSet<ItemKey>,
+}
+
+// A drop that is written out is proved here alone.
+impl Drop for KeyedItems {
+    fn drop(self) {
+        let KeyedItems { items: _, keys: _ } = self;
+    }
 }
 
 impl Model for KeyedItems {
@@ -67,14 +80,23 @@ impl KeyedItems {
     pub fn into_list(self) -> List<Item>
         ensures { result ≡ self }
     {
-        self.items
+        let KeyedItems { items, keys: _ } = self;
+        items
+    }
+
+    fn parts(self) -> (List<Item>, HashSet<ItemKey>)
+        ensures items { result.0 ≡ self }
+        ensures keys { HasKeys [] result.0 result.1 }
+    {
+        let KeyedItems { items, keys } = self;
+        (items, keys)
     }
 
     /// Puts items behind these, also repeats. Where there is no memory, nothing is said of them.
     pub fn append(&mut self, alloc: Global, more: List<Item>) -> Result<(), NoMemory>
         ensures { OnOk result (self.new ≡ self.old ++ more) }
     {
-        let KeyedItems { items, keys } = mem::replace(self, KeyedItems::new(alloc));
+        let (items, keys) = mem::replace(self, KeyedItems::new(alloc)).parts();
         *self = appended(alloc, items, keys, more.into_vec())?;
         Ok(())
     }

@@ -151,7 +151,8 @@ fn pairs_written<F: Present>(
         meta: Pairs::new(alloc),
     };
     set_metadata(alloc, place, kind, &written, &mut made)?;
-    Ok(made.meta)
+    let (_, _, meta) = made.parts();
+    Ok(meta)
 }
 
 /// Some items less those that are there already, unless the element keeps them.

@@ -17,13 +17,23 @@ use msb_values::{Copied, Item, List, Name, NoMemory, Pairs};
 use std::alloc::Global;
 
 /// Which metadata of its source a copied item keeps. (Item element.)
-#[derive(Drop)]
 pub(crate) enum Transfer {
     All,
     /// Those of these names.
     Only(List<Name>),
     /// Those of all other names.
     Without(List<Name>),
+}
+
+// A drop that is written out is proved here alone.
+impl Drop for Transfer {
+    fn drop(self) {
+        match self {
+            Transfer::All => {}
+            Transfer::Only(_) => {}
+            Transfer::Without(_) => {}
+        }
+    }
 }
 
 impl Transfer {

@@ -7,7 +7,6 @@ use crate::{NoRoom, Word};
 use std::alloc::Global;
 
 /// The parts of an item's identity, as MSBuild's well-known item metadata names them.
-#[derive(Drop)]
 pub struct Split {
     /// The identity through its last `/` or `\`, else empty.
     pub relative_dir: Word,
@@ -15,6 +14,33 @@ pub struct Split {
     pub filename: Word,
     /// The rest, from that last `.` on.
     pub extension: Word,
+}
+
+// A drop that is written out is proved here alone.
+impl Drop for Split {
+    fn drop(self) {
+        let Split {
+            relative_dir: _,
+            filename: _,
+            extension: _,
+        } = self;
+    }
+}
+
+impl Split {
+    /// RelativeDir, Filename and Extension.
+    pub fn parts(self) -> (Word, Word, Word)
+        ensures relative_dir { result.0 ≡ self.relative_dir }
+        ensures filename { result.1 ≡ self.filename }
+        ensures extension { result.2 ≡ self.extension }
+    {
+        let Split {
+            relative_dir,
+            filename,
+            extension,
+        } = self;
+        (relative_dir, filename, extension)
+    }
 }
 
 /// Parts an unescaped identity into RelativeDir, Filename and Extension.

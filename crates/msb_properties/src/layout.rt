@@ -14,7 +14,6 @@ use std::alloc::Global;
 
 /// The elements so far with the properties that they give, the files that they come from, and the imports that were
 /// ignored.
-#[derive(Drop)]
 pub(crate) struct Layout {
     pub properties: Properties,
     pub elements: Vec<Placed>,
@@ -22,10 +21,37 @@ pub(crate) struct Layout {
     pub duplicates: List<Text>,
 }
 
+// A drop that is written out is proved here alone.
+impl Drop for Layout {
+    fn drop(self) {
+        let Layout {
+            properties: _,
+            elements: _,
+            files: _,
+            duplicates: _,
+        } = self;
+    }
+}
+
 impl Layout {
     ghost use Rattle.msb_properties.specs.Settings.{Setting as Given};
     ghost use Rattle.msb_properties.specs.Laid.{extended, with_file, with_duplicate};
     ghost use Rattle.msb_properties.specs.Seen.{seen_setting, seen_laid, IsKept};
+
+    /// The properties, the elements, and the imports that were ignored.
+    pub(crate) fn parts(self) -> (Properties, Vec<Placed>, List<Text>)
+        ensures properties { result.0 ≡ self.properties }
+        ensures elements { result.1 ≡ self.elements }
+        ensures duplicates { result.2 ≡ self.duplicates }
+    {
+        let Layout {
+            properties,
+            elements,
+            files: _,
+            duplicates,
+        } = self;
+        (properties, elements, duplicates)
+    }
 
     /// Adds an element of a file, with what it changes of the properties.
     pub(crate) fn extend(

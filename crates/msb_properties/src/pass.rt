@@ -44,10 +44,11 @@ fn with_targets(alloc: Global, setting: &Setting<'_>, layout: Layout) -> Result<
     let elements = layout.elements.as_slice();
     let initial = initial_targets(alloc, setting, &layout.properties, elements)?;
     let default = default_targets(alloc, setting, &layout.properties, elements)?;
+    let (properties, elements, duplicates) = layout.parts();
     Ok(LaidOut {
-        elements: layout.elements,
-        props: layout.properties.into_values(),
-        duplicates: layout.duplicates,
+        elements,
+        props: properties.into_values(),
+        duplicates,
         initial,
         default,
     })

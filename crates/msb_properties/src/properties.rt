@@ -16,11 +16,17 @@ use msb_values::{Copied, Defaults, Item, List, Lists, Name, NoMemory, Pairs, Sco
 use std::alloc::Global;
 
 /// The properties so far, and the global ones that a file has made its own.
-#[derive(Drop)]
 pub(crate) struct Properties {
     /// The global properties and the properties; no item is seen.
     pub scope: Scope,
     pub local: List<Name>,
+}
+
+// A drop that is written out is proved here alone.
+impl Drop for Properties {
+    fn drop(self) {
+        let Properties { scope: _, local: _ } = self;
+    }
 }
 
 impl Properties {
@@ -44,7 +50,9 @@ impl Properties {
     pub(crate) fn into_values(self) -> Pairs
         ensures { result ≡ self.scope.props }
     {
-        self.scope.props
+        let Properties { scope, local: _ } = self;
+        let (_, props, _, _) = scope.parts();
+        props
     }
 
     /// What a text sees that stands in this file, whose Exists starts from this folder.

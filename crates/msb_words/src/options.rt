@@ -26,7 +26,6 @@ pub enum Action {
 }
 
 /// What the words ask for. (MSBuild command-line reference.)
-#[derive(Drop)]
 pub struct Options {
     pub action: Action,
     /// The project file's path, as the word gives it; the word of a trial's seed.
@@ -45,6 +44,23 @@ pub struct Options {
     pub size: u32,
     /// The seed of a trial's set; 0 where there is no trial.
     pub seed: u64,
+}
+
+// A drop that is written out is proved here alone.
+impl Drop for Options {
+    fn drop(self) {
+        let Options {
+            action: _,
+            project: _,
+            targets: _,
+            globals: _,
+            nodes: _,
+            clean: _,
+            low: _,
+            size: _,
+            seed: _,
+        } = self;
+    }
 }
 
 /// Reads the words behind the program's name:

@@ -41,7 +41,7 @@ fn whole_transform(alloc: Global, parts: &[Part]) -> Result<Option<Name>, NoMemo
 {
     match parts {
         [Part::Items(kind, steps, None)] => match steps.as_slice() {
-            [Step::Transform(_)] => Name::written(alloc, kind.as_str()),
+            [Step::Transform(..)] => Name::written(alloc, kind.as_str()),
             _ => Ok(None),
         },
         _ => Ok(None),

@@ -1,7 +1,6 @@
 use msb_values::{List, Name};
 
 /// What a walk asks next.
-#[derive(Drop)]
 pub enum OrderAsk {
     /// Whether the Condition of this target holds.
     Condition(Name),
@@ -18,8 +17,21 @@ pub enum OrderAsk {
     Unknown(Name),
 }
 
+// A drop that is written out is proved here alone.
+impl Drop for OrderAsk {
+    fn drop(self) {
+        match self {
+            OrderAsk::Condition(_) => {}
+            OrderAsk::Depends(_) => {}
+            OrderAsk::Body(_) => {}
+            OrderAsk::Done => {}
+            OrderAsk::Circle(_) => {}
+            OrderAsk::Unknown(_) => {}
+        }
+    }
+}
+
 /// What a walk is answered.
-#[derive(Drop)]
 pub enum OrderAnswer {
     /// The answer with which a walk begins, before its first ask.
     First,
@@ -31,4 +43,17 @@ pub enum OrderAnswer {
     Ok,
     /// The body has failed; these are the targets of its OnError elements.
     Failed(List<Name>),
+}
+
+// A drop that is written out is proved here alone.
+impl Drop for OrderAnswer {
+    fn drop(self) {
+        match self {
+            OrderAnswer::First => {}
+            OrderAnswer::Truth(_) => {}
+            OrderAnswer::Names(_) => {}
+            OrderAnswer::Ok => {}
+            OrderAnswer::Failed(_) => {}
+        }
+    }
 }

@@ -7,10 +7,19 @@ use std::collections::BTreeMap;
 use std::marker::Model;
 
 /// Distinct names by their numbers, from 0 on in the order in which they were added.
-#[derive(Drop)]
 pub struct Numbers {
     names: Vec<Name>,
     by_name: BTreeMap<Name, usize>,
+}
+
+// A drop that is written out is proved here alone.
+impl Drop for Numbers {
+    fn drop(self) {
+        let Numbers {
+            names: _,
+            by_name: _,
+        } = self;
+    }
 }
 
 impl Model for Numbers {

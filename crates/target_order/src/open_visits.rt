@@ -16,7 +16,6 @@ use std::sync::Arc;
 const WIDTH: usize = 32;
 
 /// The open visits of a walk, innermost last. A copy shares all but the last `2 * WIDTH` of them.
-#[derive(Drop)]
 pub struct OpenVisits {
     /// The outer visits.
     outer: Arc<List<Chunk<OpenVisit>>>,
@@ -24,6 +23,17 @@ pub struct OpenVisits {
     inner: Vec<OpenVisit>,
     /// How many there are of both.
     count: usize,
+}
+
+// A drop that is written out is proved here alone.
+impl Drop for OpenVisits {
+    fn drop(self) {
+        let OpenVisits {
+            outer: _,
+            inner: _,
+            count: _,
+        } = self;
+    }
 }
 
 impl Model for OpenVisits {

@@ -24,13 +24,23 @@ impl Drop for SharedTable {
     }
 }
 
-#[derive(Drop)]
 struct Targets {
     names: Numbers,
     /// Of each target, those that name it in BeforeTargets.
     before: Vec<List<Name>>,
     /// Of each target, those that name it in AfterTargets.
     after: Vec<List<Name>>,
+}
+
+// A drop that is written out is proved here alone.
+impl Drop for Targets {
+    fn drop(self) {
+        let Targets {
+            names: _,
+            before: _,
+            after: _,
+        } = self;
+    }
 }
 
 impl Model for SharedTable {

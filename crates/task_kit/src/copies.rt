@@ -18,17 +18,29 @@ use std::alloc::Global;
 use task_trait::{Failure, Param, TaskOutput, check_known, items_of, text_of, truth_at};
 
 /// A source of a copy, with its normal path.
-#[derive(Drop)]
 pub(crate) struct Source {
     item: Item,
     path: Text,
 }
 
+// A drop that is written out is proved here alone.
+impl Drop for Source {
+    fn drop(self) {
+        let Source { item: _, path: _ } = self;
+    }
+}
+
 /// A destination of a copy as it is told, with its normal path.
-#[derive(Drop)]
 pub(crate) struct Destination {
     text: Text,
     path: Text,
+}
+
+// A drop that is written out is proved here alone.
+impl Drop for Destination {
+    fn drop(self) {
+        let Destination { text: _, path: _ } = self;
+    }
 }
 
 /// The copies of the sources at their destinations. (Copy task.)

@@ -259,13 +259,9 @@ fn with_all_metadata(
 fn with_metadata(metadata: &[(Name, Text)], item: Item) -> Result<Item, NoMemory>
     ensures { IfOk result (λ changed. changed ≡ with_metadata metadata.now item) }
 {
-    let mut meta = item.meta;
-    put_all(&mut meta, metadata)?;
-    Ok(Item {
-        ident: item.ident,
-        recursive: item.recursive,
-        meta,
-    })
+    let mut changed = item;
+    put_all(&mut changed.meta, metadata)?;
+    Ok(changed)
 }
 
 fn put_all(meta: &mut Pairs, metadata: &[(Name, Text)]) -> Result<(), NoMemory>

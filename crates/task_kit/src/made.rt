@@ -17,13 +17,23 @@ const FILE_LIMIT: u64 = 16_777_216;
 const RUN_LIMIT: u64 = 67_108_864;
 
 /// What a task has made so far.
-#[derive(Drop)]
 pub(crate) struct Made {
     /// The bytes that the run has written, with what it wrote before this task.
     pub(crate) written: u64,
     pub(crate) files: List<Put>,
     /// The items that the task gives.
     pub(crate) items: List<Item>,
+}
+
+// A drop that is written out is proved here alone.
+impl Drop for Made {
+    fn drop(self) {
+        let Made {
+            written: _,
+            files: _,
+            items: _,
+        } = self;
+    }
 }
 
 impl Made {
@@ -36,6 +46,17 @@ impl Made {
             files: List::new(alloc),
             items: List::new(alloc),
         }
+    }
+
+    fn into_files(self) -> List<Put>
+        ensures { result ≡ self.files }
+    {
+        let Made {
+            written: _,
+            files,
+            items: _,
+        } = self;
+        files
     }
 
     /// Writes a file, unless it is too large; `told` is its path as the task was handed it.
@@ -110,7 +131,7 @@ pub(crate) fn output_with(
         Ok(()) => Ok(TaskOutput {
             ok: output.ok,
             outputs: output.outputs,
-            files: made.files,
+            files: made.into_files(),
             notes: output.notes,
         }),
         Err(failure) => failed_with(alloc, task, output, made, &failure),
@@ -132,7 +153,7 @@ fn failed_with(
     Ok(TaskOutput {
         ok: false,
         outputs: output.outputs,
-        files: made.files,
+        files: made.into_files(),
         notes,
     })
 }

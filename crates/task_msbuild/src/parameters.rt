@@ -11,7 +11,6 @@ use std::alloc::Global;
 use task_trait::{Failure, Param, bad, check_known, items_of, needed_items, truth_at};
 
 /// The parameters of the task as it uses them. (MSBuild task.)
-#[derive(Drop)]
 pub(crate) struct Parameters {
     pub(crate) projects: List<Project>,
     pub(crate) targets: List<Name>,
@@ -22,6 +21,22 @@ pub(crate) struct Parameters {
     pub(crate) separately: bool,
     pub(crate) skip_missing: bool,
     pub(crate) stop_first: bool,
+}
+
+// A drop that is written out is proved here alone.
+impl Drop for Parameters {
+    fn drop(self) {
+        let Parameters {
+            projects: _,
+            targets: _,
+            properties: _,
+            removed: _,
+            parallel: _,
+            separately: _,
+            skip_missing: _,
+            stop_first: _,
+        } = self;
+    }
 }
 
 impl Parameters {

@@ -5,7 +5,6 @@ use msb_values::{List, Note};
 use result_cache::{RequestKey, RequestResult};
 
 /// What the MSBuild task is to do. (MSBuild task.)
-#[derive(Drop)]
 pub struct Plan {
     /// The requests that it calls, in order.
     pub calls: List<RequestKey>,
@@ -17,6 +16,19 @@ pub struct Plan {
     pub notes: List<Note>,
     /// False where the task fails, whatever its calls give.
     pub ok: bool,
+}
+
+// A drop that is written out is proved here alone.
+impl Drop for Plan {
+    fn drop(self) {
+        let Plan {
+            calls: _,
+            parallel: _,
+            stop_first: _,
+            notes: _,
+            ok: _,
+        } = self;
+    }
 }
 
 impl Plan {

@@ -7,11 +7,20 @@ use msb_values::{Copied, Item, List, Name, NoMemory, Text};
 use std::alloc::Global;
 
 /// A project item, with the properties that its metadata AdditionalProperties gives. (MSBuild task.)
-#[derive(Drop)]
 pub(crate) struct ProjectItem {
     /// The identity, as it is given.
     pub(crate) text: Text,
     pub(crate) additional: List<(Name, Text)>,
+}
+
+// A drop that is written out is proved here alone.
+impl Drop for ProjectItem {
+    fn drop(self) {
+        let ProjectItem {
+            text: _,
+            additional: _,
+        } = self;
+    }
 }
 
 impl ProjectItem {
@@ -46,11 +55,17 @@ impl ProjectItem {
 }
 
 /// A project that is to be called. (MSBuild task.)
-#[derive(Drop)]
 pub(crate) struct Project {
     pub(crate) item: ProjectItem,
     /// The path of its file.
     pub(crate) path: Text,
+}
+
+// A drop that is written out is proved here alone.
+impl Drop for Project {
+    fn drop(self) {
+        let Project { item: _, path: _ } = self;
+    }
 }
 
 impl Project {
