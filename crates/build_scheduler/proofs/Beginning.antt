@@ -1,5 +1,5 @@
 -- The core of a root whose walk had no answer yet shows the start.
-use Rattle.std.proofs.Common.{◌≡◌, ◌≤◌, ◌==◌, ◌||◌, ℕ, zero, suc, false, List, [], ◌∷◌, length, map, Option, None, refl, ap, sym, ◌∙◌, subst, arith}
+use Rattle.std.proofs.Common.{◌≡◌, ◌≤◌, ◌==◌, ℕ, zero, suc, false, List, [], ◌∷◌, length, map, Option, None, refl, ap, sym, ◌∙◌, subst, arith}
 use Rattle.result_cache.specs.declared.run.RunId.{RunId}
 use Rattle.result_cache.specs.declared.request.RequestKey.{RequestKey}
 use Rattle.result_cache.specs.Table.{TableRuns, Records}
@@ -61,7 +61,7 @@ module _ {W I A : Type 0} (seen : W → Seen I A) (walk : W) (key : RequestKey) 
       }
 
 pub indexed-start : {W : Type 0} (walk : W) {slots : List (Slot W)} {ready : Numbered} {waiting : List Numbered} (empty : Numbered) → slots ≡ Ready walk First ∷ [] → waiting ≡ empty ∷ [] → empty.numbers ≡ [] →
-    ((n : ℕ) → among n ready.numbers ≡ ((0 == n) || false)) → Indexed slots ready waiting
+    ((n : ℕ) → among n ready.numbers ≡ (0 == n)) → Indexed slots ready waiting
 indexed-start {W} walk {slots} {ready} {waiting} empty s wt e m = record {
   listed = λ n. m n ∙ (first n ∙ ap (λ (xs : List (Slot W)). is_ready (at xs n)) (sym s));
   room = subst (λ (xs : List (Slot W)). unready xs ≤ ready.room) (sym s) (omega arith);
@@ -69,9 +69,9 @@ indexed-start {W} walk {slots} {ready} {waiting} empty s wt e m = record {
   waits = λ by n. ap (λ xs. among n (numbers_of (at xs by))) wt ∙ (others by n ∙ ap (λ (xs : List (Slot W)). waits_for by (at xs n)) (sym s));
 }
   where
-    first : (n : ℕ) → ((0 == n) || false) ≡ is_ready (at (Ready walk First ∷ []) n)
+    first : (n : ℕ) → (0 == n) ≡ is_ready (at (Ready walk First ∷ []) n)
     first zero = refl
-    first (suc n) = ap (λ b. b || false) (not-equal 0 (suc n) (λ e. absurd (omega arith)))
+    first (suc n) = not-equal 0 (suc n) (λ e. absurd (omega arith))
 
     empty_of : (n : ℕ) → among n empty.numbers ≡ false
     empty_of n = ap (among n) e

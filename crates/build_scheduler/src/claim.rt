@@ -85,9 +85,7 @@ impl<W: Walker> Core<W> {
         ensures out { OnOk result ∥ IsOut (W.world_of self.old.world) self.new.history.events self.new.table.finished id (seen_by W.world W.position W.asked W.learnt walk.now) Goes ∥₁ }
         ensures err { OnErr result (self.new.history.events ≡ self.old.history.events) }
     {
-        let claimed = run.copy()?;
-        let made = run.copy()?;
-        self.history.reserve(2)?;
+        let (claimed, made) = begin_room(&mut self.history, run)?;
         self.table.begin(run, id)?;
         self.history.push(Event::Claim(id, claimed, ClaimKind::Go));
         put_run(&mut self.making, id, Some(made));
@@ -174,6 +172,20 @@ impl<W: Walker> Core<W> {
         self.history.push(Event::Claim(id, claimed, ClaimKind::Use));
         Ok(())
     }
+}
+
+/// Takes room for a run that begins: for its event and that of its result, with the run's name for both.
+fn begin_room(history: &mut Log, run: &RunId) -> Result<(RunId, RunId), NoMemory>
+    ensures events { history.new.events ≡ history.old.events }
+    ensures room { history.old.room ≤ history.new.room }
+    ensures ok { OnOk result (history.new.room ≡ history.old.room + 2) }
+    ensures claimed { IfOk result (λ runs. runs.0 ≡ run.now) }
+    ensures made { IfOk result (λ runs. runs.1 ≡ run.now) }
+{
+    let claimed = run.copy()?;
+    let made = run.copy()?;
+    history.reserve(2)?;
+    Ok((claimed, made))
 }
 
 /// Takes room for a wait: for its event and the Assign that follows it, and in the list of those that wait for the run of a

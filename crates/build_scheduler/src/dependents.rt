@@ -13,7 +13,6 @@ use result_cache::RunId;
 use std::alloc::Global;
 
 /// The requests whose runs need the run that a request would wait for.
-#[derive(Drop)]
 pub(crate) struct Dependents {
     /// Each once; the one that calls the request comes first.
     requests: IndexSet<u64>,
@@ -21,11 +20,30 @@ pub(crate) struct Dependents {
     needs: Vec<usize>,
 }
 
+// A drop that is written out is proved here alone.
+impl Drop for Dependents {
+    fn drop(self) {
+        let Dependents {
+            requests: _,
+            needs: _,
+        } = self;
+    }
+}
+
 /// A request among those that need the run, and its place.
-#[derive(Drop)]
 pub(crate) struct Dependent {
     dependents: Dependents,
     place: usize,
+}
+
+// A drop that is written out is proved here alone.
+impl Drop for Dependent {
+    fn drop(self) {
+        let Dependent {
+            dependents: _,
+            place: _,
+        } = self;
+    }
 }
 
 impl Dependents {

@@ -4,7 +4,7 @@ ghost use Rattle.build_meaning.specs.Lists.{at, put};
 ghost use Rattle.build_scheduler.specs.declared.walker.Ask.TheVariants.{Done as IsOver};
 ghost use Rattle.build_scheduler.specs.declared.slot.End.TheVariants.{Root};
 ghost use Rattle.build_scheduler.specs.declared.slot.Slot.TheVariants.{Assigned, Calling};
-ghost use Rattle.build_scheduler.specs.Calls.{HasOpen, HasParent, IsCalling, IsResumed, IsTold};
+ghost use Rattle.build_scheduler.specs.Calls.{HasOpen, HasParent, IsCalling, IsResumed};
 ghost use Rattle.build_scheduler.specs.Numbers.{among};
 ghost use Rattle.build_scheduler.specs.Own.{Asks};
 ghost use Rattle.build_scheduler.specs.Shown.{is_ready, one_unless};
@@ -12,9 +12,8 @@ ghost use Rattle.build_scheduler.specs.Shown.{is_ready, one_unless};
 use crate::numbers::Numbers;
 use crate::scheduler::{put_slot, replace_slot};
 use crate::slot::{Calls, End, Origin, Slot};
-use crate::{Answer, Core, Walker};
+use crate::{Core, Walker};
 use build_meaning::Event;
-use msb_values::List;
 use result_cache::RequestResult;
 
 impl<W: Walker> Core<W> {
@@ -60,7 +59,7 @@ fn resume<W: Drop>(
     ensures { IsResumed slots.old.items slots.new.items ready.old ready.new caller id told }
 {
     let calls = take_calls(slots, caller);
-    let next = tell(calls, id, told);
+    let next = calls.tell(id, told);
     let is_ready = next.is_ready();
     put_slot(slots, caller, next);
     if is_ready {
@@ -73,25 +72,5 @@ fn take_calls<W: Drop>(slots: &mut Vec<Slot<W>>, caller: u64) -> Calls<W>
     ensures was { at slots.old.items caller ≡ Some (Calling result) }
     ensures is { slots.new.items ≡ put slots.old.items caller Assigned }
 {
-    match replace_slot(slots, caller, Slot::Assigned) {
-        Slot::Calling(calls) => calls,
-        _ => unreachable!(),
-    }
-}
-
-/// The slot of a caller after one of its calls has given its result.
-fn tell<W: Drop>(calls: Calls<W>, id: u64, told: RequestResult) -> Slot<W>
-    requires first { calls.first ≤ id }
-    requires place { id - calls.first < length calls.results.items }
-    requires some { 0 < calls.«open» }
-    ensures { IsTold calls (id - calls.first) told result }
-{
-    let mut calls = calls;
-    calls.results[(id - calls.first) as usize] = told;
-    calls.open -= 1;
-    if calls.open == 0 {
-        Slot::Ready(calls.walk, Answer::Results(List::from(calls.results)))
-    } else {
-        Slot::Calling(calls)
-    }
+    replace_slot(slots, caller, Slot::Assigned).into_calls()
 }

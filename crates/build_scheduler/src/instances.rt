@@ -17,9 +17,15 @@ pub(crate) enum Crowd {
 }
 
 /// The instances that requests ask for.
-#[derive(Drop)]
 pub struct Instances {
     seen: IndexSet<InstanceKey>,
+}
+
+// A drop that is written out is proved here alone.
+impl Drop for Instances {
+    fn drop(self) {
+        let Instances { seen: _ } = self;
+    }
 }
 
 /// A build has no more instances than this.

@@ -10,6 +10,7 @@ mod done;
 mod instances;
 mod log;
 mod numbers;
+mod opening;
 mod request;
 mod result;
 mod scheduler;

@@ -6,11 +6,20 @@ use std::alloc::Global;
 use std::marker::Model;
 
 /// A set of numbers, with the room that is taken for those to come.
-#[derive(Drop)]
 pub struct Numbers {
     /// They rise.
     numbers: Vec<u64>,
     room: usize,
+}
+
+// A drop that is written out is proved here alone.
+impl Drop for Numbers {
+    fn drop(self) {
+        let Numbers {
+            numbers: _,
+            room: _,
+        } = self;
+    }
 }
 
 impl Model for Numbers {

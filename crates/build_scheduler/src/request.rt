@@ -33,13 +33,67 @@ pub enum RequestFault {
 }
 
 /// The requests of calls, before they are entered.
-#[derive(Drop)]
 pub(crate) struct Children<W> {
     pub(crate) origins: Vec<Origin>,
     pub(crate) slots: Vec<Slot<W>>,
     pub(crate) making: Vec<Option<RunId>>,
     pub(crate) waiting: Vec<Numbers>,
     pub(crate) results: Vec<RequestResult>,
+}
+
+// A drop that is written out is proved here alone.
+impl<W: Drop> Drop for Children<W> {
+    fn drop(self) {
+        let Children {
+            origins: _,
+            slots: _,
+            making: _,
+            waiting: _,
+            results: _,
+        } = self;
+    }
+}
+
+impl<W: Drop> Children<W> {
+    /// Puts the walk of a caller away, and enters its children behind the other requests.
+    fn enter_all(
+        self,
+        origins: &mut Vec<Origin>,
+        slots: &mut Vec<Slot<W>>,
+        making: &mut Vec<Option<RunId>>,
+        waiting: &mut Vec<Numbers>,
+        id: u64,
+        walk: W,
+    )
+        requires there { id < length slots.old.items }
+        requires origin_room { vec_len origins.old + length self.origins.items ≤ vec_capacity origins.old }
+        requires slot_room { vec_len slots.old + length self.slots.items ≤ vec_capacity slots.old }
+        requires making_room { vec_len making.old + length self.making.items ≤ vec_capacity making.old }
+        requires waiting_room { vec_len waiting.old + length self.waiting.items ≤ vec_capacity waiting.old }
+        ensures origins { origins.new.items ≡ origins.old.items ++ self.origins.items }
+        ensures slots { AreEntered slots.old.items slots.new.items id walk self }
+        ensures making { making.new.items ≡ making.old.items ++ self.making.items }
+        ensures waiting { waiting.new.items ≡ waiting.old.items ++ self.waiting.items }
+    {
+        let Children {
+            origins: mut new_origins,
+            slots: mut new_slots,
+            making: mut new_making,
+            waiting: mut new_waiting,
+            results,
+        } = self;
+        let calls = Calls {
+            walk,
+            first: slots.len() as u64,
+            open: new_slots.len(),
+            results,
+        };
+        put_calls(slots, id, calls);
+        append(origins, &mut new_origins);
+        append(slots, &mut new_slots);
+        append(making, &mut new_making);
+        append(waiting, &mut new_waiting);
+    }
 }
 
 /// So many requests may be nested, the root counted.
@@ -172,53 +226,18 @@ impl<W: Walker> Core<W> {
             Ok(()) => {
                 list_new(&mut self.ready, self.slots.len() as u64, calls.len());
                 self.history.push(Event::Request(id, calls));
-                enter_all(
+                children.enter_all(
                     &mut self.origins,
                     &mut self.slots,
                     &mut self.making,
                     &mut self.waiting,
                     id,
                     walk,
-                    children,
                 );
                 Ok(())
             }
         }
     }
-}
-
-/// Puts the walk of a caller away, and enters its children behind the other requests.
-fn enter_all<W: Drop>(
-    origins: &mut Vec<Origin>,
-    slots: &mut Vec<Slot<W>>,
-    making: &mut Vec<Option<RunId>>,
-    waiting: &mut Vec<Numbers>,
-    id: u64,
-    walk: W,
-    children: Children<W>,
-)
-    requires there { id < length slots.old.items }
-    requires origin_room { vec_len origins.old + length children.origins.items ≤ vec_capacity origins.old }
-    requires slot_room { vec_len slots.old + length children.slots.items ≤ vec_capacity slots.old }
-    requires making_room { vec_len making.old + length children.making.items ≤ vec_capacity making.old }
-    requires waiting_room { vec_len waiting.old + length children.waiting.items ≤ vec_capacity waiting.old }
-    ensures origins { origins.new.items ≡ origins.old.items ++ children.origins.items }
-    ensures slots { AreEntered slots.old.items slots.new.items id walk children }
-    ensures making { making.new.items ≡ making.old.items ++ children.making.items }
-    ensures waiting { waiting.new.items ≡ waiting.old.items ++ children.waiting.items }
-{
-    let mut children = children;
-    let calls = Calls {
-        walk,
-        first: slots.len() as u64,
-        open: children.slots.len(),
-        results: children.results,
-    };
-    put_calls(slots, id, calls);
-    append(origins, &mut children.origins);
-    append(slots, &mut children.slots);
-    append(making, &mut children.making);
-    append(waiting, &mut children.waiting);
 }
 
 /// Puts calls into the slot of the request that makes them.

@@ -84,10 +84,8 @@ fn wake_one<W: Drop>(slots: &mut Vec<Slot<W>>, ready: &mut Numbers, number: u64)
     ensures ready { (n : ℕ) → among n ready.new.numbers ≡ (number == n || among n ready.old.numbers) }
     ensures room { ready.old.room ≡ ready.new.room + 1 }
 {
-    match replace_slot(slots, number, Slot::Assigned) {
-        Slot::Waiting(walk, _) => put_ready(slots, number, walk),
-        _ => unreachable!(),
-    }
+    let (walk, _) = replace_slot(slots, number, Slot::Assigned).into_waiting();
+    put_ready(slots, number, walk);
     ready.insert(number);
 }
 

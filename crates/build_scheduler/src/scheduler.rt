@@ -15,6 +15,7 @@ ghost use Rattle.build_meaning.specs.Lists.{at, put};
 use crate::instances::Instances;
 use crate::log::Log;
 use crate::numbers::Numbers;
+use crate::opening::{Opening, alone};
 use crate::slot::{End, Origin, Slot};
 use crate::{Answer, Walker};
 use build_meaning::Event;
@@ -80,25 +81,17 @@ impl<W: Walker> Core<W> {
         ensures table { IfOk result (λ core. core.table.finished ≡ []) }
         ensures end { IfOk result (λ core. core.end ≡ None) }
     {
-        let world = walk.origin();
-        let mut history = Log::new(alloc);
-        history.reserve(2)?;
-        let mut ready = Numbers::new(alloc);
-        ready.reserve(1)?;
-        ready.insert(0);
         let instances = Instances::of(alloc, &root.instance)?;
-        let mut origins = Vec::new(alloc);
-        origins.push(Origin {
+        let opening = Opening::new(alloc)?;
+        let world = walk.origin();
+        let origin = Origin {
             key: root,
             parent: None,
             depth: 0,
-        })?;
-        let mut slots = Vec::new(alloc);
-        slots.push(Slot::Ready(walk, Answer::First))?;
-        let mut making = Vec::new(alloc);
-        making.push(None)?;
-        let mut waiting = Vec::new(alloc);
-        waiting.push(Numbers::new(alloc))?;
+        };
+        let origins = alone(alloc, origin)?;
+        let slots = alone(alloc, Slot::Ready(walk, Answer::First))?;
+        let (history, ready, making, waiting) = opening.parts();
         Ok(Core {
             world,
             history,
@@ -179,10 +172,7 @@ fn take_ready<W: Drop>(slots: &mut Vec<Slot<W>>, id: u64) -> (W, Answer)
     ensures was { at slots.old.items id ≡ Some (Ready result.0 result.1) }
     ensures is { slots.new.items ≡ put slots.old.items id Assigned }
 {
-    match replace_slot(slots, id, Slot::Assigned) {
-        Slot::Ready(walk, answer) => (walk, answer),
-        _ => unreachable!(),
-    }
+    replace_slot(slots, id, Slot::Assigned).into_ready()
 }
 
 /// Puts this into a slot, and gives what was there.

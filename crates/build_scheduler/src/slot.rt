@@ -3,7 +3,6 @@ use msb_values::{InstanceKey, List};
 use result_cache::{RequestKey, RequestResult, RunId};
 
 /// Whose request it is. This never changes.
-#[derive(Drop)]
 pub struct Origin {
     pub key: RequestKey,
     /// The request that calls it; the root has none.
@@ -12,8 +11,18 @@ pub struct Origin {
     pub depth: usize,
 }
 
+// A drop that is written out is proved here alone.
+impl Drop for Origin {
+    fn drop(self) {
+        let Origin {
+            key: _,
+            parent: _,
+            depth: _,
+        } = self;
+    }
+}
+
 /// What a core holds of a request.
-#[derive(Drop)]
 pub enum Slot<W> {
     /// It may go to a node: its walk, with its next answer.
     Ready(W, Answer),
@@ -27,6 +36,19 @@ pub enum Slot<W> {
     Done,
 }
 
+// A drop that is written out is proved here alone.
+impl<W: Drop> Drop for Slot<W> {
+    fn drop(self) {
+        match self {
+            Slot::Ready(_, _) => {}
+            Slot::Assigned => {}
+            Slot::Waiting(_, _) => {}
+            Slot::Calling(_) => {}
+            Slot::Done => {}
+        }
+    }
+}
+
 impl<W> Slot<W> {
     ghost use Rattle.std.specs.Prelude.{◌≡◌, Some};
     ghost use Rattle.build_scheduler.specs.Shown.{is_ready};
@@ -38,8 +60,47 @@ impl<W> Slot<W> {
     }
 }
 
+impl<W: Drop> Slot<W> {
+    ghost use Rattle.std.specs.Prelude.{◌≡◌, Some, true};
+    ghost use Rattle.build_scheduler.specs.declared.slot.Slot.TheVariants.{Calling, Ready, Waiting};
+    ghost use Rattle.build_scheduler.specs.Calls.{IsCalling};
+    ghost use Rattle.build_scheduler.specs.Shown.{IsWaiting, is_ready};
+
+    /// The walk of a request that is ready, and its answer.
+    pub(crate) fn into_ready(self) -> (W, Answer)
+        requires { is_ready (Some self) ≡ true }
+        ensures { self ≡ Ready result.0 result.1 }
+    {
+        match self {
+            Slot::Ready(walk, answer) => (walk, answer),
+            _ => unreachable!(),
+        }
+    }
+
+    /// The walk of a request that waits, and the request that it waits for.
+    pub(crate) fn into_waiting(self) -> (W, u64)
+        requires { IsWaiting (Some self) }
+        ensures { self ≡ Waiting result.0 result.1 }
+    {
+        match self {
+            Slot::Waiting(walk, by) => (walk, by),
+            _ => unreachable!(),
+        }
+    }
+
+    /// The calls of a request of which some are open.
+    pub(crate) fn into_calls(self) -> Calls<W>
+        requires { IsCalling (Some self) }
+        ensures { self ≡ Calling result }
+    {
+        match self {
+            Slot::Calling(calls) => calls,
+            _ => unreachable!(),
+        }
+    }
+}
+
 /// The calls of a request, while some of them are open.
-#[derive(Drop)]
 pub struct Calls<W> {
     pub walk: W,
     /// The number of the first child. The others follow it in call order.
@@ -50,8 +111,50 @@ pub struct Calls<W> {
     pub results: Vec<RequestResult>,
 }
 
+// A drop that is written out is proved here alone.
+impl<W: Drop> Drop for Calls<W> {
+    fn drop(self) {
+        let Calls {
+            walk: _,
+            first: _,
+            open: _,
+            results: _,
+        } = self;
+    }
+}
+
+impl<W: Drop> Calls<W> {
+    ghost use Rattle.std.specs.Prelude.{◌-◌, ◌<◌, ◌≤◌, length};
+    ghost use Rattle.build_scheduler.specs.Calls.{IsTold};
+
+    /// The slot of the caller after one of its calls has given its result.
+    pub(crate) fn tell(self, id: u64, told: RequestResult) -> Slot<W>
+        requires first { self.first ≤ id }
+        requires place { id - self.first < length self.results.items }
+        requires some { 0 < self.«open» }
+        ensures { IsTold self (id - self.first) told result }
+    {
+        let Calls {
+            walk,
+            first,
+            open,
+            mut results,
+        } = self;
+        results[(id - first) as usize] = told;
+        if open == 1 {
+            Slot::Ready(walk, Answer::Results(List::from(results)))
+        } else {
+            Slot::Calling(Calls {
+                walk,
+                first,
+                open: open - 1,
+                results,
+            })
+        }
+    }
+}
+
 /// How a build ends.
-#[derive(Drop)]
 pub enum End {
     /// The root is done, with this result.
     Root(RequestResult),
@@ -62,4 +165,17 @@ pub enum End {
     /// A call asks for one instance too many.
     TooMany(InstanceKey),
     NoMemory,
+}
+
+// A drop that is written out is proved here alone.
+impl Drop for End {
+    fn drop(self) {
+        match self {
+            End::Root(_) => {}
+            End::Circular(_) => {}
+            End::TooDeep(_) => {}
+            End::TooMany(_) => {}
+            End::NoMemory => {}
+        }
+    }
 }

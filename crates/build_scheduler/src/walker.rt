@@ -22,7 +22,6 @@ pub enum Ask {
 }
 
 /// How a walk is answered.
-#[derive(Drop)]
 pub enum Answer {
     /// Before anything is asked.
     First,
@@ -32,6 +31,18 @@ pub enum Answer {
     Use,
     /// The results of its calls, in call order.
     Results(List<RequestResult>),
+}
+
+// A drop that is written out is proved here alone.
+impl Drop for Answer {
+    fn drop(self) {
+        match self {
+            Answer::First => {}
+            Answer::Go => {}
+            Answer::Use => {}
+            Answer::Results(_) => {}
+        }
+    }
 }
 
 /// A request that asks, is answered, and goes on.

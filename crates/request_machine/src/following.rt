@@ -26,11 +26,21 @@ use std::alloc::Global;
 use target_order::OrderWalk;
 
 /// What follows the run of a target: the scope with its changes and what has been returned, and how the order goes on.
-#[derive(Drop)]
 pub struct Follow {
     pub standing: Standing,
     pub order: OrderWalk,
     pub stand: Stand,
+}
+
+// A drop that is written out is proved here alone.
+impl Drop for Follow {
+    fn drop(self) {
+        let Follow {
+            standing: _,
+            order: _,
+            stand: _,
+        } = self;
+    }
 }
 
 /// A request after the run of a target: what follows, the journal and the runs then, and what it asks.
@@ -133,8 +143,8 @@ impl<'a> Moment<'a> {
             standing: &standing,
             journal: self.journal,
         };
-        let turn = moment.run_turn(alloc, made.ok, name)?;
         let mut order = order.copy()?;
+        let turn = moment.run_turn(alloc, made.ok, name)?;
         let stand = moment.follow_turn(alloc, &mut order, turn)?;
         Ok(Follow {
             standing,

@@ -6,9 +6,15 @@ use std::marker::Model;
 use target_body::Body;
 
 /// The body of a run, which is kept apart from what waits with it.
-#[derive(Drop)]
 pub struct HeldBody {
     body: Box<Body>,
+}
+
+// A drop that is written out is proved here alone.
+impl Drop for HeldBody {
+    fn drop(self) {
+        let HeldBody { body: _ } = self;
+    }
 }
 
 impl Model for HeldBody {

@@ -10,13 +10,24 @@ use std::alloc::Global;
 use std::marker::Model;
 
 /// What a request answers besides its runs. (MSBuild task, TargetOutputs.)
-#[derive(Drop)]
 pub struct Reply {
     pub ok: bool,
     /// False exactly where the instance was not evaluated.
     pub evaluated: bool,
     pub returned: List<Returned>,
     pub error: Option<Text>,
+}
+
+// A drop that is written out is proved here alone.
+impl Drop for Reply {
+    fn drop(self) {
+        let Reply {
+            ok: _,
+            evaluated: _,
+            returned: _,
+            error: _,
+        } = self;
+    }
 }
 
 impl Model for Reply {

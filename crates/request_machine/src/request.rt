@@ -19,7 +19,6 @@ use std::alloc::Global;
 use task_trait::CountedTools;
 
 /// A request of a build, with what it knows of files and runs.
-#[derive(Drop)]
 pub struct Request<'a, T> {
     pub alloc: Global,
     pub world: &'a World,
@@ -29,6 +28,20 @@ pub struct Request<'a, T> {
     pub runs: SharedList<RunId>,
     pub stage: Stage<T>,
     ghost own_run: { instance_in key.instance stage ≡ key.instance },
+}
+
+// A drop that is written out is proved here alone.
+impl<'a, T> Drop for Request<'a, T> {
+    fn drop(self) {
+        let Request {
+            alloc: _,
+            world: _,
+            key: _,
+            journal: _,
+            runs: _,
+            stage: _,
+        } = self;
+    }
 }
 
 /// A request that begins, and what it asks.

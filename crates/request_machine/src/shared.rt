@@ -9,9 +9,15 @@ use std::marker::Model;
 use std::sync::Arc;
 
 /// A value that its copies share.
-#[derive(Drop)]
 pub struct Shared<T> {
     value: Arc<T>,
+}
+
+// A drop that is written out is proved here alone.
+impl<T: Drop> Drop for Shared<T> {
+    fn drop(self) {
+        let Shared { value: _ } = self;
+    }
 }
 
 impl<T> Model for Shared<T> {
@@ -50,10 +56,16 @@ impl<T> Copied for Shared<T> {
 
 /// A list that grows at its end. Its copies share its entries: a copy takes a time and room that grow with the logarithm of
 /// the length, and so does a push, if one takes the mean of many.
-#[derive(Drop)]
 pub struct SharedList<T> {
     /// In order; each is larger than the next one.
     layers: List<Shared<List<Shared<T>>>>,
+}
+
+// A drop that is written out is proved here alone.
+impl<T: Drop> Drop for SharedList<T> {
+    fn drop(self) {
+        let SharedList { layers: _ } = self;
+    }
 }
 
 impl<T> Model for SharedList<T> {

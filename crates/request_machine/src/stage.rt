@@ -7,12 +7,22 @@ use result_cache::RunId;
 use std::alloc::Global;
 
 /// How far a request has come.
-#[derive(Drop)]
 pub enum Stage<T> {
     /// Nothing was answered yet.
     Begins,
     Visits(Visit<T>),
     Over(Reply),
+}
+
+// A drop that is written out is proved here alone.
+impl<T> Drop for Stage<T> {
+    fn drop(self) {
+        match self {
+            Stage::Begins => {}
+            Stage::Visits(_) => {}
+            Stage::Over(_) => {}
+        }
+    }
 }
 
 impl<T> Stage<T> {

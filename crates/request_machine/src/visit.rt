@@ -13,7 +13,6 @@ use target_order::OrderWalk;
 pub type Uses<T> = Log<Log<T, u8>, Log<T, u8>>;
 
 /// Where the run of a target stands.
-#[derive(Drop)]
 pub enum At<T> {
     /// It is wanted, and nobody has said who makes it.
     Wanted,
@@ -23,8 +22,18 @@ pub enum At<T> {
     Made(RecordRef, Uses<T>),
 }
 
+// A drop that is written out is proved here alone.
+impl<T> Drop for At<T> {
+    fn drop(self) {
+        match self {
+            At::Wanted => {}
+            At::Called(_, _) => {}
+            At::Made(_, _) => {}
+        }
+    }
+}
+
 /// A request of an evaluated project that wants the run of a target, or makes it. (Target build order.)
-#[derive(Drop)]
 pub struct Visit<T> {
     pub instance: Instance,
     pub standing: Standing,
@@ -34,4 +43,17 @@ pub struct Visit<T> {
     pub at: At<T>,
     ghost asks_body: { order.asked ≡ ForBody },
     ghost own_body: { run_in run at ≡ run },
+}
+
+// A drop that is written out is proved here alone.
+impl<T> Drop for Visit<T> {
+    fn drop(self) {
+        let Visit {
+            instance: _,
+            standing: _,
+            order: _,
+            run: _,
+            at: _,
+        } = self;
+    }
 }

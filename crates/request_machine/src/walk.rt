@@ -18,13 +18,23 @@ pub struct WorldRef<'a> {
 }
 
 /// The walk of a request of a build, with the records that its last answer needs. (Target build order; MSBuild task.)
-#[derive(Drop)]
 pub struct Walk<'a, T> {
     pub(crate) request: Request<'a, T>,
     pub(crate) learnt: Table,
     /// How often it has asked.
     pub(crate) asked: u64,
     ghost begun: { has_begun request.stage ≡ not (asked == 0) },
+}
+
+// A drop that is written out is proved here alone.
+impl<'a, T> Drop for Walk<'a, T> {
+    fn drop(self) {
+        let Walk {
+            request: _,
+            learnt: _,
+            asked: _,
+        } = self;
+    }
 }
 
 impl<'a, T: CountedTools> Walk<'a, T> {

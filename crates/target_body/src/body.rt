@@ -45,7 +45,6 @@ impl Drop for Body {
     }
 }
 
-#[derive(Drop)]
 pub(crate) enum Stand {
     /// It has not begun, and will begin in this scope.
     Begun(Scope),
@@ -53,11 +52,28 @@ pub(crate) enum Stand {
     Ended,
 }
 
+// A drop that is written out is proved here alone.
+impl Drop for Stand {
+    fn drop(self) {
+        match self {
+            Stand::Begun(_) => {}
+            Stand::Waiting(_) => {}
+            Stand::Ended => {}
+        }
+    }
+}
+
 /// It waits for the results of calls.
-#[derive(Drop)]
 pub(crate) struct Waiting {
     pub(crate) state: State,
     pub(crate) at: AtRun,
+}
+
+// A drop that is written out is proved here alone.
+impl Drop for Waiting {
+    fn drop(self) {
+        let Waiting { state: _, at: _ } = self;
+    }
 }
 
 impl Body {
@@ -103,29 +119,31 @@ impl Body {
             id: &self.run,
             target,
         };
-        let (ask, stand) = go_on(alloc, &site, stand, results, tools, journal)?;
+        let (ask, stand) = stand.go_on(alloc, &site, results, tools, journal)?;
         self.stand = stand;
         Ok(ask)
     }
 }
 
-fn go_on<T: CountedTools>(
-    alloc: Global,
-    site: &Site<'_>,
-    stand: Stand,
-    results: &List<RequestResult>,
-    tools: &mut T,
-    journal: &mut Journal,
-) -> Result<(BodyAsk, Stand), NoMemory>
-    requires { Fits (standing_by (seen_run site.now) stand) results.now }
-    ensures goes { IfOk result (λ r. let run = seen_run site.now in
-        Goes T.answer site.now.id.now run (standing_by run stand) results.now journal.old journal.new (T.calls tools.old) (T.calls tools.new) r.0 (standing_by run r.1)) }
-    ensures begun { BeginsWith (T.calls tools.old) (T.calls tools.new) }
-{
-    match stand {
-        Stand::Begun(scope) => begin(alloc, site, scope, tools, journal),
-        Stand::Waiting(waiting) => resume(alloc, site, waiting, results, tools, journal),
-        Stand::Ended => unreachable!(),
+impl Stand {
+    fn go_on<T: CountedTools>(
+        self,
+        alloc: Global,
+        site: &Site<'_>,
+        results: &List<RequestResult>,
+        tools: &mut T,
+        journal: &mut Journal,
+    ) -> Result<(BodyAsk, Stand), NoMemory>
+        requires { Fits (standing_by (seen_run site.now) self) results.now }
+        ensures goes { IfOk result (λ r. let run = seen_run site.now in
+            Goes T.answer site.now.id.now run (standing_by run self) results.now journal.old journal.new (T.calls tools.old) (T.calls tools.new) r.0 (standing_by run r.1)) }
+        ensures begun { BeginsWith (T.calls tools.old) (T.calls tools.new) }
+    {
+        match self {
+            Stand::Begun(scope) => begin(alloc, site, scope, tools, journal),
+            Stand::Waiting(waiting) => waiting.resume(alloc, site, results, tools, journal),
+            Stand::Ended => unreachable!(),
+        }
     }
 }
 
@@ -145,25 +163,27 @@ fn begin<T: CountedTools>(
     tell(alloc, state, step)
 }
 
-fn resume<T: CountedTools>(
-    alloc: Global,
-    site: &Site<'_>,
-    waiting: Waiting,
-    results: &List<RequestResult>,
-    tools: &mut T,
-    journal: &mut Journal,
-) -> Result<(BodyAsk, Stand), NoMemory>
-    requires waits { 0 < length (waiting_run waiting.at) }
-    requires fits { length results.now ≡ length (waiting_run waiting.at) }
-    ensures goes { IfOk result (λ r. let run = seen_run site.now in
-        Advances T.answer site.now.id.now (body_of (left run waiting.at (seen_state waiting.state journal.old) results.now journal.old)) (waiting.state.segments ++ called (waiting_run waiting.at) results.now) journal.old journal.new (T.calls tools.old) (T.calls tools.new) r.0 (standing_by run r.1)) }
-    ensures begun { BeginsWith (T.calls tools.old) (T.calls tools.new) }
-{
-    let Waiting { state, at } = waiting;
-    let mut state = state;
-    state.add_calls(at.waiting(), results.as_slice())?;
-    let step = state.resume(alloc, site, at, results.copy()?, tools, journal)?;
-    tell(alloc, state, step)
+impl Waiting {
+    fn resume<T: CountedTools>(
+        self,
+        alloc: Global,
+        site: &Site<'_>,
+        results: &List<RequestResult>,
+        tools: &mut T,
+        journal: &mut Journal,
+    ) -> Result<(BodyAsk, Stand), NoMemory>
+        requires waits { 0 < length (waiting_run self.at) }
+        requires fits { length results.now ≡ length (waiting_run self.at) }
+        ensures goes { IfOk result (λ r. let run = seen_run site.now in
+            Advances T.answer site.now.id.now (body_of (left run self.at (seen_state self.state journal.old) results.now journal.old)) (self.state.segments ++ called (waiting_run self.at) results.now) journal.old journal.new (T.calls tools.old) (T.calls tools.new) r.0 (standing_by run r.1)) }
+        ensures begun { BeginsWith (T.calls tools.old) (T.calls tools.new) }
+    {
+        let Waiting { state, at } = self;
+        let mut state = state;
+        state.add_calls(at.waiting(), results.as_slice())?;
+        let step = at.resume(alloc, &mut state, site, results.copy()?, tools, journal)?;
+        tell(alloc, state, step)
+    }
 }
 
 // What is asked behind a step, and where the body stands then.
@@ -186,14 +206,7 @@ fn tell(alloc: Global, state: State, step: Step<AtRun>) -> Result<(BodyAsk, Stan
 fn recorded(alloc: Global, state: State, ending: Ending) -> Record
     ensures { (journal : Files) → result ≡ recorded (outcome_of (ended ending (seen_state state journal))) state.segments }
 {
-    let State {
-        decisions,
-        items,
-        changes,
-        notes,
-        segments,
-        ..
-    } = state;
+    let (decisions, items, changes, notes, segments) = state.parts();
     match ending {
         Ending::Fine => Record {
             ok: true,

@@ -1,6 +1,6 @@
 //! A task that is called in a bucket of its element. (Task element; MSBuild tasks; MSBuild task.)
 
-ghost use Rattle.std.specs.Prelude.{◌≡◌, ◌<◌, ◌≤◌, ℕ, List, false, length, Some, IfOk, OnOk};
+ghost use Rattle.std.specs.Prelude.{◌≡◌, ◌<◌, ◌≤◌, ℕ, List, false, length, Some, Ok as TheOk, IfOk, OnOk};
 ghost use Rattle.build_world.specs.Answers.{GivesFault};
 ghost use Rattle.build_world.specs.Elements.{seen_element};
 ghost use Rattle.msb_expand.specs.Reserved.{folder_of};
@@ -13,7 +13,7 @@ ghost use Rattle.target_texts.specs.Answered.{Pushes};
 ghost use Rattle.target_texts.specs.Inferred.{task_of};
 ghost use Rattle.target_texts.specs.Parameters.{params_at};
 ghost use Rattle.target_texts.specs.Seen.{seen_place};
-ghost use Rattle.target_body.specs.Answers.{answered, given, msbuild, not_built_in};
+ghost use Rattle.target_body.specs.Answers.{answered, given, msbuild, not_built_in, tool};
 ghost use Rattle.target_body.specs.Left.{call_frames, call_left, made_from, waiting};
 ghost use Rattle.target_body.specs.Moments.{EndsAs, Plays, moment, player};
 ghost use Rattle.target_body.specs.Seen.{ended, seen_run, seen_state};
@@ -166,16 +166,32 @@ impl State {
     {
         let view = FileView::of(&call.site.world.tree, journal);
         match foreign_input(alloc, call.site.folder(), &view, params) {
-            Ok(input) => {
-                let answer = tools.call(alloc, task, &input)?;
-                let output = foreign_output(alloc, task, answer, self.written)?;
-                Ok(Step::Over(self.give(alloc, call, on_error, output, journal)?))
-            }
+            Ok(input) => self.call_tool(alloc, call, task, on_error, &input, tools, journal),
             Err(failure) => {
                 let output = failure.output(alloc, task.key())?;
                 Ok(Step::Over(self.give(alloc, call, on_error, output, journal)?))
             }
         }
+    }
+
+    // What a tool gives of its input.
+    fn call_tool<T: CountedTools>(
+        &mut self,
+        alloc: Global,
+        call: &TaskCall<'_>,
+        task: &Name,
+        on_error: OnError,
+        input: &ToolInput,
+        tools: &mut T,
+        journal: &mut Journal,
+    ) -> Result<Step<AtCall>, NoMemory>
+        ensures plays { IfOk result (λ step. let run = seen_run call.now.site in let e = seen_element call.now.element in
+            Plays (call_frames run e call.now.gives call.now.bucket.now) (player call.now.site.id.now T.answer) (λ s. followed_by (tool task.now s (TheOk input.now)) (λ x. done (answered_to run e call.now.gives call.now.bucket.now on_error x))) (moment self.old journal.old (T.calls tools.old)) step (moment self.new journal.new (T.calls tools.new))) }
+        ensures begun { BeginsWith (T.calls tools.old) (T.calls tools.new) }
+    {
+        let answer = tools.call(alloc, task, input)?;
+        let output = foreign_output(alloc, task, answer, self.written)?;
+        Ok(Step::Over(self.give(alloc, call, on_error, output, journal)?))
     }
 
     // The MSBuild task calls requests.

@@ -170,7 +170,7 @@ impl State {
         ensures begun { BeginsWith (T.calls tools.old) (T.calls tools.new) }
     {
         let place = task.child;
-        let step = self.resume_task(alloc, site, task, results, tools, journal)?;
+        let step = task.resume_task(alloc, self, site, results, tools, journal)?;
         self.children_on(alloc, site, choice, place, step, tools, journal)
     }
 }

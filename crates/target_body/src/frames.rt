@@ -1,27 +1,47 @@
-//! What is left of the parts of a run where it waits for the results of calls.
+//! What is left of the parts of a run where it waits for the results of calls, and how they go on with them.
 
-ghost use Rattle.std.specs.Prelude.{◌≡◌, IfOk};
-ghost use Rattle.target_body.specs.Left.{waiting_run};
+ghost use Rattle.std.specs.Prelude.{◌≡◌, ◌<◌, length, IfOk};
+ghost use Rattle.task_trait.specs.Tools.{BeginsWith};
+ghost use Rattle.target_body.specs.Left.{IsOfChild, bucket_frames, bucket_left, buckets_frames, buckets_left, child_frames, child_left, waiting, waiting_bucket, waiting_run};
+ghost use Rattle.target_body.specs.Moments.{Plays, moment, player};
+ghost use Rattle.target_body.specs.Seen.{seen_run};
 
+use crate::calling::TaskCall;
 use crate::later::{Buckets, bucket_copy};
+use crate::site::Site;
+use crate::state::State;
+use crate::steps::Step;
+use crate::tasks::TaskChild;
 use msb_expand::Bucket;
+use msb_files::Journal;
 use msb_values::{Copied, Item, List, Name, NoMemory, Scope};
 use result_cache::{RequestKey, RequestResult};
+use std::alloc::Global;
 use target_incremental::Choice;
 use target_texts::OnError;
 use task_msbuild::Plan;
+use task_trait::CountedTools;
 
 /// Of an MSBuild task: what it is to do, and the results that have come. (MSBuild task.)
-#[derive(Drop)]
 pub(crate) struct AtCall {
     pub(crate) plan: Plan,
     pub(crate) results: List<RequestResult>,
     pub(crate) on_error: OnError,
 }
 
+// A drop that is written out is proved here alone.
+impl Drop for AtCall {
+    fn drop(self) {
+        let AtCall {
+            plan: _,
+            results: _,
+            on_error: _,
+        } = self;
+    }
+}
+
 /// Of a task element: its place among the children of the target, whether its Outputs are what the task gives, its bucket at hand,
 /// and those that come later. (Task element.)
-#[derive(Drop)]
 pub(crate) struct AtTask {
     pub(crate) child: usize,
     pub(crate) gives: bool,
@@ -30,9 +50,21 @@ pub(crate) struct AtTask {
     pub(crate) call: AtCall,
 }
 
+// A drop that is written out is proved here alone.
+impl Drop for AtTask {
+    fn drop(self) {
+        let AtTask {
+            child: _,
+            gives: _,
+            bucket: _,
+            later: _,
+            call: _,
+        } = self;
+    }
+}
+
 /// Of a bucket of a target: what is decided of it, and of a target that takes its items one by one, their type and the bucket's items.
 /// (How to build incrementally.)
-#[derive(Drop)]
 pub(crate) struct AtBucket {
     pub(crate) bucket: Bucket,
     pub(crate) choice: Choice,
@@ -40,12 +72,34 @@ pub(crate) struct AtBucket {
     pub(crate) task: AtTask,
 }
 
+// A drop that is written out is proved here alone.
+impl Drop for AtBucket {
+    fn drop(self) {
+        let AtBucket {
+            bucket: _,
+            choice: _,
+            items: _,
+            task: _,
+        } = self;
+    }
+}
+
 /// Of a target: the scope as it found it, its bucket at hand, and those that come later.
-#[derive(Drop)]
 pub(crate) struct AtRun {
     pub(crate) found: Scope,
     pub(crate) at: AtBucket,
     pub(crate) later: Buckets,
+}
+
+// A drop that is written out is proved here alone.
+impl Drop for AtRun {
+    fn drop(self) {
+        let AtRun {
+            found: _,
+            at: _,
+            later: _,
+        } = self;
+    }
 }
 
 impl AtRun {
@@ -55,6 +109,95 @@ impl AtRun {
     {
         let call = &self.at.task.call;
         call.plan.next(&call.results)
+    }
+}
+
+impl AtTask {
+    /// Goes on with a task element when the results of calls have come. (MSBuild task.)
+    pub(crate) fn resume_task<T: CountedTools>(
+        self,
+        alloc: Global,
+        state: &mut State,
+        site: &Site<'_>,
+        results: List<RequestResult>,
+        tools: &mut T,
+        journal: &mut Journal,
+    ) -> Result<Step<AtTask>, NoMemory>
+        requires waits { 0 < length (waiting self.call) }
+        requires fits { length results ≡ length (waiting self.call) }
+        ensures plays { IfOk result (λ step. let run = seen_run site.now in
+            Plays (child_frames run) (player site.now.id.now T.answer) (λ s. child_left run self s results journal.old) (moment state.old journal.old (T.calls tools.old)) step (moment state.new journal.new (T.calls tools.new))) }
+        ensures child { IfOk result (λ step. IsOfChild self.child step) }
+        ensures begun { BeginsWith (T.calls tools.old) (T.calls tools.new) }
+    {
+        let AtTask {
+            child,
+            gives,
+            bucket,
+            later,
+            call,
+        } = self;
+        let at = TaskChild::of(site, child, gives);
+        let in_bucket = TaskCall {
+            site: at.site,
+            element: at.element,
+            gives: at.gives,
+            bucket: &bucket,
+        };
+        let step = state.call_on(alloc, &in_bucket, call, results, journal)?;
+        let step = state.calls_on(alloc, &at, bucket, later, step, tools, journal)?;
+        state.child_on(alloc, &at, step, journal)
+    }
+}
+
+impl AtBucket {
+    /// Goes on with a bucket of the target when the results of calls have come. (MSBuild task.)
+    pub(crate) fn resume_bucket<T: CountedTools>(
+        self,
+        alloc: Global,
+        state: &mut State,
+        site: &Site<'_>,
+        results: List<RequestResult>,
+        tools: &mut T,
+        journal: &mut Journal,
+    ) -> Result<Step<AtBucket>, NoMemory>
+        requires waits { 0 < length (waiting_bucket self) }
+        requires fits { length results ≡ length (waiting_bucket self) }
+        ensures plays { IfOk result (λ step. let run = seen_run site.now in
+            Plays (bucket_frames run) (player site.now.id.now T.answer) (λ s. bucket_left run self s results journal.old) (moment state.old journal.old (T.calls tools.old)) step (moment state.new journal.new (T.calls tools.new))) }
+        ensures begun { BeginsWith (T.calls tools.old) (T.calls tools.new) }
+    {
+        let AtBucket {
+            bucket,
+            choice,
+            items,
+            task,
+        } = self;
+        let step = state.resume_children(alloc, site, &choice, task, results, tools, journal)?;
+        state.bucket_on(alloc, site, bucket, choice, items, step, journal)
+    }
+}
+
+impl AtRun {
+    /// Goes on when the results of calls have come. (MSBuild task.)
+    pub(crate) fn resume<T: CountedTools>(
+        self,
+        alloc: Global,
+        state: &mut State,
+        site: &Site<'_>,
+        results: List<RequestResult>,
+        tools: &mut T,
+        journal: &mut Journal,
+    ) -> Result<Step<AtRun>, NoMemory>
+        requires waits { 0 < length (waiting_run self) }
+        requires fits { length results ≡ length (waiting_run self) }
+        ensures plays { IfOk result (λ step. let run = seen_run site.now in
+            Plays (buckets_frames run) (player site.now.id.now T.answer) (λ s. buckets_left run self s results journal.old) (moment state.old journal.old (T.calls tools.old)) step (moment state.new journal.new (T.calls tools.new))) }
+        ensures begun { BeginsWith (T.calls tools.old) (T.calls tools.new) }
+    {
+        let AtRun { found, at, later } = self;
+        let step = at.resume_bucket(alloc, state, site, results, tools, journal)?;
+        state.buckets_on(alloc, site, found, later, step, tools, journal)
     }
 }
 

@@ -7,10 +7,16 @@ use std::marker::Model;
 use target_texts::without_lists;
 
 /// Buckets that are still to come. (MSBuild batching.)
-#[derive(Drop)]
 pub(crate) struct Buckets {
     /// The next one last.
     buckets: Vec<Bucket>,
+}
+
+// A drop that is written out is proved here alone.
+impl Drop for Buckets {
+    fn drop(self) {
+        let Buckets { buckets: _ } = self;
+    }
 }
 
 impl Model for Buckets {

@@ -1,6 +1,6 @@
 //! A bucket of a target: what is decided of it, its children, and what it returns. (Target element; How to build incrementally.)
 
-ghost use Rattle.std.specs.Prelude.{◌≡◌, ◌<◌, ℕ, List, length, IfOk, OnOk, option_copied, option_map};
+ghost use Rattle.std.specs.Prelude.{◌≡◌, ℕ, List, IfOk, OnOk, option_copied, option_map};
 ghost use Rattle.build_world.specs.Answers.{GivesFault};
 ghost use Rattle.msb_laws.specs.Results.{and_then, map_ok};
 ghost use Rattle.result_cache.specs.Journal.{Journal as Files};
@@ -10,7 +10,7 @@ ghost use Rattle.task_trait.specs.declared.tools.ToolInput.{ToolInput};
 ghost use Rattle.target_incremental.specs.Decisions.{decision};
 ghost use Rattle.target_texts.specs.Returned.{returns_of};
 ghost use Rattle.target_texts.specs.Seen.{seen_lists};
-ghost use Rattle.target_body.specs.Left.{bucket_frames, bucket_left, children_frames, waiting_bucket};
+ghost use Rattle.target_body.specs.Left.{bucket_frames, children_frames};
 ghost use Rattle.target_body.specs.Moments.{GoesOn, Plays, moment, player};
 ghost use Rattle.target_body.specs.Pieces.{bucket_of, decided, lists_at, number_of, on_old, or_failed, piece_or_run, treated, word_of};
 ghost use Rattle.target_body.specs.Returned.{items_if, returned};
@@ -26,7 +26,7 @@ use build_world::{EvalFault, PlacedElement};
 use msb_expand::Bucket;
 use msb_files::{FileView, Journal};
 use msb_values::{Copied, Item, List, Name, NoMemory, Scope, SharedItems};
-use result_cache::{Decision, RequestResult};
+use result_cache::Decision;
 use std::alloc::Global;
 use target_incremental::{Choice, decide};
 use target_texts::{Lists, returned_items, returns_of};
@@ -156,7 +156,7 @@ impl State {
     }
 
     // Goes on behind the children of a bucket.
-    fn bucket_on(
+    pub(crate) fn bucket_on(
         &mut self,
         alloc: Global,
         site: &Site<'_>,
@@ -246,32 +246,6 @@ impl State {
         let place = place_of(&view, site.id.instance.path.as_str(), &self.scope);
         let target = PlacedElement::of(&site.target.at);
         returned_items(alloc, &place, bucket, &target, &self.items, written)
-    }
-
-    /// Goes on with a bucket of the target when the results of calls have come. (MSBuild task.)
-    pub(crate) fn resume_bucket<T: CountedTools>(
-        &mut self,
-        alloc: Global,
-        site: &Site<'_>,
-        at: AtBucket,
-        results: List<RequestResult>,
-        tools: &mut T,
-        journal: &mut Journal,
-    ) -> Result<Step<AtBucket>, NoMemory>
-        requires waits { 0 < length (waiting_bucket at) }
-        requires fits { length results ≡ length (waiting_bucket at) }
-        ensures plays { IfOk result (λ step. let run = seen_run site.now in
-            Plays (bucket_frames run) (player site.now.id.now T.answer) (λ s. bucket_left run at s results journal.old) (moment self.old journal.old (T.calls tools.old)) step (moment self.new journal.new (T.calls tools.new))) }
-        ensures begun { BeginsWith (T.calls tools.old) (T.calls tools.new) }
-    {
-        let AtBucket {
-            bucket,
-            choice,
-            items,
-            task,
-        } = at;
-        let step = self.resume_children(alloc, site, &choice, task, results, tools, journal)?;
-        self.bucket_on(alloc, site, bucket, choice, items, step, journal)
     }
 }
 

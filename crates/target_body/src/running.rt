@@ -1,11 +1,11 @@
 //! The buckets of a target, one after the other. (Target element; MSBuild batching.)
 
-ghost use Rattle.std.specs.Prelude.{◌≡◌, ◌<◌, List, length, IfOk, OnOk};
+ghost use Rattle.std.specs.Prelude.{◌≡◌, IfOk};
 ghost use Rattle.build_world.specs.Answers.{GivesFault};
 ghost use Rattle.task_trait.specs.Tools.{BeginsWith};
 ghost use Rattle.target_texts.specs.Batched.{target_buckets};
 ghost use Rattle.target_body.specs.Bodies.{buckets};
-ghost use Rattle.target_body.specs.Left.{bucket_frames, buckets_frames, buckets_left, waiting_run};
+ghost use Rattle.target_body.specs.Left.{bucket_frames, buckets_frames};
 ghost use Rattle.target_body.specs.Moments.{GoesOn, Plays, moment, player};
 ghost use Rattle.target_body.specs.Pieces.{bucket_of};
 ghost use Rattle.target_body.specs.Seen.{seen_run, seen_state};
@@ -21,7 +21,7 @@ use build_world::{EvalFault, PlacedElement};
 use msb_expand::Bucket;
 use msb_files::{FileView, Journal};
 use msb_values::{List, NoMemory, Scope};
-use result_cache::{Decision, RequestResult};
+use result_cache::Decision;
 use std::alloc::Global;
 use target_texts::target_buckets;
 use task_trait::CountedTools;
@@ -91,7 +91,7 @@ impl State {
         Ok(Step::Over(Ending::Fine))
     }
 
-    fn buckets_on<T: CountedTools>(
+    pub(crate) fn buckets_on<T: CountedTools>(
         &mut self,
         alloc: Global,
         site: &Site<'_>,
@@ -111,26 +111,5 @@ impl State {
             Step::Over(Ending::Failed) => Ok(Step::Over(Ending::Failed)),
             Step::Waits(at) => Ok(Step::Waits(AtRun { found, at, later })),
         }
-    }
-
-    /// Goes on when the results of calls have come. (MSBuild task.)
-    pub(crate) fn resume<T: CountedTools>(
-        &mut self,
-        alloc: Global,
-        site: &Site<'_>,
-        at: AtRun,
-        results: List<RequestResult>,
-        tools: &mut T,
-        journal: &mut Journal,
-    ) -> Result<Step<AtRun>, NoMemory>
-        requires waits { 0 < length (waiting_run at) }
-        requires fits { length results ≡ length (waiting_run at) }
-        ensures plays { IfOk result (λ step. let run = seen_run site.now in
-            Plays (buckets_frames run) (player site.now.id.now T.answer) (λ s. buckets_left run at s results journal.old) (moment self.old journal.old (T.calls tools.old)) step (moment self.new journal.new (T.calls tools.new))) }
-        ensures begun { BeginsWith (T.calls tools.old) (T.calls tools.new) }
-    {
-        let AtRun { found, at, later } = at;
-        let step = self.resume_bucket(alloc, site, at, results, tools, journal)?;
-        self.buckets_on(alloc, site, found, later, step, tools, journal)
     }
 }

@@ -23,7 +23,6 @@ use std::alloc::Global;
 use std::mem;
 
 /// What a run has come to, besides the journal of files. (Target element.)
-#[derive(Drop)]
 pub(crate) struct State {
     /// The scope of the bucket at hand.
     pub(crate) scope: Scope,
@@ -40,6 +39,23 @@ pub(crate) struct State {
     pub(crate) notes: List<Note>,
     /// The run's own writes and its calls, in order.
     pub(crate) segments: List<Segment>,
+}
+
+// A drop that is written out is proved here alone.
+impl Drop for State {
+    fn drop(self) {
+        let State {
+            scope: _,
+            part: _,
+            unseen: _,
+            written: _,
+            decisions: _,
+            items: _,
+            changes: _,
+            notes: _,
+            segments: _,
+        } = self;
+    }
 }
 
 // After want of memory nothing is claimed of a state.
@@ -168,7 +184,69 @@ impl State {
         part_after(alloc, &mut self.part, change)?;
         self.scope.apply(alloc, change)
     }
+
+    /// What its record says.
+    pub(crate) fn parts(self) -> Parts
+        ensures decisions { result.0 ≡ self.decisions }
+        ensures items { result.1 ≡ self.items }
+        ensures changes { result.2 ≡ self.changes }
+        ensures notes { result.3 ≡ self.notes }
+        ensures segments { result.4 ≡ self.segments }
+    {
+        let State {
+            scope: _,
+            part: _,
+            unseen: _,
+            written: _,
+            decisions,
+            items,
+            changes,
+            notes,
+            segments,
+        } = self;
+        (decisions, items, changes, notes, segments)
+    }
+
+    // Copies of the scope, and of what tasks see of a list.
+    fn copied_scope(&self) -> Result<(Scope, Option<(Name, SharedItems)>), NoMemory>
+        ensures scope { IfOk result (λ copies. copies.0 ≡ self.now.scope) }
+        ensures part { IfOk result (λ copies. copies.1 ≡ self.now.part) }
+    {
+        let scope = self.scope.copy()?;
+        Ok((scope, typed_copy(&self.part)?))
+    }
+
+    // Copies of what was decided, and of the items and the changes.
+    fn copied_results(&self) -> Result<(List<Decision>, KeyedItems, List<Change>), NoMemory>
+        ensures decisions { IfOk result (λ copies. copies.0 ≡ self.now.decisions) }
+        ensures items { IfOk result (λ copies. copies.1 ≡ self.now.items) }
+        ensures changes { IfOk result (λ copies. copies.2 ≡ self.now.changes) }
+    {
+        let decisions = self.decisions.copy()?;
+        let items = self.items.copy()?;
+        Ok((decisions, items, self.changes.copy()?))
+    }
+
+    // Copies of the changes that the scope has not yet, of the notes and of the segments.
+    fn copied_lists(&self) -> Result<(List<Change>, List<Note>, List<Segment>), NoMemory>
+        ensures unseen { IfOk result (λ copies. copies.0 ≡ self.now.unseen) }
+        ensures notes { IfOk result (λ copies. copies.1 ≡ self.now.notes) }
+        ensures segments { IfOk result (λ copies. copies.2 ≡ self.now.segments) }
+    {
+        let unseen = self.unseen.copy()?;
+        let notes = self.notes.copy()?;
+        Ok((unseen, notes, self.segments.copy()?))
+    }
 }
+
+/// What was decided of each bucket, the items, the changes, the notes and the segments of a run.
+pub(crate) type Parts = (
+    List<Decision>,
+    KeyedItems,
+    List<Change>,
+    List<Note>,
+    List<Segment>,
+);
 
 fn push_calls(
     segments: &mut List<Segment>,
@@ -205,16 +283,19 @@ fn put_lists(lists: &mut Lists, more: &Lists) -> Result<(), NoMemory>
 
 impl Copied for State {
     fn copy(&self) -> Result<State, NoMemory> {
+        let (decisions, items, changes) = self.copied_results()?;
+        let (unseen, notes, segments) = self.copied_lists()?;
+        let (scope, part) = self.copied_scope()?;
         Ok(State {
-            scope: self.scope.copy()?,
-            part: typed_copy(&self.part)?,
-            unseen: self.unseen.copy()?,
+            scope,
+            part,
+            unseen,
             written: self.written,
-            decisions: self.decisions.copy()?,
-            items: self.items.copy()?,
-            changes: self.changes.copy()?,
-            notes: self.notes.copy()?,
-            segments: self.segments.copy()?,
+            decisions,
+            items,
+            changes,
+            notes,
+            segments,
         })
     }
 }

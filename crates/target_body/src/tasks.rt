@@ -1,7 +1,7 @@
 //! A task element: it is called bucket by bucket, or its Outputs are inferred. (Task element; MSBuild batching; How to build
 //! incrementally.)
 
-ghost use Rattle.std.specs.Prelude.{◌≡◌, ◌<◌, ℕ, List, length, IfOk, OnOk};
+ghost use Rattle.std.specs.Prelude.{◌≡◌, ℕ, List, IfOk, OnOk};
 ghost use Rattle.build_world.specs.Answers.{GivesFault};
 ghost use Rattle.build_world.specs.Elements.{At, seen_element};
 ghost use Rattle.msb_laws.specs.Results.{map_ok};
@@ -15,7 +15,7 @@ ghost use Rattle.target_texts.specs.Answered.{Pushes};
 ghost use Rattle.target_texts.specs.Inferred.{inferred_at};
 ghost use Rattle.target_texts.specs.Parameters.{task_buckets};
 ghost use Rattle.target_texts.specs.Seen.{seen_place};
-ghost use Rattle.target_body.specs.Left.{IsOfChild, IsOfTask, calls_frames, calls_left, call_frames, child_frames, child_left, inferred_unless, waiting};
+ghost use Rattle.target_body.specs.Left.{IsOfChild, IsOfTask, calls_frames, call_frames, child_frames, inferred_unless};
 ghost use Rattle.target_body.specs.Moments.{GoesOn, Plays, moment, player};
 ghost use Rattle.target_body.specs.Seen.{child_at, ended, seen_run, seen_state};
 ghost use Rattle.target_body.specs.States.{State as Now, place_in, settled, task_scope};
@@ -33,7 +33,6 @@ use build_world::{EvalFault, PlacedElement};
 use msb_expand::Bucket;
 use msb_files::{FileView, Journal};
 use msb_values::{Change, List, NoMemory, Scope};
-use result_cache::RequestResult;
 use std::alloc::Global;
 use target_incremental::Choice;
 use target_texts::{Place, TaskElement, push_inferred, task_of};
@@ -51,7 +50,7 @@ pub(crate) struct TaskChild<'a> {
 }
 
 impl<'a> TaskChild<'a> {
-    fn of(site: &Site<'a>, child: usize, gives: bool) -> TaskChild<'a>
+    pub(crate) fn of(site: &Site<'a>, child: usize, gives: bool) -> TaskChild<'a>
         ensures site { result.site ≡ site.now }
         ensures element { seen_element result.element ≡ child_at (seen_run site.now) child }
         ensures child { result.child ≡ child }
@@ -184,7 +183,7 @@ impl State {
     }
 
     // Goes on behind a call in a bucket.
-    fn calls_on<T: CountedTools>(
+    pub(crate) fn calls_on<T: CountedTools>(
         &mut self,
         alloc: Global,
         at: &TaskChild<'_>,
@@ -216,7 +215,7 @@ impl State {
     }
 
     // Goes on behind the calls of an element.
-    fn child_on(
+    pub(crate) fn child_on(
         &mut self,
         alloc: Global,
         at: &TaskChild<'_>,
@@ -285,42 +284,6 @@ impl State {
             }
             Ending::Faulted | Ending::Failed => Ok(ending),
         }
-    }
-
-    /// Goes on with a task element when the results of calls have come. (MSBuild task.)
-    pub(crate) fn resume_task<T: CountedTools>(
-        &mut self,
-        alloc: Global,
-        site: &Site<'_>,
-        task: AtTask,
-        results: List<RequestResult>,
-        tools: &mut T,
-        journal: &mut Journal,
-    ) -> Result<Step<AtTask>, NoMemory>
-        requires waits { 0 < length (waiting task.call) }
-        requires fits { length results ≡ length (waiting task.call) }
-        ensures plays { IfOk result (λ step. let run = seen_run site.now in
-            Plays (child_frames run) (player site.now.id.now T.answer) (λ s. child_left run task s results journal.old) (moment self.old journal.old (T.calls tools.old)) step (moment self.new journal.new (T.calls tools.new))) }
-        ensures child { IfOk result (λ step. IsOfChild task.child step) }
-        ensures begun { BeginsWith (T.calls tools.old) (T.calls tools.new) }
-    {
-        let AtTask {
-            child,
-            gives,
-            bucket,
-            later,
-            call,
-        } = task;
-        let at = TaskChild::of(site, child, gives);
-        let in_bucket = TaskCall {
-            site: at.site,
-            element: at.element,
-            gives: at.gives,
-            bucket: &bucket,
-        };
-        let step = self.call_on(alloc, &in_bucket, call, results, journal)?;
-        let step = self.calls_on(alloc, &at, bucket, later, step, tools, journal)?;
-        self.child_on(alloc, &at, step, journal)
     }
 }
 
