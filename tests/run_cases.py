@@ -21,6 +21,7 @@ from dataclasses import dataclass, field
 from pathlib import Path
 from typing import Any, Callable, Iterator
 
+USAGE = "run_cases.py PROGRAM [FILE.json[:NAME] ..]"
 SECONDS = 20
 SECOND = 10**9
 PLACEHOLDER = re.compile(r"<<([A-Za-z][A-Za-z0-9_]*)>>")
@@ -467,7 +468,7 @@ def run_all(run: Callable[[Case], str | None], cases: list[Case]) -> int:
 def main(words: list[str]) -> int:
     """Run the cases that the words name; the status of the script."""
     try:
-        need(words != [] and words[0][:1] != "-", "usage", "run_cases.py PROGRAM [FILE.json[:NAME] ..]")
+        need(words != [] and words[0][:1] != "-", "usage", USAGE)
         program = Path(words[0]).resolve()
         need(os.access(program, os.X_OK) and program.is_file(), words[0], "no program")
         cases = [case for path, name in chosen(words[1:]) for case in read_cases(path, name)]
