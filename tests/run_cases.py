@@ -24,11 +24,22 @@ from typing import Any, Callable, Iterator
 USAGE = "run_cases.py PROGRAM [FILE.json[:NAME] ..]"
 SECONDS = 20
 SECOND = 10**9
+LARGE = 1 << 20
 PLACEHOLDER = re.compile(r"<<([A-Za-z][A-Za-z0-9_]*)>>")
 
 
 class CaseError(Exception):
     """A file of cases that is not of the form, or words that can't be used."""
+
+
+@dataclass(frozen=True)
+class Zeros:
+    """The content of a file of so many zero bytes, which is written as a hole."""
+
+    count: int
+
+
+Content = bytes | Zeros
 
 
 @dataclass
@@ -39,7 +50,7 @@ class Step:
     status: int
     prints: list[bytes] | None
     writes: dict[str, bytes | None]
-    edits: dict[str, bytes | None] = field(default_factory=dict)
+    edits: dict[str, Content | None] = field(default_factory=dict)
     stamps: dict[str, int] = field(default_factory=dict)
     wrote_stamp: int | None = None
 
@@ -50,7 +61,7 @@ class Case:
 
     file: str
     name: str
-    files: dict[str, bytes]
+    files: dict[str, Content]
     stamps: dict[str, int]
     steps: list[Step]
 
@@ -97,23 +108,37 @@ def as_list(where: str, value: Any) -> list[Any]:
     return value
 
 
+def as_hex(where: str, value: Any) -> bytes:
+    """The bytes of a hexadecimal text."""
+    try:
+        return bytes.fromhex(value)
+    except (TypeError, ValueError):
+        raise CaseError(f"{where}: a hexadecimal text is wanted") from None
+
+
 def as_content(where: str, value: Any) -> bytes:
-    """The bytes of a content: a text or an object of one of the three kinds."""
+    """The bytes of a content that is written out: a text, or an object of one of four kinds."""
     if isinstance(value, str):
         return as_text(where, value)
     need(isinstance(value, dict), where, "a content is wanted")
     if set(value) == {"project"}:
         return as_text(where, json.dumps(value["project"], ensure_ascii=False))
     if set(value) == {"hex"}:
-        try:
-            return bytes.fromhex(value["hex"])
-        except (TypeError, ValueError):
-            raise CaseError(f"{where}: no hexadecimal text") from None
+        return as_hex(where, value["hex"])
+    if set(value) == {"parts"}:
+        return b"".join(as_content(where, part) for part in as_list(where, value["parts"]))
     check_keys(where, value, {"repeat", "times", "head", "tail"})
     need("repeat" in value and "times" in value, where, "`repeat` and `times` are wanted")
     repeated = as_text(where, value["repeat"]) * as_number(where, value["times"])
     head = as_text(where, value.get("head", ""))
     return head + repeated + as_text(where, value.get("tail", ""))
+
+
+def as_file(where: str, value: Any) -> Content:
+    """The content of a file of the folder."""
+    if isinstance(value, dict) and set(value) == {"zeros"}:
+        return Zeros(as_number(where, value["zeros"]))
+    return as_content(where, value)
 
 
 def as_path(where: str, path: str) -> str:
@@ -123,15 +148,21 @@ def as_path(where: str, path: str) -> str:
     return path
 
 
-def as_files(where: str, value: Any, gone: bool) -> dict[str, bytes | None]:
+def as_files(where: str, value: Any, gone: bool) -> dict[str, Any]:
     """A table of paths and contents, with null for a file that is gone where that may be."""
     need(isinstance(value, dict), where, "an object is wanted")
-    files: dict[str, bytes | None] = {}
+    files: dict[str, Content | None] = {}
     for path, content in value.items():
-        inner = f"{where} `{path}`"
-        files[as_path(where, path)] = (
-            None if gone and content is None else as_content(inner, content)
-        )
+        none = gone and content is None
+        files[as_path(where, path)] = None if none else as_file(f"{where} `{path}`", content)
+    return files
+
+
+def as_writes(where: str, value: Any) -> dict[str, bytes | None]:
+    """A table of paths and what is to be written there."""
+    files = as_files(where, value, True)
+    for path, content in files.items():
+        need(not isinstance(content, Zeros), f"{where} `{path}`", "`zeros` can't be wanted")
     return files
 
 
@@ -167,7 +198,7 @@ def as_step(where: str, value: dict[str, Any]) -> Step:
         words=value["words"],
         status=as_number(f"{where}: status", value["status"]),
         prints=as_outputs(f"{where}: prints", value),
-        writes=as_files(f"{where}: writes", value.get("writes", {}), True),
+        writes=as_writes(f"{where}: writes", value.get("writes", {})),
         edits=as_files(f"{where}: edits", value.get("edits", {}), True),
         wrote_stamp=None if stamp is None else as_number(f"{where}: wrote_stamp", stamp),
     )
@@ -189,12 +220,12 @@ def as_steps(where: str, value: dict[str, Any]) -> list[Step]:
     return steps
 
 
-def add_many(where: str, value: Any, files: dict[str, bytes]) -> None:
+def add_many(where: str, value: Any, files: dict[str, Content]) -> None:
     """Put the numbered files of `many` among the files of the case."""
     check_keys(where, value, {"prefix", "count", "text"})
     need(set(value) == {"prefix", "count", "text"}, where, "a key is missing")
     need(isinstance(value["prefix"], str), where, "a text is wanted")
-    text = as_content(where, value["text"])
+    text = as_file(where, value["text"])
     for number in range(as_number(where, value["count"])):
         files[as_path(where, f"{value['prefix']}{number}")] = text
 
@@ -326,8 +357,19 @@ def read_cases(path: Path, name: str | None) -> list[Case]:
 class Seen:
     """What a file in the folder of a case holds, and when it was changed."""
 
-    content: bytes
+    content: bytes | None  # None of a large file, which is known by the time of its last change
+    size: int
     stamp: int
+    changed: int
+
+
+def look_at(path: str) -> Seen:
+    """One file."""
+    told = os.stat(path)
+    if told.st_size > LARGE:
+        return Seen(None, told.st_size, told.st_mtime_ns, told.st_ctime_ns)
+    with open(path, "rb") as opened:
+        return Seen(opened.read(), told.st_size, told.st_mtime_ns, 0)
 
 
 def look(folder: Path) -> dict[str, Seen]:
@@ -336,9 +378,7 @@ def look(folder: Path) -> dict[str, Seen]:
     for base, _, names in os.walk(folder):
         for name in names:
             path = os.path.join(base, name)
-            with open(path, "rb") as opened:
-                content = opened.read()
-            files[os.path.relpath(path, folder)] = Seen(content, os.stat(path).st_mtime_ns)
+            files[os.path.relpath(path, folder)] = look_at(path)
     return files
 
 
@@ -347,11 +387,15 @@ def set_stamp(folder: Path, path: str, stamp: int) -> None:
     os.utime(folder / path, ns=(stamp, stamp))
 
 
-def write_file(folder: Path, path: str, content: bytes, stamp: int) -> None:
+def write_file(folder: Path, path: str, content: Content, stamp: int) -> None:
     """Write a file of a case, with the folders above it."""
     target = folder / path
     target.parent.mkdir(parents=True, exist_ok=True)
-    target.write_bytes(content)
+    if isinstance(content, Zeros):
+        target.write_bytes(b"")
+        os.truncate(target, content.count)
+    else:
+        target.write_bytes(content)
     set_stamp(folder, path, stamp)
 
 
@@ -381,23 +425,29 @@ def first_difference(wanted: bytes, got: bytes) -> str:
     return "nothing differs"
 
 
-def differing_file(step: Step, before: dict[str, Seen], after: dict[str, Seen]) -> str | None:
+def difference(folder: Path, path: str, old: Seen | None, new: Seen | None,
+               writes: dict[str, bytes | None]) -> str | None:
+    """What is wrong with a file that was there before a step, is there behind it, or is wanted."""
+    if path not in writes:
+        if old == new:
+            return None
+        return f"was {'removed' if new is None else 'written'}, and that is not wanted"
+    wanted = writes[path]
+    if wanted is None:
+        return None if new is None else "is still there"
+    if new is None or (old is not None and new.stamp == old.stamp):
+        return "was not written"
+    got = (folder / path).read_bytes()
+    return None if got == wanted else first_difference(wanted, got)
+
+
+def differing_file(folder: Path, step: Step, before: dict[str, Seen],
+                   after: dict[str, Seen]) -> str | None:
     """The first file, in order of paths, that is not as it is wanted."""
     for path in sorted(set(before) | set(after) | set(step.writes)):
-        old, new = before.get(path), after.get(path)
-        if path not in step.writes:
-            if new is None or old is None or new != old:
-                change = "removed" if new is None else "written"
-                return f"`{path}` was {change}, and that is not wanted"
-            continue
-        wanted = step.writes[path]
-        if wanted is None:
-            if new is not None:
-                return f"`{path}` is still there"
-        elif new is None or (old is not None and new.stamp == old.stamp):
-            return f"`{path}` was not written"
-        elif new.content != wanted:
-            return f"`{path}`: {first_difference(wanted, new.content)}"
+        wrong = difference(folder, path, before.get(path), after.get(path), step.writes)
+        if wrong is not None:
+            return f"`{path}`: {wrong}"
     return None
 
 
@@ -420,7 +470,7 @@ def run_step(program: Path, folder: Path, step: Step) -> str | None:
     if step.prints is not None and run.stdout not in step.prints:
         one = "" if len(step.prints) == 1 else f"none of {len(step.prints)} outputs; of the first, "
         return one + first_difference(step.prints[0], run.stdout)
-    return differing_file(step, before, after)
+    return differing_file(folder, step, before, after)
 
 
 def run_case(program: Path, case: Case) -> str | None:
