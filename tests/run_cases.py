@@ -269,17 +269,25 @@ def as_cases(file: str, where: str, value: dict[str, Any]) -> Iterator[Case]:
 # ---- Rows -------------------------------------------------------------------------------------
 
 
-def filled(where: str, value: Any, let: dict[str, str]) -> Any:
-    """A value with each placeholder in its texts and keys replaced."""
+def filled_text(where: str, text: str, let: dict[str, Any]) -> str:
+    """A text with each placeholder replaced by a text."""
     def one(found: re.Match[str]) -> str:
         need(found[1] in let, where, f"the placeholder `{found[1]}` has no value")
+        need(isinstance(let[found[1]], str), where, f"`{found[1]}` is no text")
         return let[found[1]]
+    return PLACEHOLDER.sub(one, text)
+
+
+def filled(where: str, value: Any, let: dict[str, Any]) -> Any:
+    """A value with each placeholder in its texts and keys replaced."""
     if isinstance(value, str):
-        return PLACEHOLDER.sub(one, value)
+        whole = PLACEHOLDER.fullmatch(value)
+        return let[whole[1]] if whole and whole[1] in let else filled_text(where, value, let)
     if isinstance(value, list):
         return [filled(where, part, let) for part in value]
     if isinstance(value, dict):
-        return {filled(where, key, let): filled(where, part, let) for key, part in value.items()}
+        return {filled_text(where, key, let): filled(where, part, let)
+                for key, part in value.items()}
     return value
 
 
@@ -288,8 +296,6 @@ def row_case(where: str, case: dict[str, Any], row: Any, number: int) -> dict[st
     check_keys(where, row, CASE_KEYS | {"let"})
     let = row.get("let", {})
     need(isinstance(let, dict), where, "`let` is no object")
-    for value in let.values():
-        as_text(f"{where}: let", value)
     mixed = {key: value for key, value in case.items() if key != "rows"}
     mixed.update((key, value) for key, value in row.items() if key != "let")
     made = filled(where, mixed, let)
