@@ -369,22 +369,26 @@ class Seen:
     changed: int
 
 
-def look_at(path: str) -> Seen:
+def look_at(path: str, told: os.stat_result) -> Seen:
     """One file."""
-    told = os.stat(path)
     if told.st_size > LARGE:
         return Seen(None, told.st_size, told.st_mtime_ns, told.st_ctime_ns)
-    with open(path, "rb") as opened:
-        return Seen(opened.read(), told.st_size, told.st_mtime_ns, 0)
+    content = b""
+    if told.st_size > 0:
+        with open(path, "rb") as opened:
+            content = opened.read()
+    return Seen(content, told.st_size, told.st_mtime_ns, 0)
 
 
-def look(folder: Path) -> dict[str, Seen]:
-    """All files below a folder."""
+def look(folder: str | Path, prefix: str = "") -> dict[str, Seen]:
+    """All files below a folder, by their paths in it."""
     files = {}
-    for base, _, names in os.walk(folder):
-        for name in names:
-            path = os.path.join(base, name)
-            files[os.path.relpath(path, folder)] = look_at(path)
+    with os.scandir(folder) as entries:
+        for entry in entries:
+            if entry.is_dir(follow_symlinks=False):
+                files.update(look(entry.path, f"{prefix}{entry.name}/"))
+            else:
+                files[prefix + entry.name] = look_at(entry.path, entry.stat())
     return files
 
 
@@ -395,14 +399,15 @@ def set_stamp(folder: Path, path: str, stamp: int) -> None:
 
 def write_file(folder: Path, path: str, content: Content, stamp: int) -> None:
     """Write a file of a case, with the folders above it."""
-    target = folder / path
-    target.parent.mkdir(parents=True, exist_ok=True)
-    if isinstance(content, Zeros):
-        target.write_bytes(b"")
-        os.truncate(target, content.count)
-    else:
-        target.write_bytes(content)
-    set_stamp(folder, path, stamp)
+    target = os.path.join(folder, path)
+    if "/" in path:
+        os.makedirs(os.path.dirname(target), exist_ok=True)
+    with open(target, "wb") as opened:
+        if isinstance(content, Zeros):
+            opened.truncate(content.count)
+        else:
+            opened.write(content)
+    os.utime(target, ns=(stamp, stamp))
 
 
 def make_edits(folder: Path, step: Step) -> None:
@@ -511,6 +516,7 @@ def chosen(words: list[str]) -> Iterator[tuple[Path, str | None]]:
 
 def run_all(run: Callable[[Case], str | None], cases: list[Case]) -> int:
     """Run the cases, several at once, print what failed, and give the status."""
+    sys.stdout.reconfigure(errors="backslashreplace")
     with ThreadPoolExecutor(os.cpu_count() or 1) as pool:
         failures = 0
         for line in pool.map(run, cases):
