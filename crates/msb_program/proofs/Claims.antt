@@ -4,7 +4,7 @@ use Rattle.msb_laws.specs.Faults.{Rose}
 use Rattle.msb_words.specs.Options.{options_in}
 use Rattle.msb_program.specs.Endings.{Saving, Kept, Printing, Printed}
 use Rattle.msb_program.specs.Answers.{Loading, usage, IsDone, IsFailed, IsUsage, IsRefused, IsStopped, IsStoreFailure, IsSinkFailure, IsMemory, IsPastLimit, IsStatus, IsStatusOf, Answers}
-use Rattle.msb_program.specs.Outcomes.{Answering}
+use Rattle.msb_outcomes.specs.Outcomes.{Answering}
 
 module _ (tools : Answering) (words : List (List ℕ)) (l : Loading) (s : Saving) (p : Printing) where
   -- what a status says

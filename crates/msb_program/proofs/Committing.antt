@@ -3,7 +3,7 @@ use Rattle.std.proofs.Common.{◌≡◌, ◌⊎◌, ◌++◌, ◌≤◌, ℕ, sl
 use Rattle.msb_laws.specs.Faults.{Rose}
 use Rattle.msb_values.specs.declared.put.Put.{Put}
 use Rattle.build_report.specs.Line.{line}
-use Rattle.msb_program.specs.Outcomes.{IsCompletion, IsRefusal}
+use Rattle.build_engine.specs.Statuses.{IsCompletion, IsRefusal}
 use Rattle.msb_program.specs.Endings.{Saving, SavedTo, Printing, Printed, Silent, Ends}
 use Rattle.build_outcome.specs.declared.outcome.Outcome.{Outcome}
 

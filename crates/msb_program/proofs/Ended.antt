@@ -3,7 +3,8 @@ use Rattle.std.proofs.Common.{◌≡◌, ◌≤◌, ◌+◌, min, ℕ, List, Opt
 use Rattle.file_store.specs.declared.tree.File.{File}
 use Rattle.msb_words.specs.Options.{options_in}
 use Rattle.msb_words.specs.declared.options.Options.{Options}
-use Rattle.msb_program.specs.Outcomes.{Answering, HasProject, IsCompletion, IsRefusal, IsOutcomeOf}
+use Rattle.msb_outcomes.specs.Outcomes.{Answering, HasProject, IsOutcomeOf}
+use Rattle.build_engine.specs.Statuses.{IsCompletion, IsRefusal}
 use Rattle.msb_program.specs.Endings.{Saving, saving, Printing, Silent, EndsWhole, EndsRefused, EndsUnprinted, EndsUnwritten, EndsHalfway, Ends, EndsOver}
 use Rattle.msb_program.specs.Answers.{Loading, AreLoaded, HasOutcome, IsStatusOf, IsStatusOfProject, Answers}
 use Rattle.build_outcome.specs.declared.outcome.Outcome.{Outcome}

@@ -1,14 +1,8 @@
-pub mod Beginning
-pub mod Building
 pub mod Calling
 pub mod Claims
 pub mod Committing
-pub mod Compared
-pub mod Counting
 pub mod Ended
 pub mod Meant
 pub mod Ready
 pub mod TrialEnded
-pub mod Trying
 pub mod Unloaded
-pub mod Working

@@ -29,10 +29,10 @@ use Rattle.msb_words.specs.declared.options.Action.TheVariants.{Build as ToBuild
 use Rattle.msb_program.specs.Answers.{Answers, HasOutcome, HasTrial, IsLoadFailure, IsStatus, IsStatusOf, IsPastLimit, Loading}
 use Rattle.msb_program.specs.Endings.{Saving, Kept, Printing, PrintedAll, PrintedFront, Silent, EndsWhole, EndsRefused, EndsUnprinted, EndsUnwritten, EndsHalfway}
 use Rattle.msb_program.specs.Meanings.{AnswersMeant, Means}
-use Rattle.msb_program.specs.Outcomes.{Answering, ComesOf, IsAsked, IsBuildOf, IsOutcomeAt, IsOutcomeOf, IsOutcomeWithin, IsWorkAt, IsWorkOfAction, IsWorkOfFile, IsWorkOfInstance, key_at}
-use Rattle.msb_program.specs.declared.work.Work.{Work}
-use Rattle.msb_program.specs.declared.work.Work.TheVariants.{Told, Build}
-use Rattle.msb_program.proofs.Working.{build_is_asked}
+use Rattle.msb_outcomes.specs.Outcomes.{Answering, ComesOf, IsAsked, IsBuildOf, IsOutcomeAt, IsOutcomeOf, IsOutcomeWithin, IsWorkAt, IsWorkOfAction, IsWorkOfFile, IsWorkOfInstance, key_at}
+use Rattle.msb_outcomes.specs.declared.work.Work.{Work}
+use Rattle.msb_outcomes.specs.declared.work.Work.TheVariants.{Told, Build}
+use Rattle.msb_outcomes.proofs.Working.{build_is_asked}
 
 bytes_code : Coded (List ℕ)
 bytes_code = coded_list coded_ℕ

@@ -10,11 +10,11 @@ use Rattle.msb_words.specs.declared.options.Options.{Options}
 use Rattle.build_outcome.specs.declared.outcome.Outcome.{Outcome}
 use Rattle.msb_program.specs.Answers.{Answers, AsksForBuild, AreLoaded, loading}
 use Rattle.msb_program.specs.Endings.{EndsMade, EndsOver, Printing, Saving, printing, saving}
-use Rattle.msb_program.specs.Outcomes.{Answering, ComesOf, IsBuild, IsOutcomeWithin, IsWorkAt}
+use Rattle.msb_outcomes.specs.Outcomes.{Answering, ComesOf, IsBuild, IsOutcomeWithin, IsWorkAt}
 use Rattle.msb_program.specs.Prepared.{IsReady}
-use Rattle.msb_program.specs.declared.work.Work.{Work}
+use Rattle.msb_outcomes.specs.declared.work.Work.{Work}
 use Rattle.msb_program.proofs.Ended.{loaded_answers}
-use Rattle.msb_program.proofs.Working.{build_asked}
+use Rattle.msb_outcomes.proofs.Working.{build_asked}
 
 module _ (tools : Answering) (told : Option (List File)) (options : Options) (files : List File) (work : Work) (loaded : AreLoaded told files) (is : IsWorkAt options files (normal_path [] options.project) work) where
   -- what was made of the work is an outcome of the files

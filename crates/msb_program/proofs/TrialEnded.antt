@@ -6,9 +6,9 @@ use Rattle.msb_words.specs.declared.options.Options.{Options}
 use Rattle.msb_laws.specs.Faults.{Rose}
 use Rattle.msb_program.specs.Answers.{Answers, AsksForTrial, HasTrial, IsStatusOf, Loading}
 use Rattle.msb_program.specs.Endings.{EndsTrial, Printing, PrintedAll, PrintedFront, Saving, printing}
-use Rattle.msb_program.specs.Outcomes.{Answering, HasProject}
+use Rattle.msb_outcomes.specs.Outcomes.{Answering, HasProject}
 use Rattle.msb_program.specs.Prepared.{IsTrialAsked}
-use Rattle.msb_program.specs.Trials.{IsTrial}
+use Rattle.msb_outcomes.specs.Trials.{IsTrial}
 use Rattle.msb_program.proofs.Claims.{answers_at, memory_answers}
 
 module _ (tools : Answering) (words : List (List ℕ)) (l : Loading) (s : Saving) (before p : Printing) (options : Options) (trial : IsTrialAsked words s before options) where

@@ -9,7 +9,7 @@ use Rattle.file_store.specs.declared.tree.File.{File}
 use Rattle.msb_words.specs.Options.{options_in}
 use Rattle.msb_words.specs.declared.options.Options.{Options}
 use Rattle.build_report.specs.Line.{line}
-use Rattle.msb_program.specs.Outcomes.{Answering, HasProject, IsOutcomeWithin, fault_status, load_fault_text, unloaded}
+use Rattle.msb_outcomes.specs.Outcomes.{Answering, HasProject, IsOutcomeWithin, fault_status, load_fault_text, unloaded}
 use Rattle.msb_program.specs.Endings.{Saving, Kept, Printing, Printed, Silent}
 use Rattle.msb_program.specs.Answers.{AsksForProject, Loading, LoadFails, IsStoreFault, IsStatusOf, IsStatusOfProject, Answers}
 use Rattle.msb_program.proofs.Claims.{answers_at, memory_answers}

@@ -13,9 +13,9 @@ use Rattle.msb_words.specs.Options.{options_in}
 use Rattle.msb_words.specs.declared.options.Options.{Options}
 use Rattle.msb_words.specs.declared.options.Action.TheVariants.{Build, Trial}
 use Rattle.build_report.specs.Line.{line}
-use Rattle.msb_program.specs.Outcomes.{Answering, HasProject, IsOutcomeOf, load_fault_text}
+use Rattle.msb_outcomes.specs.Outcomes.{Answering, HasProject, IsOutcomeOf, load_fault_text}
 use Rattle.msb_program.specs.Endings.{Saving, Kept, Printing, Printed, PrintedAll, PrintedFront, Silent, EndsWhole, EndsRefused, EndsUnprinted, EndsUnwritten, EndsHalfway}
-use Rattle.msb_program.specs.Trials.{IsTrial}
+use Rattle.msb_outcomes.specs.Trials.{IsTrial}
 use Rattle.build_outcome.specs.declared.outcome.Outcome.{Outcome}
 
 -- the files that a store tells, its count of faults, and its failed calls by their kinds, before and after the call

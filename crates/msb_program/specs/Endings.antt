@@ -7,7 +7,8 @@ use Rattle.msb_values.specs.declared.put.Put.{Put}
 use Rattle.file_store.specs.Commits.{AreWritten, AreWrittenTo, HasContents}
 use Rattle.file_store.specs.declared.tree.File.{File}
 use Rattle.build_report.specs.Line.{line}
-use Rattle.msb_program.specs.Outcomes.{Answering, IsCompletion, IsRefusal, IsOutcomeOf}
+use Rattle.msb_outcomes.specs.Outcomes.{Answering, IsOutcomeOf}
+use Rattle.build_engine.specs.Statuses.{IsCompletion, IsRefusal}
 use Rattle.build_outcome.specs.declared.outcome.Outcome.{Outcome}
 use Rattle.msb_words.specs.declared.options.Options.{Options}
 

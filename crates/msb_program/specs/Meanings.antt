@@ -18,8 +18,8 @@ use Rattle.msb_words.specs.Options.{options_in}
 use Rattle.msb_words.specs.declared.options.Options.{Options}
 use Rattle.msb_program.specs.Answers.{Loading, IsLoadFailure}
 use Rattle.msb_program.specs.Endings.{Saving, Kept, Printing, Silent, EndsWhole, EndsUnprinted, EndsUnwritten, EndsHalfway}
-use Rattle.msb_program.specs.Outcomes.{Answering, IsWorkAt}
-use Rattle.msb_program.specs.declared.work.Work.TheVariants.{Build}
+use Rattle.msb_outcomes.specs.Outcomes.{Answering, IsWorkAt}
+use Rattle.msb_outcomes.specs.declared.work.Work.TheVariants.{Build}
 
 -- the words ask for a build of the files that the store tells, which is given this
 pub record IsAskedOf (words : List (List ℕ)) (told : Option (List File)) (given : World) : Type 0 where

@@ -7,10 +7,10 @@ use Rattle.msb_words.specs.declared.options.Action.TheVariants.{Trial as ToTry}
 use Rattle.msb_words.specs.declared.options.Options.{Options}
 use Rattle.msb_program.specs.Answers.{Answers, AreLoaded, Loading}
 use Rattle.msb_program.specs.Endings.{Saving, Kept, Printing, Silent}
-use Rattle.msb_program.specs.Outcomes.{Answering, HasProject, IsWorkAt}
+use Rattle.msb_outcomes.specs.Outcomes.{Answering, HasProject, IsWorkAt}
 use Rattle.msb_program.specs.declared.top.Prepared.{Prepared}
 use Rattle.msb_program.specs.declared.top.Prepared.TheVariants.{Ended, Ready, Trial}
-use Rattle.msb_program.specs.declared.work.Work.{Work}
+use Rattle.msb_outcomes.specs.declared.work.Work.{Work}
 
 -- the words ask for this trial; nothing was written or printed
 pub record IsTrialAsked (words : List (List ℕ)) (s : Saving) (p : Printing) (options : Options) : Type 0 where

@@ -3,19 +3,12 @@
 //!
 //! The way in is [`run`]: words to options, the store's files to a tree, options and tree to what is left to do, a build to its
 //! outcome, the outcome's files to the store, and then its text to the sink; [`run_alone`] does the same on one node. Which
-//! outcomes there are stands in one definition, `IsOutcomeOf` in `specs/Outcomes.antt`; how one ends, in `specs/Endings.antt`;
-//! what each status says, in `specs/Answers.antt`; what it says where the world of a build is whole and steady, in
-//! `specs/Meanings.antt`; and which tools a build calls, in `specs/Calls.antt`. What a trial prints stands in `specs/Trials.antt`.
+//! outcomes there are stands in one definition, `IsOutcomeOf` in the crate `msb_outcomes`; how one ends, in
+//! `specs/Endings.antt`; what each status says, in `specs/Answers.antt`; what it says where the world of a build is whole and
+//! steady, in `specs/Meanings.antt`; and which tools a build calls, in `specs/Calls.antt`.
 #![tactic(auto)]
 
-mod alone;
-mod gate;
-mod on_nodes;
-mod outcome;
 mod top;
-mod trial;
-mod tried;
-mod work;
 
-pub use gate::Gate;
+pub use gate_tools::Gate;
 pub use top::{run, run_alone};

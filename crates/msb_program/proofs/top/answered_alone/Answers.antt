@@ -4,7 +4,7 @@ use Rattle.msb_paths.specs.Refused.{normal_path}
 use Rattle.msb_program.proofs.Calling.{done_calls, no_trial_meant}
 use Rattle.msb_program.proofs.Ready.{build_of_words, ready_answers}
 use Rattle.msb_program.proofs.TrialEnded.{no_trial, trial_answers}
-use Rattle.msb_program.proofs.Working.{has_status}
+use Rattle.msb_outcomes.proofs.Working.{has_status}
 use Rattle.msb_program.proofs.top.answered_alone.Goals as goal
 
 pub outcome_alone-made-requires : goal.outcome_alone-made-requires

@@ -2,7 +2,7 @@ use Rattle.std.proofs.Common.{[]}
 use Rattle.msb_paths.specs.Refused.{normal_path}
 use Rattle.msb_program.proofs.Ready.{ready_answers}
 use Rattle.msb_program.proofs.TrialEnded.{no_trial, trial_answers}
-use Rattle.msb_program.proofs.Working.{has_status}
+use Rattle.msb_outcomes.proofs.Working.{has_status}
 use Rattle.msb_program.proofs.top.answered_on.Goals as goal
 
 pub outcome_on-made-requires-clause-status : goal.outcome_on-made-requires-clause-status

@@ -1,0 +1,35 @@
+-- The tools that a build uses.
+use Rattle.std.proofs.Common.{◌≡◌, List, [], ◌++◌, Bool, Option, None, Some, Result, Ok, Err, IfOk, ap, sym, ◌∙◌}
+use Rattle.std.proofs.Math.Logic.{∥∥₁_elim, ∥∥₁_map, ∥∥₁_prop}
+use Rattle.msb_values.specs.declared.errors.NoMemory.{NoMemory}
+use Rattle.build_meaning.specs.declared.event.Event.{Event}
+use Rattle.build_meaning.specs.SoFar.{ToolUse}
+use Rattle.build_meaning.specs.World.{World}
+use Rattle.build_history.specs.Uses.{tools_of, uses_in}
+use Rattle.build_scheduler.specs.declared.slot.End.{End}
+use Rattle.build_scheduler.specs.declared.slot.End.TheVariants.{Root, Circular, TooDeep, TooMany, NoMemory as WantsMemory}
+use Rattle.build_plain.specs.Used.{Uses, UnlessMemory}
+use Rattle.build_outcome.specs.Outcomes.{IsOutcomeAt}
+use Rattle.build_outcome.specs.declared.outcome.Outcome.{Outcome}
+use Rattle.build_engine.specs.UsedFor.{IsUsedFor}
+
+module _ {I A : Type 0} (w : World I A) (low : Bool) where
+  -- an outcome does not come of a build that wanted memory
+  had_memory : (events : List Event) (end : Option End) (outcome : Outcome) (P : Type 0) → IsOutcomeAt w low events end outcome → UnlessMemory end P → P
+  had_memory events None outcome P is p = p
+  had_memory events (Some (Root result)) outcome P is p = p
+  had_memory events (Some (Circular runs)) outcome P is p = p
+  had_memory events (Some (TooDeep keys)) outcome P is p = p
+  had_memory events (Some (TooMany instance)) outcome P is p = p
+  had_memory events (Some WantsMemory) outcome P is p = absurd is
+
+  used_for : (first events : List Event) (end : Option End) (outcome : Outcome) (from to : List (ToolUse I)) → first ≡ [] → UnlessMemory end ∥ Uses w first events from to ∥₁ → ∥ IsOutcomeAt w low events end outcome ∥₁ → ∥ IsUsedFor w low outcome from to ∥₁
+  used_for first events end outcome from to none uses is = ∥∥₁_elim is ∥∥₁_prop (λ x. ∥∥₁_map (had_memory events end outcome ∥ Uses w first events from to ∥₁ x uses) (λ u.
+      let all : uses_in w events ≡ u.more = u.uses ∙ ap (λ es. uses_in w es ++ u.more) none in
+      record { events = events; end = end; is = x; tools = u.tools ∙ ap (λ us. from ++ tools_of us) (sym all) }))
+
+  -- the tools that a build from no event on has used
+  pub all_used_for : (first events : List Event) (end : Option End) (made : Result Outcome NoMemory) (from to : List (ToolUse I)) → first ≡ [] → UnlessMemory end ∥ Uses w first events from to ∥₁ → IfOk made (λ o. ∥ IsOutcomeAt w low events end o ∥₁) →
+      IfOk made (λ o. ∥ IsUsedFor w low o from to ∥₁)
+  all_used_for first events end (Ok o) from to none uses is = used_for first events end o from to none uses is
+  all_used_for first events end (Err e) from to none uses is = tt

@@ -1,0 +1,35 @@
+use Rattle.std.proofs.Common.{List, IfOk, sym, subst, ◌∙◌}
+use Rattle.build_meaning.specs.World.{World}
+use Rattle.build_meaning.specs.declared.event.Event.{Event}
+use Rattle.build_outcome.specs.Outcomes.{IsOutcome}
+use Rattle.build_plain.specs.Driven.{NoneAssigned}
+use Rattle.build_plain.specs.Used.{Uses, UnlessMemory}
+use Rattle.build_engine.specs.UsedFor.{IsUsedFor}
+use Rattle.build_engine.proofs.Using.{all_used_for}
+use Rattle.build_engine.proofs.Building.{known_statuses, none_at_first, outcomes_are}
+use Rattle.build_engine.proofs.alone.build_on_one.Goals as goal
+
+pub build_alone-requires : goal.build_alone-requires
+build_alone-requires g c =
+    let core = c.in_ok-core.core in
+    subst (λ (events : List Event). NoneAssigned (g.W.Walker.world_of core.world) events) (sym c.in_ok-core.ensures.history) (none_at_first (g.W.Walker.world_of core.world))
+
+pub returns-clause-outcome : goal.returns-clause-outcome
+returns-clause-outcome g c =
+    let core = c.build_alone.new.core in
+    subst (λ (w : World g.W.Walker.Input g.W.Walker.Output). IfOk c.of.result (λ o. ∥ IsOutcome w c.args.low o ∥₁)) (c.build_alone.ensures.world ∙ c.in_ok-core.ensures.world)
+    (outcomes_are (g.W.Walker.world_of core.world) c.args.low core.history.events core.end c.of.result c.build_alone.ensures.legal c.of.ensures.outcome)
+
+pub returns-clause-status : goal.returns-clause-status
+returns-clause-status g c = known_statuses c.of.result c.of.ensures.status
+
+pub returns-clause-used : goal.returns-clause-used
+returns-clause-used g c =
+    let m = g.W.Walker in
+    let core = c.build_alone.new.core in
+    let first = c.in_ok-core.core in
+    let from = m.used c.args.place.now in
+    let to = m.used c.build_alone.new.place in
+    subst (λ (w : World m.Input m.Output). IfOk c.of.result (λ o. ∥ IsUsedFor w c.args.low o from to ∥₁)) (c.build_alone.ensures.world ∙ c.in_ok-core.ensures.world)
+    (all_used_for (m.world_of core.world) c.args.low first.history.events core.history.events core.end c.of.result from to c.in_ok-core.ensures.history
+    (subst (λ (w : World m.Input m.Output). UnlessMemory core.end ∥ Uses w first.history.events core.history.events from to ∥₁) (sym c.build_alone.ensures.world) c.build_alone.ensures.uses) c.of.ensures.outcome)

@@ -1,0 +1,36 @@
+//! Builds on one node.
+
+ghost use Rattle.std.specs.Prelude.{◌≡◌, ◌⊎◌, [], IfOk};
+ghost use Rattle.build_outcome.specs.Outcomes.{IsOutcome};
+ghost use Rattle.build_scheduler.specs.Position.{begins};
+ghost use Rattle.build_engine.specs.Statuses.{IsCompletion, IsRefusal};
+ghost use Rattle.build_engine.specs.UsedFor.{IsUsedFor};
+
+use build_outcome::Outcome;
+use build_plain::build_alone;
+use build_scheduler::{Core, Walker};
+use msb_values::NoMemory;
+use result_cache::RequestKey;
+use std::alloc::Global;
+
+/// Builds the request of a walk that had no answer yet, on one node, and tells what the build prints and writes. The tools at
+/// the place are used as the build's history has it. (MSBuild command-line reference, -maxCpuCount.)
+pub fn build_on_one<W: Walker>(
+    alloc: Global,
+    key: RequestKey,
+    walk: W,
+    place: &mut W::Place,
+    low: bool,
+) -> Result<Outcome, NoMemory>
+    requires key { key ≡ (W.world walk).root }
+    requires begins { W.position walk ≡ begins (W.world walk) key [] }
+    requires asked { W.asked walk ≡ 0 }
+    requires learnt { W.learnt walk ≡ [] }
+    ensures outcome { IfOk result (λ o. ∥ IsOutcome (W.world walk) low o ∥₁) }
+    ensures status { IfOk result (λ o. IsCompletion o.status ⊎ IsRefusal o.status) }
+    ensures used { IfOk result (λ o. ∥ IsUsedFor (W.world walk) low o (W.used place.old) (W.used place.new) ∥₁) }
+{
+    let mut core = Core::new(alloc, key, walk)?;
+    build_alone(&mut core, place);
+    Outcome::of(alloc, &core, low)
+}

@@ -1,0 +1,41 @@
+//! Builds on several nodes.
+
+ghost use Rattle.std.specs.Prelude.{◌≡◌, ◌⊎◌, ◌<◌, ◌≤◌, [], IfOk, vec_len};
+ghost use Rattle.build_outcome.specs.Outcomes.{IsOutcome};
+ghost use Rattle.build_scheduler.specs.Position.{begins};
+ghost use Rattle.build_engine.specs.Statuses.{IsCompletion, IsRefusal};
+
+use build_nodes::build_with;
+use build_outcome::Outcome;
+use build_scheduler::{Core, Walker};
+use msb_values::NoMemory;
+use result_cache::RequestKey;
+use std::alloc::Global;
+use std::sync::Wait;
+use std::thread::Threads;
+
+/// Builds the request of a walk that had no answer yet, on a node for each place, of which there are 1 to 64, and tells what the
+/// build prints and writes. (MSBuild command-line reference, -maxCpuCount.)
+pub fn build_on_many<R: Threads + Wait + Sync, W: Walker + Send>(
+    rt: &R,
+    alloc: Global,
+    key: RequestKey,
+    walk: W,
+    places: Vec<W::Place>,
+    low: bool,
+) -> Result<Outcome, NoMemory>
+where
+    W::Place: Send + Drop,
+    W::Origin: Send,
+    requires key { key ≡ (W.world walk).root }
+    requires begins { W.position walk ≡ begins (W.world walk) key [] }
+    requires asked { W.asked walk ≡ 0 }
+    requires learnt { W.learnt walk ≡ [] }
+    requires places { (0 < vec_len places) × (vec_len places ≤ 64) }
+    ensures outcome { IfOk result (λ o. ∥ IsOutcome (W.world walk) low o ∥₁) }
+    ensures status { IfOk result (λ o. IsCompletion o.status ⊎ IsRefusal o.status) }
+{
+    let core = Core::new(alloc, key, walk)?;
+    let built = build_with(rt, alloc, core, places)?;
+    Outcome::of(alloc, &built, low)
+}

@@ -1,0 +1,23 @@
+-- Lists of files are compared exactly.
+use Rattle.std.proofs.Common.{◌≡◌, Bool, true, false, ◌&&◌, List, ap, sym, subst, ◌∙◌}
+use Rattle.std.specs.Bool.{Decides}
+use Rattle.std.specs.Cmp.Lexicographic.{pointwise, pointwise_decides}
+use Rattle.std.specs.Str.{bytes_eq}
+use Rattle.std.proofs.lemmas.Slice.Eq.{bytes_eq-Decides}
+use Rattle.msb_values.specs.declared.put.Put.{Put}
+use Rattle.result_cache.specs.Exact.{both, into}
+use Rattle.result_cache.specs.SameRecords.{same_put}
+use Rattle.build_outcome.specs.declared.outcome.Outcome.{Outcome}
+use Rattle.msb_outcomes.specs.Trials.{AreEqual}
+
+put-exact : (a b : Put) → Decides (same_put a b) (a ≡ b)
+put-exact a b = into (same_put a b)
+    (λ h. ap (λ x. record { path = x; bytes = a.bytes }) h.0 ∙ ap (λ y. record { path = b.path; bytes = y }) h.1)
+    (λ h. (ap (λ (x : Put). x.path) h, ap (λ (x : Put). x.bytes) h))
+    (both (bytes_eq a.path b.path) (bytes_eq a.bytes b.bytes) (bytes_eq-Decides a.path b.path) (bytes_eq-Decides a.bytes b.bytes))
+
+-- two outcomes of one text are equal where their files are
+pub equal_if_same : (one other : Outcome) (same : Bool) → bytes_eq one.text other.text ≡ true → same ≡ pointwise same_put one.commit other.commit → Decides same (AreEqual one other)
+equal_if_same one other same text is =
+    let files = pointwise_decides put-exact one.commit other.commit in
+    ((λ h. ((bytes_eq-Decides one.text other.text).0 text, files.0 (sym is ∙ h))), λ h. is ∙ files.1 h.1)

@@ -1,0 +1,21 @@
+use Rattle.std.proofs.Common.{IfOk, subst}
+use Rattle.task_trait.specs.declared.tools.ToolAnswer.{ToolAnswer}
+use Rattle.task_trait.specs.declared.tools.ToolInput.{ToolInput}
+use Rattle.build_meaning.specs.World.{World}
+use Rattle.request_machine.specs.Worlds.{root_of, world_of}
+use Rattle.build_engine.specs.UsedFor.{IsUsedFor}
+use Rattle.msb_outcomes.specs.Calls.{as_uses}
+use Rattle.msb_outcomes.proofs.Beginning.{begins_there}
+use Rattle.msb_outcomes.proofs.alone.built.Goals as goal
+
+pub build_on_one-requires-clause-begins : goal.build_on_one-requires-clause-begins
+build_on_one-requires-clause-begins g c =
+    let tools = g.T.CountedTools.answer in
+    begins_there (world_of tools c.args.world.now) (world_of tools c.in_ok-walk.walk.request.world.now) (root_of c.args.world.now) c.in_ok-key.key _
+    c.in_ok-walk.ensures.begins c.in_ok-walk.ensures.world c.in_ok-key.ensures
+
+pub returns-clause-used : goal.returns-clause-used
+returns-clause-used g c =
+    let calls = g.T.CountedTools.calls in
+    subst (λ (w : World ToolInput ToolAnswer). IfOk c.build_on_one.result (λ o. ∥ IsUsedFor w c.args.low o (as_uses (calls c.args.tools.now)) (as_uses (calls c.build_on_one.new.place)) ∥₁))
+    c.in_ok-walk.ensures.world c.build_on_one.ensures.used

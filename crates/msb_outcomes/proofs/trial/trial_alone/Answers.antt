@@ -1,0 +1,16 @@
+use Rattle.std.proofs.lemmas.Result.{IfOk-weaker}
+use Rattle.msb_outcomes.specs.Trials.{IsTold, IsTrial}
+use Rattle.msb_outcomes.proofs.trial.trial_alone.Goals as goal
+
+pub returns : goal.returns
+returns c =
+    let options = c.args.options.now in
+    IfOk-weaker c.told.result (IsTold options c.in_ok-one.one c.in_ok-other.other) (IsTrial options) (λ text told. record {
+      given = c.in_ok-world.world;
+      set = c.in_ok-world.ensures;
+      one = c.in_ok-one.one;
+      first = c.in_ok-one.ensures;
+      other = c.in_ok-other.other;
+      second = c.in_ok-other.ensures.outcome;
+      told = told;
+    }) c.told.ensures

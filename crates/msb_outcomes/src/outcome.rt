@@ -1,0 +1,59 @@
+//! What is made of the work that is left.
+
+ghost use Rattle.std.specs.Prelude.{◌≡◌, ◌⊎◌, ◌<◌, ◌≤◌, IfOk};
+ghost use Rattle.build_engine.specs.Statuses.{IsCompletion, IsRefusal};
+ghost use Rattle.msb_outcomes.specs.Calls.{AreCallsFor};
+ghost use Rattle.msb_outcomes.specs.Outcomes.{ComesOf, HasStatus, IsBuild};
+
+use crate::alone::built;
+use crate::on_nodes::built_on;
+use crate::work::Work;
+use build_outcome::Outcome;
+use msb_values::NoMemory;
+use msb_words::Options;
+use std::alloc::Global;
+use std::sync::Wait;
+use std::thread::Threads;
+use task_trait::{Counted, CountedTools, Tools};
+
+/// What comes of the work, where a build takes one node.
+pub fn outcome_alone<T: CountedTools>(
+    alloc: Global,
+    options: &Options,
+    work: Work,
+    tools: &mut T,
+) -> Result<Outcome, NoMemory>
+    requires { HasStatus work }
+    ensures outcome { IfOk result (ComesOf T.answer options.now.low work) }
+    ensures status { IfOk result (λ o. IsCompletion o.status ⊎ IsRefusal o.status) }
+    ensures uncalled { (IsBuild work → ⊥) → T.calls tools.new ≡ T.calls tools.old }
+    ensures calls { IfOk result (λ o. AreCallsFor T.answer options.now.low work o (T.calls tools.old) (T.calls tools.new)) }
+{
+    match work {
+        Work::Told(outcome) => Ok(outcome),
+        Work::Build(world) => built(alloc, options.low, &world, tools),
+    }
+}
+
+/// What comes of the work, where a build takes as many nodes as the words tell. One node needs no thread.
+pub fn outcome_on<R: Threads + Wait + Sync, T: Tools + Sync>(
+    rt: &R,
+    alloc: Global,
+    options: &Options,
+    work: Work,
+    tools: &T,
+) -> Result<Outcome, NoMemory>
+    requires status { HasStatus work }
+    requires nodes { (0 < options.now.nodes) × (options.now.nodes ≤ 64) }
+    ensures outcome { IfOk result (ComesOf T.answer options.now.low work) }
+    ensures status { IfOk result (λ o. IsCompletion o.status ⊎ IsRefusal o.status) }
+{
+    if options.nodes == 1 {
+        let mut counted = Counted::new(alloc, tools)?;
+        return outcome_alone(alloc, options, work, &mut counted);
+    }
+    match work {
+        Work::Told(outcome) => Ok(outcome),
+        Work::Build(world) => built_on(rt, alloc, options.low, options.nodes, &world, tools),
+    }
+}

@@ -1,0 +1,158 @@
+//! Trials of the engine: a generated set is built on one node, and once more on several.
+
+ghost use Rattle.std.specs.Prelude.{◌≡◌, ◌<◌, ◌≤◌, ◌++◌, IfOk, OnOk, string_bytes};
+ghost use Rattle.std.specs.Bool.{Decides};
+ghost use Rattle.std.specs.Cmp.Lexicographic.{pointwise};
+ghost use Rattle.std.specs.Fmt.{decimal};
+ghost use Rattle.std.specs.List.{list_all, zip};
+ghost use Rattle.result_cache.specs.SameRecords.{same_put};
+ghost use Rattle.build_report.specs.Line.{line};
+ghost use Rattle.build_engine.specs.Tried.{IsTried};
+ghost use Rattle.request_machine.specs.Worlds.{world_of};
+ghost use Rattle.msb_outcomes.specs.Trials.{AreEqual, IsSetOf, IsTold, IsTrial, bytes_in, first_line, last_line, trial_text};
+
+use crate::alone::built;
+use crate::on_nodes::built_on;
+use build_engine::{Tried, build_and_count};
+use build_outcome::Outcome;
+use build_world::World;
+use msb_values::{List, Mode, Named, NoMemory, Put, Text, Text8};
+use msb_words::Options;
+use request_machine::{Walk, root_key};
+use std::alloc::Global;
+use std::fmt::Write;
+use std::sync::Wait;
+use std::thread::Threads;
+use task_trait::{Counted, CountedTools, NoTools};
+use trial_set::make;
+
+/// The five lines of a trial whose builds both take one node. (This engine's own action.)
+pub fn trial_alone(alloc: Global, options: &Options) -> Result<Text8, NoMemory>
+    ensures { IfOk result (IsTrial options.now) }
+{
+    let world = set_of(alloc, options)?;
+    let mut tools = Counted::new(alloc, &NoTools)?;
+    let one = built_and_counted(alloc, &world, &mut tools)?;
+    let other = built(alloc, false, &world, &mut tools)?;
+    told(alloc, options, &one, &other)
+}
+
+/// The five lines of a trial whose second build takes as many nodes as the words tell. One node needs no thread.
+pub fn trial_on<R: Threads + Wait + Sync>(
+    rt: &R,
+    alloc: Global,
+    options: &Options,
+) -> Result<Text8, NoMemory>
+    requires { (0 < options.now.nodes) × (options.now.nodes ≤ 64) }
+    ensures { IfOk result (IsTrial options.now) }
+{
+    if options.nodes == 1 {
+        return trial_alone(alloc, options);
+    }
+    let world = set_of(alloc, options)?;
+    let mut tools = Counted::new(alloc, &NoTools)?;
+    let one = built_and_counted(alloc, &world, &mut tools)?;
+    let other = built_on(rt, alloc, false, options.nodes, &world, &NoTools)?;
+    told(alloc, options, &one, &other)
+}
+
+// What both builds are given.
+fn set_of(alloc: Global, options: &Options) -> Result<World, NoMemory>
+    ensures { IfOk result (IsSetOf options.now) }
+{
+    Ok(World {
+        tree: make(alloc, options.seed, options.size)?,
+        root: Text::of(alloc, "all.proj")?,
+        globals: Named::new(alloc),
+        targets: List::new(alloc),
+        mode: Mode::Incremental,
+    })
+}
+
+// What is given is built on one node, and its runs are counted.
+fn built_and_counted<T: CountedTools>(
+    alloc: Global,
+    world: &World,
+    tools: &mut T,
+) -> Result<Tried, NoMemory>
+    ensures { IfOk result (λ t. ∥ IsTried (world_of T.answer world.now) t ∥₁) }
+{
+    let key = root_key(world)?;
+    let walk = Walk::start(alloc, world)?;
+    build_and_count(alloc, key, walk, tools)
+}
+
+fn told(alloc: Global, options: &Options, one: &Tried, other: &Outcome) -> Result<Text8, NoMemory>
+    ensures { IfOk result (IsTold options.now one.now other.now) }
+{
+    let equal = are_equal(&one.outcome, other);
+    text_of(alloc, options, one, equal)
+}
+
+fn text_of(alloc: Global, options: &Options, one: &Tried, equal: bool) -> Result<Text8, NoMemory>
+    ensures { IfOk result (λ text. text ≡ trial_text options.now one.now equal) }
+{
+    let bytes = bytes_in(one.outcome.commit.as_slice())?;
+    let mut text = String::new(alloc);
+    push_first_line(&mut text, options)?;
+    push_count(&mut text, "runs ", one.runs)?;
+    push_count(&mut text, "files ", one.outcome.commit.len())?;
+    push_count(&mut text, "bytes ", bytes)?;
+    text.push_str(last_line(equal))?;
+    Ok(Text8::from(text.into_bytes()))
+}
+
+fn push_first_line(text: &mut String, options: &Options) -> Result<(), NoMemory>
+    ensures { OnOk result (string_bytes text.new ≡ string_bytes text.old ++ first_line options.now) }
+{
+    let (seed, size, nodes) = (options.seed, options.size, options.nodes);
+    Ok(write!(text, "trial {seed} size {size} nodes {nodes}\n")?)
+}
+
+fn push_count(text: &mut String, words: &str, count: usize) -> Result<(), NoMemory>
+    ensures { OnOk result (string_bytes text.new ≡ string_bytes text.old ++ line (words.now ++ decimal count)) }
+{
+    Ok(write!(text, "{words}{count}\n")?)
+}
+
+fn last_line(equal: bool) -> &'static str
+    ensures { result.now ≡ last_line equal }
+{
+    if equal { "equal\n" } else { "different\n" }
+}
+
+fn bytes_in(puts: &[Put]) -> Result<usize, NoMemory>
+    ensures { IfOk result (λ bytes. bytes ≡ bytes_in puts.now) }
+{
+    let mut bytes: usize = 0;
+    for put in puts {
+        bytes = bytes.checked_add(put.bytes.len()).ok_or(NoMemory)?;
+    }
+    Ok(bytes)
+}
+
+// Whether two builds print and write the same.
+fn are_equal(one: &Outcome, other: &Outcome) -> bool
+    ensures { Decides result (AreEqual one.now other.now) }
+{
+    one.text.as_bytes() == other.text.as_bytes()
+        && are_same(one.commit.as_slice(), other.commit.as_slice())
+}
+
+fn are_same(one: &[Put], other: &[Put]) -> bool
+    ensures { result ≡ pointwise same_put one.now other.now }
+{
+    one.len() == other.len() && pairs_are_same(one, other)
+}
+
+fn pairs_are_same(one: &[Put], other: &[Put]) -> bool
+    ensures { result ≡ list_all (λ p. same_put p.0 p.1) (zip one.now other.now) }
+{
+    one.iter().zip(other).all(|(a, b)| is_same(a, b))
+}
+
+fn is_same(a: &Put, b: &Put) -> bool
+    ensures { result ≡ same_put a.now b.now }
+{
+    a.path == b.path && a.bytes.as_bytes() == b.bytes.as_bytes()
+}
