@@ -114,7 +114,7 @@ def prove(folder: Path, number: int) -> int:
         try:
             for line in run.stdout:
                 log.write(line)
-                if told := re.match(r"rt: (\w+) proved", line):
+                if told := re.match(r"rt: (\w+) (?:proved|is kept)\b", line):
                     proved += 1
                     seconds = int(time.monotonic() - began)
                     say(f"{proved:2} of {number} proved, after {seconds // 60}:{seconds % 60:02}: {told[1]}")
