@@ -10,7 +10,6 @@ use result_cache::{RequestResult, Table};
 use std::alloc::Global;
 
 /// What comes of a build. (MSBuild command-line reference.)
-#[derive(Drop)]
 pub struct Outcome {
     /// 0 where the root request succeeded, 1 where it failed, and 4 where the build was stopped.
     pub status: u8,
@@ -18,6 +17,17 @@ pub struct Outcome {
     pub text: Text8,
     /// The files to write, in order; each path is there once.
     pub commit: List<Put>,
+}
+
+// A drop that is written out is proved here alone.
+impl Drop for Outcome {
+    fn drop(self) {
+        let Outcome {
+            status: _,
+            text: _,
+            commit: _,
+        } = self;
+    }
 }
 
 impl Outcome {

@@ -1,25 +1,29 @@
-ghost use Rattle.std.specs.Prelude.{◌≡◌, ◌<ℤ◌, ◌+◌, ◌-◌, ◌*◌, ◌^◌, ◌≤◌, ℕ, pos, min, length, None, IfOk, true};
+ghost use Rattle.std.specs.Prelude.{◌≡◌, ◌≤◌, None, IfOk, true};
 ghost use Rattle.msb_laws.specs.Faults.{Rose};
 ghost use Rattle.file_store.specs.Entries.{are_listed_in_order};
 ghost use Rattle.file_store.specs.Failed.{counted};
 
+use crate::limits::check_limits;
+use crate::listing::{Found, Held, list_folder, read_found, take_or_read};
+use crate::writing::write_file;
 use crate::{Entry, Store, StoreError};
 use msb_values::{Copied, List, NoMemory, Text, Text8};
 use std::alloc::Global;
 use std::collections::BTreeMap;
-use std::io::{ErrorKind, Read};
-use std::os::unix::fs::MetadataExt;
+use std::io;
+use std::io::ErrorKind;
 use std::rt::Files;
-use std::{fs, io};
 
 /// A real folder. It tells nothing.
 ///
 /// Its files are the regular files in it and below, without links, each by its path from the folder, with `/` between
-/// names. A stamp is the time of the last change, in nanoseconds since 1970, and 0 for an earlier time.
+/// names. A stamp is the time of the last change, in nanoseconds since 1970, and 0 for an earlier time. A listing within
+/// the limits of a load reads the files, so that what it lists can be read later, whatever has vanished since.
 #[derive(Drop)]
 pub struct DirStore<'a, R: Files> {
     rt: &'a R,
     folder: Text,
+    held: Held,
     faults: u64,
     failed_listings: u64,
     failed_reads: u64,
@@ -33,6 +37,7 @@ impl<'a, R: Files> DirStore<'a, R> {
         Ok(DirStore {
             rt,
             folder: Text::of(alloc, folder)?,
+            held: BTreeMap::new(alloc),
             faults: 0,
             failed_listings: 0,
             failed_reads: 0,
@@ -52,6 +57,21 @@ impl<'a, R: Files> DirStore<'a, R> {
         self.faults = self.faults.saturating_add(1);
         StoreError::Failed
     }
+
+    // What an error of the system in a listing is to a caller.
+    fn listing_fault(&mut self, error: io::Error) -> StoreError
+        ensures later { self.old.faults ≤ self.new.faults }
+        ensures rose { result ≡ StoreError.Failed → Rose self.old.faults self.new.faults }
+        ensures later_listings { self.old.failed_listings ≤ self.new.failed_listings }
+        ensures listings { result ≡ StoreError.Failed → Rose self.old.failed_listings self.new.failed_listings }
+        ensures reads { self.new.failed_reads ≡ self.old.failed_reads }
+    {
+        let fault = self.fault(error);
+        if fault == StoreError::Failed {
+            self.failed_listings = self.failed_listings.saturating_add(1);
+        }
+        fault
+    }
 }
 
 impl<'a, R: Files> Store for DirStore<'a, R> {
@@ -66,20 +86,26 @@ impl<'a, R: Files> Store for DirStore<'a, R> {
 
     /// A name that is no UTF-8 fails the listing.
     fn list(&mut self, alloc: Global) -> Result<List<Entry>, StoreError> {
-        match list_folder(&(self.rt, alloc), self.folder.as_str()) {
-            Ok(found) => Ok(entries_of(alloc, &found)?),
-            Err(error) => {
-                let fault = self.fault(error);
-                if fault == StoreError::Failed {
-                    self.failed_listings = self.failed_listings.saturating_add(1);
-                }
-                Err(fault)
+        let found = match list_folder(&(self.rt, alloc), self.folder.as_str()) {
+            Ok(found) => found,
+            Err(error) => return Err(self.listing_fault(error)),
+        };
+        let entries = entries_of(alloc, &found)?;
+        if check_limits(alloc, entries.as_slice()).is_err() {
+            return Ok(entries);
+        }
+        match read_found(&(self.rt, alloc), self.folder.as_str(), found) {
+            Ok((there, held)) => {
+                self.held = held;
+                Ok(entries_of(alloc, &there)?)
             }
+            Err(error) => Err(self.listing_fault(error)),
         }
     }
 
     fn read(&mut self, alloc: Global, path: &str, most: u64) -> Result<Text8, StoreError> {
-        match read_file(&(self.rt, alloc), self.folder.as_str(), path, most) {
+        let rt = (self.rt, alloc);
+        match take_or_read(&mut self.held, &rt, self.folder.as_str(), path, most) {
             Ok(bytes) => Ok(Text8::from(bytes)),
             Err(error) => {
                 let fault = self.fault(error);
@@ -92,6 +118,7 @@ impl<'a, R: Files> Store for DirStore<'a, R> {
     }
 
     fn write(&mut self, alloc: Global, path: &str, bytes: &[u8]) -> Result<(), StoreError> {
+        self.held.remove(path);
         match write_file(&(self.rt, alloc), self.folder.as_str(), path, bytes) {
             Ok(()) => Ok(()),
             Err(error) => Err(self.fault(error)),
@@ -100,98 +127,6 @@ impl<'a, R: Files> Store for DirStore<'a, R> {
 
     fn faults(&self) -> u64 {
         self.faults
-    }
-}
-
-/// The size and the stamp of each file, by its path.
-pub(crate) type Found = BTreeMap<Text, (u64, u64)>;
-
-fn joined(alloc: Global, folder: &str, name: &str) -> io::Result<String> {
-    let mut path = String::from_str(alloc, folder)?;
-    if !folder.is_empty() && !folder.ends_with('/') {
-        path.push('/')?;
-    }
-    path.push_str(name)?;
-    Ok(path)
-}
-
-fn read_file<R: Files>(
-    rt: &(&R, Global),
-    folder: &str,
-    path: &str,
-    most: u64,
-) -> io::Result<Vec<u8>>
-    ensures { IfOk result (λ bytes. length bytes.items ≤ most) }
-{
-    let whole = joined(rt.alloc(), folder, path)?;
-    let file = fs::open(rt, whole.as_str())?;
-    let mut bytes = Vec::new(rt.alloc());
-    file.take(most).read_to_end(&mut bytes)?;
-    bytes.truncate(most as usize);
-    Ok(bytes)
-}
-
-fn write_file<R: Files>(
-    rt: &(&R, Global),
-    folder: &str,
-    path: &str,
-    bytes: &[u8],
-) -> io::Result<()> {
-    let whole = joined(rt.alloc(), folder, path)?;
-    if let Some((parent, _)) = whole.as_str().rsplit_once('/') {
-        fs::create_dir_all(rt, parent)?;
-    }
-    fs::write(rt, whole.as_str(), bytes)
-}
-
-// All regular files in a folder and below.
-fn list_folder<R: Files>(rt: &(&R, Global), folder: &str) -> io::Result<Found> {
-    let mut found = BTreeMap::new(rt.alloc());
-    let mut left: Vec<String> = Vec::new(rt.alloc());
-    left.push(String::new(rt.alloc()))?;
-    for _ in 0..u64::MAX {
-        let Some(below) = left.pop() else {
-            return Ok(found);
-        };
-        list_one(rt, folder, below.as_str(), &mut left, &mut found)?;
-    }
-    Err(io::Error::from(ErrorKind::Other))
-}
-
-// The files of one folder, whose own folders are left to be listed.
-fn list_one<R: Files>(
-    rt: &(&R, Global),
-    folder: &str,
-    below: &str,
-    left: &mut Vec<String>,
-    found: &mut Found,
-) -> io::Result<()> {
-    let whole = joined(rt.alloc(), folder, below)?;
-    for entry in fs::read_dir(rt, whole.as_str())? {
-        let entry = entry?;
-        let path = joined(rt.alloc(), below, entry.file_name())?;
-        let data = entry.metadata()?;
-        if data.is_dir() {
-            left.push(path)?;
-        } else if data.is_file() {
-            let nanoseconds = u64::try_from(data.mtime_nsec()).unwrap_or(0);
-            let stamp = stamp_of(data.mtime(), nanoseconds);
-            found.insert(Text::from(path), (data.len(), stamp))?;
-        }
-    }
-    Ok(())
-}
-
-// A time since 1970 in nanoseconds, as far as they can be counted, and 0 for an earlier time.
-fn stamp_of(seconds: i64, nanoseconds: u64) -> u64
-    ensures early { seconds <ℤ pos 0 → result ≡ 0 }
-    ensures since { (n : ℕ) → seconds ≡ pos n → result ≡ min (n * 1000000000 + nanoseconds) (2 ^ 64 - 1) }
-{
-    match u64::try_from(seconds) {
-        Ok(seconds) => seconds
-            .saturating_mul(1_000_000_000)
-            .saturating_add(nanoseconds),
-        Err(_) => 0,
     }
 }
 

@@ -7,6 +7,7 @@
 mod committing;
 mod folder;
 mod limits;
+mod listing;
 mod loading;
 mod memory;
 mod memory_sink;
@@ -15,6 +16,7 @@ mod presence;
 mod sink;
 mod store;
 mod tree;
+mod writing;
 
 pub use committing::{CommitFault, commit};
 pub use folder::DirStore;

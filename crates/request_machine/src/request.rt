@@ -59,7 +59,7 @@ struct Halted<T> {
 }
 
 impl<'a, T> Request<'a, T> {
-    ghost use Rattle.std.specs.Prelude.{[], IfOk};
+    ghost use Rattle.std.specs.Prelude.{◌++◌, ◌∷◌, [], IfOk};
     ghost use Rattle.build_world.specs.Instances.{seen_instance};
     ghost use Rattle.request_machine.specs.Answered.{HasMade, HasRecord};
     ghost use Rattle.request_machine.specs.Asks.{AsksAt};
@@ -112,10 +112,9 @@ impl<'a, T> Request<'a, T> {
         requires { HasRecord learnt.now.finished visit.now.run self.now.journal visit.now.at }
         ensures { IfOk result (ComesAfter self.now.world.now self.now.key learnt.now.finished self.now.journal self.now.runs visit.now) }
     {
+        let runs = self.runs_with(&visit.run)?;
         let mut journal = self.journal.copy()?;
         let made = visit.record(self.alloc, learnt, &mut journal)?;
-        let mut runs = self.runs.copy()?;
-        runs.push(self.alloc, visit.run.copy()?)?;
         let follow = self.follow(visit, &journal, made.get())?;
         let ask = follow.ask(self.alloc, &self.key.instance, &runs)?;
         Ok(After {
@@ -124,6 +123,15 @@ impl<'a, T> Request<'a, T> {
             runs,
             ask,
         })
+    }
+
+    // The runs that it has made or used, with this one.
+    fn runs_with(&self, run: &RunId) -> Result<SharedList<RunId>, NoMemory>
+        ensures { IfOk result (λ runs. runs ≡ self.now.runs ++ run.now ∷ []) }
+    {
+        let mut runs = self.runs.copy()?;
+        runs.push(self.alloc, run.copy()?)?;
+        Ok(runs)
     }
 
     // What follows the run of a visit, by its record and the journal then.

@@ -19,11 +19,20 @@ use target_incremental::inferred;
 use task_trait::{Param, taken_items};
 
 /// Where an Output goes. (Output element.)
-#[derive(Drop)]
 enum Destination {
     /// To the items of a type.
     Items(Name),
     Property(Name),
+}
+
+// A drop that is written out is proved here alone.
+impl Drop for Destination {
+    fn drop(self) {
+        match self {
+            Destination::Items(_) => {}
+            Destination::Property(_) => {}
+        }
+    }
 }
 
 /// What the Outputs of a task element change, of what is given to them, is put behind the changes: all of it, or what

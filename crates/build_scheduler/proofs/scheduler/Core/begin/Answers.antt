@@ -6,7 +6,7 @@ use Rattle.build_meaning.specs.Lists.{put}
 use Rattle.build_scheduler.specs.Own.{seen_by}
 use Rattle.build_scheduler.proofs.Behind.{behind-event, behind-same, kept-same}
 use Rattle.build_scheduler.proofs.Claiming.{begun-shown, begun-out, shown-room, making-there}
-use Rattle.build_scheduler.proofs.Rooms.{room-kept, room-shown}
+use Rattle.build_scheduler.proofs.Rooms.{room-shown}
 use Rattle.build_scheduler.proofs.Stopping.{none-stops}
 use Rattle.build_scheduler.proofs.scheduler.Core.begin.Goals as goal
 
@@ -15,14 +15,14 @@ invariant_of-self-in-Break-branch-4 g c =
     let m = g.W.Walker in
     let self = c.args.self.now in
     record {
-      legal = ∥∥₁_map self.legal (λ x. shown-room (seen_by m.world m.position m.asked m.learnt) (m.world_of self.world) c.in_ok-reserve.ensures.events (omega (arith, c.in_ok-reserve.ensures.ok))
+      legal = ∥∥₁_map self.legal (λ x. shown-room (seen_by m.world m.position m.asked m.learnt) (m.world_of self.world) c.in_ok-claimed.ensures.events (omega (arith, c.in_ok-claimed.ensures.ok))
           c.in_err-begin.ensures.finished c.in_err-begin.ensures.err x);
       indexed = self.indexed;
       counted = self.counted;
       few = self.few;
       nested = self.nested;
       stops = ∣ none-stops (m.world_of self.world) _ c.requires.running ∣₁;
-      behind = behind-same (seen_by m.world m.position m.asked m.learnt) (m.world_of self.world) c.in_ok-reserve.ensures.events refl self.behind;
+      behind = behind-same (seen_by m.world m.position m.asked m.learnt) (m.world_of self.world) c.in_ok-claimed.ensures.events refl self.behind;
     }
 
 pub put_run-requires : goal.put_run-requires
@@ -37,9 +37,9 @@ invariant_of-self-2 g c =
     let self = c.args.self.now in
     let legal = ∥∥₁_map₂ self.legal c.requires.own (λ x own. begun-shown (seen_by m.world m.position m.asked m.learnt) (m.world_of self.world) self.history c.push.new.self c.args.id c.args.walk.now c.args.run.now
     own c.requires.asks c.requires.unfinished c.requires.unbegun
-    (c.push.ensures.events ∙ (ap (λ es. es ++ Claim c.args.id c.in_ok-claimed.claimed Go ∷ []) c.in_ok-reserve.ensures.events ∙ ap (λ r. self.history.events ++ Claim c.args.id r Go ∷ []) c.in_ok-claimed.ensures))
-    (sym c.in_ok-reserve.ensures.ok ∙ c.push.ensures.room)
-    (c.put_run.ensures ∙ ap (λ r. put self.making.items c.args.id (Some r)) c.in_ok-made.ensures)
+    (c.push.ensures.events ∙ (ap (λ es. es ++ Claim c.args.id c.in_ok-claimed.claimed Go ∷ []) c.in_ok-claimed.ensures.events ∙ ap (λ r. self.history.events ++ Claim c.args.id r Go ∷ []) c.in_ok-claimed.ensures.claimed))
+    (sym c.in_ok-claimed.ensures.ok ∙ c.push.ensures.room)
+    (c.put_run.ensures ∙ ap (λ r. put self.making.items c.args.id (Some r)) c.in_ok-claimed.ensures.made)
     c.in_ok-begin.ensures.finished c.in_ok-begin.ensures.begun x) in
     record {
       legal = legal;
@@ -49,7 +49,7 @@ invariant_of-self-2 g c =
       nested = self.nested;
       stops = ∣ none-stops (m.world_of self.world) _ c.requires.running ∣₁;
       behind = behind-event (seen_by m.world m.position m.asked m.learnt) (m.world_of self.world) (Claim c.args.id c.args.run.now Go) self.legal legal
-          (c.push.ensures.events ∙ (ap (λ es. es ++ Claim c.args.id c.in_ok-claimed.claimed Go ∷ []) c.in_ok-reserve.ensures.events ∙ ap (λ r. self.history.events ++ Claim c.args.id r Go ∷ []) c.in_ok-claimed.ensures)) (kept-same refl) self.behind;
+          (c.push.ensures.events ∙ (ap (λ es. es ++ Claim c.args.id c.in_ok-claimed.claimed Go ∷ []) c.in_ok-claimed.ensures.events ∙ ap (λ r. self.history.events ++ Claim c.args.id r Go ∷ []) c.in_ok-claimed.ensures.claimed)) (kept-same refl) self.behind;
     }
 
 pub returns-clause-out : goal.returns-clause-out
@@ -58,7 +58,7 @@ returns-clause-out g c =
     let self = c.args.self.now in
     ∥∥₁_map₂ self.legal c.requires.own (λ x own. begun-out (seen_by m.world m.position m.asked m.learnt) (m.world_of self.world) self.history c.push.new.self c.args.id c.args.walk.now c.args.run.now
     own c.requires.asks c.requires.unfinished c.requires.unbegun
-    (c.push.ensures.events ∙ (ap (λ es. es ++ Claim c.args.id c.in_ok-claimed.claimed Go ∷ []) c.in_ok-reserve.ensures.events ∙ ap (λ r. self.history.events ++ Claim c.args.id r Go ∷ []) c.in_ok-claimed.ensures))
+    (c.push.ensures.events ∙ (ap (λ es. es ++ Claim c.args.id c.in_ok-claimed.claimed Go ∷ []) c.in_ok-claimed.ensures.events ∙ ap (λ r. self.history.events ++ Claim c.args.id r Go ∷ []) c.in_ok-claimed.ensures.claimed))
     c.in_ok-begin.ensures.finished x)
 
 pub invariant_of-self : goal.invariant_of-self
@@ -66,12 +66,12 @@ invariant_of-self g c =
     let m = g.W.Walker in
     let self = c.args.self.now in
     record {
-      legal = ∥∥₁_map self.legal (λ x. room-shown (seen_by m.world m.position m.asked m.learnt) (m.world_of self.world) c.reserve.ensures.events
-          (room-kept c.reserve.result self.history.room c.reserve.new.self.room 2 c.reserve.ensures.ok c.reserve.ensures.err) refl refl refl x);
+      legal = ∥∥₁_map self.legal (λ x. room-shown (seen_by m.world m.position m.asked m.learnt) (m.world_of self.world) c.begin_room.ensures.events
+          c.begin_room.ensures.room refl refl refl x);
       indexed = self.indexed;
       counted = self.counted;
       few = self.few;
       nested = self.nested;
       stops = ∣ none-stops (m.world_of self.world) _ c.requires.running ∣₁;
-      behind = behind-same (seen_by m.world m.position m.asked m.learnt) (m.world_of self.world) c.reserve.ensures.events refl self.behind;
+      behind = behind-same (seen_by m.world m.position m.asked m.learnt) (m.world_of self.world) c.begin_room.ensures.events refl self.behind;
     }

@@ -1,4 +1,4 @@
-use Rattle.std.proofs.Common.{◌≡◌, [], ◌∷◌, ◌++◌, sym, ap, ◌∙◌, subst}
+use Rattle.std.proofs.Common.{sym, subst}
 use Rattle.build_world.specs.Instances.{seen_instance}
 use Rattle.request_machine.specs.Answered.{HasRecord, IsRecord}
 use Rattle.request_machine.specs.Following.{Follows}
@@ -19,6 +19,6 @@ returns g c =
       made = c.in_ok-made.made;
       is = subst (λ j. IsRecord c.args.learnt.now.finished v.run j next v.at c.in_ok-made.made) c.in_ok-journal.ensures c.in_ok-made.ensures;
       follows = subst (λ m. Follows (project_of r.world.now r.key (seen_instance v.instance)) r.key v.standing next v.order v.run.target m c.in_ok-follow.follow) c.get.ensures c.in_ok-follow.ensures;
-      runs_are = c.in_ok-push.ensures.ok ∙ (ap (λ rs. rs ++ c.in_ok-copy.field-0 ∷ []) c.in_ok-runs.ensures ∙ ap (λ run. r.runs ++ run ∷ []) c.in_ok-copy.ensures);
+      runs_are = c.in_ok-runs.ensures;
       asks = c.in_ok-ask.ensures;
     }
