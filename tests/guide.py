@@ -6,7 +6,8 @@ usage: tests/guide.py PROGRAM
 A page is read from its head. A line of an indented block that begins with `$ ` is a command, and the
 lines behind it are what it prints, standard error too; all commands of a page run in one shell's
 folder. A fenced block is put into the files that the words before it name behind `into` or `as`. The
-rows of the guide's last table are tried by the projects below. The last line is `N passed, M failed`.
+rows of the guide's last table are tried by the projects below. Each link between pages, and each source
+that CONTRIBUTING.md names, has to be there. The last line is `N passed, M failed`.
 """
 
 import os
@@ -209,6 +210,31 @@ def try_rows(folder: Path, launcher: Path) -> tuple[int, int]:
     return good, bad
 
 
+# ---- Links and paths --------------------------------------------------------------------------
+
+LINK = re.compile(r"\]\(([^)#:]+)(?:#[^)]*)?\)")
+SOURCE = re.compile(r"`(\w+/(?:specs|src|proofs)/[\w/]+\.(?:rt|antt))`")
+
+# Pages that another change brings.
+NOT_YET = ("FROM_MSBUILD.md",)
+
+
+def try_links() -> tuple[int, int]:
+    """What the pages name is there."""
+    good = bad = 0
+    for page in [*TOP.glob("*.md"), *(TOP / "docs").glob("*.md"), *(TOP / "tests").glob("*.md")]:
+        text = page.read_text()
+        places = [(link, page.parent / link) for link in LINK.findall(text)]
+        places += [(path, TOP / "crates" / path) for path in SOURCE.findall(text)]
+        for named, place in places:
+            if place.exists() or place.name in NOT_YET:
+                good += 1
+            else:
+                bad += 1
+                print(f"FAIL {page.name} names {named}, which is not there")
+    return good, bad
+
+
 def main() -> int:
     if len(sys.argv) != 2 or not os.access(sys.argv[1], os.X_OK):
         print("usage: tests/guide.py PROGRAM", file=sys.stderr)
@@ -218,7 +244,8 @@ def main() -> int:
         own, rows = Path(scratch) / "own", Path(scratch) / "rows"
         own.mkdir()
         rows.mkdir()
-        counts = [try_page("docs/GUIDE.md", own), try_page("README.md", top), try_rows(rows, top / "msb")]
+        counts = [try_page("docs/GUIDE.md", own), try_page("README.md", top), try_rows(rows, top / "msb"),
+                  try_links()]
     good, bad = (sum(column) for column in zip(*counts))
     print(f"{good} passed, {bad} failed")
     return 1 if bad else 0

@@ -3,8 +3,8 @@
 
 usage: tools/make_tables.py [--check]
 
-From crates.txt come the table of crates in docs/ARCHITECTURE.md and the picture docs/layers.svg; from
-crates/CRATE/must-fail/ and edits/CRATE/ come the counts of the table in docs/TESTED.md, whose last column,
+From crates.txt come the table of crates in docs/ARCHITECTURE.md and the picture docs/layers.svg, and with
+tools/costs.txt the table of what a change costs in CONTRIBUTING.md; from crates/CRATE/must-fail/ and edits/CRATE/ come the counts of the table in docs/TESTED.md, whose last column,
 when the edits of a crate were last tried, is kept. With --check nothing is written; the status is 1 where a
 file is not what would be written, or where a crate stands above one that it stands on.
 """
@@ -155,6 +155,34 @@ def arrows(on: dict[str, list[str]], tops: dict[str, tuple[float, float]]) -> li
     return parts
 
 
+# ---- Costs ------------------------------------------------------------------------------------
+
+
+def read_costs(text: str) -> dict[str, float]:
+    """Processor seconds of each crate, all columns behind that of its lines added; a file with one column has no lines."""
+    costs = {}
+    for line in text.splitlines():
+        name, *numbers = line.split() or [""]
+        if numbers and all(re.fullmatch(r"[0-9]+", number) for number in numbers):
+            costs[name] = sum(map(float, numbers[1:] or numbers))
+    return costs
+
+
+def cost_table(crates: dict[str, Crate], costs: dict[str, float]) -> str:
+    """What a change in the lowest and in the highest crate of a layer makes to be proved again."""
+    above = {name: sum(costs.get(other, 0) for other in crates if other == name or name in all_below(crates, other))
+             for name in crates}
+    lines = ["| Layer | Its crates | A change of a crate, with all above it |", "|---|---|---|"]
+    for layer, names in layers_of(crates).items():
+        own, most = sum(costs.get(name, 0) for name in names), max(names, key=lambda name: above[name])
+        least = min(names, key=lambda name: above[name])
+        span = f"{above[most] / 60:.0f} min (`{most}`)"
+        if least != most:
+            span = f"{above[least] / 60:.0f} min (`{least}`) to {span}"
+        lines.append(f"| {layer} | {own / 60:.0f} min | {span} |")
+    return "\n".join(lines)
+
+
 # ---- Wrong bodies -----------------------------------------------------------------------------
 
 
@@ -188,8 +216,11 @@ def between(text: str, mark: str, make: Callable[[str], str]) -> str:
 def pages() -> dict[Path, str]:
     crates = read_crates((TOP / "crates.txt").read_text())
     check_order(crates)
+    costs = read_costs((TOP / "tools" / "costs.txt").read_text())
     architecture, tested = TOP / "docs" / "ARCHITECTURE.md", TOP / "docs" / "TESTED.md"
+    contributing = TOP / "CONTRIBUTING.md"
     return {
+        contributing: between(contributing.read_text(), "costs", lambda _: cost_table(crates, costs)),
         architecture: between(architecture.read_text(), "crates", lambda _: crate_table(crates)),
         tested: between(tested.read_text(), "edits", lambda old: edit_table(crates, old)),
         TOP / "docs" / "layers.svg": picture(crates),
