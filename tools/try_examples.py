@@ -1,11 +1,13 @@
 #!/usr/bin/env python3
 """Runs the commands of the examples' pages, and compares what they print with what the pages show.
 
-    tools/try_examples.py PROGRAM
+usage: tools/try_examples.py PROGRAM
 
-Each example is copied to a folder of its own. In its README.md an indented block that has `../../msb` is commands, and
-the indented block behind it is what they print; a further block is what the last command prints when it is run again.
+Each example is copied to a folder of its own. In its README.md an indented block that has `../../msb` is
+commands, and the indented block behind it is what they print; a further block is what the last command
+prints when it is run again. The last line is `N passed, M failed`: so many blocks were compared.
 """
+
 import os
 import re
 import shutil
@@ -13,50 +15,60 @@ import subprocess
 import sys
 import tempfile
 import time
+from pathlib import Path
+from typing import Iterator
 
-TOP = os.path.dirname(os.path.dirname(os.path.abspath(__file__)))
+TOP = Path(__file__).resolve().parent.parent
 BLOCK = re.compile(r"(?:^|\n\n)((?:    [^\n]*\n?)+(?:\n(?:    [^\n]*\n?)+)*)")
+SECONDS = 60
 
 
-def blocks(page):
+def blocks(page: str) -> Iterator[list[str]]:
+    """The indented blocks of a page."""
     for block in BLOCK.findall(page):
         yield [line[4:] for line in block.strip("\n").split("\n") if line.startswith("    ")]
 
 
-def run(command, program, folder):
+def run(command: str, program: str, folder: Path) -> str:
+    """What a command prints in the folder of an example."""
     time.sleep(0.02)  # so that files which are written later are newer
-    command = command.replace("../../msb", program)
-    return subprocess.run(["bash", "-c", command], cwd=folder, stdout=subprocess.PIPE, text=True).stdout
+    words = ["bash", "-c", command.replace("../../msb", program)]
+    return subprocess.run(words, cwd=folder, stdin=subprocess.DEVNULL, stdout=subprocess.PIPE, text=True,
+                          timeout=SECONDS).stdout
 
 
-def differences(name, program, folder):
-    with open(os.path.join(folder, "README.md")) as page:
-        text = page.read()
-    last, printed, bad = None, None, 0
-    for block in blocks(text):
+def try_example(name: str, program: str, folder: Path) -> tuple[int, int]:
+    """How many blocks of an example's page are printed so, and how many not."""
+    last, printed, good, bad = "", "", 0, 0
+    for block in blocks((folder / "README.md").read_text()):
         if any("../../msb" in line for line in block):
             printed, last = "".join(run(line, program, folder) for line in block), block[-1]
             continue
         shown = "\n".join(block) + "\n"
-        if shown != printed:
-            printed = run(last, program, folder) if last else ""
-        if shown != printed:
+        if shown != printed and last:
+            printed = run(last, program, folder)
+        if shown == printed:
+            good += 1
+        else:
             bad += 1
-            print(f"{name}: {last}\nshown\n{shown}printed\n{printed}")
-    return bad
+            print(f"FAIL {name}: {last}\nshown\n{shown}printed\n{printed}")
+    return good, bad
 
 
-def main():
-    program, bad = os.path.abspath(sys.argv[1]), 0
-    names = sorted(os.listdir(os.path.join(TOP, "examples")))
-    for name in names:
+def main() -> int:
+    if len(sys.argv) != 2 or not os.access(sys.argv[1], os.X_OK):
+        print("usage: tools/try_examples.py PROGRAM", file=sys.stderr)
+        return 2
+    program, good, bad = os.path.abspath(sys.argv[1]), 0, 0
+    for page in sorted((TOP / "examples").glob("*/README.md")):
         with tempfile.TemporaryDirectory() as scratch:
-            folder = os.path.join(scratch, name)
-            shutil.copytree(os.path.join(TOP, "examples", name), folder, ignore=shutil.ignore_patterns("out"))
-            bad += differences(name, program, folder)
-    print(f"{len(names)} examples, {bad} differences")
-    sys.exit(1 if bad else 0)
+            folder = Path(scratch) / page.parent.name
+            shutil.copytree(page.parent, folder, ignore=shutil.ignore_patterns("out"))
+            passed, failed = try_example(page.parent.name, program, folder)
+            good, bad = good + passed, bad + failed
+    print(f"{good} passed, {bad} failed")
+    return 1 if bad or not good else 0
 
 
 if __name__ == "__main__":
-    main()
+    sys.exit(main())
