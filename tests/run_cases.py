@@ -22,7 +22,7 @@ from pathlib import Path
 from typing import Any, Callable, Iterator
 
 USAGE = "run_cases.py PROGRAM [FILE.json[:NAME] ..]"
-SECONDS = 20
+SECONDS = 60  # a run takes less than one; the rest is for machines with other work
 SECOND = 10**9
 LARGE = 1 << 20
 PLACEHOLDER = re.compile(r"<<([A-Za-z][A-Za-z0-9_]*)>>")
