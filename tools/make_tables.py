@@ -99,7 +99,7 @@ def wrapped(names: list[str]) -> list[str]:
     """Names in lines that fit the picture."""
     lines = [""]
     for name in names:
-        if len(lines[-1]) + len(name) + 3 > (WIDTH - 60) / LETTER:
+        if len(lines[-1]) + len(name) + 3 > (WIDTH - 130) / LETTER:
             lines.append("")
         lines[-1] += ("   " if lines[-1] else "") + name
     return lines

@@ -64,6 +64,14 @@ def wants_unproved() -> bool:
     return sys.stdin.readline().strip().lower() in ("u", "unproved")
 
 
+def note_time(program: str) -> None:
+    """The program is as new as its sources, also where it was not built again since they mean the same."""
+    try:
+        os.utime(program)
+    except OSError:
+        pass
+
+
 def proved(top: str) -> tuple[str, int]:
     """The proved program, built where it is not there, or none and the status."""
     program = os.path.join(top, "crates", "msb", "out", "msb")
@@ -74,7 +82,7 @@ def proved(top: str) -> tuple[str, int]:
     status = run_script(top, "build.py")
     if status:
         return "", 130 if status == 130 else NOT_BUILT
-    os.utime(program)
+    note_time(program)
     return program, 0
 
 
@@ -85,7 +93,7 @@ def unproved(top: str) -> tuple[str, int]:
         status = run_script(top, "build_unproved.py")
         if status:
             return "", 130 if status == 130 else NOT_BUILT
-        os.utime(program)
+        note_time(program)
     say("this is not the proved program; `./msb` without --unproved proves and builds that one")
     return program, 0
 

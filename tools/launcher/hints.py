@@ -220,3 +220,5 @@ def tell(words: list[str], ended: Ended) -> None:
             say_by_status(words, ended.status, ended.text.decode("utf-8", "replace"))
         except OSError as error:
             say(f"{error.filename}: {error.strerror}")
+        except (ValueError, LookupError, RecursionError):
+            pass  # A hint is missing, and nothing else.
