@@ -1,6 +1,5 @@
 use Rattle.std.proofs.Common.{Some, ◌∙◌, ap}
 use Rattle.build_meaning.specs.Lists.{put}
-use Rattle.build_scheduler.specs.declared.slot.Slot.{Slot}
 use Rattle.build_scheduler.specs.declared.slot.Slot.TheVariants.{Ready, Assigned}
 use Rattle.build_scheduler.specs.declared.walker.Answer.TheVariants.{Use}
 use Rattle.build_scheduler.proofs.SlotNumbers.{put-put}
@@ -8,10 +7,10 @@ use Rattle.build_scheduler.proofs.result.wake_one.Goals as goal
 
 pub returns-clause-slots : goal.returns-clause-slots
 returns-clause-slots g c =
-    let walk = c.into_waiting.result.0 in
+    let walk = c.into_waiting-walk.result.0 in
     record {
       walk = walk;
-      by = c.into_waiting.result.1;
-      was = c.replace_slot.ensures.was ∙ ap (λ (slot : Slot g.W). Some slot) c.into_waiting.ensures;
+      by = c.into_waiting-walk.result.1;
+      was = c.replace_slot.ensures.was ∙ ap Some c.into_waiting-walk.ensures;
       is = c.put_ready.ensures ∙ (ap (λ xs. put xs c.args.number (Ready walk Use)) c.replace_slot.ensures.is ∙ put-put c.args.slots.now.items c.args.number Assigned (Ready walk Use));
     }

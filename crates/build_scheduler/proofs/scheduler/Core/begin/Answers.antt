@@ -10,8 +10,8 @@ use Rattle.build_scheduler.proofs.Rooms.{room-shown}
 use Rattle.build_scheduler.proofs.Stopping.{none-stops}
 use Rattle.build_scheduler.proofs.scheduler.Core.begin.Goals as goal
 
-pub invariant_of-self-in-Break-branch-4 : goal.invariant_of-self-in-Break-branch-4
-invariant_of-self-in-Break-branch-4 g c =
+pub invariant_of-self-in-Break-branch-2 : goal.invariant_of-self-in-Break-branch-2
+invariant_of-self-in-Break-branch-2 g c =
     let m = g.W.Walker in
     let self = c.args.self.now in
     record {

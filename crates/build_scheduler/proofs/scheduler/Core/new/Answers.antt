@@ -11,7 +11,7 @@ pub invariant_of-result : goal.invariant_of-result
 invariant_of-result g c =
     let m = g.W.Walker in
     let opening = c.in_ok-opening.ensures in
-    let parts = c.parts.ensures in
+    let parts = c.parts-history.ensures in
     let events = ap (λ (log : Logged). log.events) parts.history ∙ opening.events in
     record {
       legal = ∣ shown-start (seen_by m.world m.position m.asked m.learnt) c.args.walk c.args.root c.origin-world.ensures c.requires.key c.requires.begins c.requires.asked c.requires.learnt
@@ -20,7 +20,7 @@ invariant_of-result g c =
           c.in_ok-origins.ensures
           c.in_ok-slots.ensures
           (ap (λ making. making.items) parts.making ∙ opening.making)
-          c.new.ensures.finished c.new.ensures.begun ∣₁;
+          c.new-2.ensures.finished c.new-2.ensures.begun ∣₁;
       indexed = ∣ indexed-start c.args.walk (record { numbers = []; room = 0 })
           c.in_ok-slots.ensures
           (ap (λ waiting. waiting.items) parts.waiting ∙ opening.waiting)
