@@ -74,6 +74,7 @@ def projects_in(folder: str) -> list[str]:
 
 def say_not_found(project: str) -> None:
     """Why a project is not found."""
+    project = project.replace("\\", "/")
     below = os.path.relpath(project) if os.path.isabs(project) else os.path.normpath(project)
     if os.path.isabs(project) and os.path.exists(project):
         say_absolute(project, below)
