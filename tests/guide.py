@@ -1,13 +1,13 @@
 #!/usr/bin/env python3
-"""Runs every command of docs/GUIDE.md and of README.md, and compares what is shown with what they print.
+"""Runs every command of docs/GUIDE.md and README.md, and compares what they print with the page.
 
 usage: tests/guide.py PROGRAM
 
-A page is read from its head. A line of an indented block that begins with `$ ` is a command, and the
-lines behind it are what it prints, standard error too; all commands of a page run in one shell's
-folder. A fenced block is put into the files that the words before it name behind `into` or `as`. The
-rows of the guide's last table are tried by the projects below. Each link between pages, and each source
-that CONTRIBUTING.md names, has to be there. The last line is `N passed, M failed`.
+A page is read from its head. A line of an indented block that begins with `$ ` is a command, and
+the lines behind it are what it prints, standard error too; all commands of a page run in one
+shell's folder. A fenced block is put into the files that the words before it name behind `into` or
+`as`. The rows of the guide's last table are tried by the projects below. Each link between pages,
+and each source that CONTRIBUTING.md names, has to be there. The last line is `N passed, M failed`.
 """
 
 import os
@@ -71,8 +71,10 @@ class Shell:
         time.sleep(0.02)  # so that files which are written later are newer
         script = f'(exit {self.status})\n{command}\nstatus=$?; pwd >&3; exit $status'
         with tempfile.TemporaryFile("w+") as place:
-            ran = subprocess.run(["bash", "-c", f"{{ {script}\n}} 3>&{place.fileno()}"], cwd=self.folder, text=True,
-                                 stdin=subprocess.DEVNULL, stdout=subprocess.PIPE, stderr=subprocess.STDOUT,
+            ran = subprocess.run(["bash", "-c", f"{{ {script}\n}} 3>&{place.fileno()}"],
+                                 cwd=self.folder, text=True,
+                                 stdin=subprocess.DEVNULL, stdout=subprocess.PIPE,
+                                 stderr=subprocess.STDOUT,
                                  pass_fds=[place.fileno()], timeout=SECONDS)
             place.seek(0)
             self.folder = Path(place.read().strip())
@@ -147,37 +149,46 @@ ROWS: tuple[tuple[str, str, str, int], ...] = (
     ("  app.proj /0: 21 MissingImport msbuild/common.targets",
      project(task("Import", Project="msbuild/common.targets")), "build app.proj", 3),
     ("  app.proj /0/0: 19 BadPath ../../x",
-     project('{"e":"ImportGroup","c":[{"e":"Import","a":{"Project":"../../x"}}]}'), "build app.proj", 3),
+     project('{"e":"ImportGroup","c":[{"e":"Import","a":{"Project":"../../x"}}]}'),
+     "build app.proj", 3),
     ("  app.proj /0/0: 7 BadName 3",
      project('{"e":"PropertyGroup","c":[{"e":"A","t":"$(A.Length)"}]}'), "build app.proj", 3),
     ("  app.proj /: 1 NotJson", "{", "build app.proj", 3),
     ("  app.proj /1/0: 3 UnknownElement",
-     project(target("a"), '{"e":"PropertyGroup","c":[{"e":"A","a":{"B":"x"}}]}'), "build app.proj", 3),
-    ("app.proj : build failed|  error: zip: unknown task", project(target("Build", task("Zip"))), "build app.proj", 1),
+     project(target("a"), '{"e":"PropertyGroup","c":[{"e":"A","a":{"B":"x"}}]}'), "build app.proj",
+     3),
+    ("app.proj : build failed|  error: zip: unknown task", project(target("Build", task("Zip"))),
+     "build app.proj", 1),
     ("app.proj : build failed|  error: copy: missing LICENSE",
-     project(target("Build", task("Copy", SourceFiles="LICENSE", DestinationFolder="out"))), "build app.proj", 1),
+     project(target("Build", task("Copy", SourceFiles="LICENSE", DestinationFolder="out"))),
+     "build app.proj", 1),
     ("app.proj : build failed|  error: app.proj /1/0: 24 NoList filename",
-     project('{"e":"PropertyGroup"}', target("Build", task("Message", Text="%(Filename)"))), "build app.proj", 1),
+     project('{"e":"PropertyGroup"}', target("Build", task("Message", Text="%(Filename)"))),
+     "build app.proj", 1),
     ("error: app.proj /1: 18 NotNumbers two 1",
-     project('{"e":"PropertyGroup"}', target("Build", more=",\"Condition\":\"two > 1\"")), "build app.proj", 1),
+     project('{"e":"PropertyGroup"}', target("Build", more=",\"Condition\":\"two > 1\"")),
+     "build app.proj", 1),
     ("app.proj : build failed|  error: app.proj /1/0: 8 Unclosed 3",
-     project('{"e":"PropertyGroup"}', target("Build", task("Message", Text="$(A"))), "build app.proj", 1),
+     project('{"e":"PropertyGroup"}', target("Build", task("Message", Text="$(A"))),
+     "build app.proj", 1),
     ("error: unknown target x|build failed", project(target("a")), "build app.proj --target x", 1),
     ("error: circular targets a b a|build failed",
-     project(target("a", more=',"DependsOnTargets":"b"'), target("b", more=',"DependsOnTargets":"a"')), "build app.proj", 1),
+     project(target("a", more=',"DependsOnTargets":"b"'),
+             target("b", more=',"DependsOnTargets":"a"')), "build app.proj", 1),
     ("error: no targets|build failed", project(), "build app.proj", 1),
     ("circular request", CALL_ITSELF, "build app.proj", 4),
     ("too deep", DEEPER, "build app.proj", 4),
 )
 
-# Rows that are tried elsewhere: store faults, limits and statuses without a text by tests/launcher.py and tests/real_folder.py.
+# Rows that are tried elsewhere: store faults, limits and statuses without a text.
 ELSEWHERE = ("store fault", "too large", "too many instances", "nothing, and status", "msb: ..")
 
 
 def rows_of_guide() -> list[str]:
     """The first cells of the guide's last table, less their quotes."""
     table = (TOP / "docs" / "GUIDE.md").read_text().rpartition("|---|---|---|\n")[2]
-    return [row.split(" | ")[0].removeprefix("| ") for row in table.splitlines() if row.startswith("| ")]
+    return [row.split(" | ")[0].removeprefix("| ") for row in table.splitlines()
+            if row.startswith("| ")]
 
 
 def is_shown(cell: str, texts: list[str]) -> bool:
@@ -192,9 +203,11 @@ def try_rows(folder: Path, launcher: Path) -> tuple[int, int]:
     cells = rows_of_guide()
     for texts, content, words, status in ROWS:
         (folder / "app.proj").write_text(content)
-        ran = subprocess.run([launcher, *words.split()], cwd=folder, capture_output=True, text=True, timeout=SECONDS)
+        ran = subprocess.run([launcher, *words.split()], cwd=folder, capture_output=True, text=True,
+                             timeout=SECONDS)
         wanted = texts.split("|")
-        printed = all(any(line.startswith(one) for line in ran.stdout.splitlines()) for one in wanted)
+        printed = all(any(line.startswith(one) for line in ran.stdout.splitlines())
+                      for one in wanted)
         if ran.returncode == status and printed and any(is_shown(cell, wanted) for cell in cells):
             good += 1
         else:
@@ -202,7 +215,8 @@ def try_rows(folder: Path, launcher: Path) -> tuple[int, int]:
             print(f"FAIL row {texts}: {ran.returncode} {ran.stdout} {ran.stderr}")
     for cell in cells:
         text = cell.replace("`", "")
-        if text.startswith(ELSEWHERE) or any(is_shown(cell, texts.split("|")) for texts, *_ in ROWS):
+        if text.startswith(ELSEWHERE) or any(is_shown(cell, texts.split("|")) for texts,
+                                             *_ in ROWS):
             good += 1
         else:
             bad += 1
@@ -244,7 +258,8 @@ def main() -> int:
         own, rows = Path(scratch) / "own", Path(scratch) / "rows"
         own.mkdir()
         rows.mkdir()
-        counts = [try_page("docs/GUIDE.md", own), try_page("README.md", top), try_rows(rows, top / "msb"),
+        counts = [try_page("docs/GUIDE.md", own), try_page("README.md", top),
+                  try_rows(rows, top / "msb"),
                   try_links()]
     good, bad = (sum(column) for column in zip(*counts))
     print(f"{good} passed, {bad} failed")

@@ -1,11 +1,11 @@
 #!/usr/bin/env python3
-"""Tries the launcher `msb`: what it says, what it leaves alone, terminals, signals, completion and man page.
+"""Tries the launcher `msb`: what it says and leaves alone, terminals, signals, its pages.
 
 usage: tests/launcher.py PROGRAM
 
 The launcher runs the program that stands beside it, and takes no other one; so each part lays out a
-folder with a copy of the launcher and PROGRAM at the place of the built program. Each failure prints
-`FAIL NAME: what differs`; the last line is `N passed, M failed`.
+folder with a copy of the launcher and PROGRAM at the place of the built program. Each failure
+prints `FAIL NAME: what differs`; the last line is `N passed, M failed`.
 """
 
 import os
@@ -23,9 +23,10 @@ from pathlib import Path
 from typing import Callable, NamedTuple
 
 TOP = Path(__file__).resolve().parent.parent
-USAGE = ("usage: msb ACTION PROJECT [--target LIST] [--property LIST] [--nodes N] [--clean] [--show low] "
-         "[--size N]\n")
-HELLO = '{"e":"Project","c":[{"e":"Target","a":{"Name":"Build"},"c":[{"e":"Message","a":{"Text":"hello"}}]}]}'
+USAGE = ("usage: msb ACTION PROJECT [--target LIST] [--property LIST] [--nodes N] [--clean] "
+         "[--show low] [--size N]\n")
+HELLO = ('{"e":"Project","c":[{"e":"Target","a":{"Name":"Build"},"c":['
+         '{"e":"Message","a":{"Text":"hello"}}]}]}')
 BUILT = "hello.proj : build ran\n  hello\nreturned 0\nbuild succeeded\n"
 SECONDS = 60
 
@@ -72,14 +73,19 @@ class Place:
         file.write_bytes(text.encode() if isinstance(text, str) else text)
 
     def run(self, *words: str | bytes, **more: object) -> Ran:
-        ran = subprocess.run([str(self.top / "msb"), *words], cwd=self.work, stdin=subprocess.DEVNULL,
-                             stdout=subprocess.PIPE, stderr=subprocess.PIPE, timeout=SECONDS, **more)
-        return Ran(ran.returncode, ran.stdout.decode(errors="replace"), ran.stderr.decode(errors="replace"))
+        ran = subprocess.run([str(self.top / "msb"), *words], cwd=self.work,
+                             stdin=subprocess.DEVNULL,
+                             stdout=subprocess.PIPE, stderr=subprocess.PIPE, timeout=SECONDS,
+                             **more)
+        return Ran(ran.returncode, ran.stdout.decode(errors="replace"),
+                   ran.stderr.decode(errors="replace"))
 
     def shell(self, command: str) -> Ran:
         """Runs a shell command in which `msb` is the launcher."""
-        ran = subprocess.run(["bash", "-c", command.replace("msb", str(self.top / "msb"), 1)], cwd=self.work,
-                             stdin=subprocess.DEVNULL, stdout=subprocess.PIPE, stderr=subprocess.PIPE, timeout=SECONDS)
+        ran = subprocess.run(["bash", "-c", command.replace("msb", str(self.top / "msb"), 1)],
+                             cwd=self.work,
+                             stdin=subprocess.DEVNULL, stdout=subprocess.PIPE,
+                             stderr=subprocess.PIPE, timeout=SECONDS)
         return Ran(ran.returncode, ran.stdout.decode(), ran.stderr.decode())
 
 
@@ -134,7 +140,8 @@ WORDS = (
     (("build", "hello.proj", "--target", ";"), "it names no target"),
     (("build", "hello.proj", "--show", "high"), "its one value is `low`"),
     (("build", "hello.proj", "--show"), "`--show` has no value: --show low"),
-    (("build", "hello.proj", "--clean=true"), "`--clean` has no value", "try: msb build hello.proj --clean\n"),
+    (("build", "hello.proj", "--clean=true"), "`--clean` has no value",
+     "try: msb build hello.proj --clean\n"),
     (("build", "hello.proj", "--tagret", "a"), "is `--target` meant?"),
     (("build", "hello.proj", "--quiet"), "`--quiet` stands before the action"),
     (("biuld", "hello.proj"), "is `build` meant?"),
@@ -157,9 +164,12 @@ def try_words(tests: Tests) -> None:
     tests.says("a word that is no text", ran, 11, "word 2 is no UTF-8")
 
 
-RANDOM_WORDS = ("build", "eval", "targets", "trial", "x.proj", "7", "--target", "--target=a", "--target=", "--property",
-                "--property=A=1", "A=1", "A", "a;b", ";", "--nodes", "--nodes=64", "64", "0", "100", "--clean", "--clean=",
-                "--show", "low", "--show=low", "--size", "--size=100", "--size=101", "", "--", "-x", "--nodes=1",
+RANDOM_WORDS = ("build", "eval", "targets", "trial", "x.proj", "7", "--target", "--target=a",
+                "--target=", "--property",
+                "--property=A=1", "A=1", "A", "a;b", ";", "--nodes", "--nodes=64", "64", "0", "100",
+                "--clean", "--clean=",
+                "--show", "low", "--show=low", "--size", "--size=100", "--size=101", "", "--", "-x",
+                "--nodes=1",
                 "MSBuildThisFile=1", "a b", "99999999999999999999", "--Target")
 
 
@@ -173,7 +183,8 @@ def try_random_words(tests: Tests) -> None:
         words = [draw.choice(RANDOM_WORDS) for _ in range(draw.randint(1, 6))]
         if draw.random() < 0.7:
             words = [draw.choice(RANDOM_WORDS[:4]), draw.choice(("x.proj", "7")), *words[:-2]]
-        ran = subprocess.run([place.program, *words], cwd=place.work, stdout=subprocess.PIPE, timeout=SECONDS)
+        ran = subprocess.run([place.program, *words], cwd=place.work, stdout=subprocess.PIPE,
+                             timeout=SECONDS)
         lines, asks_for_help = advice(words)
         if (ran.returncode == 2) != bool(lines or asks_for_help):
             bad.append((words, ran.returncode, lines))
@@ -204,18 +215,23 @@ def try_not_found(tests: Tests) -> None:
     for project, text in rows:
         ran = place.run("build", project)
         tests.says(f"project {project}", ran, 3, text)
-        tests.check(f"text of {project}", ran.printed == f"project refused\n  {project}: not found\n", ran.printed)
+        tests.check(f"text of {project}",
+                    ran.printed == f"project refused\n  {project}: not found\n", ran.printed)
 
 
 PLACES = (
-    ('{"e":"Project",\n "c":[\n  {"e":"Target","a":{"Name":"B"}},\n  {"e":"Import","a":{"Project":"no.props"}}]}',
-     ("a.proj:4:3: <Import Project=\"no.props\">", "21 MissingImport: the imported file is not in the folder")),
-    ('{"e":"Project","c":[{"e":"PropertyGroup","c":[{"e":"Out","a":{"Condition":"\'$(A\'"},"t":"x"}]}]}',
+    ('{"e":"Project",\n "c":[\n  {"e":"Target","a":{"Name":"B"}},\n'
+     '  {"e":"Import","a":{"Project":"no.props"}}]}',
+     ("a.proj:4:3: <Import Project=\"no.props\">",
+      "21 MissingImport: the imported file is not in the folder")),
+    ('{"e":"Project","c":[{"e":"PropertyGroup","c":['
+     '{"e":"Out","a":{"Condition":"\'$(A\'"},"t":"x"}]}]}',
      ("a.proj:1:47: <Out Condition=\"'$(A'\">",)),
     ('\n{"e":"Project","a":{"Sdk":"Microsoft.NET.Sdk"}}',
      ("a.proj:2:1: <Project Sdk=\"Microsoft.NET.Sdk\">", "Sdk; docs/FROM_MSBUILD.md")),
     ('{"e":"project"}', ("a.proj:1:1: <project>", "one element named Project")),
-    ('{"c":[{"e":"ItemGroup","c":[{"e":"A","a":{"Include":"../../x"}},\n{"a":{"Include":"../../x"},"t":"ä","e":"2B"}'
+    ('{"c":[{"e":"ItemGroup","c":[{"e":"A","a":{"Include":"../../x"}},\n'
+     '{"a":{"Include":"../../x"},"t":"ä","e":"2B"}'
      ']}],"e":"Project"}', ("a.proj:2:1: <2B Include=\"../../x\">", "3 UnknownElement")),
 )
 
@@ -225,15 +241,20 @@ def try_places(tests: Tests) -> None:
     for number, (text, wanted) in enumerate(PLACES):
         place.write("a.proj", text)
         tests.says(f"place {number}", place.run("eval", "a.proj"), 3, *wanted)
-    place.write("lib/a.proj", '{"e":"Project","c":[\n{"e":"Target","a":{"Name":"B"},"c":[\n{"e":"Message","a":{"Text":"$(A"}}]}]}')
+    place.write("lib/a.proj",
+                '{"e":"Project","c":[\n{"e":"Target","a":{"Name":"B"},"c":[\n'
+                '{"e":"Message","a":{"Text":"$(A"}}]}]}')
     place.write("all.proj", '{"e":"Project","c":[{"e":"Target","a":{"Name":"B"},"c":['
                             '{"e":"MSBuild","a":{"Projects":"lib/a.proj"}}]}]}')
-    tests.says("place in a failed build", place.run("build", "all.proj"), 1, 'lib/a.proj:3:1: <Message Text="$(A">')
+    tests.says("place in a failed build", place.run("build", "all.proj"), 1,
+               'lib/a.proj:3:1: <Message Text="$(A">')
 
 
 NOT_JSON = (
-    ('{"e":"Project",\n"c":[],}', "a.proj:2:8: a name in double quotes was expected, behind a comma"),
-    ('{"e":"Project","c":[{"e":"ItemGroup"}', "a.proj:1:38: a comma, or the end of the array or object, was expected"),
+    ('{"e":"Project",\n"c":[],}',
+     "a.proj:2:8: a name in double quotes was expected, behind a comma"),
+    ('{"e":"Project","c":[{"e":"ItemGroup"}',
+     "a.proj:1:38: a comma, or the end of the array or object, was expected"),
     ('{"e":"Project","a":{"x":tru}}', "a.proj:1:25: a value was expected"),
     ('{"e" "Project"}', "a.proj:1:6: a colon was expected"),
     ('{"e":"Pro\nject"}', "a.proj:1:10: a line end"),
@@ -255,40 +276,46 @@ def try_not_json(tests: Tests) -> None:
         place.write("a.proj", text)
         ran = place.run("build", "a.proj")
         tests.says(f"no JSON {text[:30]!r}", ran, 3, wanted)
-        tests.check(f"NotJson {text[:30]!r}", ran.printed == "project refused\n  a.proj /: 1 NotJson\n", ran.printed)
+        tests.check(f"NotJson {text[:30]!r}",
+                    ran.printed == "project refused\n  a.proj /: 1 NotJson\n", ran.printed)
 
 
-WRITER = ('{"e":"Project","c":[{"e":"Target","a":{"Name":"B"},"c":[{"e":"WriteLinesToFile","a":{"File":"out/sub/a.txt",'
-          '"Lines":"x"}}]}]}')
+WRITER = ('{"e":"Project","c":[{"e":"Target","a":{"Name":"B"},"c":['
+          '{"e":"WriteLinesToFile","a":{"File":"out/sub/a.txt","Lines":"x"}}]}]}')
 
 
 def try_store_faults(tests: Tests) -> None:
     place = tests.place()
     place.write("a.proj", WRITER)
     place.write("out", "a file")
-    tests.says("a file for a folder", place.run("build", "a.proj"), 5, "out: it is a file, and a folder is wanted")
+    tests.says("a file for a folder", place.run("build", "a.proj"), 5,
+               "out: it is a file, and a folder is wanted")
     (place.work / "out").unlink()
     (place.work / "out" / "sub" / "a.txt").mkdir(parents=True)
-    tests.says("a folder for a file", place.run("build", "a.proj"), 5, "out/sub/a.txt: it is a folder")
+    tests.says("a folder for a file", place.run("build", "a.proj"), 5,
+               "out/sub/a.txt: it is a folder")
     shutil.rmtree(place.work / "out")
     open(os.fsencode(place.work) + b"/na\xffme", "w").close()
-    tests.says("a name that is no text", place.run("build", "a.proj"), 5, "na\\xffme: the name is no UTF-8")
+    tests.says("a name that is no text", place.run("build", "a.proj"), 5,
+               "na\\xffme: the name is no UTF-8")
     os.unlink(os.fsencode(place.work) + b"/na\xffme")
     try_permissions(tests, place)
 
 
 def try_permissions(tests: Tests, place: Place) -> None:
-    """A folder that can't be listed, a file that can't be read, and a folder that can't be written to."""
+    """A folder and a file that can't be read, and a folder that can't be written to."""
     nobody = {"user": 65534, "group": 65534, "extra_groups": ()} if os.geteuid() == 0 else {}
     for folder in (tests.scratch, place.top, place.work):
         folder.chmod(0o755)
     (place.work / "shut").mkdir()
     (place.work / "shut").chmod(0)
-    tests.says("a folder that is shut", place.run("build", "a.proj", **nobody), 5, "shut: Permission denied")
+    tests.says("a folder that is shut", place.run("build", "a.proj", **nobody), 5,
+               "shut: Permission denied")
     (place.work / "shut").rmdir()
     place.write("b.txt", "x")
     (place.work / "b.txt").chmod(0)
-    tests.says("a file that is shut", place.run("build", "a.proj", **nobody), 5, "b.txt: Permission denied")
+    tests.says("a file that is shut", place.run("build", "a.proj", **nobody), 5,
+               "b.txt: Permission denied")
     (place.work / "b.txt").unlink()
     place.work.chmod(0o555)
     tests.says("a folder that is not written to", place.run("build", "a.proj", **nobody), 5,
@@ -301,7 +328,8 @@ def try_limits(tests: Tests) -> None:
     (place.work / "node_modules").mkdir()
     for number in range(20_000):
         (place.work / "node_modules" / f"f{number}").touch()
-    tests.says("too many files", place.run("build", "hello.proj"), 8, "most files are in node_modules/ 20,000", ".git")
+    tests.says("too many files", place.run("build", "hello.proj"), 8,
+               "most files are in node_modules/ 20,000", ".git")
     shutil.rmtree(place.work / "node_modules")
     with (place.work / "large").open("wb") as file:
         file.truncate(16_777_217)
@@ -318,34 +346,42 @@ def try_circle(tests: Tests) -> None:
     tests.says("a circle", place.run("build", "a.proj"), 4, "each of these runs waits for the next")
 
 
+TIME = re.compile(r"msb: [0-9.]+ s, [0-9.]+ s of processor time, [0-9]+ MiB at most\n")
+
+
 # ---- The text and the status ------------------------------------------------------------------
 
 
 def try_text(tests: Tests) -> None:
     place = tests.place()
-    large = '{"e":"Project","c":[{"e":"PropertyGroup","c":[{"e":"A","t":"' + "x" * 3_000_000 + '"}]}]}'
+    text = "x" * 3_000_000
+    large = f'{{"e":"Project","c":[{{"e":"PropertyGroup","c":[{{"e":"A","t":"{text}"}}]}}]}}'
     place.write("large.proj", large)
-    rows = (("build", "hello.proj"), ("eval", "large.proj"), ("targets", "hello.proj"), ("trial", "7", "--size", "20"),
+    rows = (("build", "hello.proj"), ("eval", "large.proj"), ("targets", "hello.proj"),
+            ("trial", "7", "--size", "20"),
             ("build", "hello.proj", "--nodes", "8"))
     for words in rows:
-        own = subprocess.run([place.program, *words], cwd=place.work, capture_output=True, text=True)
+        own = subprocess.run([place.program, *words], cwd=place.work, capture_output=True,
+                             text=True)
         for before in ((), ("--quiet",)):
             ran = place.run(*before, *words)
-            tests.check(f"text {before} {words}", ran == Ran(own.returncode, own.stdout, ""), str(ran)[:200])
+            tests.check(f"text {before} {words}", ran == Ran(own.returncode, own.stdout, ""),
+                        str(ran)[:200])
     tests.check("quiet refusal", place.run("--quiet", "build", "x").said == "")
     ran = place.run("--time", "build", "hello.proj")
-    tests.check("time", bool(re.fullmatch(r"msb: [0-9.]+ s, [0-9.]+ s of processor time, [0-9]+ MiB at most\n", ran.said))
-                and ran.printed == BUILT, ran)
+    tests.check("time", bool(TIME.fullmatch(ran.said)) and ran.printed == BUILT, ran)
     ran = place.run("--time", "--quiet", "build", "x.proj")
     tests.check("time and quiet", ran.said.count("\n") == 1 and ran.status == 3, ran)
 
 
 def try_output_faults(tests: Tests) -> None:
     place = tests.place()
-    tests.says("full", place.shell("msb build hello.proj > /dev/full"), 6, "No space left on device")
+    tests.says("full", place.shell("msb build hello.proj > /dev/full"), 6,
+               "No space left on device")
     tests.says("full, quiet", place.shell("msb --quiet build hello.proj > /dev/full"), 6)
     tests.says("closed", place.shell("msb build hello.proj >&-"), 6)
-    tests.says("refused and full", place.shell("msb build x.proj > /dev/full"), 3, "No space left on device")
+    tests.says("refused and full", place.shell("msb build x.proj > /dev/full"), 3,
+               "No space left on device")
     ran = place.shell("(sleep 0.5; msb build hello.proj; echo $? >status) | true; cat status")
     tests.check("a pipe that is closed", ran.printed == "6\n", ran)
 
@@ -435,22 +471,26 @@ def try_interrupts(tests: Tests) -> None:
     place = tests.place(False)
     file = place.work / "number"
     place.script(f"echo $$ > {file}.new; mv {file}.new {file}; exec sleep 50")
-    for name, words in (("ctrl-C", ()), ("ctrl-C, quiet", ("--quiet",)), ("ctrl-C, time", ("--quiet", "--time"))):
+    for name, words in (("ctrl-C", ()), ("ctrl-C, quiet", ("--quiet",)),
+                        ("ctrl-C, time", ("--quiet", "--time"))):
         file.unlink(missing_ok=True)
         terminal = Terminal(place, *words, "build", "x")
         wait_for(file.exists)
         number = int(file.read_text())
         terminal.type(b"\x03")
-        tests.check(name, terminal.end() == -signal.SIGINT and not is_running(number), terminal.seen)
+        tests.check(name, terminal.end() == -signal.SIGINT and not is_running(number),
+                    terminal.seen)
         tests.check(f"{name} says nothing", b"Traceback" not in terminal.seen, terminal.seen)
     for which in (signal.SIGTERM, signal.SIGINT, signal.SIGHUP):
         file.unlink(missing_ok=True)
-        run = subprocess.Popen([place.top / "msb", "build", "x"], cwd=place.work, stdout=subprocess.PIPE)
+        run = subprocess.Popen([place.top / "msb", "build", "x"], cwd=place.work,
+                               stdout=subprocess.PIPE)
         wait_for(file.exists)
         number = int(file.read_text())
         run.send_signal(which)
         run.communicate(timeout=SECONDS)
-        tests.check(f"{which.name} ends both", run.returncode == -which and not is_running(number), run.returncode)
+        tests.check(f"{which.name} ends both", run.returncode == -which and not is_running(number),
+                    run.returncode)
 
 
 # ---- Which program ----------------------------------------------------------------------------
@@ -482,7 +522,8 @@ def try_without_kit(tests: Tests) -> None:
 def try_builds(tests: Tests) -> None:
     """It builds where there is no program, or an older one, and once."""
     place = tests.place(False)
-    (place.top / "tools" / "build.py").write_text(MAKES.format(path="crates/msb/out/msb", says="proved"))
+    (place.top / "tools" / "build.py").write_text(MAKES.format(path="crates/msb/out/msb",
+                                                               says="proved"))
     for _ in range(2):
         tests.check("built", place.run("build", "x") == Ran(0, "proved build x\n", ""))
     tests.check("built once", (place.top / "made").read_text() == "proved\n")
@@ -494,10 +535,12 @@ def try_builds(tests: Tests) -> None:
 
 
 def try_unproved(tests: Tests) -> None:
-    """It says each time that this is not the proved program, and asks on a terminal which one is to be built."""
+    """It says each time that this is not the proved program, and asks on a terminal for one."""
     place = tests.place(False)
-    (place.top / "tools" / "build_unproved.py").write_text(MAKES.format(path="out/unproved/msb", says="unproved"))
-    (place.top / "tools" / "build.py").write_text(MAKES.format(path="crates/msb/out/msb", says="proved"))
+    (place.top / "tools" / "build_unproved.py").write_text(MAKES.format(path="out/unproved/msb",
+                                                                        says="unproved"))
+    (place.top / "tools" / "build.py").write_text(MAKES.format(path="crates/msb/out/msb",
+                                                               says="proved"))
     for _ in range(2):
         ran = place.run("--unproved", "build", "x")
         tests.says("unproved", ran, 0, "this is not the proved program")
@@ -506,7 +549,8 @@ def try_unproved(tests: Tests) -> None:
     terminal = Terminal(place, "build", "x")
     terminal.read(lambda seen: b"[p] " in seen)
     terminal.type(b"u\n")
-    tests.check("question", terminal.end() == 0 and b"unproved build x" in terminal.seen, terminal.seen)
+    tests.check("question", terminal.end() == 0 and b"unproved build x" in terminal.seen,
+                terminal.seen)
     terminal = Terminal(place, "build", "x")
     terminal.read(lambda seen: b"[p] " in seen)
     terminal.type(b"\n")
@@ -529,22 +573,29 @@ COMPLETED = (
 
 
 def try_pages(tests: Tests) -> None:
-    ran = subprocess.run([TOP / "tools" / "make_pages.py", "--check"], capture_output=True, text=True)
+    ran = subprocess.run([TOP / "tools" / "make_pages.py", "--check"], capture_output=True,
+                         text=True)
     tests.check("pages are made from the words", ran.returncode == 0, ran.stdout)
     place = tests.place()
-    script = ('source "$1"; compopt() { :; }; read -ra COMP_WORDS <<<"$2"; [[ $2 == *" " ]] && COMP_WORDS+=("");'
+    script = ('source "$1"; compopt() { :; }; read -ra COMP_WORDS <<<"$2"; '
+              '[[ $2 == *" " ]] && COMP_WORDS+=("");'
               'COMP_CWORD=$((${#COMP_WORDS[@]}-1)); _msb; echo "${COMPREPLY[*]}"')
     for line, wanted in COMPLETED:
-        ran = subprocess.run(["bash", "-c", script, "bash", TOP / "tools" / "launcher" / "msb.bash", line],
+        ran = subprocess.run(["bash", "-c", script, "bash", TOP / "tools" / "launcher" / "msb.bash",
+                              line],
                              cwd=place.work, capture_output=True, text=True)
         tests.check(f"completion of `{line}`", ran.stdout.strip() == wanted and not ran.stderr, ran)
     if shutil.which("groff"):
-        ran = subprocess.run(["groff", "-man", "-Tascii", "-ww", TOP / "docs" / "msb.1"], capture_output=True, text=True)
-        tests.check("man page", ran.returncode == 0 and not ran.stderr and len(ran.stdout) > 2000, ran.stderr)
+        ran = subprocess.run(["groff", "-man", "-Tascii", "-ww", TOP / "docs" / "msb.1"],
+                             capture_output=True, text=True)
+        tests.check("man page", ran.returncode == 0 and not ran.stderr and len(ran.stdout) > 2000,
+                    ran.stderr)
 
 
-PARTS = (try_words, try_random_words, try_not_found, try_places, try_not_json, try_store_faults, try_limits, try_circle,
-         try_text, try_output_faults, try_end_by_signal, try_progress, try_interrupts, try_without_kit, try_builds,
+PARTS = (try_words, try_random_words, try_not_found, try_places, try_not_json, try_store_faults,
+         try_limits, try_circle,
+         try_text, try_output_faults, try_end_by_signal, try_progress, try_interrupts,
+         try_without_kit, try_builds,
          try_unproved, try_pages)
 
 

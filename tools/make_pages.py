@@ -47,12 +47,18 @@ def completion() -> str:
     names = [action.name for action in words.ACTIONS]
     values = {"--show": "low", "--nodes": "1 2 4 8 16 32 64"}
     given = [option.name for option in words.OPTIONS if option.value]
-    cases = [f"    {name}) COMPREPLY=($(compgen -W '{text}' -- \"$word\")); return ;;" for name, text in values.items()]
+    cases = [f"    {name}) COMPREPLY=($(compgen -W '{text}' -- \"$word\")); return ;;"
+             for name, text in values.items()]
     cases.append(f"    {'|'.join(name for name in given if name not in values)}) return ;;")
-    options = [f"    {action.name}) options='{' '.join(action.options)}' ;;" for action in words.ACTIONS]
+    options = [f"    {action.name}) options='{' '.join(action.options)}' ;;"
+               for action in words.ACTIONS]
     first = " ".join(names + [option.name for option in words.OWN] + ["--help"])
-    return (COMPLETION.replace("%ACTIONS%", "|".join(names)).replace("%VALUES%", "\n".join(cases))
-            .replace("%FIRST%", first).replace("%OPTIONS%", "\n".join(options)))
+    parts = {"ACTIONS": "|".join(names), "VALUES": "\n".join(cases), "FIRST": first,
+             "OPTIONS": "\n".join(options)}
+    text = COMPLETION
+    for name, part in parts.items():
+        text = text.replace(f"%{name}%", part)
+    return text
 
 
 def roff(text: str) -> str:
@@ -68,12 +74,14 @@ def listed(head: str, text: str) -> str:
 def man_page() -> str:
     parts = ['.\\" Made by tools/make_pages.py from tools/launcher/words.py.\n.TH MSB 1\n',
              ".SH NAME\nmsb \\- builds sets of MSBuild projects, with an answer that is proved\n",
-             ".SH SYNOPSIS\n.B msb\n[\\-\\-quiet] [\\-\\-time] [\\-\\-unproved] ACTION PROJECT [OPTION ..]\n",
+             ".SH SYNOPSIS\n.B msb\n[\\-\\-quiet] [\\-\\-time] [\\-\\-unproved] "
+             "ACTION PROJECT [OPTION ..]\n",
              f".SH DESCRIPTION\n{roff(words.PROJECT_IS)}\n", ".SH ACTIONS\n"]
     parts += [listed(f"{action.name} {action.operand}", action.meaning) for action in words.ACTIONS]
     parts.append(".SH OPTIONS\nEach stands at most once, in any order.\n")
     for option in words.OPTIONS:
-        parts.append(listed(words.shown(option), f"{option.meaning} ({words.taken_by(option)}), as in {option.example}"))
+        told = f"{option.meaning} ({words.taken_by(option)}), as in {option.example}"
+        parts.append(listed(words.shown(option), told))
     parts.append(".SH WORDS OF THE LAUNCHER\nThey stand before the action.\n")
     parts += [listed(option.name, option.meaning) for option in words.OWN]
     parts.append(".SH EXIT STATUS\n")
@@ -84,7 +92,8 @@ def man_page() -> str:
 
 
 def pages() -> dict[Path, str]:
-    return {TOP / "tools" / "launcher" / "msb.bash": completion(), TOP / "docs" / "msb.1": man_page()}
+    return {TOP / "tools" / "launcher" / "msb.bash": completion(),
+            TOP / "docs" / "msb.1": man_page()}
 
 
 def main() -> int:

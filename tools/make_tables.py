@@ -1,12 +1,13 @@
 #!/usr/bin/env python3
-"""Writes what docs/ shows of crates.txt and of the wrong bodies: tables, and a picture of the layers.
+"""Writes the tables and the picture that come of crates.txt, the costs and the wrong bodies.
 
 usage: tools/make_tables.py [--check]
 
-From crates.txt come the table of crates in docs/ARCHITECTURE.md and the picture docs/layers.svg, and with
-tools/costs.txt the table of what a change costs in CONTRIBUTING.md; from crates/CRATE/must-fail/ and edits/CRATE/ come the counts of the table in docs/TESTED.md, whose last column,
-when the edits of a crate were last tried, is kept. With --check nothing is written; the status is 1 where a
-file is not what would be written, or where a crate stands above one that it stands on.
+From crates.txt come the table of crates in docs/ARCHITECTURE.md and the picture docs/layers.svg,
+and with tools/costs.txt the table of what a change costs in CONTRIBUTING.md. From
+crates/CRATE/must-fail/ and edits/CRATE/ come the counts in docs/TESTED.md; its last column, when
+the edits of a crate were last tried, is kept. With --check nothing is written; the status is 1
+where a file is not what would be written, or where a crate stands above one that it stands on.
 """
 
 import re
@@ -17,6 +18,25 @@ from xml.sax.saxutils import escape
 
 TOP = Path(__file__).resolve().parent.parent
 WIDTH, LINE, GAP, LETTER = 860, 20, 26, 7.3
+NEVER_TRIED = "not from this place yet"
+
+PICTURE = """\
+<svg xmlns="http://www.w3.org/2000/svg" width="%WIDTH%" height="%HEIGHT%"
+  viewBox="0 0 %WIDTH% %HEIGHT%">
+<title>The layers of the repository</title>
+<style>
+text { font: 14px sans-serif }
+text.name { font-weight: bold }
+text.crates { font: 12px monospace }
+rect.layer { fill: #f4f6fa; stroke: #51607a; rx: 6px }
+path.arrow { fill: none; stroke: #51607a }
+</style>
+<defs><marker id="tip" markerWidth="8" markerHeight="8" refX="7" refY="4" orient="auto">
+<path d="M0,0 L8,4 L0,8 z" fill="#51607a"/></marker></defs>
+<rect width="100%" height="100%" fill="white"/>
+%PARTS%
+</svg>
+"""
 
 
 class Crate(NamedTuple):
@@ -107,17 +127,19 @@ def wrapped(names: list[str]) -> list[str]:
 
 def layers_below(crates: dict[str, Crate]) -> dict[str, list[str]]:
     """The layers that each layer stands on, less those that it stands on by others."""
-    on = {layer: {crates[other].layer for name in names for other in crates[name].stands_on if other in crates} - {layer}
+    on = {layer: {crates[other].layer for name in names for other in crates[name].stands_on
+                  if other in crates} - {layer}
           for layer, names in layers_of(crates).items()}
-    return {layer: [one for one in on[layer] if not any(one in on[other] for other in on[layer])] for layer in on}
+    return {layer: [one for one in on[layer] if not any(one in on[other] for other in on[layer])]
+            for layer in on}
 
 
 def box(layer: str, lines: list[str], top: float) -> str:
     height = LINE * (len(lines) + 1) + 12
-    parts = [f'<rect x="20" y="{top}" width="{WIDTH - 100}" height="{height}" rx="6" fill="#f4f6fa" stroke="#51607a"/>',
-             f'<text x="34" y="{top + 20}" font-weight="bold">{escape(layer)}</text>']
-    parts += [f'<text x="34" y="{top + 20 + LINE * (number + 1)}" font-family="monospace" font-size="12">{escape(line)}</text>'
-              for number, line in enumerate(lines)]
+    parts = [f'<rect class="layer" x="20" y="{top}" width="{WIDTH - 100}" height="{height}"/>',
+             f'<text x="34" y="{top + 20}" class="name">{escape(layer)}</text>']
+    parts += [f'<text class="crates" x="34" y="{top + 20 + LINE * number}">{escape(line)}</text>'
+              for number, line in enumerate(lines, 1)]
     return "\n".join(parts)
 
 
@@ -133,25 +155,23 @@ def picture(crates: dict[str, Crate]) -> str:
         tops[layer] = top, top + height
         top += height + GAP
     parts += arrows(layers_below(crates), tops)
-    return (f'<svg xmlns="http://www.w3.org/2000/svg" width="{WIDTH}" height="{top:.0f}" viewBox="0 0 {WIDTH} {top:.0f}" '
-            f'font-family="sans-serif" font-size="14">\n<title>The layers of the repository</title>\n'
-            f'<defs><marker id="tip" markerWidth="8" markerHeight="8" refX="7" refY="4" orient="auto">'
-            f'<path d="M0,0 L8,4 L0,8 z" fill="#51607a"/></marker></defs>\n<rect width="100%" height="100%" fill="white"/>\n'
-            + "\n".join(parts) + "\n</svg>\n")
+    text = PICTURE.replace("%WIDTH%", str(WIDTH)).replace("%HEIGHT%", f"{top:.0f}")
+    return text.replace("%PARTS%", "\n".join(parts))
 
 
 def arrows(on: dict[str, list[str]], tops: dict[str, tuple[float, float]]) -> list[str]:
-    """An arrow from each layer to those that it stands on: straight to the next one, else along the right side."""
-    order, parts, lane = list(tops), [], 0
+    """An arrow from each layer to those that it stands on, straight or along the right side."""
+    order, parts, lane, middle = list(tops), [], 0, WIDTH // 2 - 40
     for layer in order:
         for other in sorted(on[layer], key=order.index):
             if order.index(other) == order.index(layer) + 1:
-                path = f"M{WIDTH / 2 - 40:.0f},{tops[layer][1]} L{WIDTH / 2 - 40:.0f},{tops[other][0]}"
+                path = f"M{middle},{tops[layer][1]} L{middle},{tops[other][0]}"
             else:
                 x, lane = WIDTH - 68 + 8 * (lane % 7), lane + 1
-                start, end = tops[layer][1] - 14 - 3 * (lane % 4), tops[other][0] + 10 + 4 * (lane % 4)
+                start = tops[layer][1] - 14 - 3 * (lane % 4)
+                end = tops[other][0] + 10 + 4 * (lane % 4)
                 path = f"M{WIDTH - 80},{start} L{x},{start} L{x},{end} L{WIDTH - 80},{end}"
-            parts.append(f'<path d="{path}" fill="none" stroke="#51607a" marker-end="url(#tip)"/>')
+            parts.append(f'<path class="arrow" d="{path}" marker-end="url(#tip)"/>')
     return parts
 
 
@@ -159,7 +179,7 @@ def arrows(on: dict[str, list[str]], tops: dict[str, tuple[float, float]]) -> li
 
 
 def read_costs(text: str) -> dict[str, float]:
-    """Processor seconds of each crate, all columns behind that of its lines added; a file with one column has no lines."""
+    """Processor seconds of each crate: the sum of the columns behind that of its lines, if any."""
     costs = {}
     for line in text.splitlines():
         name, *numbers = line.split() or [""]
@@ -170,11 +190,13 @@ def read_costs(text: str) -> dict[str, float]:
 
 def cost_table(crates: dict[str, Crate], costs: dict[str, float]) -> str:
     """What a change in the lowest and in the highest crate of a layer makes to be proved again."""
-    above = {name: sum(costs.get(other, 0) for other in crates if other == name or name in all_below(crates, other))
+    above = {name: sum(costs.get(other, 0) for other in crates if other == name
+                       or name in all_below(crates, other))
              for name in crates}
     lines = ["| Layer | Its crates | A change of a crate, with all above it |", "|---|---|---|"]
     for layer, names in layers_of(crates).items():
-        own, most = sum(costs.get(name, 0) for name in names), max(names, key=lambda name: above[name])
+        own, most = sum(costs.get(name, 0) for name in names), max(names,
+                                                                   key=lambda name: above[name])
         least = min(names, key=lambda name: above[name])
         span = f"{above[most] / 60:.0f} min (`{most}`)"
         if least != most:
@@ -191,15 +213,18 @@ def count_edits(folder: Path) -> int:
 
 
 def edit_table(crates: dict[str, Crate], before: str) -> str:
-    """How many wrong bodies the gate tries of each crate and how many tools/try_edits.py, and when it last did."""
+    """How many wrong bodies of each crate are tried where, and when those of edits/ last were."""
     kept = dict(re.findall(r"^\| `(\w+)` \|[^|]*\|[^|]*\| (.*?) \|$", before, re.M))
-    lines = ["| Crate | In the gate | In edits/ | All of edits/ last tried and refused |", "|---|---|---|---|"]
+    lines = ["| Crate | In the gate | In edits/ | All of edits/ last tried and refused |",
+             "|---|---|---|---|"]
     gate_sum = edit_sum = 0
     for name in crates:
-        gate, edits = count_edits(TOP / "crates" / name / "must-fail"), count_edits(TOP / "edits" / name)
+        gate = count_edits(TOP / "crates" / name / "must-fail")
+        edits = count_edits(TOP / "edits" / name)
         gate_sum, edit_sum = gate_sum + gate, edit_sum + edits
         if gate or edits:
-            lines.append(f"| `{name}` | {gate or ''} | {edits or ''} | {kept.get(name, 'not from this place yet') if edits else ''} |")
+            tried = kept.get(name, NEVER_TRIED) if edits else ""
+            lines.append(f"| `{name}` | {gate or ''} | {edits or ''} | {tried} |")
     return "\n".join(lines + [f"| all | {gate_sum} | {edit_sum} | |"])
 
 
@@ -220,7 +245,8 @@ def pages() -> dict[Path, str]:
     architecture, tested = TOP / "docs" / "ARCHITECTURE.md", TOP / "docs" / "TESTED.md"
     contributing = TOP / "CONTRIBUTING.md"
     return {
-        contributing: between(contributing.read_text(), "costs", lambda _: cost_table(crates, costs)),
+        contributing: between(contributing.read_text(), "costs",
+                              lambda _: cost_table(crates, costs)),
         architecture: between(architecture.read_text(), "crates", lambda _: crate_table(crates)),
         tested: between(tested.read_text(), "edits", lambda old: edit_table(crates, old)),
         TOP / "docs" / "layers.svg": picture(crates),

@@ -3,9 +3,10 @@
 
 usage: tools/try_examples.py PROGRAM
 
-Each example is copied to a folder of its own. In its README.md an indented block that has `../../msb` is
-commands, and the indented block behind it is what they print; a further block is what the last command
-prints when it is run again. The last line is `N passed, M failed`: so many blocks were compared.
+Each example is copied to a folder of its own. In its README.md an indented block that has
+`../../msb` is commands, and the indented block behind it is what they print; a further block is
+what the last command prints when it is run again. The last line is `N passed, M failed`: so many
+blocks were compared.
 """
 
 import os
@@ -33,7 +34,8 @@ def run(command: str, program: str, folder: Path) -> str:
     """What a command prints in the folder of an example."""
     time.sleep(0.02)  # so that files which are written later are newer
     words = ["bash", "-c", command.replace("../../msb", program)]
-    return subprocess.run(words, cwd=folder, stdin=subprocess.DEVNULL, stdout=subprocess.PIPE, text=True,
+    return subprocess.run(words, cwd=folder, stdin=subprocess.DEVNULL, stdout=subprocess.PIPE,
+                          text=True,
                           timeout=SECONDS).stdout
 
 

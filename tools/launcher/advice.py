@@ -136,7 +136,7 @@ def written(option: str, value: str) -> str:
 
 
 def read(words: list[str]) -> Given:
-    """Puts each word into its place, as the program does, and switches of MSBuild into that of their options."""
+    """Puts each word into its place as the program does, and a switch where its option goes."""
     given, waiting = Given([], {}, [], [], bool(HELP & set(words)) or not words), ""
     for word in words:
         if waiting:
@@ -158,7 +158,7 @@ def read(words: list[str]) -> Given:
 
 
 def read_option(given: Given, word: str) -> str:
-    """Takes a word that stands for an option; the answer is the option whose value is the next word."""
+    """Takes a word that begins an option; the answer is the one whose value comes next."""
     name, equals, value = word.partition("=")
     option = table.option_of(name)
     if not word:

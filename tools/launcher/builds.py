@@ -58,14 +58,15 @@ def wants_unproved() -> bool:
     """Asks on a terminal which of the two programs is to be built."""
     if not (os.isatty(0) and os.isatty(2)):
         return False
-    say("the program is not built yet. To prove and build it takes over an hour on four processors;")
-    say("an unproved one, which stops at what it can't do and gives the same answers, some minutes.")
-    print("msb: [p]rove and build, or run the [u]nproved one? [p] ", end="", file=sys.stderr, flush=True)
+    say("the program is not built yet. To prove and build it takes over an hour; to compile")
+    say("an unproved one, which is checked as it runs and gives the same answers, some minutes.")
+    question = "msb: [p]rove and build, or run the [u]nproved one? [p] "
+    print(question, end="", file=sys.stderr, flush=True)
     return sys.stdin.readline().strip().lower() in ("u", "unproved")
 
 
 def note_time(program: str) -> None:
-    """The program is as new as its sources, also where it was not built again since they mean the same."""
+    """Notes that the program is as new as its sources, also where it stayed as it was."""
     try:
         os.utime(program)
     except OSError:

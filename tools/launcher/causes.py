@@ -37,7 +37,7 @@ def wrong_name(name: bytes, path: bytes) -> str:
 
 
 def parent_fault(path: str) -> str:
-    """What keeps a file from being written in its folder: the first folder that is none, or not to be written."""
+    """The first folder on the way to a file that is none, or is a link."""
     here = ""
     for part in path.split("/")[:-1]:
         here = f"{here}/{part}" if here else part

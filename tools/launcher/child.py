@@ -6,7 +6,7 @@ import signal
 import sys
 import time
 
-# The status of the program where its text could not be printed, though what it was asked for was done.
+# The status of the program where all was done, and its text could not be printed.
 NOT_PRINTED = 6
 
 # As much of a text is kept for hints.
@@ -106,12 +106,12 @@ def relay(source: int, ended: Ended, progress: Progress) -> None:
 def started(program: str, words: list[str], output: int | None) -> int:
     """Starts the program with these words, with `output` as its standard output."""
     actions = [] if output is None else [(os.POSIX_SPAWN_DUP2, output, 1)]
-    return os.posix_spawn(program, [program, *words], os.environ, file_actions=actions, setsigmask=(),
-                          setsigdef=[signal.SIGINT, signal.SIGPIPE])
+    return os.posix_spawn(program, [program, *words], os.environ, file_actions=actions,
+                          setsigmask=(), setsigdef=[signal.SIGINT, signal.SIGPIPE])
 
 
 def pass_signals_on(number: int) -> None:
-    """From now on a signal that would end the launcher ends the program, and by its end the launcher."""
+    """From now on a signal that would end the launcher ends the program, and so both."""
     def pass_on(name: int, _: object) -> None:
         try:
             os.kill(number, name)

@@ -14,25 +14,29 @@ from words import help_text
 # As many places of faults are told.
 MOST_PLACES = 5
 
-FAULT = re.compile(r"(?:error: |warning: )?(.+?) (/[0-9/]*): ([0-9]+) ([A-Z][A-Za-z]+)(?: (.*))?\Z", re.S)
+FAULT = re.compile(
+    r"(?:error: |warning: )?(.+?) (/[0-9/]*): ([0-9]+) ([A-Z][A-Za-z]+)(?: (.*))?\Z", re.S)
 
 # What a fault means, by its number, where its name does not say it.
 MEANINGS = {
-    "3": "an element, attribute or text that the format does not have here; docs/FORMATS.md has the table",
+    "3": "an element, attribute or text that the format does not have here; the table is in "
+         "docs/FORMATS.md",
     "4": "this element may not stand here; docs/FORMATS.md has the table",
-    "7": "a name has letters, digits, `_` and `-`, and begins with a letter or `_`; property functions and "
-         "registry references are not read",
+    "7": "a name has letters, digits, `_` and `-`, and begins with a letter or `_`; property "
+         "functions and registry references are not read",
     "11": "a list `@(..)` has no value yet where this is read",
     "12": "metadata `%(..)` have no value where this is read",
     "15": "an entry of a list is one `@(..)` alone, or has none",
     "19": "a path stays below the folder that msb runs in, and names a file",
-    "21": "the imported file is not in the folder that msb runs in; a toolset's files are staged there",
+    "21": "the imported file is not in the folder that msb runs in; a toolset's files are staged "
+          "there",
     "23": "the engine sets this one itself",
     "24": "write `%(TYPE.NAME)`, or name the list by `@(TYPE)` in the same element",
 }
 
 AT_ROOT = {
-    "3": "the Project element has an attribute that is not read, as Sdk; docs/FROM_MSBUILD.md says what to do",
+    "3": "the Project element has an attribute that is not read, as Sdk; docs/FROM_MSBUILD.md says "
+         "what to do",
     "4": "the root of a project file is one element named Project",
 }
 
@@ -64,18 +68,19 @@ def project_of(words: list[str]) -> str:
 
 def projects_in(folder: str) -> list[str]:
     """The files of a folder that look like projects."""
-    names = (entry.name for entry in os.scandir(folder or ".") if entry.is_file(follow_symlinks=False))
-    return sorted(name for name in names if re.search(r"\.\w*proj\Z", name))
+    files = (entry for entry in os.scandir(folder or ".") if entry.is_file(follow_symlinks=False))
+    return sorted(file.name for file in files if re.search(r"\.\w*proj\Z", file.name))
 
 
 def say_not_found(project: str) -> None:
     """Why a project is not found."""
+    project = project.replace("\\", "/")
     below = os.path.relpath(project) if os.path.isabs(project) else os.path.normpath(project)
     if os.path.isabs(project) and os.path.exists(project):
         say_absolute(project, below)
     elif below.startswith(".."):
         say(f"`{project}` leaves the current folder; a build sees only files in it and below: "
-            f"change to a folder above both")
+            "change to a folder above both")
     elif os.path.isdir(below):
         say_folder(below)
     elif os.path.islink(below):
@@ -86,7 +91,8 @@ def say_not_found(project: str) -> None:
 
 def say_absolute(project: str, below: str) -> None:
     if below.startswith(".."):
-        say(f"`{project}` is not below the current folder; change to a folder above it, and give the path from there")
+        say(f"`{project}` is not below the current folder; change to a folder above it, and give "
+            "the path from there")
     else:
         say(f"PROJECT is a path from the current folder: `{below}`")
 
@@ -119,7 +125,9 @@ def say_fault(line: str) -> bool:
         return False
     path, place, number = found[1], found[2], found[3]
     if number == "1":
-        say(places.json_fault(path) if os.path.isfile(path) else f"{path}: it is not there any more")
+        told = places.json_fault(path) if os.path.isfile(path) else f"{path}: it is gone"
+        if told:
+            say(told)
         return True
     at = places.located(path, place)
     meaning = (AT_ROOT if place == "/" else {}).get(number) or MEANINGS.get(number, "")
@@ -152,9 +160,11 @@ def say_refused(words: list[str], text: str) -> None:
 def say_circle(text: str) -> None:
     """Why a build is refused."""
     if text.startswith("circular request"):
-        say("each of these runs waits for the next: one of these calls has to go, or name other targets")
+        say("each of these runs waits for the next: one of these calls has to go, or name other "
+            "targets")
     elif text.startswith("too deep"):
-        say("at most 128 requests are nested; does a project call itself with other global properties each time?")
+        say("at most 128 requests are nested; does a project call itself with other global "
+            "properties each time?")
     elif text.startswith("too many instances"):
         say("at most 4,096 projects, told apart by path and global properties, are built at once")
 
@@ -170,9 +180,11 @@ def say_limit(text: str) -> None:
     """What makes the folder too large."""
     found = re.match(r"too large: ([0-9]+) (files|bytes)\n", text)
     if found:
-        largest = ", ".join(f"{name} {number:,}" for name, number in causes.most_of_folder(found[2] == "bytes"))
-        say(f"all files of the current folder and below are read; most {found[2]} are in {largest}")
-        say("run it in the folder of your sources alone, or move what is no source, as .git or node_modules, out of it")
+        largest = causes.most_of_folder(found[2] == "bytes")
+        told = ", ".join(f"{name} {number:,}" for name, number in largest)
+        say(f"all files of the current folder and below are read; most {found[2]} are in {told}")
+        say("run it in the folder of your sources alone, or move what is no source, as .git or "
+            "node_modules, out of it")
     elif text.startswith("bad path: "):
         say("the name of a file has a control character or a `\\`; rename or remove it")
     else:

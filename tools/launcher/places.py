@@ -79,7 +79,8 @@ def attributes(text: str, at: int) -> dict[str, str]:
     """The attributes of the element that begins there, as far as they are texts."""
     try:
         element = json.loads(text[at:past_value(text, at)])
-        return {name: value for name, value in element.get("a", {}).items() if isinstance(value, str)}
+        found = element.get("a", {}).items()
+        return {name: value for name, value in found if isinstance(value, str)}
     except (AttributeError, ValueError, RecursionError):
         return {}
 
@@ -104,7 +105,8 @@ def located(path: str, place: str) -> str:
         text = read_text(path)
     except OSError:
         return ""
-    at = element_at(text, [int(number) for number in place.split("/") if number]) if text.strip() else None
+    numbers = [int(number) for number in place.split("/") if number]
+    at = element_at(text, numbers) if text.strip() else None
     if at is None:
         return ""
     line, column = line_and_column(text, at)
@@ -131,7 +133,7 @@ def refuse_infinite(word: str) -> float:
 
 
 def deepest(text: str) -> tuple[int, int]:
-    """Where arrays and objects first stand deeper than they may, and how deep they stand at most."""
+    """Where arrays and objects first stand deeper than they may, and how deep they stand."""
     depth, most, at = 0, 0, 0
     for token in TOKEN.finditer(text):
         depth += 1 if token[0] in "[{" else -1 if token[0] in "]}" else 0
@@ -145,15 +147,16 @@ def expected(text: str, error: json.JSONDecodeError) -> str:
     """What was expected at an error, in words."""
     found = text[error.pos:error.pos + 1]
     if "double quotes" in error.msg:
-        return "a name in double quotes was expected" + (", behind a comma" if found in "}]" else "")
+        behind = ", behind a comma" if found in "}]" else ""
+        return f"a name in double quotes was expected{behind}"
     what = {
         "Expecting ',' delimiter": "a comma, or the end of the array or object, was expected",
         "Expecting ':' delimiter": "a colon was expected behind the name",
         "Expecting value": "a value was expected",
         "Extra data": "the text goes on behind its end",
         "Unterminated string starting at": "this text in quotes has no end",
-        "Invalid control character at": "a line end, a tab or another control character stands in a text: "
-                                        "write \\n or \\t",
+        "Invalid control character at":
+            "a line end, a tab or another control character stands in a text: write \\n or \\t",
     }
     return what.get(error.msg, error.msg[:1].lower() + error.msg[1:])
 
@@ -161,11 +164,12 @@ def expected(text: str, error: json.JSONDecodeError) -> str:
 def shown_at(path: str, text: str, at: int, what: str) -> str:
     line, column = line_and_column(text, at)
     found = " ".join(text[at:at + 40].split())
-    return f"{path}:{line}:{column}: {what}" + (f", and here stands {found[:30]}" if found else ", and here the file ends")
+    here = f"here stands {found[:30]}" if found else "here the file ends"
+    return f"{path}:{line}:{column}: {what}, and {here}"
 
 
 def json_fault(path: str) -> str:
-    """Why a file is no JSON text for the program, with line and column; nothing where none is found."""
+    """Why a file is no JSON text for the program, or nothing where that is not seen."""
     with open(path, "rb") as file:
         content = file.read()
     try:
@@ -192,7 +196,8 @@ def text_fault(path: str, text: str) -> str:
         pass
     at, most = deepest(text)
     if most > MOST_LEVELS:
-        return shown_at(path, text, at, f"more than {MOST_LEVELS} arrays and objects stand in one another")
+        what = f"more than {MOST_LEVELS} arrays and objects stand in one another"
+        return shown_at(path, text, at, what)
     if found := re.search(r"\\u[dD][89a-fA-F]", text):
         return shown_at(path, text, found.start(), "half of a character that takes two escapes")
     return ""

@@ -22,7 +22,8 @@ ACTIONS = (
            ("--target", "--property", "--nodes", "--clean", "--show")),
     Action("eval", "PROJECT", "show its properties and items", ("--property",)),
     Action("targets", "PROJECT", "show its targets in order", ("--property",)),
-    Action("trial", "SEED", "build a generated set of projects on one node and on several, and compare",
+    Action("trial", "SEED",
+           "build a generated set of projects on one node and on several, and compare",
            ("--size", "--nodes")),
 )
 
@@ -30,14 +31,16 @@ OPTIONS = (
     Option("--target", "LIST", "the targets to build", '--target "Restore;Build"'),
     Option("--property", "LIST", "global properties, which win over those of the project",
            '--property "Configuration=Release;OS=Unix"'),
-    Option("--nodes", "N", "how many nodes build, from 1 to 64: 1 without it, and 4 for trial", "--nodes 4"),
+    Option("--nodes", "N", "how many nodes build, from 1 to 64: 1 without it, and 4 for trial",
+           "--nodes 4"),
     Option("--clean", "", "skip nothing for being up to date", "--clean"),
     Option("--show", "low", "print messages of low importance too", "--show low"),
     Option("--size", "N", "how many projects the set of a trial has, from 1 to 100", "--size 20"),
 )
 
 OWN = (
-    Option("--quiet", "", "say nothing on standard error: no help, no hint, no progress", "--quiet"),
+    Option("--quiet", "", "say nothing on standard error: no help, no hint, no progress",
+           "--quiet"),
     Option("--time", "", "say at the end how long it took", "--time"),
     Option("--unproved", "", "run an unproved program, which is built in minutes", "--unproved"),
 )
@@ -55,7 +58,8 @@ STATUSES = (
     ("1", "the build failed"),
     ("2", "the words are not those of the program"),
     ("3", "the project is refused: it is not there, or has a fault"),
-    ("4", "the build is refused: a circle of calls, calls that are nested too deep, or too many projects"),
+    ("4", "the build is refused: a circle of calls, calls that are nested too deep, or too many "
+          "projects"),
     ("5", "a file or the folder could not be read or written"),
     ("6", "the text could not be printed"),
     ("7", "no memory was found"),
@@ -64,8 +68,8 @@ STATUSES = (
     ("125", "the launcher has no program to run"),
 )
 
-PROJECT_IS = ("PROJECT is a file in the current folder or below, as app/app.proj: an element tree in JSON. "
-              "All files of the folder and below are read first.")
+PROJECT_IS = ("PROJECT is a file in the current folder or below, as app/app.proj: an element tree "
+              "in JSON. All files of the folder and below are read first.")
 
 
 def option_of(name: str) -> Option | None:
