@@ -7,3 +7,4 @@ pub mod Moves
 pub mod Numbered
 pub mod OpenRuns
 pub mod Pairs
+pub mod Whole
