@@ -1,6 +1,29 @@
 -- Where two worlds go side by side, what the second gives the first gives, and leaves journals that
 -- are alike.
-use Rattle.std.proofs.Common.{◌≡◌, ℕ, ◌≤◌, ◌||◌, arith, Bool, false, ◌⊎◌, inl, List, [], ◌∷◌, ◌++◌, length, Option, None, Some, refl, ap, sym, ◌∙◌, subst}
+use Rattle.std.proofs.Common.{
+  ◌≡◌,
+  ℕ,
+  ◌≤◌,
+  ◌||◌,
+  arith,
+  Bool,
+  false,
+  ◌⊎◌,
+  inl,
+  List,
+  [],
+  ◌∷◌,
+  ◌++◌,
+  length,
+  Option,
+  None,
+  Some,
+  refl,
+  ap,
+  sym,
+  ◌∙◌,
+  subst,
+}
 use Rattle.msb_values.specs.declared.put.Put.{Put}
 use Rattle.result_cache.specs.declared.run.RunId.{RunId}
 use Rattle.result_cache.specs.declared.request.RequestKey.{RequestKey}
@@ -13,7 +36,16 @@ use Rattle.result_cache.specs.Journal.{Journal, wrote, ended, write_of, has, add
 use Rattle.result_cache.proofs.JournalEntries.{none-had, had-none, add_new}
 use Rattle.build_meaning.proofs.MeaningDerived.{in-left, in-right}
 use Rattle.build_meaning.specs.Walk.{Body, makes, writes, uses, calls, Outcome}
-use Rattle.build_meaning.specs.SoFar.{ToolUse, SoFar, nothing_yet, with_write, with_tool, recorded, result_of, called}
+use Rattle.build_meaning.specs.SoFar.{
+  ToolUse,
+  SoFar,
+  nothing_yet,
+  with_write,
+  with_tool,
+  recorded,
+  result_of,
+  called,
+}
 use Rattle.build_incremental.specs.Placed.{Placed, replies, wants_at, PlacedWorld}
 use Rattle.build_incremental.specs.Each.{
   EachWalk,
@@ -43,7 +75,13 @@ use Rattle.build_incremental.specs.SideBySide.{
   HasOneRecord,
 }
 use Rattle.build_incremental.proofs.Entries.{has-append, HasEnded}
-use Rattle.build_incremental.proofs.Numbered.{numbered, has-above, kept_whole, writes-called, written-length}
+use Rattle.build_incremental.proofs.Numbered.{
+  numbered,
+  has-above,
+  kept_whole,
+  writes-called,
+  written-length,
+}
 use Rattle.build_incremental.proofs.Pairs.{found-first, found-none}
 use Rattle.build_incremental.proofs.Moves.{
   Known,

@@ -1,6 +1,26 @@
 -- What two requests that go side by side put in front of their journals, one after the other, and
 -- joined where calls were made at once.
-use Rattle.std.proofs.Common.{◌≡◌, ℕ, true, false, ◌⊎◌, inl, inr, List, [], ◌++◌, Option, None, Some, refl, ap, sym, ◌∙◌, subst, append-nil}
+use Rattle.std.proofs.Common.{
+  ◌≡◌,
+  ℕ,
+  true,
+  false,
+  ◌⊎◌,
+  inl,
+  inr,
+  List,
+  [],
+  ◌++◌,
+  Option,
+  None,
+  Some,
+  refl,
+  ap,
+  sym,
+  ◌∙◌,
+  subst,
+  append-nil,
+}
 use Rattle.std.specs.Option.{option_or}
 use Rattle.std.specs.Str.{bytes_eq}
 use Rattle.msb_values.specs.declared.put.Put.{Put}
@@ -11,7 +31,26 @@ use Rattle.result_cache.specs.Journal.{Journal, wrote, write_of, has, record_of,
 use Rattle.result_cache.proofs.RunTests.{tells, clash}
 use Rattle.result_cache.proofs.JournalEntries.{Has}
 use Rattle.build_incremental.specs.Alike.{AlikeFound}
-use Rattle.build_incremental.proofs.Entries.{or-none, none-or-some, none-some, content-append, record-append, in-parts, in-marked, marked-write, HasEnded, content-there, there-content, nothing-content, own, own-append, in-own, own-in, own-none, content-own}
+use Rattle.build_incremental.proofs.Entries.{
+  or-none,
+  none-or-some,
+  none-some,
+  content-append,
+  record-append,
+  in-parts,
+  in-marked,
+  marked-write,
+  HasEnded,
+  content-there,
+  there-content,
+  nothing-content,
+  own,
+  own-append,
+  in-own,
+  own-in,
+  own-none,
+  content-own,
+}
 use Rattle.build_incremental.proofs.Numbered.{
   fresh,
   fresh-none,
@@ -22,7 +61,24 @@ use Rattle.build_incremental.proofs.Numbered.{
   kept-joined,
   writes_in,
 }
-use Rattle.build_incremental.proofs.Pairs.{found-second, found-none, alike-or, or-parts, or-ended, ended-newer, ended-older, Once, Apart, once-append, apart-ended, fresh-has, fresh-once, record-fresh, own-fresh, fresh-content}
+use Rattle.build_incremental.proofs.Pairs.{
+  found-second,
+  found-none,
+  alike-or,
+  or-parts,
+  or-ended,
+  ended-newer,
+  ended-older,
+  Once,
+  Apart,
+  once-append,
+  apart-ended,
+  fresh-has,
+  fresh-once,
+  record-fresh,
+  own-fresh,
+  fresh-content,
+}
 
 abbrev pub Nobody : RunId → Type 0
 Nobody r = ⊥

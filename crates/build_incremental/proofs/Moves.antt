@@ -1,5 +1,26 @@
 -- Moves of two requests that go side by side: from two journals to two others.
-use Rattle.std.proofs.Common.{◌≡◌, ℕ, true, false, ◌⊎◌, inl, inr, List, [], ◌∷◌, ◌++◌, Option, None, Some, refl, ap, sym, ◌∙◌, subst, append_assoc}
+use Rattle.std.proofs.Common.{
+  ◌≡◌,
+  ℕ,
+  true,
+  false,
+  ◌⊎◌,
+  inl,
+  inr,
+  List,
+  [],
+  ◌∷◌,
+  ◌++◌,
+  Option,
+  None,
+  Some,
+  refl,
+  ap,
+  sym,
+  ◌∙◌,
+  subst,
+  append_assoc,
+}
 use Rattle.std.specs.Option.{option_or}
 use Rattle.std.specs.Str.{bytes_eq}
 use Rattle.std.proofs.lemmas.Slice.Eq.{bytes_eq-Decides}
@@ -13,9 +34,28 @@ use Rattle.result_cache.proofs.RunTests.{tells, or_neither}
 use Rattle.build_meaning.proofs.MeaningDerived.{in-left}
 use Rattle.build_incremental.specs.Joins.{IsOfOneRun}
 use Rattle.build_incremental.specs.Alike.{seen, AlikeFound, AlikeJournals}
-use Rattle.build_incremental.proofs.Entries.{none-some, content-append, record-append, has-append, in-parts, in-marked, marked-write, HasEnded, own}
+use Rattle.build_incremental.proofs.Entries.{
+  none-some,
+  content-append,
+  record-append,
+  has-append,
+  in-parts,
+  in-marked,
+  marked-write,
+  HasEnded,
+  own,
+}
 use Rattle.build_incremental.proofs.Numbered.{fresh, in-fresh, writes_in}
-use Rattle.build_incremental.proofs.Pairs.{alike-or, ended-newer, ended-older, Apart, apart-append, fresh-has, record-fresh, merge-fresh}
+use Rattle.build_incremental.proofs.Pairs.{
+  alike-or,
+  ended-newer,
+  ended-older,
+  Apart,
+  apart-append,
+  fresh-has,
+  record-fresh,
+  merge-fresh,
+}
 use Rattle.build_incremental.proofs.Joined.{Nobody, Pair, nothing, compose, joined, joined-seen}
 
 -- runs that have written have ended, or are open

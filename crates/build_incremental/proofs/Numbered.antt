@@ -1,5 +1,32 @@
 -- The writes of one run, numbered, and two lists of them joined.
-use Rattle.std.proofs.Common.{◌≡◌, ℕ, suc, ◌+◌, ◌<◌, ◌≤◌, ◌==◌, Bool, true, false, ◌⊎◌, inl, inr, List, [], ◌∷◌, ◌++◌, length, None, refl, ap, sym, ◌∙◌, subst, arith, length-append}
+use Rattle.std.proofs.Common.{
+  ◌≡◌,
+  ℕ,
+  suc,
+  ◌+◌,
+  ◌<◌,
+  ◌≤◌,
+  ◌==◌,
+  Bool,
+  true,
+  false,
+  ◌⊎◌,
+  inl,
+  inr,
+  List,
+  [],
+  ◌∷◌,
+  ◌++◌,
+  length,
+  None,
+  refl,
+  ap,
+  sym,
+  ◌∙◌,
+  subst,
+  arith,
+  length-append,
+}
 use Rattle.std.specs.Prelude.{nat_lt}
 use Rattle.std.specs.Str.{bytes_eq}
 use Rattle.std.proofs.lemmas.Bool.{ltb-true, ltb-false, eqb-true, eq-eqb}
@@ -10,7 +37,18 @@ use Rattle.result_cache.specs.declared.request.RequestResult.{RequestResult}
 use Rattle.result_cache.specs.declared.record.Segment.{Segment}
 use Rattle.result_cache.specs.declared.record.Segment.TheVariants.{Write, Call}
 use Rattle.result_cache.specs.Lists.{In, this_or}
-use Rattle.result_cache.specs.Journal.{Journal, Entry, wrote, Mark, write_of, mark, same_mark, has, add_unless, content}
+use Rattle.result_cache.specs.Journal.{
+  Journal,
+  Entry,
+  wrote,
+  Mark,
+  write_of,
+  mark,
+  same_mark,
+  has,
+  add_unless,
+  content,
+}
 use Rattle.result_cache.proofs.RunTests.{
   tells,
   clash,

@@ -35,17 +35,68 @@ use Rattle.result_cache.specs.declared.record.Segment.{Segment}
 use Rattle.result_cache.specs.declared.record.Segment.TheVariants.{Write}
 use Rattle.result_cache.specs.Lists.{In, this_or}
 use Rattle.result_cache.specs.Same.{same_run}
-use Rattle.result_cache.specs.Journal.{Journal, Entry, wrote, ended, Mark, write_of, end_of, mark, same_mark, has, add, record_of, content}
-use Rattle.result_cache.proofs.RunTests.{tells, or_cases, or_neither, same_run-refl, same_run-true, same_run-eq, same_mark-true}
+use Rattle.result_cache.specs.Journal.{
+  Journal,
+  Entry,
+  wrote,
+  ended,
+  Mark,
+  write_of,
+  end_of,
+  mark,
+  same_mark,
+  has,
+  add,
+  record_of,
+  content,
+}
+use Rattle.result_cache.proofs.RunTests.{
+  tells,
+  or_cases,
+  or_neither,
+  same_run-refl,
+  same_run-true,
+  same_run-eq,
+  same_mark-true,
+}
 use Rattle.result_cache.proofs.JournalEntries.{Has, had-none, add_new}
 use Rattle.build_meaning.proofs.MeaningDerived.{in-left}
 use Rattle.build_incremental.specs.Alike.{seen, AlikeRecords, AlikeFound, AlikeJournals}
 use Rattle.build_incremental.specs.Alone.{LacksOnly, last_bytes, written}
-use Rattle.build_incremental.proofs.Entries.{none-or-some, none-some, record-append, has-append, HasEnded, front_if, own, own-append, own-marks}
-use Rattle.build_incremental.proofs.Numbered.{numbered, content-numbered, in-numbered, has-above, Kept, kept_part, writes_in, writes-more, writes-written, next-new}
+use Rattle.build_incremental.proofs.Entries.{
+  none-or-some,
+  none-some,
+  record-append,
+  has-append,
+  HasEnded,
+  front_if,
+  own,
+  own-append,
+  own-marks,
+}
+use Rattle.build_incremental.proofs.Numbered.{
+  numbered,
+  content-numbered,
+  in-numbered,
+  has-above,
+  Kept,
+  kept_part,
+  writes_in,
+  writes-more,
+  writes-written,
+  next-new,
+}
 use Rattle.build_incremental.proofs.Pairs.{found-none, ended-older, Once, Apart, apart-append}
 use Rattle.build_incremental.proofs.Joined.{Nobody, Pair, compose, no-own-w, no-own-c}
-use Rattle.build_incremental.proofs.Moves.{apart-left, apart-right, seen-append, alike-over, Went, Midway, IsFree}
+use Rattle.build_incremental.proofs.Moves.{
+  apart-left,
+  apart-right,
+  seen-append,
+  alike-over,
+  Went,
+  Midway,
+  IsFree,
+}
 
 -- ---- tests on the run at hand
 

@@ -1,6 +1,28 @@
 -- What two requests that go side by side put in front of their journals: N in the first world, L in
 -- the second.
-use Rattle.std.proofs.Common.{◌≡◌, ℕ, Bool, true, false, ◌||◌, ◌⊎◌, inl, inr, List, [], ◌∷◌, ◌++◌, Option, None, Some, refl, ap, sym, ◌∙◌, subst}
+use Rattle.std.proofs.Common.{
+  ◌≡◌,
+  ℕ,
+  Bool,
+  true,
+  false,
+  ◌||◌,
+  ◌⊎◌,
+  inl,
+  inr,
+  List,
+  [],
+  ◌∷◌,
+  ◌++◌,
+  Option,
+  None,
+  Some,
+  refl,
+  ap,
+  sym,
+  ◌∙◌,
+  subst,
+}
 use Rattle.std.specs.Option.{option_or}
 use Rattle.std.specs.Str.{bytes_eq}
 use Rattle.msb_values.specs.declared.put.Put.{Put}
@@ -8,11 +30,45 @@ use Rattle.result_cache.specs.declared.run.RunId.{RunId}
 use Rattle.result_cache.specs.declared.record.Record.{Record}
 use Rattle.result_cache.specs.Lists.{In, this_or}
 use Rattle.result_cache.specs.Same.{same_run}
-use Rattle.result_cache.specs.Journal.{Journal, wrote, ended, Mark, write_of, end_of, mark, same_mark, has, add_unless, add, merge, record_of, content}
-use Rattle.result_cache.proofs.RunTests.{tells, clash, or_left, or_right, or_cases, same_run-true, same_mark-refl, same_mark-true}
+use Rattle.result_cache.specs.Journal.{
+  Journal,
+  wrote,
+  ended,
+  Mark,
+  write_of,
+  end_of,
+  mark,
+  same_mark,
+  has,
+  add_unless,
+  add,
+  merge,
+  record_of,
+  content,
+}
+use Rattle.result_cache.proofs.RunTests.{
+  tells,
+  clash,
+  or_left,
+  or_right,
+  or_cases,
+  same_run-true,
+  same_mark-refl,
+  same_mark-true,
+}
 use Rattle.result_cache.proofs.JournalEntries.{Has, none-had, had-none, merge-absorbs}
 use Rattle.build_incremental.specs.Alike.{AlikeRecords, AlikeFound}
-use Rattle.build_incremental.proofs.Entries.{or-none, none-or-some, record-append, has-append, HasEnded, ended-marked, front_if, own, own-marks}
+use Rattle.build_incremental.proofs.Entries.{
+  or-none,
+  none-or-some,
+  record-append,
+  has-append,
+  HasEnded,
+  ended-marked,
+  front_if,
+  own,
+  own-marks,
+}
 use Rattle.build_incremental.proofs.Numbered.{fresh}
 
 -- ---- records of two journals

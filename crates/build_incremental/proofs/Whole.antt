@@ -1,13 +1,34 @@
 -- A world that asks for no other requests than a whole one is whole where it has a meaning.
-use Rattle.std.proofs.Common.{◌≡◌, ℕ, ◌≤◌, inl, inr, List, [], ◌∷◌, length, Some, refl, ap, subst,
-    arith}
+use Rattle.std.proofs.Common.{
+  ◌≡◌,
+  ℕ,
+  ◌≤◌,
+  inl,
+  inr,
+  List,
+  [],
+  ◌∷◌,
+  length,
+  Some,
+  refl,
+  ap,
+  subst,
+  arith,
+}
 use Rattle.msb_values.specs.declared.key.InstanceKey.{InstanceKey}
 use Rattle.result_cache.specs.declared.request.RequestKey.{RequestKey}
 use Rattle.result_cache.specs.declared.request.RequestResult.{RequestResult}
 use Rattle.result_cache.specs.Lists.{In}
 use Rattle.build_meaning.specs.World.{World}
-use Rattle.build_meaning.specs.Meaning.{Demanded, requested, together, built, Given, meaning,
-    most_instances}
+use Rattle.build_meaning.specs.Meaning.{
+  Demanded,
+  requested,
+  together,
+  built,
+  Given,
+  meaning,
+  most_instances,
+}
 use Rattle.build_meaning.specs.Demand.{instances, distinct, IsWhole}
 use Rattle.build_meaning.proofs.NothingRefused.{distinct-least}
 
