@@ -1,97 +1,278 @@
 #!/usr/bin/env python3
-"""Writes a project in MSBuild's XML notation as the element form that msb reads (docs/FORMATS.md). It is not proved.
+"""Writes projects in MSBuild's XML notation as the elements that msb reads. It is not proved.
 
-usage: tools/xml_to_elements.py [FILE]
+usage: tools/xml_to_elements.py [FILE] [-o OUT] [--sdks FOLDER]
+       tools/xml_to_elements.py SOURCE TARGET [--without NAME].. [--sdks FOLDER]
+       tools/xml_to_elements.py --survey [SOURCE..] [--without NAME].. [--places]
 
-The XML of FILE, or of standard input, goes to standard output as one line of JSON. Names, attributes and texts stay as
-they are. Comments and processing instructions are dropped, and so is white space between elements, or alone in an element
-that has no text. What the element form can't hold is said with its line and column, and the status is 1: text beside
-elements, a name with a prefix, a document type, too many levels, or what is no XML. Which element may stand where, and
-which attributes it may have, msb says itself.
+The XML of FILE, or of standard input, goes to OUT, or to standard output, as JSON in the form of
+docs/FORMATS.md, in which each element begins on the line of its XML tag. Names, attributes and
+texts stay as they are. White space alone is no text, as in MSBuild, and what the engine ignores is
+dropped. What the element form can't hold is said with its line and column. Which element may stand
+where, and which attributes it may have, msb says itself.
+
+Of a folder SOURCE a mirror is made in TARGET: projects (*.proj, *.csproj, *.targets, *.props, and
+each other file that begins with a Project element) as elements under the same names, and all other
+files as copies with their stamps. The next time only what has changed at the source is made again.
+TARGET.mirrored.json lists what the mirror made, and nothing else in TARGET is written over or
+removed.
+
+With --survey a table tells what msb does not take in the projects SOURCE and in those of the
+folders SOURCE, the most frequent first: what makes it refuse the project, what fails where a target
+runs, and what is empty where MSBuild has a value.
+
+  -o OUT          the file for the JSON, with the stamp of FILE
+  --sdks FOLDER   the Sdks that are staged, as NAME/Sdk/Sdk.props and Sdk.targets in FOLDER; a
+                  mirror without this option takes those that stand in SOURCE. The Sdk of a project
+                  becomes its two Imports.
+  --without NAME  files and folders of SOURCE that are left out; * and ? are wildcards. .git, .hg
+                  and .svn always are.
+  --places        all places of each row of the table, and not the first one alone
+
+The status is 0, or 1 where a file could not be taken or written, or 2 for wrong words.
 """
 
-import json
+from __future__ import annotations
+
+import argparse
+import os
+import shutil
+import stat
 import sys
-from xml.parsers import expat
 
-DEEPEST = 63  # elements, so that their JSON has at most the 127 levels that msb reads
+sys.dont_write_bytecode = True
 
+from xml_elements import sdks, surveys  # noqa: E402
+from xml_elements.documents import HEAD, NotTaken, is_project  # noqa: E402
+from xml_elements.mirrors import LIST, MOST, BadList, Mirror, replaced  # noqa: E402
+from xml_elements.reading import Element, read  # noqa: E402
+from xml_elements.trees import Tree, described  # noqa: E402
+from xml_elements.writing import write  # noqa: E402
 
-class NotTaken(Exception):
-    """What the element form can't hold, with the place where it stands."""
-
-
-class Reader:
-    def __init__(self):
-        self.parser = expat.ParserCreate()
-        self.parser.ordered_attributes = True
-        self.parser.StartElementHandler = self.start
-        self.parser.EndElementHandler = self.end
-        self.parser.CharacterDataHandler = self.characters
-        self.parser.StartDoctypeDeclHandler = self.document_type
-        self.root = None
-        self.open = []  # the elements that are open, the innermost last
-
-    def refuse(self, what, behind=0):
-        line, column = self.parser.CurrentLineNumber, self.parser.CurrentColumnNumber
-        raise NotTaken(f"line {line}, column {column + behind + 1}: {what}")
-
-    def start(self, name, attributes):
-        pairs = list(zip(attributes[::2], attributes[1::2]))
-        for written in [name] + [key for key, _ in pairs]:
-            if ":" in written:
-                self.refuse(f"the name {written} has a prefix")
-        if len(self.open) == DEEPEST:
-            self.refuse(f"<{name}> stands below {DEEPEST} others")
-        element = {"e": name}
-        if pairs:
-            element["a"] = dict(pairs)
-        self.root = self.root or element
-        for parent in self.open[-1:]:
-            if parent.get("t", "").strip():
-                self.refuse(f"<{name}> stands beside text in <{parent['e']}>")
-            parent.pop("t", None)
-            parent.setdefault("c", []).append(element)
-        self.open.append(element)
-
-    def characters(self, text):
-        element = self.open[-1]
-        if "c" not in element:
-            element["t"] = element.get("t", "") + text
-        elif text.strip():
-            spaces = len(text) - len(text.lstrip())
-            self.refuse(f"text stands beside elements in <{element['e']}>", spaces)
-
-    def end(self, name):
-        element = self.open[-1]
-        if not element.get("t", "").strip() and not self.is_text():
-            element.pop("t", None)
-        self.open.pop()
-
-    def is_text(self):
-        """Whether the innermost element is a property or metadata, whose white space counts."""
-        names = ["", ""] + [element["e"] for element in self.open]
-        return names[-2] == "PropertyGroup" or names[-3] in ("ItemGroup", "ItemDefinitionGroup")
-
-    def document_type(self, *_):
-        self.refuse("a document type is not read")
-
-    def read(self, source):
-        try:
-            self.parser.Parse(source, True)
-        except expat.ExpatError as error:
-            raise NotTaken(f"line {error.lineno}, column {error.offset + 1}: {expat.ErrorString(error.code)}")
-        return self.root
+VERSION_CONTROL = [".git", ".hg", ".svn"]
+INPUT = "/dev/stdin"
 
 
-def main():
-    file = sys.argv[1] if len(sys.argv) > 1 else "/dev/stdin"
+class Wrong(Exception):
+    """Words that can't be followed, or a file that can't be taken."""
+
+
+def put(text: str | bytes) -> None:
+    """Writes to standard output."""
+    data = text if isinstance(text, bytes) else text.encode("utf-8", "backslashreplace")
     try:
-        element = Reader().read(open(file, "rb").read())
-    except (NotTaken, OSError) as error:
-        sys.exit(f"{file}: {error}")
-    text = json.dumps(element, ensure_ascii=False, separators=(",", ":"), sort_keys=True)
-    sys.stdout.buffer.write(text.encode() + b"\n")
+        while data:
+            data = data[os.write(1, data) :]
+    except OSError as error:
+        raise Wrong(f"standard output: {described(error)}") from None
+
+
+def tell(file: str, what: str) -> None:
+    print(f"{file}: {what}", file=sys.stderr)
+
+
+def content_of(file: str) -> bytes:
+    try:
+        with open(file, "rb") as opened:
+            return opened.read()
+    except OSError as error:
+        raise Wrong(f"{file}: {described(error)}") from None
+
+
+def project_in(file: str) -> Element:
+    try:
+        return read(content_of(file))
+    except NotTaken as error:
+        raise Wrong(f"{file}: {error}") from None
+
+
+def convert(file: str, out: str | None, folder: str | None) -> int:
+    """Writes one project."""
+    if os.path.isdir(file):
+        raise Wrong(f"{file} is a folder: name a second one for its mirror, or say --survey")
+    if out and os.path.exists(out) and os.path.exists(file) and os.path.samefile(file, out):
+        raise Wrong(f"{out} is the project itself: name another file")
+    root = project_in(file)
+    if folder:
+        sdks.Imports(staged_in(folder), os.path.dirname(os.path.abspath(out or file))).put_in(root)
+    content = write(root)
+    if out is None:
+        put(content)
+        return 0
+    try:
+        write_file(out, content, file)
+    except OSError as error:
+        raise Wrong(f"{out}: {described(error)}") from None
+    return 0
+
+
+def write_file(out: str, content: bytes, file: str) -> None:
+    """Writes a file with the stamp of another one."""
+    if os.path.exists(out) and not os.path.isfile(out):
+        with open(out, "wb") as opened:
+            opened.write(content)
+        return
+    with replaced(os.path.realpath(out)) as temporary:
+        with open(temporary, "wb") as opened:
+            opened.write(content)
+        if stat.S_ISREG(os.stat(file).st_mode):
+            shutil.copystat(file, temporary)
+
+
+def staged_in(folder: str) -> sdks.Staged:
+    try:
+        return sdks.in_folder(folder)
+    except OSError as error:
+        raise Wrong(f"{folder}: {described(error)}") from None
+
+
+def mirror(source: str, target: str, without: list[str], folder: str | None) -> int:
+    """Makes, or brings up to date, the mirror of a folder."""
+    if not os.path.exists(source):
+        raise Wrong(f"{source}: No such file or directory")
+    if not os.path.isdir(source):
+        raise Wrong(f"{source} is no folder: one project is written by {source} -o {target}")
+    inner, outer = (os.path.join(os.path.realpath(path), "") for path in (source, target))
+    if inner.startswith(outer):
+        raise Wrong(f"{target} is {source} itself, or has it inside: name another folder")
+    target = os.path.abspath(target)
+    tree = Tree(source, without, [target, target + LIST])
+    made = Mirror(tree, target, staged_for(tree, source, target, folder))
+    try:
+        made.run()
+    except BadList as error:
+        raise Wrong(f"{target + LIST}: {error}") from None
+    except OSError as error:
+        raise Wrong(f"{error.filename or target}: {described(error)}") from None
+    for file, what in made.notes + made.faults:
+        tell(os.path.join(source, file), what)
+    report(made)
+    return 1 if made.faults else 0
+
+
+def staged_for(tree: Tree, source: str, target: str, folder: str | None) -> sdks.Staged:
+    """The Sdks of a mirror, with the folders in which they stand there."""
+    if folder is None:
+        staged, several = sdks.among(list(tree.files), target)
+        for name, places in several.items():
+            tell(
+                source, f"the Sdk {name} stands in {' and '.join(places)}: --sdks FOLDER takes one"
+            )
+        return staged
+    top, real = os.path.join(os.path.realpath(source), ""), os.path.realpath(folder)
+    staged = staged_in(real)
+    if real.startswith(top):
+        return {
+            name: os.path.join(target, os.path.relpath(place, top))
+            for name, place in staged.items()
+        }
+    return staged
+
+
+def report(made: Mirror) -> None:
+    files, projects = len(made.made), sum(one.is_project for one in made.made.values())
+    left = f", without {', '.join(sorted(made.tree.left_out))}" if made.tree.left_out else ""
+    done = f"{made.written} written, {made.removed} removed{left}"
+    put(f"{files} files, {projects} of them projects: {done}\n")
+    sizes = [one.file[0] for one in made.made.values()]
+    if files > MOST[0] or sum(sizes) > MOST[1] or max(sizes, default=0) > MOST[2]:
+        has = f"{files:,} files of {sum(sizes):,} bytes in all and {max(sizes):,} each"
+        takes = f"{MOST[0]:,} files of {MOST[1]:,} bytes in all and {MOST[2]:,} each"
+        tell(made.target, f"this has {has} at most, and msb reads {takes} at most")
+
+
+def survey(sources: list[str], without: list[str], with_places: bool) -> int:
+    """Prints what msb does not take in some projects."""
+    finds: list[surveys.Find] = []
+    faults = projects = taken = 0
+    for file in projects_among(sources, without):
+        projects += 1
+        try:
+            found = surveys.look(file, project_in(file))
+        except Wrong as error:
+            faults += 1
+            print(error, file=sys.stderr)
+            continue
+        finds += found
+        taken += not found
+    lines = surveys.table(finds, with_places)
+    lines.append(f"{projects} projects, {taken} of them with nothing of this")
+    put("".join(line + "\n" for line in lines))
+    return 1 if faults else 0
+
+
+def projects_among(sources: list[str], without: list[str]) -> list[str]:
+    """The paths of the projects among files and in folders."""
+    found = []
+    for source in sources:
+        if not os.path.isdir(source):
+            found.append(source)
+            continue
+        tree = Tree(source, without, [])
+        for file, what in tree.told:
+            tell(os.path.join(source, file), what)
+        paths = (os.path.join("" if source == "." else source, file) for file in tree.files)
+        found += [path for path in paths if is_project(path, head_of(path))]
+    return found
+
+
+def head_of(file: str) -> bytes:
+    try:
+        with open(file, "rb") as opened:
+            return opened.read(HEAD)
+    except OSError as error:
+        tell(file, described(error))
+        return b""
+
+
+class Words(argparse.ArgumentParser):
+    def error(self, message: str) -> None:
+        told = __doc__.split("\n\n")[1]
+        self.exit(2, f"{message}\n{told}\n")
+
+
+def read_words() -> argparse.Namespace:
+    parser = Words(add_help=False)
+    parser.add_argument("words", nargs="*")
+    parser.add_argument("-h", "--help", action="store_true")
+    parser.add_argument("-o", "--output", dest="out")
+    parser.add_argument("--sdks")
+    parser.add_argument("--without", action="append", default=[])
+    parser.add_argument("--survey", action="store_true")
+    parser.add_argument("--places", action="store_true")
+    told = parser.parse_intermixed_args()
+    if not told.help and not stand_together(told):
+        parser.error("these words do not stand together")
+    return told
+
+
+def stand_together(told: argparse.Namespace) -> bool:
+    """Whether the options are those of one of the three uses."""
+    if told.survey:
+        return not (told.out or told.sdks)
+    is_mirror = len(told.words) == 2
+    return len(told.words) <= 2 and not (told.places or (told.out if is_mirror else told.without))
+
+
+def follow(told: argparse.Namespace) -> int:
+    without = VERSION_CONTROL + told.without
+    if told.help:
+        put(__doc__)
+        return 0
+    if told.survey:
+        return survey(told.words or ["."], without, told.places)
+    if len(told.words) == 2:
+        return mirror(told.words[0], told.words[1], without, told.sdks)
+    return convert(INPUT if told.words in ([], ["-"]) else told.words[0], told.out, told.sdks)
+
+
+def main() -> None:
+    try:
+        sys.exit(follow(read_words()))
+    except Wrong as error:
+        sys.exit(str(error))
+    except KeyboardInterrupt:
+        sys.exit(130)
 
 
 if __name__ == "__main__":
