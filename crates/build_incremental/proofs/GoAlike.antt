@@ -1,0 +1,537 @@
+-- Where two worlds go side by side, what the second gives the first gives, and leaves journals that
+-- are alike.
+use Rattle.std.proofs.Common.{
+  ◌≡◌,
+  ℕ,
+  ◌≤◌,
+  ◌||◌,
+  arith,
+  Bool,
+  false,
+  ◌⊎◌,
+  inl,
+  List,
+  [],
+  ◌∷◌,
+  ◌++◌,
+  length,
+  Option,
+  None,
+  Some,
+  refl,
+  ap,
+  sym,
+  ◌∙◌,
+  subst,
+}
+use Rattle.msb_values.specs.declared.put.Put.{Put}
+use Rattle.result_cache.specs.declared.run.RunId.{RunId}
+use Rattle.result_cache.specs.declared.request.RequestKey.{RequestKey}
+use Rattle.result_cache.specs.declared.request.RequestResult.{RequestResult}
+use Rattle.result_cache.specs.declared.record.Record.{Record}
+use Rattle.result_cache.specs.declared.record.Segment.{Segment}
+use Rattle.result_cache.specs.declared.record.Segment.TheVariants.{Write}
+use Rattle.result_cache.specs.Lists.{In}
+use Rattle.result_cache.specs.Journal.{Journal, wrote, ended, write_of, has, add, merge, record_of}
+use Rattle.result_cache.proofs.JournalEntries.{none-had, had-none, add_new}
+use Rattle.build_meaning.proofs.MeaningDerived.{in-left, in-right}
+use Rattle.build_meaning.specs.Walk.{Body, makes, writes, uses, calls, Outcome}
+use Rattle.build_meaning.specs.SoFar.{
+  ToolUse,
+  SoFar,
+  nothing_yet,
+  with_write,
+  with_tool,
+  recorded,
+  result_of,
+  called,
+}
+use Rattle.build_incremental.specs.Placed.{Placed, replies, wants_at, PlacedWorld}
+use Rattle.build_incremental.specs.Each.{
+  EachWalk,
+  each_over,
+  each_used,
+  each_made,
+  EachBody,
+  each_ended,
+  each_wrote,
+  each_used_tool,
+  each_called,
+  EachCalls,
+  each_no_calls,
+  each_call,
+  EachOfMeaning,
+}
+use Rattle.build_incremental.specs.Joins.{IsOfOneRun, Anyhow}
+use Rattle.build_incremental.specs.Alike.{AlikeOutcomes, AlikeRecords, AlikeJournals}
+use Rattle.build_incremental.specs.Alone.{alone, written, LacksOnly}
+use Rattle.build_incremental.specs.SideBySide.{
+  AlikeBodies,
+  AlikeRuns,
+  step_by_step,
+  in_part,
+  AlikeWalks,
+  SideBySide,
+  HasOneRecord,
+}
+use Rattle.build_incremental.proofs.Entries.{has-append, HasEnded}
+use Rattle.build_incremental.proofs.Numbered.{
+  numbered,
+  has-above,
+  kept_whole,
+  writes-called,
+  written-length,
+}
+use Rattle.build_incremental.proofs.Pairs.{found-first, found-none}
+use Rattle.build_incremental.proofs.Moves.{
+  Known,
+  known-over,
+  known-nothing,
+  known-deeper,
+  none-of,
+  Went,
+  stays,
+  known-w,
+  known-c,
+  then-went,
+  join-went,
+  Midway,
+  IsFree,
+}
+use Rattle.build_incremental.proofs.OpenRuns.{
+  went-closed,
+  went-in-part,
+  wrote-w,
+  wrote-c,
+  writes-on,
+  calls-on,
+}
+
+-- ---- a body that calls nothing
+
+module _ {P I A : Type 0} (w : PlacedWorld P I A) (Q : P → RunId → Journal → Record → Type 0)
+    (J : Journal → Journal → Journal → Type 0) (K : RequestKey → Type 0) where
+  next-journal : (r : RunId) (j0 : Journal) → ((n : ℕ) → has (write_of r n) j0 ≡ false) →
+      (puts : List Put) (put : Put) (n : ℕ) → n ≡ length puts →
+      add (numbered r puts ++ j0) (wrote r n put) ≡ numbered r (put ∷ puts) ++ j0
+  next-journal r j0 free puts put n e =
+      subst (λ k. add (numbered r puts ++ j0) (wrote r k put) ≡ numbered r (put ∷ puts) ++ j0)
+      (sym e)
+      (add_new (numbered r puts ++ j0) (wrote r (length puts) put)
+      (has-append (write_of r (length puts)) (numbered r puts) j0
+      ∙ neither (has (write_of r (length puts)) (numbered r puts))
+      (has (write_of r (length puts)) j0) (has-above r puts (length puts) (self (length puts)))
+      (free (length puts))))
+    where
+      self : (n : ℕ) → n ≤ n
+      self n = omega arith
+
+      neither : (a b : Bool) → a ≡ false → b ≡ false → (a || b) ≡ false
+      neither a b p q = cc
+
+  -- it is made
+  pub alone-made : (path : List RunId) (r : RunId) (j0 : Journal) →
+      ((n : ℕ) → has (write_of r n) j0 ≡ false) →
+      (b : Body I A) (before : List Put) (o : Outcome) (puts : List Put) →
+      alone w.tools r b (numbered r before ++ j0) before ≡ Some (o, puts) →
+      (so_far : SoFar I) → so_far.segments ≡ written before →
+      (tools : List (ToolUse I)) × EachBody w Q J K path r (numbered r before ++ j0) so_far b
+      (recorded o (written puts)) tools (numbered r puts ++ j0)
+  alone-made path r j0 free (makes outcome) before o puts h so_far e =
+      let one : Outcome × List Put = (outcome, before) in
+      let other : Outcome × List Put = (o, puts) in
+      let both : one ≡ other = cc in
+      let po : outcome ≡ o = ap (λ z. z.0) both in
+      let pp : before ≡ puts = ap (λ z. z.1) both in (
+        so_far.tools,
+        subst (λ z. EachBody w Q J K path r (numbered r before ++ j0) so_far
+            (makes outcome) (recorded o (written z)) so_far.tools (numbered r z ++ j0)) pp
+            (subst (λ z. EachBody w Q J K path r (numbered r before ++ j0) so_far (makes outcome)
+            (recorded z (written before)) so_far.tools (numbered r before ++ j0)) po
+            (subst (λ z. EachBody w Q J K path r (numbered r before ++ j0) so_far (makes outcome)
+            (recorded outcome z) so_far.tools (numbered r before ++ j0)) e each_ended)),
+      )
+  alone-made path r j0 free (writes put go) before o puts h so_far e =
+      let j : Journal = numbered r before ++ j0 in
+      let long : length so_far.segments ≡ length before = ap length e ∙ written-length before in
+      let next : add j (wrote r (length before) put) ≡ numbered r (put ∷ before) ++ j0 =
+      next-journal r j0 free before put (length before) refl in
+      let next' : add j (wrote r (length so_far.segments) put) ≡ numbered r (put ∷ before) ++ j0 =
+      next-journal r j0 free before put (length so_far.segments) long in
+      let x = alone-made path r j0 free (go (numbered r (put ∷ before) ++ j0))
+      (put ∷ before) o puts (subst (λ z. alone w.tools r (go z) z (put ∷ before) ≡ Some (
+        o,
+        puts,
+      )) next h) (with_write so_far put) (ap (λ s. s ++ Write put ∷ []) e) in (
+        x.0,
+        each_wrote (subst (λ z. EachBody w Q J K path r z (with_write so_far put) (go z)
+            (recorded o (written puts)) x.0 (numbered r puts ++ j0)) (sym next') x.1),
+      )
+  alone-made path r j0 free (uses name input go) before o puts h so_far e =
+      let x = alone-made path r j0 free (go (w.tools name input)) before o puts h
+      (with_tool so_far name input) e in (x.0, each_used_tool x.1)
+  alone-made path r j0 free (calls key keys go) before o puts h so_far e = absurd (cc)
+
+  -- what is made of it
+  pub alone-told : {path : List RunId} {r : RunId} {j i : Journal} {so_far : SoFar I} {b : Body I A}
+      {m : Record} {tools : List (ToolUse I)} → EachBody w Q J K path r j so_far b m tools i →
+      (j0 : Journal) → ((n : ℕ) → has (write_of r n) j0 ≡ false) → (before : List Put) →
+      j ≡ numbered r before ++ j0 → (o : Outcome) (puts : List Put) →
+      alone w.tools r b j before ≡ Some (o, puts) → so_far.segments ≡ written before →
+      (m ≡ recorded o (written puts)) × (i ≡ numbered r puts ++ j0)
+  alone-told (each_ended {r = r} {so_far = so_far} {outcome =
+      outcome}) j0 free before at o puts h e =
+      let one : Outcome × List Put = (outcome, before) in
+      let other : Outcome × List Put = (o, puts) in
+      let both : one ≡ other = cc in
+      let po : outcome ≡ o = ap (λ z. z.0) both in
+      let pp : before ≡ puts = ap (λ z. z.1) both in (
+        ap (recorded outcome) e ∙ (ap (λ z. recorded z (written before)) po
+            ∙ ap (λ z. recorded o (written z)) pp),
+        at ∙ ap (λ z. numbered r z ++ j0) pp,
+      )
+  alone-told (each_wrote {r = r} {j = j} {so_far = so_far} {put = put} {go =
+      go} rest) j0 free before at o puts h e =
+      let long : length so_far.segments ≡ length before = ap length e ∙ written-length before in
+      let next : add j (wrote r (length so_far.segments) put) ≡ numbered r (put ∷ before) ++ j0 =
+      ap (λ z. add z (wrote r (length so_far.segments) put)) at
+      ∙ next-journal r j0 free before put (length so_far.segments) long in
+      alone-told rest j0 free (put ∷ before) next o puts
+      (subst (λ n. alone w.tools r (go (add j (wrote r n put))) (add j (wrote r n put))
+      (put ∷ before) ≡ Some (o, puts)) (sym long) h) (ap (λ s. s ++ Write put ∷ []) e)
+  alone-told (each_used_tool rest) j0 free before at o puts h e =
+      alone-told rest j0 free before at o puts h e
+  alone-told (each_called asked rest) j0 free before at o puts h e = absurd (cc)
+
+  -- a record has what was done so far
+  pub has-so-far : {path : List RunId} {r : RunId} {j i : Journal} {so_far : SoFar I} {b : Body I A}
+      {m : Record} {tools : List (ToolUse I)} → EachBody w Q J K path r j so_far b m tools i →
+      (s : Segment) → In s so_far.segments → In s m.segments
+  has-so-far each_ended s u = u
+  has-so-far (each_wrote {so_far = so_far} {put = put} rest) s u =
+      has-so-far rest s (in-left s so_far.segments (Write put ∷ []) u)
+  has-so-far (each_used_tool rest) s u = has-so-far rest s u
+  has-so-far (each_called {so_far = so_far} {key = key} {keys = keys} {results =
+      results} asked rest) s u = has-so-far rest s
+      (in-left s so_far.segments (called (key ∷ keys) results) u)
+
+-- ---- side by side
+
+module _ {P I A : Type 0} (files : List ℕ → Option (List ℕ)) (W : List ℕ → Type 0)
+    (w c : PlacedWorld P I A) (Q' Q : P → RunId → Journal → Record → Type 0) (K : RequestKey →
+    Type 0) (one : HasOneRecord Q) (side : SideBySide files W Q' Q w c) where
+  -- the second world makes the run with this record
+  abbrev pub MadeSo : RunId → Record → Type 0
+  MadeSo r m = (p : P) × (k : Journal) × Q p r k m
+
+  made-one : (r : RunId) (m n : Record) → MadeSo r m → MadeSo r n → m ≡ n
+  made-one r m n a b = one a.0 b.0 r a.1 b.1 m n a.2 b.2
+
+  abbrev Moved : List RunId → Journal → Journal → Journal → Journal → Type 0
+  Moved path j k i l = Went files W MadeSo path j k i l
+
+  abbrev Alike : Journal → Journal → Type 0
+  Alike j k = AlikeJournals files W j k
+
+  abbrev pub WalkGoes : List RunId → Journal → Journal → List RunId → Placed P I A → RequestResult →
+      Journal → Type 0
+  WalkGoes path j k runs x res l = (i : Journal) × EachWalk w Q' Anyhow K path j runs x res i
+      × Moved path j k i l
+
+  abbrev CallsGo : List RunId → Journal → Journal → Journal → List RequestKey → List RequestResult →
+      Journal → Type 0
+  CallsGo path j k a keys results l = (i : Journal)
+      × EachCalls w Q' Anyhow K path j a keys results i × Moved path j k i l
+
+  -- the first one's body, up to the run's end
+  abbrev RunGoes : P → List RunId → RunId → Journal → Journal → Body I A → Record → Journal → Type 0
+  RunGoes p path r j k b m l =
+      (first : Record) × (tools : List (ToolUse I)) × (i : Journal)
+      × EachBody w Q' Anyhow K (r ∷ path) r j nothing_yet b first tools i × Q' p r j first
+      × AlikeRecords first m × Moved path j k (add i (ended r first)) (add l (ended r m))
+
+  abbrev StepsGo : RunId → List RunId → Journal → Journal → Journal → SoFar I → Body I A → Record →
+      List (ToolUse I) → Journal → Type 0
+  StepsGo r path j k i so_far b m tools l =
+      (last : Journal) × EachBody w Q' Anyhow K (r ∷ path) r i so_far b m tools last
+      × Midway files W MadeSo r path m.segments j k last l
+
+  part-goes : (p : P) (path : List RunId) (r : RunId) (j k : Journal) (b y : Body I A) (m : Record)
+      (tools : List (ToolUse I)) (l : Journal) → EachBody c Q IsOfOneRun K (r
+      ∷ path) r k nothing_yet y m tools l →
+      IsFree files W MadeSo r path j → IsFree files W MadeSo r path k → ¬ In r path → MadeSo r m →
+      Alike j k → (o q : Outcome) (puts wholes : List Put) →
+      alone c.tools r b j [] ≡ Some (o, puts) → alone c.tools r y k [] ≡ Some (q, wholes) →
+      AlikeOutcomes o q → LacksOnly files j puts wholes → ((put : Put) → In put puts → W put.path) →
+      Q' p r j (recorded o (written puts)) → RunGoes p path r j k b m l
+  part-goes p path r j k b y m tools l d fw fc out made base o q puts wholes hw hc alike lacks may
+      said =
+      let u = alone-made w Q' Anyhow K (r ∷ path) r j fw.writes b [] o puts
+      (subst (λ t. alone t r b j [] ≡ Some (o, puts)) (sym side.tools) hw) nothing_yet refl in
+      let v = alone-told c Q IsOfOneRun K d k fc.writes [] refl q wholes hc refl in
+      let seg : m.segments ≡ written wholes = ap (λ (x : Record). x.segments) v.0 in
+      let recs : AlikeRecords (recorded o (written puts)) m =
+      record {
+        ok = alike.ok ∙ sym (ap (λ (x : Record). x.ok) v.0);
+        items =
+            alike.items ∙ sym (ap (λ (x : Record). x.items) v.0);
+        changes =
+            alike.changes ∙ sym (ap (λ (x : Record). x.changes) v.0);
+      } in (
+        recorded o (written puts),
+        u.0,
+        numbered r puts ++ j,
+        u.1,
+        said,
+        recs,
+        subst (λ z. Moved path j k
+            (add (numbered r puts ++ j) (ended r (recorded o (written puts))))
+            (add z (ended r m))) (sym v.1)
+            (went-in-part files W MadeSo r path (recorded o (written puts)) m puts wholes j k seg
+            fw fc out made recs base lacks may),
+      )
+
+  run-goes : (p : P) {path : List RunId} {r : RunId} {k : Journal} {y : Body I A} {m : Record}
+      {tools : List (ToolUse I)} {l : Journal} → EachBody c Q IsOfOneRun K (r
+      ∷ path) r k nothing_yet y m tools l →
+      (b : Body I A) (j : Journal) → IsFree files W MadeSo r path j →
+      IsFree files W MadeSo r path k → ¬ In r path → MadeSo r m → Alike j k →
+      (AlikeBodies files W b y → Midway files W MadeSo r path [] j k j k →
+      ((put : Put) → In (Write put) m.segments → W put.path) →
+      StepsGo r path j k j nothing_yet b m tools l) →
+      AlikeRuns files W c.tools r j k b y m (Q' p r j) → RunGoes p path r j k b m l
+  run-goes p {path} {r} {k} {y} {m} {tools} {l} d b j fw fc out made a steps
+      (in_part o q puts wholes hw hc alike lacks may said) =
+      part-goes p path r j k b y m tools l d fw fc out made a o q puts wholes hw hc alike lacks may
+      said
+  run-goes p {path} {r} {k} {y} {m} {tools} {l} d b j fw fc out made a steps
+      (step_by_step alike may said) =
+      let start : Midway files W MadeSo r path [] j k j k = record {
+        N = [];
+        L = [];
+        w_is = refl;
+        c_is = refl;
+        pair = record {
+          once_w = tt;
+          once_c = tt;
+          same_ends = λ s. tt;
+          by_w = λ s n put u. absurd u;
+          by_c = λ s n put u. absurd u;
+          made = λ s x e. absurd (cc);
+          own_c = λ s x e. absurd (cc);
+          own_w = λ s x e. absurd (cc);
+        };
+        new_w = λ s h. absurd (cc);
+        new_c = λ s h. absurd (cc);
+        outside = λ s u. refl;
+        mine_w = refl;
+        mine_c = refl;
+        alike = a;
+      } in
+      let x = steps alike start may in
+      let mid = x.2 in
+      let recs : AlikeRecords m m = record { ok = refl; items = refl; changes = refl } in (
+        m,
+        tools,
+        x.0,
+        x.1,
+        said,
+        recs,
+        went-closed files W MadeSo r path m m mid.pair mid.w_is mid.c_is mid.new_w mid.new_c fw fc
+            mid.outside out mid.mine_c (kept_whole mid.mine_w) made recs a mid.alike,
+      )
+
+  midway-known : (r : RunId) (path : List RunId) (segments : List Segment) (i j N : Journal) →
+      i ≡ N ++ j → ((s : RunId) (n : ℕ) (put : Put) → In (wrote s n put) N →
+      HasEnded s N ⊎ (r ≡ s)) → IsFree files W MadeSo r path j → Known (r ∷ path) i
+  midway-known r path segments i j N e by f =
+      subst (Known (r ∷ path)) (sym e) (known-over (r ∷ path)
+      (λ s. r ≡ s) N j (λ s p. inl p) by (known-deeper r path j f.known))
+
+  mutual
+    pub walk-goes : {path : List RunId} {k : Journal} {runs : List RunId} {y : Placed P I A}
+        {res : RequestResult} {l : Journal} → EachWalk c Q IsOfOneRun K path k runs y res l →
+        (x : Placed P I A) (j : Journal) → AlikeWalks files W Q' Q c.tools x y j k → Known path j →
+        Known path k → Alike j k → WalkGoes path j k runs x res l
+    walk-goes (each_over {path = path} {j = k} {runs = runs} {reply = reply})
+        (replies other) j h kw kc a = (
+          j,
+          subst (λ z. EachWalk w Q' Anyhow K path j runs (replies other)
+              (result_of z runs) j) h each_over,
+          stays files W MadeSo path j k a,
+        )
+    walk-goes each_over (wants_at p r b go) j h kw kc a = absurd h
+    walk-goes (each_used m e rest) (replies other) j h kw kc a = absurd h
+    walk-goes (each_used {path = path} {j = k} {k = l} {runs = runs} {res = res} {p = q} {r = s}
+        {b = y} {go = to} m e rest) (wants_at p r b go) j h kw kc a =
+        let f = found-first (record_of j s) (record_of k s) (a.records s) m e in
+        let x = walk-goes rest (go f.0 j) j (h.2 f.0 m j k f.2 a) kw kc a in (
+          x.0,
+          subst (λ z. EachWalk w Q' Anyhow K path j runs (wants_at p z b go) res x.0) (sym h.0)
+              (each_used f.0 f.1 x.1),
+          x.2,
+        )
+    walk-goes (each_made n f d q rest) (replies other) j h kw kc a = absurd h
+    walk-goes (each_made {path = path} {j = k} {i = i} {k = l} {runs = runs} {res = res} {p = q0}
+        {r = s} {b = y} {go = to} {m = m} {tools = tools} out new d q rest)
+        (wants_at p r b go) j h kw kc a =
+        let none-c : record_of k s ≡ None = none-had k s new in
+        let none-w : record_of j s ≡ None = found-none (record_of j s) (record_of k s)
+        (a.records s) none-c in
+        let fw : IsFree files W MadeSo s path j = record {
+          known = kw;
+          writes =
+              none-of path j s kw out none-w;
+          ends = none-w;
+        } in
+        let fc : IsFree files W MadeSo s path k = record {
+          known = kc;
+          writes =
+              none-of path k s kc out none-c;
+          ends = none-c;
+        } in
+        let u : RunGoes p path s j k b m i = run-goes p d b j fw fc out (
+          q0,
+          k,
+          q,
+        ) a (λ alike start may. steps-go d b j j k fw fc a alike start may)
+        (h.1 m q fw.writes fc.writes) in
+        let moved = u.6 in
+        let x = walk-goes rest (go u.0 (add u.2 (ended s u.0))) (add u.2 (ended s u.0))
+        (h.2 u.0 m (add u.2 (ended s u.0)) (add i (ended s m)) u.5 moved.alike)
+        (known-w files W MadeSo moved kw) (known-c files W MadeSo moved kc) moved.alike in (
+          x.0,
+          subst (λ z. EachWalk w Q' Anyhow K path j runs (wants_at p z b go) res x.0) (sym h.0)
+              (each_made out (had-none j s none-w) u.3 u.4 x.1),
+          then-went files W MadeSo moved x.2,
+        )
+
+    steps-go : {path : List RunId} {r : RunId} {l : Journal} {so_far : SoFar I} {y : Body I A}
+        {m : Record} {tools : List (ToolUse I)} {end : Journal} →
+        EachBody c Q IsOfOneRun K (r ∷ path) r l so_far y m tools end →
+        (b : Body I A) (i j k : Journal) → IsFree files W MadeSo r path j →
+        IsFree files W MadeSo r path k → Alike j k → AlikeBodies files W b y →
+        Midway files W MadeSo r path so_far.segments j k i l →
+        ((put : Put) → In (Write put) m.segments → W put.path) →
+        StepsGo r path j k i so_far b m tools end
+    steps-go {path} {r} (each_ended {so_far = so_far} {outcome = outcome})
+        (makes o) i j k fw fc a alike mid may = (
+          i,
+          subst (λ z. EachBody w Q' Anyhow K (r ∷ path) r i so_far (makes o)
+              (recorded z so_far.segments) so_far.tools i) alike each_ended,
+          mid,
+        )
+    steps-go each_ended (writes put go) i j k fw fc a alike mid may = absurd alike
+    steps-go each_ended (uses name input go) i j k fw fc a alike mid may = absurd alike
+    steps-go each_ended (calls key keys go) i j k fw fc a alike mid may = absurd alike
+    steps-go {path} {r} {l} {m = m} {tools = tools}
+        (each_wrote {so_far = so_far} {put = put} {go = to} rest)
+        (writes put' go) i j k fw fc a alike mid may =
+        let wi : add i (wrote r (length so_far.segments) put) ≡ wrote r (length so_far.segments) put
+        ∷ i = wrote-w files W MadeSo r path so_far.segments fw fc a mid put in
+        let ci : add l (wrote r (length so_far.segments) put) ≡ wrote r (length so_far.segments) put
+        ∷ l = wrote-c files W MadeSo r path so_far.segments fw fc a mid put in
+        let in_record : In (Write put) m.segments =
+        has-so-far c Q IsOfOneRun K rest (Write put)
+        (in-right (Write put) so_far.segments (Write put ∷ []) (inl refl)) in
+        let on = writes-on files W MadeSo r path so_far.segments fw fc a mid put
+        (may put in_record) in
+        let mid' : Midway files W MadeSo r path (so_far.segments ++ Write put ∷ []) j k
+        (add i (wrote r (length so_far.segments) put))
+        (add l (wrote r (length so_far.segments) put)) =
+        subst (λ z. Midway files W MadeSo r path (so_far.segments ++ Write put ∷ []) j k z
+        (add l (wrote r (length so_far.segments) put))) (sym wi)
+        (subst (λ z. Midway files W MadeSo r path (so_far.segments ++ Write put ∷ []) j k
+        (wrote r (length so_far.segments) put ∷ i) z) (sym ci) on) in
+        let x = steps-go rest (go (add i (wrote r (length so_far.segments) put)))
+        (add i (wrote r (length so_far.segments) put)) j k fw fc a
+        (alike.1 (add i (wrote r (length so_far.segments) put))
+        (add l (wrote r (length so_far.segments) put)) mid'.alike) mid' may in (
+          x.0,
+          subst (λ z. EachBody w Q' Anyhow K (r ∷ path) r i so_far (writes z go) m tools x.0)
+              (sym alike.0) (each_wrote x.1),
+          x.2,
+        )
+    steps-go (each_wrote rest) (makes o) i j k fw fc a alike mid may = absurd alike
+    steps-go (each_wrote rest) (uses name input go) i j k fw fc a alike mid may = absurd alike
+    steps-go (each_wrote rest) (calls key keys go) i j k fw fc a alike mid may = absurd alike
+    steps-go {path} {r} {l} {m = m} {tools = tools}
+        (each_used_tool {so_far = so_far} {name = name} {input = input} {go = to} rest)
+        (uses name' input' go) i j k fw fc a alike mid may =
+        let x = steps-go rest (go (c.tools name input)) i j k fw fc a
+        (alike.2 (c.tools name input)) mid may in
+        let same : w.tools name input ≡ c.tools name input = ap (λ t. t name input) side.tools in
+        let step : EachBody w Q' Anyhow K (r ∷ path) r i so_far (uses name input go) m tools x.0 =
+        each_used_tool (subst (λ z. EachBody w Q' Anyhow K (r ∷ path) r i
+        (with_tool so_far name input) (go z) m tools x.0) (sym same) x.1) in (
+          x.0,
+          subst (λ z. EachBody w Q' Anyhow K (r ∷ path) r i so_far
+              (uses z input' go) m tools x.0) (sym alike.0)
+              (subst (λ z. EachBody w Q' Anyhow K (r ∷ path) r i so_far (uses name z go) m tools
+              x.0)
+              (sym alike.1) step),
+          x.2,
+        )
+    steps-go (each_used_tool rest) (makes o) i j k fw fc a alike mid may = absurd alike
+    steps-go (each_used_tool rest) (writes put go) i j k fw fc a alike mid may = absurd alike
+    steps-go (each_used_tool rest) (calls key keys go) i j k fw fc a alike mid may = absurd alike
+    steps-go {path} {r} {l} {m = m} {tools = tools}
+        (each_called {i = after} {so_far = so_far} {key = key} {keys = keys} {go = to} {results =
+        results} asked rest) (calls key' keys' go) i j k fw fc a alike mid may =
+        let kw : Known (r ∷ path) i = midway-known r path so_far.segments i j mid.N mid.w_is
+        mid.pair.by_w fw in
+        let kc : Known (r ∷ path) l = midway-known r path so_far.segments l k mid.L mid.c_is
+        mid.pair.by_c fc in
+        let x = calls-go asked i i kw kc mid.alike
+        (stays files W MadeSo (r ∷ path) i l mid.alike) in
+        let mid' : Midway files W MadeSo r path (so_far.segments
+        ++ called (key ∷ keys) results) j k x.0 after =
+        calls-on files W MadeSo r path so_far.segments fw fc a mid (so_far.segments
+        ++ called (key ∷ keys) results) (writes-called r so_far.segments (key
+        ∷ keys) results) x.2 in
+        let y' = steps-go rest (go results x.0) x.0 j k fw fc a
+        (alike.2 results x.0 after mid'.alike) mid' may in (
+          y'.0,
+          subst (λ z. EachBody w Q' Anyhow K (r ∷ path) r i so_far
+              (calls z keys' go) m tools y'.0) (sym alike.0)
+              (subst (λ z. EachBody w Q' Anyhow K (r ∷ path) r i so_far (calls key z go) m tools
+              y'.0)
+              (sym alike.1) (each_called x.1 y'.1)),
+          y'.2,
+        )
+    steps-go (each_called asked rest) (makes o) i j k fw fc a alike mid may = absurd alike
+    steps-go (each_called asked rest) (writes put go) i j k fw fc a alike mid may = absurd alike
+    steps-go (each_called asked rest) (uses name input go) i j k fw fc a alike mid may =
+        absurd alike
+
+    calls-go : {path : List RunId} {k a : Journal} {keys : List RequestKey}
+        {results : List RequestResult} {l : Journal} →
+        EachCalls c Q IsOfOneRun K path k a keys results l → (j i : Journal) → Known path j →
+        Known path k → Alike j k →
+        Moved path j k i a → CallsGo path j k i keys results l
+    calls-go (each_no_calls {path = path} {j = k} {a = a}) j i kw kc base moved =
+        (i, each_no_calls, moved)
+    calls-go (each_call {path = path} {j = k} {a = a} {i = l} {k = end} {key = key} {keys = keys}
+        {res = res} {results = results} known less walk of_one rest) j i kw kc base moved =
+        let x = walk-goes walk (w.walks key j) j (side.walks key j k base) kw kc base in
+        let y = calls-go rest j (merge i x.0) kw kc base
+        (join-went files W MadeSo moved made-one base x.2 of_one) in
+        (y.0, each_call known less x.1 tt y.1, y.2)
+
+  pub meanings-go : (result : RequestResult) (last : Journal) →
+      EachOfMeaning c Q IsOfOneRun K result last →
+      (journal : Journal) × EachOfMeaning w Q' Anyhow K result journal
+      × AlikeJournals files W journal last
+  meanings-go result last each =
+      let start : Alike [] [] = record {
+        same = λ p. refl;
+        records = λ r. tt;
+        only =
+            λ r n put u. absurd u;
+      } in
+      let alike : AlikeWalks files W Q' Q c.tools (w.walks w.root []) (c.walks c.root []) [] [] =
+      subst (λ z. AlikeWalks files W Q' Q c.tools (w.walks z []) (c.walks c.root []) [] [])
+      (sym side.root) (side.walks c.root [] [] start) in
+      let x = walk-goes each.rest (w.walks w.root []) [] alike (known-nothing [])
+      (known-nothing []) start in
+      (x.0, record { root = subst K (sym side.root) each.root; rest = x.1 }, x.2.alike)

@@ -1,0 +1,10 @@
+pub mod Demands
+pub mod Entries
+pub mod GoAlike
+pub mod Joined
+pub mod Meanings
+pub mod Moves
+pub mod Numbered
+pub mod OpenRuns
+pub mod Pairs
+pub mod Whole

@@ -1,4 +1,0 @@
-pub mod Advancing
-pub mod Beginning
-pub mod Called
-pub mod Others

@@ -1,4 +1,0 @@
-pub mod Plans
-pub mod Standings
-pub mod Scripts
-pub mod Trials
