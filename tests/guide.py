@@ -116,6 +116,18 @@ def try_page(name: str, folder: Path) -> tuple[int, int]:
     return good, bad
 
 
+def try_quick_start(folder: Path) -> tuple[int, int]:
+    """The first block of README.md are commands, each of which succeeds."""
+    shell, good, bad = Shell(folder), 0, 0
+    block = re.search(r"\n\n((?:    [^\n]+\n)+)", (TOP / "README.md").read_text())[1]
+    for command in block.splitlines():
+        printed = shell.run(command.strip())
+        good, bad = good + (not shell.status), bad + bool(shell.status)
+        if shell.status:
+            print(f"FAIL README.md: {command.strip()}\n{printed}")
+    return good, bad
+
+
 # ---- The rows of the last table ---------------------------------------------------------------
 
 MESSAGE = '{"e":"Message","a":{"Text":"x"}}'
@@ -258,7 +270,7 @@ def main() -> int:
         own, rows = Path(scratch) / "own", Path(scratch) / "rows"
         own.mkdir()
         rows.mkdir()
-        counts = [try_page("docs/GUIDE.md", own), try_page("README.md", top),
+        counts = [try_page("docs/GUIDE.md", own), try_quick_start(top), try_page("README.md", top),
                   try_rows(rows, top / "msb"),
                   try_links()]
     good, bad = (sum(column) for column in zip(*counts))

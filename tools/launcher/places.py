@@ -2,6 +2,7 @@
 
 import json
 import re
+from itertools import islice
 from typing import Iterator
 
 TOKEN = re.compile(r'"(?:[^"\\]|\\.)*"|[\[\]{}]', re.S)
@@ -69,8 +70,8 @@ def element_at(text: str, place: list[int]) -> int | None:
     try:
         for number in place:
             children = dict(members(text, at))["c"]
-            at = list(values(text, children))[number]
-    except (IndexError, KeyError, ValueError):
+            at = next(islice(values(text, children), number, None))
+    except (IndexError, KeyError, StopIteration, ValueError):
         return None
     return at
 
