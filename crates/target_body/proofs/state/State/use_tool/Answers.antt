@@ -39,7 +39,7 @@ returns-in_ok-give-in-Err-clause-plays g c =
     let tools = g.T.CountedTools.calls c.args.tools.now in
     let f : Now × TaskOutput → Work (Result Now Stopped) = λ x. done (answered_to run e c.args.call.now.gives c.args.call.now.bucket.now c.args.on_error x) in
     tool_fails (player c.args.call.now.site.id.now g.T.CountedTools.answer) c.args.task.now f c.in-Err.failure _ c.in_ok-output-in-Err.output
-    (moment c.args.self.now c.args.journal.now tools) (moment c.give-in-Err.new.self c.give-in-Err.new.journal tools) c.in_ok-give-in-Err.field-0
+    (moment c.args.self.now c.args.journal.now tools) (moment c.give.new.self c.give.new.journal tools) c.in_ok-give-in-Err.field-0
     (ap (λ (folder : List ℕ). foreign_input folder (record { files = run.files; journal = c.args.journal.now }) c.args.params) (sym c.folder.ensures)
     ∙ ap (λ (view : View). foreign_input c.folder.result.now view c.args.params) (sym c.of-view.ensures)
     ∙ told c.in-Err.failure c.in_ok-output-in-Err.ensures.told c.in-Err.ensures)
