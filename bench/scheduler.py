@@ -6,7 +6,7 @@ usage: bench/scheduler.py [PROGRAM [PROJECTS ..]]
 PROGRAM is the built program, crates/msb/out/msb if it is not given; the numbers of projects are
 250 to 1000 if none is given. In `flat` the root calls all other projects at once; in `chains` each
 of those that it calls calls the next one of its chain of 100; in `layers`, 50 of them, each project
-calls two of the next layer. A line has the least processor seconds of five builds on one node and
+calls two of the next layer. A line has the least processor seconds of three builds on one node and
 their peak memory in MiB, each with how many times that of the line above it is, and the processor
 seconds of `eval`, which loads the same files and evaluates the root alone. The peak of Python
 itself, some 15 MiB, is the least that shows.
@@ -21,7 +21,7 @@ from collections.abc import Iterable, Iterator
 from pathlib import Path
 
 TOP = Path(__file__).resolve().parent.parent
-RUNS = 5
+RUNS = 3
 LENGTH = 100
 LAYERS = 50
 

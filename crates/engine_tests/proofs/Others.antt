@@ -1,0 +1,129 @@
+-- A walk stays its request's own through the events of others.
+use Rattle.std.proofs.Common.{◌≡◌, ◌<◌, ◌≤◌, ℕ, zero, suc, List, [], ◌∷◌, ◌++◌, length, drop, take, All, get_or, Option, Some, refl, ap, sym, subst, ◌∙◌, arith, append_assoc, length-append}
+use Rattle.std.specs.List.{remove}
+use Rattle.std.proofs.lemmas.List.{append-nil}
+use Rattle.std.proofs.lemmas.List.Elements.{All-append, All-drop, All-take}
+use Rattle.std.proofs.Math.Logic.{∥∥₁_map, ∥∥₁_map₂}
+use Rattle.result_cache.specs.declared.run.RunId.{RunId}
+use Rattle.result_cache.specs.Table.{Records, TableRuns, found}
+use Rattle.result_cache.proofs.RunTests.{and_then-some}
+use Rattle.build_meaning.specs.declared.event.Event.{Event}
+use Rattle.build_meaning.specs.World.{World}
+use Rattle.build_meaning.specs.State.{assigned, State, start}
+use Rattle.build_meaning.specs.Step.{step, after_all, whose}
+use Rattle.build_meaning.specs.History.{IsHistory, AreOfOthers}
+use Rattle.build_meaning.proofs.AssignedRequests.{stays}
+use Rattle.build_meaning.proofs.EventsKeepLawful.{some-is}
+use Rattle.build_meaning.proofs.OrderlyHistories.{records_stay}
+use Rattle.build_scheduler.specs.declared.slot.Origin.{Origin}
+use Rattle.build_scheduler.specs.declared.slot.Slot.{Slot}
+use Rattle.build_scheduler.specs.declared.slot.End.{End}
+use Rattle.build_scheduler.specs.Log.{Logged}
+use Rattle.build_scheduler.specs.Own.{Seen, placed, IsOwn}
+use Rattle.build_scheduler.specs.Position.{ask_of}
+use Rattle.build_scheduler.specs.Shown.{Shown}
+use Rattle.build_scheduler.specs.declared.walker.Ask.{Ask}
+use Rattle.build_plain.specs.Driven.{Continues}
+use Rattle.build_scheduler.proofs.HistoryFacts.{one_state}
+use Rattle.engine_tests.specs.Trials.{IsAsking, WasOwn}
+
+pub drop-front : {X : Type 0} (xs ys : List X) → drop (length xs) (xs ++ ys) ≡ ys
+drop-front [] ys = refl
+drop-front (x ∷ xs) ys = drop-front xs ys
+
+module _ {I A : Type 0} (w : World I A) where
+  -- what comes behind some of the events goes on from the state after these
+  goes-on : (xs ys : List Event) (s t u : State I A) → after_all w s xs ≡ Some t → after_all w s (xs ++ ys) ≡ Some u → after_all w t ys ≡ Some u
+  goes-on [] ys s t u h g = subst (λ (v : State I A). after_all w v ys ≡ Some u) (some-is s t h) g
+  goes-on (event ∷ xs) ys s t u h g =
+      let y = and_then-some (step w s event) (λ next. after_all w next xs) t h in
+      let z = and_then-some (step w s event) (λ next. after_all w next (xs ++ ys)) u g in
+      let same : z.0 ≡ y.0 = some-is z.0 y.0 (sym z.1 ∙ y.1) in
+      goes-on xs ys y.0 t u y.2 (subst (λ (v : State I A). after_all w v (xs ++ ys) ≡ Some u) same z.2)
+
+  own-still : (before more events : List Event) (old table : Records) (id : ℕ) (walk : Seen I A) (s : State I A) (o : IsOwn w before old id walk) → o.stands.state.table ≡ old →
+      events ≡ before ++ more → AreOfOthers id more → IsHistory w events s → table ≡ s.table → IsOwn w events table id walk
+  own-still before more events old table id walk s o was e others h is =
+      let g : after_all w o.stands.state more ≡ Some s = goes-on before more (start w) o.stands.state s o.stands.history (subst (λ es. IsHistory w es s) e h) in
+      record {
+        stands = record {
+          state = s;
+          origin = o.stands.origin;
+          node = o.stands.node;
+          history = h;
+          there = stays w o.stands.state s more id o.stands.node (placed o.stands.origin walk.position (assigned o.stands.node)) walk.position.place o.stands.there refl others g;
+        };
+        world = o.world;
+        learnt = record {
+          in_order = o.learnt.in_order;
+          shared = λ run made f.
+              let a = subst (λ t. found t run ≡ Some made) (sym was) (o.learnt.shared run made f) in
+              subst (λ t. found t run ≡ Some made) (sym is) (records_stay w before more o.stands.state s o.stands.history g run made a).0;
+        };
+        asked = o.asked;
+        few = let a = o.few in let b = ap length e in let c = length-append before more in omega arith;
+      }
+
+module _ {I A : Type 0} (w : World I A) {W : Type 0} {seen : W → Seen I A} {log : Logged} {origins : List Origin} {slots : List (Slot W)} {making : List (Option RunId)} {table : TableRuns} {end : Option End} where
+  asking-still : Shown seen w log origins slots making table end → (id number : ℕ) (walk : Seen I A) → WasOwn w log.events id number walk → AreOfOthers id (drop number log.events) → IsOwn w log.events table.finished id walk
+  asking-still x id number walk k others =
+      let behind : drop number log.events ≡ k.more = ap (λ n. drop n log.events) k.number_is ∙ (ap (drop (length k.before)) k.continues ∙ drop-front k.before k.more) in
+      own-still w k.before k.more log.events k.table table.finished id walk x.state k.own k.table_is k.continues (subst (AreOfOthers id) behind others) x.history x.finished
+
+  -- the walk is its request's own now
+  asking-now : Shown seen w log origins slots making table end → (id number : ℕ) (walk : Seen I A) → number ≡ length log.events → IsOwn w log.events table.finished id walk → WasOwn w log.events id number walk
+  asking-now x id number walk is o = record {
+    before = log.events;
+    more = [];
+    table = table.finished;
+    number_is = is;
+    continues = sym (append-nil log.events);
+    own = o;
+    table_is = ap (λ (s : State I A). s.table) (one_state w log.events o.stands.state x.state o.stands.history x.history) ∙ sym x.finished;
+  }
+
+  module _ (legal : ∥ Shown seen w log origins slots making table end ∥₁) (id number : ℕ) (walk : Seen I A) (ask : Ask) where
+    pub still-own : IsAsking w log.events id number walk ask → AreOfOthers id (drop number log.events) → ∥ IsOwn w log.events table.finished id walk ∥₁
+    still-own asking others = ∥∥₁_map₂ legal asking.1 (λ x k. asking-still x id number walk k others)
+
+    pub asks-now : number ≡ length log.events → ask ≡ ask_of walk.position → ∥ IsOwn w log.events table.finished id walk ∥₁ → IsAsking w log.events id number walk ask
+    asks-now is asks own = (sym asks, ∥∥₁_map₂ legal own (λ x o. asking-now x id number walk is o))
+
+-- a request still asks after more events, in the same world
+pub asks-on : {I A : Type 0} (w v : World I A) (events after : List Event) (id number : ℕ) (walk : Seen I A) (ask : Ask) → v ≡ w → Continues events after → IsAsking w events id number walk ask → IsAsking v after id number walk ask
+asks-on w v events after id number walk ask same (more, e) (asks, own) = (
+  asks,
+  subst (λ u. ∥ WasOwn u after id number walk ∥₁) (sym same) (∥∥₁_map own (λ k. record {
+    before = k.before;
+    more = k.more ++ more;
+    table = k.table;
+    number_is = k.number_is;
+    continues = e ∙ (ap (λ l. l ++ more) k.continues ∙ append_assoc k.before k.more more);
+    own = k.own;
+    table_is = k.table_is;
+  })),
+)
+
+-- the events behind a place of a history, as they are looked through
+pub others-none : (xs : List Event) (n id : ℕ) → AreOfOthers id (drop n (take n xs))
+others-none [] zero id = tt
+others-none [] (suc n) id = tt
+others-none (x ∷ xs) zero id = tt
+others-none (x ∷ xs) (suc n) id = others-none xs n id
+
+-- one more event of another request
+pub others-more : (xs : List Event) (n k id : ℕ) (d : Event) → n ≤ k → k < length xs → (whose (get_or xs k d) ≡ id → ⊥) → AreOfOthers id (drop n (take k xs)) → AreOfOthers id (drop n (take (suc k) xs))
+others-more [] n k id d le lt other h = absurd (omega arith)
+others-more (x ∷ xs) zero zero id d le lt other h = (other, tt)
+others-more (x ∷ xs) zero (suc k) id d le lt other h = (h.0, others-more xs zero k id d (omega arith) (omega arith) other h.1)
+others-more (x ∷ xs) (suc n) zero id d le lt other h = absurd (omega arith)
+others-more (x ∷ xs) (suc n) (suc k) id d le lt other h = others-more xs n k id d (omega arith) (omega arith) other h
+
+pub take-whole : {X : Type 0} (xs : List X) (k : ℕ) → length xs ≤ k → take k xs ≡ xs
+take-whole [] zero le = refl
+take-whole [] (suc k) le = refl
+take-whole (x ∷ xs) zero le = absurd (omega arith)
+take-whole (x ∷ xs) (suc k) le = ap (λ l. x ∷ l) (take-whole xs k (omega arith))
+
+pub all-removed : {X : Type 0} (P : X → Type 0) (xs : List X) (n : ℕ) → All P xs → All P (remove xs n)
+all-removed P xs n h = All-append P (take n xs) (drop (suc n) xs) (All-take P n xs h) (All-drop P (suc n) xs h)

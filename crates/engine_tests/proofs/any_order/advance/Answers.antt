@@ -1,0 +1,55 @@
+use Rattle.std.proofs.Common.{◌≡◌, Some, All, sym, subst}
+use Rattle.std.proofs.lemmas.List.Elements.{All-push}
+use Rattle.std.specs.Prelude.{IsSome}
+use Rattle.build_scheduler.specs.Learnt.{ArePartOf}
+use Rattle.build_scheduler.specs.Own.{seen_by}
+use Rattle.build_scheduler.specs.Position.{answered}
+use Rattle.build_plain.proofs.OwnTurns.{known-of, fits-of, turn-of, room-of, own-of}
+use Rattle.engine_tests.specs.Trials.{IsAsking}
+use Rattle.engine_tests.proofs.Others.{asks-now}
+use Rattle.engine_tests.proofs.any_order.advance.Goals as goal
+
+pub step-requires-clause-known : goal.step-requires-clause-known
+step-requires-clause-known g c =
+    let m = g.W.Walker in
+    let core = c.args.core.now in
+    let next = c.args.next in
+    subst (λ table. ArePartOf (m.learnt next.walk) table.finished) (sym c.table.ensures.table)
+    (known-of (m.world_of core.world) core.history.events core.table.finished next.id (seen_by m.world m.position m.asked m.learnt next.walk) next.answer c.requires.next)
+
+pub step-requires-clause-fits : goal.step-requires-clause-fits
+step-requires-clause-fits g c =
+    let m = g.W.Walker in
+    let core = c.args.core.now in
+    let next = c.args.next in
+    subst (λ table. IsSome (answered (m.world next.walk) table.finished (m.position next.walk) next.answer)) (sym c.table.ensures.table)
+    (fits-of (m.world_of core.world) core.history.events core.table.finished next.id (seen_by m.world m.position m.asked m.learnt next.walk) next.answer c.requires.next)
+
+pub step-requires-clause-turn : goal.step-requires-clause-turn
+step-requires-clause-turn g c =
+    let m = g.W.Walker in
+    let core = c.args.core.now in
+    let next = c.args.next in
+    turn-of (m.world_of core.world) core.history.events core.table.finished next.id (seen_by m.world m.position m.asked m.learnt next.walk) next.answer c.requires.next
+
+pub step-requires-clause-room : goal.step-requires-clause-room
+step-requires-clause-room g c =
+    let m = g.W.Walker in
+    let core = c.args.core.now in
+    let next = c.args.next in
+    room-of (m.world_of core.world) core.history.events core.table.finished next.id (seen_by m.world m.position m.asked m.learnt next.walk) next.answer c.requires.next c.event_count-number.ensures.few
+
+pub returns : goal.returns
+returns g c =
+    let m = g.W.Walker in
+    let core = c.args.core.now in
+    let next = c.args.next in
+    let walk = c.step.new.walk in
+    let told = c.in_ok-ask.ensures in
+    let own = own-of (m.world_of core.world) core.history.events core.table.finished next.id (seen_by m.world m.position m.asked m.learnt next.walk) next.answer c.requires.next (seen_by m.world m.position m.asked m.learnt walk) told.world
+    (subst (λ table. answered (m.world next.walk) table.finished (m.position next.walk) next.answer ≡ Some (m.position walk)) c.table.ensures.table told.goes_on)
+    told.asked
+    (subst (λ table. ArePartOf (m.learnt walk) table.finished) c.table.ensures.table told.known) in
+    subst (All (λ a. IsAsking (m.world_of core.world) core.history.events a.id a.number (seen_by m.world m.position m.asked m.learnt a.walk) a.ask)) (sym c.in_ok-push.ensures.items)
+    (All-push (λ a. IsAsking (m.world_of core.world) core.history.events a.id a.number (seen_by m.world m.position m.asked m.learnt a.walk) a.ask) c.args.out.now.items _ c.requires.out
+    (asks-now (m.world_of core.world) core.legal next.id c.event_count-number.result (seen_by m.world m.position m.asked m.learnt walk) c.in_ok-ask.ask c.event_count-number.ensures.count told.asks own))

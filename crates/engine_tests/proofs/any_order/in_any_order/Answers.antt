@@ -1,0 +1,9 @@
+use Rattle.request_machine.specs.Worlds.{root_of, world_of}
+use Rattle.msb_program.proofs.Beginning.{begins_there}
+use Rattle.engine_tests.proofs.any_order.in_any_order.Goals as goal
+
+pub built-requires-clause-begins : goal.built-requires-clause-begins
+built-requires-clause-begins g c =
+    let tools = g.T.CountedTools.answer in
+    begins_there (world_of tools c.args.world.now) (world_of tools c.in_ok-walk.walk.request.world.now) (root_of c.args.world.now) c.in_ok-key.key _
+    c.in_ok-walk.ensures.begins c.in_ok-walk.ensures.world c.in_ok-key.ensures

@@ -1,0 +1,370 @@
+//! A build on several nodes, one event at a time: each request that is with a node has asked, and any of them is answered next.
+ghost use Rattle.std.specs.Prelude.{◌≡◌, ◌+◌, ◌^◌, ◌<◌, [], true, All, drop, length, None, Some, IfOk, IfSome, IsSome, OnOk};
+ghost use Rattle.build_meaning.specs.History.{AreOfOthers};
+ghost use Rattle.build_meaning.specs.Step.{whose};
+ghost use Rattle.build_scheduler.specs.declared.walker.Ask.TheVariants.{Want, Call};
+ghost use Rattle.build_scheduler.specs.Learnt.{AreInOrder, ArePartOf};
+ghost use Rattle.build_scheduler.specs.Own.{IsOut, IsOwn, seen_by};
+ghost use Rattle.build_scheduler.specs.Position.{IsInTurn, answered, ask_of, begins};
+ghost use Rattle.build_plain.specs.Driven.{Continues, end_of};
+ghost use Rattle.engine_tests.specs.Trials.{IsAsking};
+
+use crate::account::Account;
+use crate::random::Random;
+use build_outcome::Outcome;
+use build_scheduler::{Answer, Ask, Claimed, Core, End, Event, RequestFault, Walker};
+use build_world::World;
+use msb_values::{List, NoMemory};
+use request_machine::{Walk, root_key};
+use result_cache::{RequestKey, RunId, Table};
+use std::alloc::Global;
+use task_trait::CountedTools;
+
+/// A request with a node, whose walk asks this.
+#[derive(Drop)]
+struct Asking<W> {
+    id: u64,
+    walk: W,
+    ask: Ask,
+    /// How many events there were when the walk was advanced.
+    number: usize,
+}
+
+/// A request with a node, whose walk goes on with this answer.
+#[derive(Drop)]
+struct Next<W> {
+    id: u64,
+    walk: W,
+    answer: Answer,
+}
+
+/// A build, and its requests that are with nodes.
+#[derive(Drop)]
+struct AnyOrder<W: Walker> {
+    core: Core<W>,
+    out: Vec<Asking<W>>,
+    ghost asking: { All (λ a. IsAsking (W.world_of core.world) core.history.events a.id a.number (seen_by W.world W.position W.asked W.learnt a.walk) a.ask) out.items },
+}
+
+impl<W: Walker> AnyOrder<W> {
+    fn new(alloc: Global, core: Core<W>) -> AnyOrder<W> {
+        AnyOrder {
+            core,
+            out: Vec::new(alloc),
+        }
+    }
+
+    /// One event, if the build has not ended: the choice says whose.
+    fn turn(&mut self, place: &mut W::Place, choice: u64) -> Result<(), NoMemory> {
+        if self.core.end().is_some() {
+            return Ok(());
+        }
+        match next_of(&mut self.core, &mut self.out, choice) {
+            Some(next) => advance(&self.core, &mut self.out, place, next),
+            None => Ok(()),
+        }
+    }
+}
+
+/// What comes of a build whose events are looked at.
+#[derive(Drop)]
+pub struct Watched {
+    /// There is none where the build did not come to its end.
+    pub outcome: Option<Outcome>,
+    /// The first rule that was broken; empty where none was.
+    pub broken: &'static str,
+}
+
+/// What comes of a build whose events come in the order of this seed.
+pub fn in_any_order<T: CountedTools>(
+    alloc: Global,
+    world: &World,
+    tools: &mut T,
+    seed: u64,
+) -> Result<Watched, NoMemory> {
+    let key = root_key(world)?;
+    let walk = Walk::start(alloc, world)?;
+    built(alloc, key, walk, tools, Random::new(seed))
+}
+
+fn built<W: Walker>(
+    alloc: Global,
+    key: RequestKey,
+    walk: W,
+    place: &mut W::Place,
+    random: Random,
+) -> Result<Watched, NoMemory>
+    requires key { key ≡ (W.world walk).root }
+    requires begins { W.position walk ≡ begins (W.world walk) key [] }
+    requires asked { W.asked walk ≡ 0 }
+    requires learnt { W.learnt walk ≡ [] }
+{
+    let core = Core::new(alloc, key, walk)?;
+    let mut build = AnyOrder::new(alloc, core);
+    let broken = played(alloc, &mut build, place, random)?;
+    Ok(Watched {
+        outcome: outcome_of(alloc, &build.core)?,
+        broken,
+    })
+}
+
+fn outcome_of<W: Walker>(alloc: Global, core: &Core<W>) -> Result<Option<Outcome>, NoMemory> {
+    if core.end().is_none() {
+        return Ok(None);
+    }
+    Ok(Some(Outcome::of(alloc, core, false)?))
+}
+
+/// The rule that is broken by a build that is played to its end.
+fn played<W: Walker>(
+    alloc: Global,
+    build: &mut AnyOrder<W>,
+    place: &mut W::Place,
+    random: Random,
+) -> Result<&'static str, NoMemory> {
+    let mut account = Account::new(alloc)?;
+    play(build, &mut account, place, random)?;
+    Ok(account.broken)
+}
+
+/// The build goes on to its end.
+fn play<W: Walker>(
+    build: &mut AnyOrder<W>,
+    account: &mut Account,
+    place: &mut W::Place,
+    random: Random,
+) -> Result<(), NoMemory> {
+    let mut random = random;
+    for _ in 0..MOST_TURNS {
+        build.turn(place, random.next())?;
+        account.look(&build.core)?;
+        if build.core.end().is_some() {
+            return Ok(());
+        }
+    }
+    account.rule(false, "the build comes to its end");
+    Ok(())
+}
+
+/// A build that has not ended after so many turns goes on no more.
+const MOST_TURNS: usize = 100_000;
+
+/// Answers one of the requests that ask, or assigns the least one that is ready.
+fn next_of<W: Walker>(core: &mut Core<W>, out: &mut Vec<Asking<W>>, choice: u64) -> Option<Next<W>>
+    requires running { core.old.end ≡ None }
+    requires out { All (λ a. IsAsking (W.world_of core.old.world) core.old.history.events a.id a.number (seen_by W.world W.position W.asked W.learnt a.walk) a.ask) out.old.items }
+    ensures out { All (λ a. IsAsking (W.world_of core.new.world) core.new.history.events a.id a.number (seen_by W.world W.position W.asked W.learnt a.walk) a.ask) out.new.items }
+    ensures next { IfSome result (λ next. ∥ IsOut (W.world_of core.new.world) core.new.history.events core.new.table.finished next.id (seen_by W.world W.position W.asked W.learnt next.walk) next.answer ∥₁) }
+{
+    let at = (choice % (out.len() as u64 + 1)) as usize;
+    if at < out.len() {
+        let asking = out.remove(at);
+        bring_back(core, asking)
+    } else {
+        assign_least(core, (choice % 7) as u32)
+    }
+}
+
+/// Assigns the least request that is ready, if any is.
+fn assign_least<W: Walker>(core: &mut Core<W>, node: u32) -> Option<Next<W>>
+    requires running { core.old.end ≡ None }
+    ensures world { W.world_of core.new.world ≡ W.world_of core.old.world }
+    ensures continues { Continues core.old.history.events core.new.history.events }
+    ensures next { IfSome result (λ next. ∥ IsOut (W.world_of core.old.world) core.new.history.events core.new.table.finished next.id (seen_by W.world W.position W.asked W.learnt next.walk) next.answer ∥₁) }
+{
+    match core.ready() {
+        None => None,
+        Some(id) => {
+            let (walk, answer) = core.assign(id, node);
+            Some(Next { id, walk, answer })
+        }
+    }
+}
+
+/// Answers a request, unless it has moved since it asked.
+fn bring_back<W: Walker>(core: &mut Core<W>, asking: Asking<W>) -> Option<Next<W>>
+    requires running { core.old.end ≡ None }
+    requires asking { IsAsking (W.world_of core.old.world) core.old.history.events asking.id asking.number (seen_by W.world W.position W.asked W.learnt asking.walk) asking.ask }
+    ensures world { W.world_of core.new.world ≡ W.world_of core.old.world }
+    ensures continues { Continues core.old.history.events core.new.history.events }
+    ensures next { IfSome result (λ next. ∥ IsOut (W.world_of core.old.world) core.new.history.events core.new.table.finished next.id (seen_by W.world W.position W.asked W.learnt next.walk) next.answer ∥₁) }
+{
+    let Asking {
+        id,
+        walk,
+        ask,
+        number,
+    } = asking;
+    if are_of_others(core.history(), id, number) {
+        answer_ask(core, id, walk, ask)
+    } else {
+        None
+    }
+}
+
+/// Whether no event from this number on is of the request.
+fn are_of_others(events: &[Event], id: u64, number: usize) -> bool
+    ensures { result ≡ true → AreOfOthers id (drop number events.now) }
+{
+    for at in number..events.len() {
+        if request_of(&events[at]) == id {
+            return false;
+        }
+    }
+    true
+}
+
+/// The request that an event is of.
+fn request_of(event: &Event) -> u64
+    ensures { result ≡ whose event.now }
+{
+    match event {
+        Event::Assign(id, _) => *id,
+        Event::Claim(id, _, _) => *id,
+        Event::Request(id, _) => *id,
+        Event::Result(id, _) => *id,
+        Event::Done(id) => *id,
+    }
+}
+
+/// Answers what a request with a node asks. A cycle of runs, a limit that is passed and want of memory end the build.
+fn answer_ask<W: Walker>(core: &mut Core<W>, id: u64, walk: W, ask: Ask) -> Option<Next<W>>
+    requires running { core.old.end ≡ None }
+    requires own { ∥ IsOwn (W.world_of core.old.world) core.old.history.events core.old.table.finished id (seen_by W.world W.position W.asked W.learnt walk) ∥₁ }
+    requires asks { ask_of (W.position walk) ≡ ask }
+    ensures world { W.world_of core.new.world ≡ W.world_of core.old.world }
+    ensures continues { Continues core.old.history.events core.new.history.events }
+    ensures next { IfSome result (λ next. ∥ IsOut (W.world_of core.old.world) core.new.history.events core.new.table.finished next.id (seen_by W.world W.position W.asked W.learnt next.walk) next.answer ∥₁) }
+{
+    match ask {
+        Ask::Want(run) => claim(core, id, walk, &run),
+        Ask::Call(calls) => call(core, id, walk, calls),
+        Ask::Finished(run, made) => {
+            core.result(id, &run, made);
+            Some(Next {
+                id,
+                walk,
+                answer: Answer::Use,
+            })
+        }
+        Ask::Done(told) => {
+            core.done(id, told);
+            None
+        }
+    }
+}
+
+fn claim<W: Walker>(core: &mut Core<W>, id: u64, walk: W, run: &RunId) -> Option<Next<W>>
+    requires running { core.old.end ≡ None }
+    requires own { ∥ IsOwn (W.world_of core.old.world) core.old.history.events core.old.table.finished id (seen_by W.world W.position W.asked W.learnt walk) ∥₁ }
+    requires asks { ask_of (W.position walk) ≡ Want run.now }
+    ensures world { W.world_of core.new.world ≡ W.world_of core.old.world }
+    ensures continues { Continues core.old.history.events core.new.history.events }
+    ensures next { IfSome result (λ next. ∥ IsOut (W.world_of core.old.world) core.new.history.events core.new.table.finished next.id (seen_by W.world W.position W.asked W.learnt next.walk) next.answer ∥₁) }
+{
+    match core.claim(id, walk, run) {
+        Ok(Claimed::Go(walk)) => Some(Next {
+            id,
+            walk,
+            answer: Answer::Go,
+        }),
+        Ok(Claimed::Use(walk)) => Some(Next {
+            id,
+            walk,
+            answer: Answer::Use,
+        }),
+        Ok(Claimed::Wait) => None,
+        Ok(Claimed::Circular(_, runs)) => {
+            core.stop(End::Circular(runs));
+            None
+        }
+        Err(_) => {
+            core.stop(End::NoMemory);
+            None
+        }
+    }
+}
+
+fn call<W: Walker>(core: &mut Core<W>, id: u64, walk: W, calls: List<RequestKey>) -> Option<Next<W>>
+    requires running { core.old.end ≡ None }
+    requires own { ∥ IsOwn (W.world_of core.old.world) core.old.history.events core.old.table.finished id (seen_by W.world W.position W.asked W.learnt walk) ∥₁ }
+    requires asks { ask_of (W.position walk) ≡ Call calls }
+    ensures world { W.world_of core.new.world ≡ W.world_of core.old.world }
+    ensures continues { Continues core.old.history.events core.new.history.events }
+    ensures next { result ≡ None }
+{
+    match core.request(id, walk, calls) {
+        Ok(()) => None,
+        Err((_, fault)) => {
+            core.stop(refused(fault));
+            None
+        }
+    }
+}
+
+/// The end of a build whose calls are refused.
+fn refused(fault: RequestFault) -> End
+    ensures { result ≡ end_of fault }
+{
+    match fault {
+        RequestFault::TooDeep(keys) => End::TooDeep(keys),
+        RequestFault::TooMany(instance) => End::TooMany(instance),
+        RequestFault::Memory => End::NoMemory,
+    }
+}
+
+/// The walk of a request with a node goes on to what it asks next.
+fn advance<W: Walker>(
+    core: &Core<W>,
+    out: &mut Vec<Asking<W>>,
+    place: &mut W::Place,
+    next: Next<W>,
+) -> Result<(), NoMemory>
+    requires out { All (λ a. IsAsking (W.world_of core.now.world) core.now.history.events a.id a.number (seen_by W.world W.position W.asked W.learnt a.walk) a.ask) out.old.items }
+    requires next { ∥ IsOut (W.world_of core.now.world) core.now.history.events core.now.table.finished next.id (seen_by W.world W.position W.asked W.learnt next.walk) next.answer ∥₁ }
+    ensures { All (λ a. IsAsking (W.world_of core.now.world) core.now.history.events a.id a.number (seen_by W.world W.position W.asked W.learnt a.walk) a.ask) out.new.items }
+{
+    let Next {
+        id,
+        mut walk,
+        answer,
+    } = next;
+    let number = event_count(core);
+    let ask = step(core.table(), place, &mut walk, &answer)?;
+    out.push(Asking {
+        id,
+        walk,
+        ask,
+        number,
+    })?;
+    Ok(())
+}
+
+fn event_count<W: Walker>(core: &Core<W>) -> usize
+    ensures count { result ≡ length core.now.history.events }
+    ensures few { length core.now.history.events < 2 ^ 63 }
+{
+    core.history().len()
+}
+
+/// The walk learns the records that its answer needs, and goes on to its next ask.
+fn step<W: Walker>(
+    table: &Table,
+    place: &mut W::Place,
+    walk: &mut W,
+    answer: &Answer,
+) -> Result<Ask, NoMemory>
+    requires in_order { AreInOrder table.now.finished }
+    requires known { ArePartOf (W.learnt walk.old) table.now.finished }
+    requires fits { IsSome (answered (W.world walk.old) table.now.finished (W.position walk.old) answer.now) }
+    requires turn { IsInTurn (W.asked walk.old) answer.now }
+    requires room { W.asked walk.old < 2 ^ 63 }
+    ensures asks { IfOk result (λ ask. ask ≡ ask_of (W.position walk.new)) }
+    ensures goes_on { OnOk result (answered (W.world walk.old) table.now.finished (W.position walk.old) answer.now ≡ Some (W.position walk.new)) }
+    ensures asked { OnOk result (W.asked walk.new ≡ W.asked walk.old + 1) }
+    ensures known { ArePartOf (W.learnt walk.new) table.now.finished }
+    ensures world { W.world walk.new ≡ W.world walk.old }
+{
+    walk.learn(table, answer)?;
+    walk.advance(place, answer)
+}
