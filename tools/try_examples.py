@@ -3,8 +3,9 @@
 
     tools/try_examples.py PROGRAM
 
-Each example is copied to a folder of its own. In its README.md an indented block that has `../../msb` is commands, and
-the indented block behind it is what they print; a further block is what the last command prints when it is run again.
+Each example is copied to a folder of its own. In its README.md an indented block that has `../../msb` or `../../tools/` is
+commands, and the indented block behind it is what they print; a further block is what the last command prints when it is
+run again. An example that says "It needs `NAME`" is passed over where there is no program NAME.
 """
 import os
 import re
@@ -25,16 +26,24 @@ def blocks(page):
 
 def run(command, program, folder):
     time.sleep(0.02)  # so that files which are written later are newer
-    command = command.replace("../../msb", program)
+    command = command.replace("../../msb", program).replace("../../tools", os.path.join(TOP, "tools"))
     return subprocess.run(["bash", "-c", command], cwd=folder, stdout=subprocess.PIPE, text=True).stdout
+
+
+def missing(text):
+    """The programs that a page says it needs, and that are not there."""
+    return [name for name in re.findall(r"needs `(\w+)`", text) if shutil.which(name) is None]
 
 
 def differences(name, program, folder):
     with open(os.path.join(folder, "README.md")) as page:
         text = page.read()
+    if missing(text):
+        print(f"{name}: passed over, without {', '.join(missing(text))}")
+        return 0
     last, printed, bad = None, None, 0
     for block in blocks(text):
-        if any("../../msb" in line for line in block):
+        if any("../../msb" in line or "../../tools/" in line for line in block):
             printed, last = "".join(run(line, program, folder) for line in block), block[-1]
             continue
         shown = "\n".join(block) + "\n"
