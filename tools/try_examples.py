@@ -4,9 +4,10 @@
 usage: tools/try_examples.py PROGRAM
 
 Each example is copied to a folder of its own. In its README.md an indented block that has
-`../../msb` is commands, and the indented block behind it is what they print; a further block is
-what the last command prints when it is run again. The last line is `N passed, M failed`: so many
-blocks were compared.
+`../../msb` or `../../tools/` is commands, and the indented block behind it is what they print; a
+further block is what the last command prints when it is run again. An example that says "It needs
+`NAME`" is passed over where there is no program NAME. The last line is `N passed, M failed`: so
+many blocks were compared.
 """
 
 import os
@@ -33,17 +34,30 @@ def blocks(page: str) -> Iterator[list[str]]:
 def run(command: str, program: str, folder: Path) -> str:
     """What a command prints in the folder of an example."""
     time.sleep(0.02)  # so that files which are written later are newer
-    words = ["bash", "-c", command.replace("../../msb", program)]
-    return subprocess.run(words, cwd=folder, stdin=subprocess.DEVNULL, stdout=subprocess.PIPE,
-                          text=True,
-                          timeout=SECONDS).stdout
+    command = command.replace("../../msb", program).replace("../../tools", str(TOP / "tools"))
+    return subprocess.run(["bash", "-c", command], cwd=folder, stdin=subprocess.DEVNULL,
+                          stdout=subprocess.PIPE, text=True, timeout=SECONDS).stdout
+
+
+def missing_programs(page: str) -> list[str]:
+    """The programs that a page says it needs, and that are not there."""
+    return [name for name in re.findall(r"needs `(\w+)`", page) if shutil.which(name) is None]
+
+
+def is_commands(block: list[str]) -> bool:
+    """Whether an indented block is to be run."""
+    return any("../../msb" in line or "../../tools/" in line for line in block)
 
 
 def try_example(name: str, program: str, folder: Path) -> tuple[int, int]:
     """How many blocks of an example's page are printed so, and how many not."""
+    page = (folder / "README.md").read_text()
+    if missing := missing_programs(page):
+        print(f"{name}: passed over, without {', '.join(missing)}")
+        return 0, 0
     last, printed, good, bad = "", "", 0, 0
-    for block in blocks((folder / "README.md").read_text()):
-        if any("../../msb" in line for line in block):
+    for block in blocks(page):
+        if is_commands(block):
             printed, last = "".join(run(line, program, folder) for line in block), block[-1]
             continue
         shown = "\n".join(block) + "\n"

@@ -1,0 +1,6 @@
+struct list {
+    int value;
+    struct list *next;
+};
+
+int sum(const struct list *list);
