@@ -1,0 +1,164 @@
+-- An answer to a task leaves a state as it is, but for the journal and what was written.
+use Rattle.std.proofs.Common.{
+  ◌≡◌,
+  ℕ,
+  Bool,
+  true,
+  false,
+  List,
+  [],
+  ◌∷◌,
+  ◌++◌,
+  length,
+  Option,
+  None,
+  Some,
+  refl,
+  ap,
+  sym,
+  subst,
+}
+use Rattle.std.specs.Prelude.{Result, Ok, Err, codes}
+use Rattle.std.specs.Str.{bytes_eq}
+use Rattle.msb_values.specs.declared.put.Put.{Put}
+use Rattle.msb_expand.specs.Reserved.{folder_of}
+use Rattle.result_cache.specs.declared.request.RequestKey.{RequestKey}
+use Rattle.result_cache.specs.declared.request.RequestResult.{RequestResult}
+use Rattle.result_cache.specs.declared.run.RunId.{RunId}
+use Rattle.result_cache.specs.Journal.{Journal, add, wrote}
+use Rattle.build_world.specs.Elements.{At}
+use Rattle.task_trait.specs.Failures.{failed as failed_output}
+use Rattle.task_trait.specs.declared.failures.Failure.{Failure}
+use Rattle.task_trait.specs.declared.failures.Failure.TheVariants.{UnknownTask}
+use Rattle.task_trait.specs.declared.tools.Param.{Param}
+use Rattle.task_trait.specs.declared.tools.TaskOutput.{TaskOutput}
+use Rattle.task_trait.specs.declared.tools.ToolAnswer.{ToolAnswer}
+use Rattle.task_trait.specs.declared.tools.ToolAnswer.TheVariants.{Unknown, Made as MadeBy}
+use Rattle.task_trait.specs.declared.tools.ToolInput.{ToolInput}
+use Rattle.task_kit.specs.Foreign.{foreign_input, foreign_output}
+use Rattle.task_kit.specs.Tasks.{answer}
+use Rattle.task_msbuild.specs.Plans.{plan_of, has_stopped}
+use Rattle.task_msbuild.specs.Gathered.{gathered}
+use Rattle.task_msbuild.specs.declared.plans.Plan.{Plan}
+use Rattle.target_texts.specs.Inferred.{task_of}
+use Rattle.target_body.specs.Work.{Work, done, calls}
+use Rattle.target_body.specs.States.{Run, State, with_journal, with_write, view_of}
+use Rattle.target_body.specs.Answers.{
+  all_written,
+  given,
+  at_once,
+  in_order,
+  made,
+  msbuild,
+  tool,
+  not_built_in,
+  answered_by,
+}
+use Rattle.target_body.specs.Tasks.{answered_if}
+use Rattle.build_declared.specs.Ends.{End, end_of}
+use Rattle.build_declared.proofs.Alones.{some-same, end-bound}
+
+-- a state without its journal and what was written
+abbrev pub bare : State → State
+bare s = record s { journal = []; written = 0 }
+
+module _ (tools : List ℕ → ToolInput → ToolAnswer) (id : RunId) (run : Run) where
+  abbrev Leaves : State → Work (State × TaskOutput) → Type 0
+  Leaves s v = (j : Journal) (ps : List Put) (E : End (State × TaskOutput)) →
+      end_of tools id v j ps ≡ Some E → bare E.value.0 ≡ bare s
+
+  written-leaves : (puts : List Put) (s : State) (j : Journal) (ps : List Put) (E : End State) →
+      end_of tools id (all_written puts s) j ps ≡ Some E → bare E.value ≡ bare s
+  written-leaves [] s j ps E e =
+      let same : record { value = s; journal = j; puts = ps } ≡ E =
+      some-same (record { value = s; journal = j; puts = ps }) E e in
+      ap (λ (z : End State). bare z.value) (sym same)
+  written-leaves (put ∷ puts) s j ps E e =
+      let n : Journal = add j (wrote id (length ps) put) in
+      written-leaves puts (with_write put n s) n (put ∷ ps) E e
+
+  done-leaves : {R : Type 0} (get : R → State) (s : State) (r : R) → bare (get r) ≡ bare s →
+      (j : Journal) (ps : List Put) (E : End R) → end_of tools id (done r) j ps ≡ Some E →
+      bare (get E.value) ≡ bare s
+  done-leaves get s r h j ps E e =
+      let same : record { value = r; journal = j; puts = ps } ≡ E =
+      some-same (record { value = r; journal = j; puts = ps }) E e in
+      subst (λ (z : End _). bare (get z.value) ≡ bare s) same h
+
+  given-leaves : (output : TaskOutput) (s : State) → Leaves s (given s output)
+  given-leaves output s j ps E e =
+      let x = end-bound tools id (all_written output.files s)
+      (λ after. done (after, output)) j ps E e in
+      done-leaves (λ (r : State × TaskOutput). r.0) s (x.0.value, output)
+      (written-leaves output.files s j ps x.0 x.1) x.0.journal x.0.puts E x.2
+
+  abbrev LeavesResults : State → Work (State × List RequestResult) → Type 0
+  LeavesResults s v = (j : Journal) (ps : List Put) (E : End (State × List RequestResult)) →
+      end_of tools id v j ps ≡ Some E → bare E.value.0 ≡ bare s
+
+  once-leaves : (keys : List RequestKey) (s : State) → LeavesResults s (at_once keys s)
+  once-leaves [] s = done-leaves (λ (r : State × List RequestResult). r.0) s (s, []) refl
+  once-leaves (key ∷ keys) s = λ j ps E e. absurd (cc)
+
+  order-leaves : (plan : Plan) (answers : List RequestResult) (keys : List RequestKey) (s : State) →
+      LeavesResults s (in_order plan answers keys s)
+  order-leaves plan answers [] s = done-leaves (λ (r : State × List RequestResult). r.0) s (
+    s,
+    answers,
+  ) refl
+  order-leaves plan answers (key ∷ keys) s = go (has_stopped plan answers)
+    where
+      go : (b : Bool) → LeavesResults s (elim b [
+        | true ↦ done (s, answers)
+        | false ↦ calls key [] (λ more journal. in_order plan (answers ++ more) keys
+            (with_journal journal s))
+      ])
+      go true = done-leaves (λ (r : State × List RequestResult). r.0) s (s, answers) refl
+      go false = λ j ps E e. absurd (cc)
+
+  made-leaves : (plan : Plan) (s : State) → LeavesResults s (made plan s)
+  made-leaves plan s = go plan.parallel
+    where
+      go : (b : Bool) → LeavesResults s (elim b [
+        | true ↦ at_once plan.calls s
+        | false ↦ in_order plan [] plan.calls s
+      ])
+      go true = once-leaves plan.calls s
+      go false = order-leaves plan [] plan.calls s
+
+  msbuild-leaves : (params : List Param) (s : State) → Leaves s (msbuild run s params)
+  msbuild-leaves params s j ps E e =
+      let plan : Plan = plan_of run.files (folder_of run.instance.path) run.instance.globals params
+      in
+      let x = end-bound tools id (made plan s) (λ x. done (x.0, gathered plan x.1)) j ps E e in
+      done-leaves (λ (r : State × TaskOutput). r.0) s (x.0.value.0, gathered plan x.0.value.1)
+      (made-leaves plan s j ps x.0 x.1) x.0.journal x.0.puts E x.2
+
+  tool-leaves : (name : List ℕ) (s : State) (x : Result ToolInput Failure) →
+      Leaves s (tool name s x)
+  tool-leaves name s (Ok input) = λ j ps E e. given-leaves
+      (foreign_output name s.written (tools name input)) s j ps E e
+  tool-leaves name s (Err failure) = done-leaves (λ (r : State × TaskOutput). r.0) s (
+    s,
+    failed_output name failure,
+  ) refl
+
+  built-leaves : (b : Bool) (name : List ℕ) (params : List Param) (s : State) →
+      Leaves s (not_built_in b run s name params)
+  built-leaves true name params s = msbuild-leaves params s
+  built-leaves false name params s = tool-leaves name s (foreign_input (folder_of run.instance.path)
+      (view_of run s) params)
+
+  by-answer : (x : ToolAnswer) (name : List ℕ) (params : List Param) (s : State) →
+      Leaves s (answered_by x run s name params)
+  by-answer (MadeBy output) name params s = given-leaves output s
+  by-answer Unknown name params s = built-leaves (bytes_eq name (codes "msbuild")) name params s
+
+  pub if-leaves : (name : Option (List ℕ)) (e : At) (params : List Param) (s : State) →
+      Leaves s (answered_if name run s e params)
+  if-leaves (Some name) e params s = by-answer (answer name (folder_of run.instance.path)
+      (view_of run s) params s.written) name params s
+  if-leaves None e params s = done-leaves (λ (r : State × TaskOutput). r.0) s (
+    s,
+    failed_output (task_of e) UnknownTask,
+  ) refl

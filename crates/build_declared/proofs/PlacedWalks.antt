@@ -1,0 +1,165 @@
+-- The walks of one project in two modes go alike, where the bodies of its runs do.
+use Rattle.std.proofs.Common.{
+  ◌≡◌,
+  ℕ,
+  Bool,
+  true,
+  false,
+  List,
+  [],
+  ◌∷◌,
+  ◌++◌,
+  Option,
+  None,
+  Some,
+  refl,
+  ap,
+  sym,
+  ◌∙◌,
+  subst,
+}
+use Rattle.std.specs.Prelude.{Result, Ok, Err, codes}
+use Rattle.std.specs.List.{flat_map}
+use Rattle.std.specs.Str.{bytes_eq}
+use Rattle.msb_laws.specs.Asking.{Asking, gives as ends, asks}
+use Rattle.msb_laws.specs.Results.{and_then, map_ok, all_ok}
+use Rattle.msb_values.specs.declared.scope.Scope.{Scope}
+use Rattle.msb_elements.specs.Nodes.{name_of}
+use Rattle.target_order.specs.Visit.{Question, condition, depends, body, End}
+use Rattle.target_order.specs.declared.asks.OrderAnswer.{OrderAnswer}
+use Rattle.target_order.specs.declared.asks.OrderAnswer.TheVariants.{Truth, Names, Failed}
+use Rattle.build_world.specs.Elements.{At, children_of}
+use Rattle.build_world.specs.Instances.{UsedTarget}
+use Rattle.build_world.specs.declared.fault.EvalFault.{EvalFault}
+use Rattle.msb_items.specs.Places.{item_place, element_holds}
+use Rattle.msb_items.specs.TargetGroups.{all_applied}
+use Rattle.result_cache.specs.Journal.{Journal}
+use Rattle.result_cache.specs.declared.run.RunId.{RunId}
+use Rattle.result_cache.specs.declared.record.Record.{Record}
+use Rattle.result_cache.specs.declared.request.RequestKey.{RequestKey}
+use Rattle.build_meaning.specs.Walk.{Body}
+use Rattle.build_incremental.specs.Alike.{AlikeRecords, AlikeJournals}
+use Rattle.build_incremental.specs.Placed.{Placed}
+use Rattle.build_incremental.specs.SideBySide.{HasNotWritten, AlikeRuns, AlikeWalks}
+use Rattle.task_trait.specs.declared.tools.ToolAnswer.{ToolAnswer}
+use Rattle.task_trait.specs.declared.tools.ToolInput.{ToolInput}
+use Rattle.request_machine.specs.declared.standing.Standing.{Standing}
+use Rattle.request_machine.specs.Requests.{
+  Project,
+  place_of,
+  holds_of,
+  depends_of,
+  target_at,
+  errors_if,
+  errors_by,
+  errors_at,
+  on_error,
+}
+use Rattle.request_machine.specs.Walk.{run_of, answer_of, after_run}
+use Rattle.build_declared.specs.Places.{Site, or_replies, placed}
+use Rattle.build_declared.specs.Written.{bytes_in}
+use Rattle.build_declared.proofs.Looks.{looks-same}
+
+-- functions that are equal everywhere
+ext : {X Y : Type 0} (f g : X → Y) → ((x : X) → f x ≡ g x) → f ≡ g
+ext f g h = λ i. λ x. h x i
+
+module _ (p : Project) (key : RequestKey) (W : List ℕ → Type 0) (Q' Q : Site → RunId → Journal →
+    Record → Type 0) (tools : List ℕ → ToolInput → ToolAnswer)
+    (first second : List ℕ → Scope → Journal → Body ToolInput ToolAnswer)
+    (runs : (name : List ℕ) (scope : Scope) (j k : Journal) →
+    AlikeJournals (bytes_in p.files) W j k → (made : Record) →
+    Q (record { target = target_at p name; scope = scope }) (run_of p.key name) k made →
+    HasNotWritten (run_of p.key name) j → HasNotWritten (run_of p.key name) k →
+    AlikeRuns (bytes_in p.files) W tools (run_of p.key name) j k (first name scope j)
+    (second name scope k) made (Q' (record { target = target_at p name; scope = scope })
+    (run_of p.key name) j)) where
+  abbrev Alike : Journal → Journal → Type 0
+  Alike j k = AlikeJournals (bytes_in p.files) W j k
+
+  abbrev Goes : Placed Site ToolInput ToolAnswer → Placed Site ToolInput ToolAnswer → Journal →
+      Journal → Type 0
+  Goes x y j k = AlikeWalks (bytes_in p.files) W Q' Q tools x y j k
+
+  place-same : (scope : Scope) (j k : Journal) → Alike j k → place_of p scope j ≡ place_of p scope k
+  place-same scope j k a = ap (λ ps. item_place ps p.key.path scope)
+      ((looks-same p.files W).paths j k a)
+
+  holds-same : (scope : Scope) (j k : Journal) → Alike j k → (t : Option UsedTarget) →
+      holds_of p scope j t ≡ holds_of p scope k t
+  holds-same scope j k a None = refl
+  holds-same scope j k a (Some target) = ap (λ q. element_holds q target.element)
+      (place-same scope j k a)
+
+  errors-same : (scope : Scope) (j k : Journal) → Alike j k → (b : Bool) (e : At) →
+      errors_by b p scope j e ≡ errors_by b p scope k e
+  errors-same scope j k a true e = ap (λ q. and_then (element_holds q e)
+      (λ holds. errors_if holds p scope e)) (place-same scope j k a)
+  errors-same scope j k a false e = refl
+
+  on-error-same : (scope : Scope) (j k : Journal) → Alike j k → (t : Option UsedTarget) →
+      on_error p scope j t ≡ on_error p scope k t
+  on-error-same scope j k a None = refl
+  on-error-same scope j k a (Some target) =
+      ap (λ f. map_ok (flat_map (λ names. names)) (all_ok f (children_of target.element)))
+      (ext (errors_at p scope j) (errors_at p scope k)
+      (λ e. errors-same scope j k a (bytes_eq (name_of e.node) (codes "OnError")) e))
+
+  answer-same : (ok : Bool) (s : Standing) (j k : Journal) → Alike j k → (name : List ℕ) →
+      answer_of p ok s j name ≡ answer_of p ok s k name
+  answer-same true s j k a name = refl
+  answer-same false s j k a name = ap (map_ok Failed)
+      (on-error-same s.scope j k a (target_at p name))
+
+  or-goes : {X : Type 0} (x y : Result X EvalFault) (go to : X → Placed Site ToolInput ToolAnswer)
+      (j k : Journal) → x ≡ y → ((z : X) → Goes (go z) (to z) j k) →
+      Goes (or_replies x go) (or_replies y to) j k
+  or-goes x y go to j k e f = subst (λ z. Goes (or_replies x go) (or_replies z to) j k) e (same x)
+    where
+      same : (z : Result _ EvalFault) → Goes (or_replies z go) (or_replies z to) j k
+      same (Ok z) = f z
+      same (Err fault) = refl
+
+  standing-same : (s : Standing) (name : List ℕ) (m n : Record) → AlikeRecords m n →
+      after_run s name m ≡ after_run s name n
+  standing-same s name m n r =
+      ap (λ c. record {
+        scope = all_applied c s.scope;
+        returned =
+            s.returned ++ record { target = name; items = m.items } ∷ [];
+      }) r.changes
+      ∙ ap (λ i. record {
+        scope = all_applied n.changes s.scope;
+        returned =
+            s.returned ++ record { target = name; items = i } ∷ [];
+      }) r.items
+
+  pub walks-go : (tree : Asking Question OrderAnswer End) (s : Standing) (j k : Journal) →
+      Alike j k → Goes (placed p key first tree s j) (placed p key second tree s k) j k
+  walks-go (ends end) s j k a = refl
+  walks-go (asks (condition name) go) s j k a =
+      or-goes (holds_of p s.scope j (target_at p name)) (holds_of p s.scope k (target_at p name))
+      (λ holds. placed p key first (go (Truth holds)) s j)
+      (λ holds. placed p key second (go (Truth holds)) s k) j k
+      (holds-same s.scope j k a (target_at p name)) (λ holds. walks-go (go (Truth holds)) s j k a)
+  walks-go (asks (depends name) go) s j k a =
+      or-goes (depends_of p s.scope (target_at p name)) (depends_of p s.scope (target_at p name))
+      (λ names. placed p key first (go (Names names)) s j)
+      (λ names. placed p key second (go (Names names)) s k) j k
+      refl (λ names. walks-go (go (Names names)) s j k a)
+  walks-go (asks (body name) go) s j k a = (
+    refl,
+    runs name s.scope j k a,
+    λ m n i l r b.
+        let then : Standing = after_run s name n in
+        subst (λ z. Goes (or_replies (answer_of p m.ok z i name)
+        (λ answer. placed p key first (go answer) z i))
+        (or_replies (answer_of p n.ok then l name)
+        (λ answer. placed p key second (go answer) then l)) i l)
+        (sym (standing-same s name m n r))
+        (or-goes (answer_of p m.ok then i name) (answer_of p n.ok then l name)
+        (λ answer. placed p key first (go answer) then i)
+        (λ answer. placed p key second (go answer) then l) i l
+        (answer-same m.ok then i l b name ∙ ap (λ ok. answer_of p ok then l name) r.ok)
+        (λ answer. walks-go (go answer) then i l b)),
+  )

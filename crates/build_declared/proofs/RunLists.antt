@@ -1,0 +1,569 @@
+-- A declared and fresh run of a target with Inputs and Outputs goes alike, where each of its pieces
+-- does.
+use Rattle.std.proofs.Common.{
+  ◌≡◌,
+  ℕ,
+  inl,
+  List,
+  [],
+  ◌∷◌,
+  Option,
+  None,
+  Some,
+  refl,
+  ap,
+  sym,
+  ◌∙◌,
+  subst,
+}
+use Rattle.std.specs.Prelude.{Result, Ok, Err, codes}
+use Rattle.msb_values.specs.declared.mode.Mode.TheVariants.{Incremental, Clean}
+use Rattle.msb_values.specs.declared.note.Note.{Note}
+use Rattle.msb_values.specs.declared.note.Note.TheVariants.{Fail}
+use Rattle.msb_values.specs.declared.put.Put.{Put}
+use Rattle.msb_values.specs.declared.scope.Scope.{Scope}
+use Rattle.msb_expand.specs.declared.lens.Bucket.{Bucket}
+use Rattle.file_store.specs.declared.tree.File.{File}
+use Rattle.result_cache.specs.Lists.{In}
+use Rattle.result_cache.specs.declared.record.Record.{Record}
+use Rattle.result_cache.specs.declared.run.RunId.{RunId}
+use Rattle.result_cache.specs.Journal.{Journal, record_of}
+use Rattle.build_world.specs.Elements.{attribute_of}
+use Rattle.build_world.specs.Faults.{fault_text}
+use Rattle.build_world.specs.Instances.{UsedTarget}
+use Rattle.build_world.specs.declared.fault.EvalFault.{EvalFault}
+use Rattle.build_meaning.specs.Walk.{Outcome}
+use Rattle.build_incremental.specs.Alike.{AlikeFound, AlikeOutcomes, AlikeJournals}
+use Rattle.build_incremental.specs.Alone.{alone, LacksOnly}
+use Rattle.build_incremental.specs.SideBySide.{HasNotWritten, AlikeRuns, in_part}
+use Rattle.msb_items.specs.Places.{Place, item_place}
+use Rattle.task_trait.specs.declared.tools.ToolAnswer.{ToolAnswer}
+use Rattle.task_trait.specs.declared.tools.ToolInput.{ToolInput}
+use Rattle.target_incremental.specs.declared.decision.Choice.{Choice}
+use Rattle.target_incremental.specs.declared.decision.Choice.TheVariants.{
+  Run as RunAll,
+  Skip,
+  Nothing,
+  Part,
+}
+use Rattle.target_texts.specs.Batched.{target_buckets}
+use Rattle.msb_laws.specs.Results.{and_then, map_ok}
+use Rattle.target_texts.specs.Lists.{Lists, lists_by, paths_at, typed_items}
+use Rattle.target_texts.specs.Returned.{in_target}
+use Rattle.target_body.specs.Work.{Work, done, followed_by, unless_stopped, each_in_turn}
+use Rattle.target_body.specs.States.{
+  Run,
+  State,
+  Stopped,
+  faulted,
+  failed,
+  state_of,
+  begun,
+  entered,
+  with_notes,
+  or_stop,
+  place_in,
+  outcome_of,
+}
+use Rattle.target_body.specs.Pieces.{lists_at, choice_of, decided, as_failed, or_failed}
+use Rattle.target_body.specs.Bodies.{body}
+use Rattle.build_declared.specs.Chosen.{
+  all_of,
+  all_or_nothing,
+  chosen_or_run,
+  bucket_by,
+  buckets_by,
+  work_by,
+  body_by,
+}
+use Rattle.build_declared.specs.Declared.{
+  MayChoose,
+  IsNotTooLarge,
+  PieceIsDeclared,
+  RunIsDeclared,
+  DeclaredBy,
+}
+use Rattle.build_declared.specs.Written.{bytes_in, AnyPath}
+use Rattle.build_declared.specs.Ends.{End, end_of}
+use Rattle.build_declared.specs.Fresh.{PieceIsFresh}
+use Rattle.build_declared.specs.Pieces.{Piece, one_if, piece_if, pieces_among, pieces_in}
+use Rattle.build_declared.specs.Places.{run_at}
+use Rattle.build_declared.proofs.Alones.{some-same, end-bound, bound-end, alone-end}
+use Rattle.build_declared.proofs.BucketsGo.{
+  Carry,
+  EndsAlike,
+  StopsAlike,
+  InStep,
+  GoAlike,
+  IsFine,
+  BucketGoes,
+  first_of,
+  second_of,
+  buckets-go,
+  outcomes-alike,
+}
+use Rattle.build_declared.proofs.Choices.{decided-may, clean-all}
+use Rattle.build_declared.proofs.CleanBuilds.{RunsGo}
+use Rattle.build_declared.proofs.EmptyBuckets.{
+  IsEmpty,
+  empty-goes,
+  entered-pair,
+  lists-same,
+  none-goes,
+}
+use Rattle.build_declared.proofs.Looks.{looks-same}
+use Rattle.build_declared.proofs.NotesStay.{bucket-keeps}
+use Rattle.build_declared.proofs.Sides.{TakesLists}
+
+-- ---- one bucket
+
+in-one : (p : Piece) (inputs outputs : List (List ℕ)) → all_or_nothing inputs outputs ≡ RunAll →
+    In p (one_if p inputs outputs)
+in-one p [] outputs e = absurd (cc)
+in-one p (input ∷ inputs) [] e = absurd (cc)
+in-one p (input ∷ inputs) (output ∷ outputs) e = inl refl
+
+abbrev IsOther : Choice → Type 0
+IsOther RunAll = ⊥
+IsOther Nothing = ⊥
+IsOther Skip = Unit {0}
+IsOther (Part old) = Unit {0}
+
+never : (inputs outputs : List (List ℕ)) (choice : Choice) →
+    all_or_nothing inputs outputs ≡ choice → IsOther choice → ⊥
+never [] outputs choice e h = subst IsOther (sym e) h
+never (input ∷ inputs) [] choice e h = subst IsOther (sym e) h
+never (input ∷ inputs) (output ∷ outputs) choice e h = subst IsOther (sym e) h
+
+module _ (tools : List ℕ → ToolInput → ToolAnswer) (id : RunId) (run : Run) (scope : Scope)
+    (j k : Journal) (a : AlikeJournals (bytes_in run.files) AnyPath j k) where
+  abbrev clean : Run
+  clean = record run { mode = Clean }
+
+  abbrev pub Fine : Note → Type 0
+  Fine = IsNotTooLarge tools id clean
+
+  abbrev pub Said : Piece → Type 0
+  Said p = PieceIsDeclared tools id clean p × PieceIsFresh tools id clean p
+
+  abbrev pub piece_at : Bucket → Lists → State → List Put → Piece
+  piece_at bucket lists t pt = record {
+    bucket = bucket;
+    lists = lists;
+    from =
+        entered scope bucket t;
+    before = pt;
+  }
+
+  -- what is still to be shown: a piece goes alike, done as is decided and done whole
+  abbrev pub PieceGoes : Type 0
+  PieceGoes = (bucket : Bucket) (lists : Lists) (s t : State) (ps pt : List Put) →
+      Carry tools id run scope j k s t ps pt → lists_at run bucket (entered scope bucket s)
+      ≡ Ok (Some lists) → lists_at clean bucket (entered scope bucket t) ≡ Ok (Some lists) →
+      all_or_nothing lists.inputs lists.outputs ≡ RunAll → (E F : End (Result State Stopped)) →
+      end_of tools id (decided run bucket (choice_of run lists (entered scope bucket s))
+      lists.items (entered scope bucket s)) s.journal ps ≡ Some E →
+      end_of tools id (decided clean bucket RunAll lists.items (entered scope bucket t)) t.journal
+      pt ≡ Some F → IsFine tools id run scope j k Fine E.value →
+      IsFine tools id run scope j k Fine F.value → Said (piece_at bucket lists t pt) →
+      GoAlike tools id run scope j k E F
+
+  failed-goes : (E F : End (Result State Stopped)) → GoAlike tools id run scope j k E F →
+      GoAlike tools id run scope j k (record {
+        value = or_failed E.value;
+        journal =
+            E.journal;
+        puts = E.puts;
+      }) (record {
+        value = or_failed F.value;
+        journal =
+            F.journal;
+        puts = F.puts;
+      })
+  failed-goes E F g = record {
+    ends = ends E.value F.value g.ends;
+    w_step =
+        step E.value E.journal g.w_step;
+    c_step = step F.value F.journal g.c_step;
+  }
+    where
+      step : (r : Result State Stopped) (l : Journal) → InStep tools id run scope j k r l →
+          InStep tools id run scope j k (or_failed r) l
+      step (Ok s) l h = h
+      step (Err d) l h = tt
+
+      stops : (d e : Stopped) → StopsAlike tools id run scope j k d e E.puts F.puts →
+          StopsAlike tools id run scope j k (as_failed d) (as_failed e) E.puts F.puts
+      stops (faulted s) (faulted t) h = h
+      stops (faulted s) (failed t) h = h
+      stops (failed s) (faulted t) h = h
+      stops (failed s) (failed t) h = h
+
+      ends : (r q : Result State Stopped) → EndsAlike tools id run scope j k r q E.puts F.puts →
+          EndsAlike tools id run scope j k (or_failed r) (or_failed q) E.puts F.puts
+      ends (Ok s) (Ok t) h = h
+      ends (Ok s) (Err e) h = absurd h
+      ends (Err d) (Ok t) h = absurd h
+      ends (Err d) (Err e) h = stops d e h
+
+  fine-failed : (r : Result State Stopped) → IsFine tools id run scope j k Fine (or_failed r) →
+      IsFine tools id run scope j k Fine r
+  fine-failed (Ok s) f = f
+  fine-failed (Err (faulted s)) f = f
+  fine-failed (Err (failed s)) f = f
+
+  module _ (goes : PieceGoes) (takes : (bucket : Bucket) (y : State) →
+      lists_at clean bucket y ≡ Ok None → ⊥) where
+    both-same : (bucket : Bucket) (s t : State) (ps pt : List Put) →
+        Carry tools id run scope j k s t ps pt → (E F : End (Result State Stopped)) →
+        end_of tools id (first_of tools id run scope j k bucket s) s.journal ps ≡ Some E →
+        end_of tools id (second_of tools id run scope j k bucket t) t.journal pt ≡ Some F →
+        IsEmpty tools id run scope j k a (lists_at clean bucket (entered scope bucket t)) →
+        GoAlike tools id run scope j k E F
+    both-same bucket s t ps pt c E F he hf empty =
+        let x = empty-goes tools id run scope j k a bucket s t ps pt c empty in
+        let e : x.0 ≡ E = some-same x.0 E (sym x.2 ∙ he) in
+        let f : x.1 ≡ F = some-same x.1 F (sym x.3 ∙ hf) in
+        subst (λ z. GoAlike tools id run scope j k z F) e
+        (subst (GoAlike tools id run scope j k x.0) f x.4)
+
+    pub bucket-goes : BucketGoes tools id run scope j k Fine Said
+    bucket-goes bucket s t ps pt c E F he hf fe ff so =
+        go (lists_at clean bucket (entered scope bucket t)) refl
+      where
+        whole : (lists : Lists) → lists_at clean bucket (entered scope bucket t) ≡ Ok (Some lists) →
+            all_or_nothing lists.inputs lists.outputs ≡ RunAll → GoAlike tools id run scope j k E F
+        whole lists e all =
+            let x : State = entered scope bucket s in
+            let y : State = entered scope bucket t in
+            let same : lists_at run bucket x ≡ Ok (Some lists) =
+            lists-same tools id run scope j k a bucket x y ps pt
+            (entered-pair tools id run scope j k a bucket s t ps pt c) ∙ e in
+            let he' : end_of tools id (followed_by (decided run bucket
+            (choice_of run lists x) lists.items x) (λ end. done (or_failed end))) s.journal ps
+            ≡ Some E =
+            subst (λ z. end_of tools id (followed_by (unless_stopped (or_stop x z)
+            (chosen_or_run (choice_of run) run bucket x))
+            (λ end. done (or_failed end))) s.journal ps ≡ Some E) same he in
+            let hf' : end_of tools id (followed_by (decided clean bucket
+            (all_or_nothing lists.inputs lists.outputs) lists.items y)
+            (λ end. done (or_failed end))) t.journal pt ≡ Some F =
+            subst (λ z. end_of tools id (followed_by (unless_stopped (or_stop y z)
+            (chosen_or_run all_of clean bucket y))
+            (λ end. done (or_failed end))) t.journal pt ≡ Some F) e hf in
+            let hf2 : end_of tools id (followed_by (decided clean bucket RunAll lists.items y)
+            (λ end. done (or_failed end))) t.journal pt ≡ Some F =
+            subst (λ z. end_of tools id (followed_by (decided clean bucket z lists.items y)
+            (λ end. done (or_failed end))) t.journal pt ≡ Some F) all hf' in
+            let u = end-bound tools id (decided run bucket (choice_of run lists x) lists.items x)
+            (λ end. done (or_failed end)) s.journal ps E he' in
+            let v = end-bound tools id (decided clean bucket RunAll lists.items y)
+            (λ end. done (or_failed end)) t.journal pt F hf2 in
+            let ew : record {
+              value = or_failed u.0.value;
+              journal = u.0.journal;
+              puts =
+                  u.0.puts;
+            } ≡ E = some-same (record {
+              value = or_failed u.0.value;
+              journal =
+                  u.0.journal;
+              puts = u.0.puts;
+            }) E u.2 in
+            let ec : record {
+              value = or_failed v.0.value;
+              journal = v.0.journal;
+              puts =
+                  v.0.puts;
+            } ≡ F = some-same (record {
+              value = or_failed v.0.value;
+              journal =
+                  v.0.journal;
+              puts = v.0.puts;
+            }) F v.2 in
+            let fu : IsFine tools id run scope j k Fine u.0.value =
+            fine-failed u.0.value (subst (λ (z : End (Result State Stopped)).
+            IsFine tools id run scope j k Fine z.value) (sym ew) fe) in
+            let fv : IsFine tools id run scope j k Fine v.0.value =
+            fine-failed v.0.value (subst (λ (z : End (Result State Stopped)).
+            IsFine tools id run scope j k Fine z.value) (sym ec) ff) in
+            let there : In (piece_at bucket lists t pt)
+            (piece_if bucket y pt (lists_at clean bucket y)) =
+            subst (λ z. In (piece_at bucket lists t pt) (piece_if bucket y pt z)) (sym e)
+            (in-one (piece_at bucket lists t pt) lists.inputs lists.outputs all) in
+            let g = goes bucket lists s t ps pt c same e all u.0 v.0 u.1 v.1 fu fv
+            (so (piece_at bucket lists t pt) there) in
+            subst (λ z. GoAlike tools id run scope j k z F) ew
+            (subst (GoAlike tools id run scope j k (record {
+              value =
+                  or_failed u.0.value;
+              journal = u.0.journal;
+              puts = u.0.puts;
+            })) ec
+            (failed-goes u.0 v.0 g))
+
+        piece : (lists : Lists) → lists_at clean bucket (entered scope bucket t) ≡ Ok (Some lists) →
+            (choice : Choice) → all_or_nothing lists.inputs lists.outputs ≡ choice →
+            GoAlike tools id run scope j k E F
+        piece lists e RunAll all = whole lists e all
+        piece lists e Nothing all = both-same bucket s t ps pt c E F he hf
+            (subst (IsEmpty tools id run scope j k a) (sym e) all)
+        piece lists e Skip all = absurd (never lists.inputs lists.outputs Skip all tt)
+        piece lists e (Part old) all = absurd (never lists.inputs lists.outputs (Part old) all tt)
+
+        go : (l : Result (Option Lists) EvalFault) →
+            lists_at clean bucket (entered scope bucket t) ≡ l → GoAlike tools id run scope j k E F
+        go (Ok None) e = absurd (takes bucket (entered scope bucket t) e)
+        go (Err fault) e = both-same bucket s t ps pt c E F he hf
+            (subst (IsEmpty tools id run scope j k a) (sym e) tt)
+        go (Ok (Some lists)) e = piece lists e (all_or_nothing lists.inputs lists.outputs) refl
+
+-- ---- the run
+
+abbrev with-lists : Place → (i o : List ℕ) → List (List ℕ) → List (List ℕ) → Option Lists
+with-lists p i o ins outs = Some (record {
+  inputs = ins;
+  outputs = outs;
+  items =
+      typed_items p.scope i o;
+})
+
+lists-there : (p : Place) (target : UsedTarget) → TakesLists target →
+    lists_by p target.element (attribute_of (codes "Inputs") target.element)
+    (attribute_of (codes "Outputs") target.element) ≡ Ok None → ⊥
+lists-there p target t e = go (paths_at p target.element t.inputs)
+    (paths_at p target.element t.outputs) (sym (ap
+    (λ i. lists_by p target.element i (attribute_of (codes "Outputs") target.element)) t.has_inputs
+    ∙ ap (λ o. lists_by p target.element (Some t.inputs) o) t.has_outputs) ∙ e)
+  where
+    go : (x y : Result (List (List ℕ)) EvalFault) →
+        and_then x (λ ins. map_ok (λ outs. with-lists p t.inputs t.outputs ins outs) y) ≡ Ok None →
+        ⊥
+    go (Ok ins) (Ok outs) h = cc
+    go (Ok ins) (Err fault) h = cc
+    go (Err fault) y h = cc
+
+module _ (tools : List ℕ → ToolInput → ToolAnswer) (files : List File)
+    (goes : (target : UsedTarget) (scope : Scope) (id : RunId) (j k : Journal)
+    (a : AlikeJournals (bytes_in files) AnyPath j k) → HasNotWritten id j → HasNotWritten id k →
+    PieceGoes tools id (run_at files Incremental id target) scope j k a) where
+  found-self : (o : Option Record) → AlikeFound o o
+  found-self None = tt
+  found-self (Some m) = record { ok = refl; items = refl; changes = refl }
+
+  alike-self : (k : Journal) → AlikeJournals (bytes_in files) AnyPath k k
+  alike-self k = record {
+    same = λ p. refl;
+    records = λ r. found-self (record_of k r);
+    only =
+        λ r n put i. tt;
+  }
+
+  all-may : (id : RunId) (run : Run) (lists : Lists) (choice : Choice) →
+      all_or_nothing lists.inputs lists.outputs ≡ choice → MayChoose tools id run lists choice
+  all-may id run lists RunAll e = e
+  all-may id run lists Nothing e = e
+  all-may id run lists Skip e = absurd (never lists.inputs lists.outputs Skip e tt)
+  all-may id run lists (Part old) e = absurd (never lists.inputs lists.outputs (Part old) e tt)
+
+  module _ (target : UsedTarget) (scope : Scope) (id : RunId) (j k : Journal) (made : Record)
+      (a : AlikeJournals (bytes_in files) AnyPath j k) (takes : TakesLists target)
+      (fw : HasNotWritten id j) (fc : HasNotWritten id k) where
+    abbrev run : Run
+    run = run_at files Incremental id target
+
+    abbrev clean-run : Run
+    clean-run = run_at files Clean id target
+
+    abbrev s0 : State
+    s0 = begun scope j
+
+    abbrev t0 : State
+    t0 = begun scope k
+
+    abbrev Went : Type 0
+    Went = AlikeRuns (bytes_in files) AnyPath tools id j k (body run scope j)
+        (body clean-run scope k) made (λ first. Unit {0})
+
+    at-start : Carry tools id run scope j k s0 t0 [] []
+    at-start = record {
+      items = refl;
+      changes = refl;
+      w_is = refl;
+      c_is = refl;
+      lacks =
+          record { written = λ p. inl refl; unwritten = λ p b n e. absurd (cc) };
+    }
+
+    buckets-same : target_buckets (place_in run s0 scope) target.element
+        ≡ target_buckets (place_in clean-run t0 scope) target.element
+    buckets-same = ap (λ l. target_buckets (item_place l id.instance.path scope) target.element)
+        ((looks-same files AnyPath).paths j k a)
+
+    -- by the ends of the buckets
+    done-so : (E F : End (Result State Stopped)) →
+        end_of tools id (buckets_by (choice_of run) run scope s0) j [] ≡ Some E →
+        end_of tools id (buckets_by all_of clean-run scope t0) k [] ≡ Some F →
+        AlikeOutcomes (outcome_of E.value) (outcome_of F.value) →
+        LacksOnly (bytes_in files) j E.puts F.puts → Went
+    done-so E F he hf o lacks =
+        let ew : end_of tools id (work_by (choice_of run) run scope j) j []
+        ≡ Some (record { value = outcome_of E.value; journal = E.journal; puts = E.puts }) =
+        bound-end tools id (buckets_by (choice_of run) run scope s0)
+        (λ end. done (outcome_of end)) j [] E he in
+        let ec : end_of tools id (work_by all_of clean-run scope k) k []
+        ≡ Some (record { value = outcome_of F.value; journal = F.journal; puts = F.puts }) =
+        bound-end tools id (buckets_by all_of clean-run scope t0)
+        (λ end. done (outcome_of end)) k [] F hf in
+        let aw : alone tools id (body_by (choice_of run) run scope j) j []
+        ≡ Some (outcome_of E.value, E.puts) = alone-end tools id
+        (work_by (choice_of run) run scope j) j [] (record {
+          value =
+              outcome_of E.value;
+          journal = E.journal;
+          puts = E.puts;
+        }) ew in
+        let ac : alone tools id (body_by all_of clean-run scope k) k [] ≡ Some (
+          outcome_of F.value,
+          F.puts,
+        ) = alone-end tools id (work_by all_of clean-run scope k) k [] (record {
+          value =
+              outcome_of F.value;
+          journal = F.journal;
+          puts = F.puts;
+        }) ec in
+        in_part (outcome_of E.value) (outcome_of F.value) E.puts F.puts aw
+        (subst (λ c. alone tools id (body_by c clean-run scope k) k [] ≡ Some (
+          outcome_of F.value,
+          F.puts,
+        )) (sym (clean-all clean-run refl)) ac) o lacks (λ put i. tt) tt
+
+    takes-clean : (bucket : Bucket) (y : State) → lists_at clean-run bucket y ≡ Ok None → ⊥
+    takes-clean bucket y e = lists-there (in_target (place_in clean-run y y.scope) bucket) target
+        takes e
+
+    abbrev first : Bucket → State → Work (Result State Stopped)
+    first = first_of tools id run scope j k
+
+    abbrev second : Bucket → State → Work (Result State Stopped)
+    second = second_of tools id run scope j k
+
+    finish-alike : (E F : End (Result State Stopped)) →
+        end_of tools id (buckets_by (choice_of run) run scope s0) j [] ≡ Some E →
+        end_of tools id (buckets_by all_of clean-run scope t0) k [] ≡ Some F →
+        GoAlike tools id run scope j k E F → Went
+    finish-alike E F he hf g = let o = outcomes-alike tools id run scope j k E.value F.value E.puts
+        F.puts g.ends in done-so E F he hf o.0 o.1
+
+    by-buckets : (x : Result (List Bucket) EvalFault) →
+        target_buckets (place_in run s0 scope) target.element ≡ x →
+        target_buckets (place_in clean-run t0 scope) target.element ≡ x →
+        DeclaredBy tools id clean-run scope k (pieces_in tools id all_of clean-run scope
+        (or_stop t0 x) t0) → ((p : Piece) → In p
+        (pieces_in tools id all_of clean-run scope (or_stop t0 x) t0) →
+        PieceIsFresh tools id clean-run p) → Went
+    by-buckets (Err fault) ew ec declared fresh =
+        let E : End (Result State Stopped) = record {
+          value =
+              or_failed (Err (faulted (with_notes (Fail (fault_text fault) ∷ []) s0)));
+          journal =
+              j;
+          puts = [];
+        } in
+        let F : End (Result State Stopped) = record {
+          value =
+              or_failed (Err (faulted (with_notes (Fail (fault_text fault) ∷ []) t0)));
+          journal =
+              k;
+          puts = [];
+        } in
+        done-so E F
+        (ap (λ z. end_of tools id (unless_stopped (or_failed (or_stop s0 z))
+        (λ found. each_in_turn (bucket_by (choice_of run) run scope) found s0)) j []) ew)
+        (ap (λ z. end_of tools id (unless_stopped (or_failed (or_stop t0 z))
+        (λ found. each_in_turn (bucket_by all_of clean-run scope) found t0)) k []) ec)
+        (record { ok = refl; items = refl; changes = refl })
+        (record { written = λ p. inl refl; unwritten = λ p b n e. absurd (cc) })
+    by-buckets (Ok found) ew ec declared fresh =
+        go (pieces_among tools id all_of clean-run scope found t0 []) refl declared
+      where
+        to-w : (E : End (Result State Stopped)) → end_of tools id
+            (each_in_turn (bucket_by (choice_of run) run scope) found s0) j [] ≡ Some E →
+            end_of tools id (buckets_by (choice_of run) run scope s0) j [] ≡ Some E
+        to-w E h = ap (λ z. end_of tools id (unless_stopped (or_failed (or_stop s0 z))
+            (λ found. each_in_turn (bucket_by (choice_of run) run scope) found s0)) j []) ew ∙ h
+
+        to-c : (F : End (Result State Stopped)) → end_of tools id
+            (each_in_turn (bucket_by all_of clean-run scope) found t0) k [] ≡ Some F →
+            end_of tools id (buckets_by all_of clean-run scope t0) k [] ≡ Some F
+        to-c F h = ap (λ z. end_of tools id (unless_stopped (or_failed (or_stop t0 z))
+            (λ found. each_in_turn (bucket_by all_of clean-run scope) found t0)) k []) ec ∙ h
+
+        from-w : (E : End (Result State Stopped)) →
+            end_of tools id (buckets_by (choice_of run) run scope s0) j [] ≡ Some E →
+            end_of tools id (each_in_turn (bucket_by (choice_of run) run scope) found s0) j []
+            ≡ Some E
+        from-w E h = sym (ap (λ z. end_of tools id (unless_stopped (or_failed (or_stop s0 z))
+            (λ found. each_in_turn (bucket_by (choice_of run) run scope) found s0)) j []) ew) ∙ h
+
+        from-c : (F : End (Result State Stopped)) →
+            end_of tools id (buckets_by all_of clean-run scope t0) k [] ≡ Some F →
+            end_of tools id (each_in_turn (bucket_by all_of clean-run scope) found t0) k [] ≡ Some F
+        from-c F h = sym (ap (λ z. end_of tools id (unless_stopped (or_failed (or_stop t0 z))
+            (λ found. each_in_turn (bucket_by all_of clean-run scope) found t0)) k []) ec) ∙ h
+
+        notes-of : (r : Result State Stopped) (note : Note) → In note (state_of r).notes →
+            In note (outcome_of r).notes
+        notes-of (Ok s) note i = i
+        notes-of (Err stop) note i = i
+
+        go : (pieces : List Piece) → pieces_among tools id all_of clean-run scope found t0 []
+            ≡ pieces → DeclaredBy tools id clean-run scope k
+            (pieces_among tools id all_of clean-run scope found t0 []) → Went
+        go [] e d =
+            let x = none-goes tools id run scope j k a takes-clean found s0 t0 [] [] at-start e in
+            finish-alike x.0 x.1 (to-w x.0 x.2) (to-c x.1 x.3) x.4
+        go (p ∷ ps) e d =
+            let r : RunIsDeclared tools id clean-run scope k (p ∷ ps) =
+            subst (DeclaredBy tools id clean-run scope k) e d in
+            let w = r.never_large Incremental j a (choice_of run)
+            (decided-may tools id run clean-run refl) in
+            let c = r.never_large Clean k (alike-self k) all_of
+            (λ lists s. all-may id clean-run lists
+            (all_or_nothing lists.inputs lists.outputs) refl) in
+            let x = end-bound tools id (buckets_by (choice_of run) run scope s0)
+            (λ end. done (outcome_of end)) j [] w.0 w.1 in
+            let y = end-bound tools id (buckets_by all_of clean-run scope t0)
+            (λ end. done (outcome_of end)) k [] c.0 c.1 in
+            let ox : outcome_of x.0.value ≡ w.0.value =
+            ap (λ (z : End Outcome). z.value) (some-same (record {
+              value =
+                  outcome_of x.0.value;
+              journal = x.0.journal;
+              puts = x.0.puts;
+            }) w.0 x.2) in
+            let oy : outcome_of y.0.value ≡ c.0.value =
+            ap (λ (z : End Outcome). z.value) (some-same (record {
+              value =
+                  outcome_of y.0.value;
+              journal = y.0.journal;
+              puts = y.0.puts;
+            }) c.0 y.2) in
+            let g = buckets-go tools id run scope j k (Fine tools id run scope j k a)
+            (Said tools id run scope j k a) (bucket-goes tools id run scope j k a
+            (goes target scope id j k a fw fc) takes-clean)
+            (bucket-keeps tools id run (choice_of run) scope)
+            (bucket-keeps tools id clean-run all_of scope) found s0 t0 []
+            [] at-start x.0 y.0 (from-w x.0 x.1) (from-c y.0 y.1)
+            (λ note i. w.2 note (subst (λ (o : Outcome). In note o.notes) ox
+            (notes-of x.0.value note i))) (λ note i. c.2 note
+            (subst (λ (o : Outcome). In note o.notes) oy (notes-of y.0.value note i)))
+            (λ q i. (r.each q (subst (In q) e i), fresh q i)) in
+            finish-alike x.0 y.0 x.1 y.1 g
+
+  pub runs-go : RunsGo tools files
+  runs-go target scope id j k made a declared fresh takes fw fc =
+      by-buckets target scope id j k made a takes fw fc
+      (target_buckets (place_in (run_at files Clean id target)
+      (begun scope k) scope) target.element) (buckets-same target scope id j k made a takes fw
+      fc) refl declared fresh

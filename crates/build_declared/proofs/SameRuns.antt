@@ -1,0 +1,698 @@
+-- A run in two modes, whose buckets are done in the same way, goes step by step alike.
+use Rattle.std.proofs.Common.{
+  ◌≡◌,
+  ℕ,
+  Bool,
+  true,
+  false,
+  List,
+  [],
+  ◌∷◌,
+  ◌++◌,
+  Option,
+  None,
+  Some,
+  refl,
+  ap,
+  ◌∙◌,
+  subst,
+}
+use Rattle.std.specs.Prelude.{Result, Ok, Err, codes}
+use Rattle.std.specs.Str.{bytes_eq}
+use Rattle.msb_laws.specs.Results as results
+use Rattle.msb_laws.specs.Results.{map_ok}
+use Rattle.msb_values.specs.Keys.{key_of}
+use Rattle.msb_values.specs.declared.change.Change.{Change}
+use Rattle.msb_values.specs.declared.item.Item.{Item}
+use Rattle.msb_values.specs.declared.mode.Mode.{Mode}
+use Rattle.msb_values.specs.declared.put.Put.{Put}
+use Rattle.msb_values.specs.declared.scope.Scope.{Scope}
+use Rattle.msb_elements.specs.Nodes.{name_of}
+use Rattle.msb_expand.specs.declared.lens.Bucket.{Bucket}
+use Rattle.msb_expand.specs.Reserved.{folder_of}
+use Rattle.file_store.specs.declared.tree.File.{File}
+use Rattle.result_cache.specs.declared.request.RequestKey.{RequestKey}
+use Rattle.result_cache.specs.declared.request.RequestResult.{RequestResult}
+use Rattle.result_cache.specs.declared.record.Decision.TheVariants.{Failed as FailedWord}
+use Rattle.result_cache.specs.Journal.{Journal}
+use Rattle.build_world.specs.Elements.{At, children_of, attribute_of}
+use Rattle.build_world.specs.Faults.{fault_text}
+use Rattle.msb_values.specs.declared.note.Note.TheVariants.{Fail}
+use Rattle.build_world.specs.declared.fault.EvalFault.{EvalFault}
+use Rattle.build_meaning.specs.Walk.{Outcome}
+use Rattle.build_incremental.specs.Alike.{AlikeJournals}
+use Rattle.build_incremental.specs.SideBySide.{AlikeBodies}
+use Rattle.msb_items.specs.Places.{in_bucket, item_place}
+use Rattle.msb_items.specs.TargetGroups.{group_changes}
+use Rattle.msb_files.specs.Views as views
+use Rattle.msb_files.specs.Views.{View}
+use Rattle.task_trait.specs.declared.failures.Failure.{Failure}
+use Rattle.task_trait.specs.declared.tools.Param.{Param}
+use Rattle.task_trait.specs.declared.tools.TaskOutput.{TaskOutput}
+use Rattle.task_trait.specs.declared.tools.ToolAnswer.{ToolAnswer}
+use Rattle.task_trait.specs.declared.tools.ToolAnswer.TheVariants.{Unknown, Made as MadeBy}
+use Rattle.task_trait.specs.declared.tools.ToolInput.{ToolInput}
+use Rattle.task_kit.specs.Foreign.{foreign_input, foreign_output}
+use Rattle.task_kit.specs.Tasks.{answer}
+use Rattle.task_msbuild.specs.Plans.{plan_of, has_stopped}
+use Rattle.task_msbuild.specs.Gathered.{gathered}
+use Rattle.task_msbuild.specs.declared.plans.Plan.{Plan}
+use Rattle.target_incremental.specs.declared.decision.Choice.{Choice}
+use Rattle.target_incremental.specs.declared.decision.Choice.TheVariants.{
+  Run as RunAll,
+  Skip,
+  Nothing,
+  Part,
+}
+use Rattle.target_texts.specs.declared.on_error.OnError.{OnError}
+use Rattle.target_texts.specs.declared.on_error.OnError.TheVariants.{Stop, Warn, Continue}
+use Rattle.target_texts.specs.Made.{Made}
+use Rattle.target_texts.specs.Inferred.{inferred_at}
+use Rattle.target_texts.specs.Parameters.{task_buckets}
+use Rattle.target_texts.specs.Lists.{Lists, lists_by}
+use Rattle.target_texts.specs.Returned.{in_target, returns_of, returned_items}
+use Rattle.target_texts.specs.Batched.{target_buckets}
+use Rattle.target_texts.specs.OnErrors.{notes_by}
+use Rattle.target_body.specs.Work.{Work, done, calls, unless_stopped, each_in_turn}
+use Rattle.target_body.specs.States.{
+  Run,
+  State,
+  Stopped,
+  faulted,
+  failed,
+  begun,
+  entered,
+  with_journal,
+  with_write,
+  with_notes,
+  with_items,
+  with_decision,
+  with_changes,
+  with_changes_seen,
+  without_scope,
+  settled,
+  or_stop,
+  stopped_by,
+  taken,
+  task_scope,
+  view_of,
+  place_in,
+  outcome_of,
+  state_of,
+}
+use Rattle.target_body.specs.Answers.{
+  all_written,
+  given,
+  at_once,
+  in_order,
+  made,
+  msbuild,
+  tool,
+  not_built_in,
+  answered_by,
+  answered,
+}
+use Rattle.target_body.specs.Tasks.{
+  called_place,
+  failed_by,
+  ended_by,
+  outputs_if,
+  answered_to,
+  readied,
+  answered_if,
+  called_with,
+  call,
+  called,
+  inferred,
+  then_inferred,
+  task,
+}
+use Rattle.target_body.specs.Children.{
+  group,
+  Kind,
+  group_element,
+  on_error_element,
+  task_element,
+  kind_of,
+  child_by,
+  child,
+  children,
+}
+use Rattle.target_body.specs.Returned.{items_if, returned}
+use Rattle.target_body.specs.Pieces.{
+  lists_at,
+  treated,
+  on_old,
+  word_of,
+  decided,
+  as_failed,
+  or_failed,
+}
+use Rattle.build_declared.specs.Written.{bytes_in}
+use Rattle.build_declared.specs.Chosen.{
+  Chooser,
+  chosen_or_run,
+  bucket_by,
+  buckets_by,
+  work_by,
+  body_by,
+}
+use Rattle.build_declared.proofs.Twins.{
+  AlikeWork,
+  bound,
+  bodies,
+  Twin,
+  by-twin,
+  TwinStop,
+  TwinEnd,
+  unless-twin,
+  then-twin,
+  each-twin,
+  or-stop-twin,
+  settled-twin,
+  outcome-twin,
+}
+
+-- what is asked of files gives the same by journals that are alike
+pub record LooksSame (files : List File) (W : List ℕ → Type 0) : Type 0 where
+  pub paths : (j k : Journal) → AlikeJournals (bytes_in files) W j k →
+      views.paths (record { files = files; journal = j })
+      ≡ views.paths (record { files = files; journal = k })
+  pub answers : (j k : Journal) → AlikeJournals (bytes_in files) W j k →
+      (name dir : List ℕ) (params : List Param) (written : ℕ) →
+      answer name dir (record { files = files; journal = j }) params written
+      ≡ answer name dir (record { files = files; journal = k }) params written
+  pub inputs : (j k : Journal) → AlikeJournals (bytes_in files) W j k →
+      (dir : List ℕ) (params : List Param) →
+      foreign_input dir (record { files = files; journal = j }) params
+      ≡ foreign_input dir (record { files = files; journal = k }) params
+
+module _ (run : Run) (mode : Mode) (W : List ℕ → Type 0) (looks : LooksSame run.files W) where
+  abbrev pub other : Run
+  other = record run { mode = mode }
+
+  abbrev T : List ℕ → Option (List ℕ)
+  T = bytes_in run.files
+
+  abbrev Same : State → State → Type 0
+  Same = Twin T W
+
+  abbrev Goes : Work (Result State Stopped) → Work (Result State Stopped) → Type 0
+  Goes = AlikeWork T W (TwinEnd T W)
+
+  abbrev Ends : Result State Stopped → Result State Stopped → Type 0
+  Ends = TwinEnd T W
+
+  place-same : (s t : State) (scope : Scope) → Same s t →
+      place_in run s scope ≡ place_in other t scope
+  place-same s t scope h = ap (λ ps. item_place ps run.instance.path scope)
+      (looks.paths s.journal t.journal h.alike)
+
+  scope-same : (s t : State) → Same s t → s.scope ≡ t.scope
+  scope-same s t h = ap (λ (z : State). z.scope) h.same
+
+  written-same : (s t : State) → Same s t → s.written ≡ t.written
+  written-same s t h = ap (λ (z : State). z.written) h.same
+
+  -- where the texts of a place give the same
+  at-place : (s t : State) → Same s t → place_in run s s.scope ≡ place_in other t t.scope
+  at-place s t h = place-same s t s.scope h ∙ ap (place_in other t) (scope-same s t h)
+
+  at-tasks : (s t : State) → Same s t → place_in run s (task_scope s)
+      ≡ place_in other t (task_scope t)
+  at-tasks s t h = place-same s t (task_scope s) h ∙ ap (place_in other t) (ap task_scope h.same)
+
+  -- ---- what is made in a state
+
+  taken-twin : (m : Made) (s t : State) → Same s t → Ends (taken m s) (taken m t)
+  taken-twin m s t h = go m.fault
+    where
+      go : (fault : Option EvalFault) → Ends (stopped_by fault (with_changes m.changes s))
+          (stopped_by fault (with_changes m.changes t))
+      go None = by-twin T W (λ z. Same (with_changes m.changes s)
+          (with_changes m.changes z)) s t h (λ k a. record { alike = a; same = refl })
+      go (Some fault) =
+          by-twin T W (λ z. Ends (stopped_by (Some fault) (with_changes m.changes s))
+          (stopped_by (Some fault) (with_changes m.changes z))) s t h (λ k a. record {
+            alike =
+                a;
+            same = refl;
+          })
+
+  taken-same : (m n : Made) (s t : State) → m ≡ n → Same s t → Ends (taken m s) (taken n t)
+  taken-same m n s t e h = subst (λ z. Ends (taken m s) (taken z t)) e (taken-twin m s t h)
+
+  notes-twin : (notes : List _) (s t : State) → Same s t →
+      Same (with_notes notes s) (with_notes notes t)
+  notes-twin notes s t h = by-twin T W (λ z. Same (with_notes notes s)
+      (with_notes notes z)) s t h (λ k a. record { alike = a; same = refl })
+
+  -- ---- answers
+
+  abbrev TwinOutput : State × TaskOutput → State × TaskOutput → Type 0
+  TwinOutput x y = Same x.0 y.0 × (x.1 ≡ y.1)
+
+  abbrev Answers : Work (State × TaskOutput) → Work (State × TaskOutput) → Type 0
+  Answers = AlikeWork T W TwinOutput
+
+  write-twin : (put : Put) (s t : State) → Same s t → (j k : Journal) → AlikeJournals T W j k →
+      Same (with_write put j s) (with_write put k t)
+  write-twin put s t h j k a = by-twin T W (λ z. Same (with_write put j s)
+      (with_write put k z)) s t h (λ l b. record { alike = a; same = refl })
+
+  journal-twin : (s t : State) → Same s t → (j k : Journal) → AlikeJournals T W j k →
+      Same (with_journal j s) (with_journal k t)
+  journal-twin s t h j k a = by-twin T W (λ z. Same (with_journal j s)
+      (with_journal k z)) s t h (λ l b. record { alike = a; same = refl })
+
+  all-written : (puts : List Put) (s t : State) → Same s t →
+      AlikeWork T W Same (all_written puts s) (all_written puts t)
+  all-written [] s t h = h
+  all-written (put ∷ puts) s t h = (
+    refl,
+    λ j k a. all-written puts (with_write put j s)
+        (with_write put k t) (write-twin put s t h j k a),
+  )
+
+  given-twin : (output : TaskOutput) (s t : State) → Same s t →
+      Answers (given s output) (given t output)
+  given-twin output s t h =
+      bound T W Same TwinOutput (all_written output.files s) (all_written output.files t)
+      (λ after. done (after, output)) (λ after. done (after, output))
+      (all-written output.files s t h) (λ x y e. (e, refl))
+
+  abbrev TwinResults : State × List RequestResult → State × List RequestResult → Type 0
+  TwinResults x y = Same x.0 y.0 × (x.1 ≡ y.1)
+
+  once-twin : (keys : List RequestKey) (s t : State) → Same s t →
+      AlikeWork T W TwinResults (at_once keys s) (at_once keys t)
+  once-twin [] s t h = (h, refl)
+  once-twin (key ∷ keys) s t h = (refl, refl, λ answers j k a. (journal-twin s t h j k a, refl))
+
+  order-twin : (plan : Plan) (answers : List RequestResult) (keys : List RequestKey) (s t : State) →
+      Same s t → AlikeWork T W TwinResults (in_order plan answers keys s)
+      (in_order plan answers keys t)
+  order-twin plan answers [] s t h = (h, refl)
+  order-twin plan answers (key ∷ keys) s t h = go (has_stopped plan answers)
+      (λ more j k a. order-twin plan (answers ++ more) keys (with_journal j s) (with_journal k t)
+      (journal-twin s t h j k a))
+    where
+      go : (b : Bool) → ((more : List RequestResult) (j k : Journal) → AlikeJournals T W j k →
+          AlikeWork T W TwinResults (in_order plan (answers ++ more) keys (with_journal j s))
+          (in_order plan (answers ++ more) keys (with_journal k t))) →
+          AlikeWork T W TwinResults
+          (elim b [
+            | true ↦ done (s, answers)
+            | false ↦ calls key []
+                (λ more journal. in_order plan (answers ++ more) keys (with_journal journal s))
+          ])
+          (elim b [
+            | true ↦ done (t, answers)
+            | false ↦ calls key []
+                (λ more journal. in_order plan (answers ++ more) keys (with_journal journal t))
+          ])
+      go true ih = (h, refl)
+      go false ih = (refl, refl, ih)
+
+  made-twin : (plan : Plan) (s t : State) → Same s t →
+      AlikeWork T W TwinResults (made plan s) (made plan t)
+  made-twin plan s t h = go plan.parallel
+    where
+      go : (b : Bool) → AlikeWork T W TwinResults (elim b [
+        | true ↦ at_once plan.calls s
+        | false ↦ in_order plan [] plan.calls s
+      ])
+          (elim b [ true ↦ at_once plan.calls t | false ↦ in_order plan [] plan.calls t ])
+      go true = once-twin plan.calls s t h
+      go false = order-twin plan [] plan.calls s t h
+
+  msbuild-twin : (params : List Param) (s t : State) → Same s t →
+      Answers (msbuild run s params) (msbuild other t params)
+  msbuild-twin params s t h =
+      let plan : Plan = plan_of run.files (folder_of run.instance.path) run.instance.globals params
+      in
+      bound T W TwinResults TwinOutput (made plan s) (made plan t)
+      (λ x. done (x.0, gathered plan x.1)) (λ x. done (x.0, gathered plan x.1))
+      (made-twin plan s t h) (λ x y e. (e.0, ap (gathered plan) e.1))
+
+  tool-twin : (name : List ℕ) (x : Result ToolInput Failure) (s t : State) → Same s t →
+      Answers (tool name s x) (tool name t x)
+  tool-twin name (Ok input) s t h = (
+    refl,
+    refl,
+    λ a. subst (λ n. Answers (given s (foreign_output name s.written a))
+        (given t (foreign_output name n a))) (written-same s t h)
+        (given-twin (foreign_output name s.written a) s t h),
+  )
+  tool-twin name (Err failure) s t h = (h, refl)
+
+  built-twin : (b : Bool) (name : List ℕ) (params : List Param) (s t : State) → Same s t →
+      Answers (not_built_in b run s name params) (not_built_in b other t name params)
+  built-twin true name params s t h = msbuild-twin params s t h
+  built-twin false name params s t h =
+      subst (λ x. Answers (tool name s (foreign_input (folder_of run.instance.path)
+      (view_of run s) params)) (tool name t x))
+      (looks.inputs s.journal t.journal h.alike (folder_of run.instance.path) params)
+      (tool-twin name (foreign_input (folder_of run.instance.path) (view_of run s) params) s t h)
+
+  by-answer : (x : ToolAnswer) (name : List ℕ) (params : List Param) (s t : State) → Same s t →
+      Answers (answered_by x run s name params) (answered_by x other t name params)
+  by-answer (MadeBy output) name params s t h = given-twin output s t h
+  by-answer Unknown name params s t h = built-twin
+      (bytes_eq name (codes "msbuild")) name params s t h
+
+  answered-twin : (name : List ℕ) (params : List Param) (s t : State) → Same s t →
+      Answers (answered run s name params) (answered other t name params)
+  answered-twin name params s t h =
+      subst (λ x. Answers (answered run s name params) (answered_by x other t name params))
+      (looks.answers s.journal t.journal h.alike name (folder_of run.instance.path) params s.written
+      ∙ ap (λ n. answer name (folder_of run.instance.path) (view_of other t) params n)
+      (written-same s t h))
+      (by-answer (answer name (folder_of run.instance.path)
+      (view_of run s) params s.written) name params s t h)
+
+  answered-if : (name : Option (List ℕ)) (e : At) (params : List Param) (s t : State) → Same s t →
+      Answers (answered_if name run s e params) (answered_if name other t e params)
+  answered-if (Some name) e params s t h = answered-twin name params s t h
+  answered-if None e params s t h = (h, refl)
+
+  -- ---- tasks
+
+  failed-twin : (on_error : OnError) (s t : State) → Same s t →
+      Ends (failed_by on_error s) (failed_by on_error t)
+  failed-twin Stop s t h = h
+  failed-twin Warn s t h = h
+  failed-twin Continue s t h = h
+
+  ended-twin : (on_error : OnError) (ok : Bool) (s t : State) → Same s t →
+      Ends (ended_by on_error ok s) (ended_by on_error ok t)
+  ended-twin on_error true s t h = h
+  ended-twin on_error false s t h = failed-twin on_error s t h
+
+  and-twin : (x y : Result State Stopped) (f g : State → Result State Stopped) → Ends x y →
+      ((s t : State) → Same s t → Ends (f s) (g t)) →
+      Ends (results.and_then x f) (results.and_then y g)
+  and-twin (Ok s) (Ok t) f g h next = next s t h
+  and-twin (Ok s) (Err e) f g h next = absurd h
+  and-twin (Err d) (Ok t) f g h next = absurd h
+  and-twin (Err d) (Err e) f g h next = h
+
+  call-place : (s t : State) (bucket : Bucket) → Same s t →
+      called_place run s bucket ≡ called_place other t bucket
+  call-place s t bucket h = ap (λ p. in_bucket p bucket) (at-tasks s t h)
+
+  answered-to : (e : At) (gives : Bool) (bucket : Bucket) (on_error : OnError)
+      (x y : State × TaskOutput) → TwinOutput x y →
+      Ends (answered_to run e gives bucket on_error x) (answered_to other e gives bucket on_error y)
+  answered-to e gives bucket on_error x y h =
+      subst (λ o. Ends (answered_to run e gives bucket on_error x)
+      (answered_to other e gives bucket on_error (y.0, o))) h.1
+      (and-twin (taken (outputs_if gives (called_place run x.0 bucket) x.1.outputs e)
+      (with_notes (notes_by on_error x.1.notes) x.0))
+      (taken (outputs_if gives (called_place other y.0 bucket) x.1.outputs e)
+      (with_notes (notes_by on_error x.1.notes) y.0))
+      (ended_by on_error x.1.ok) (ended_by on_error x.1.ok)
+      (taken-same (outputs_if gives (called_place run x.0 bucket) x.1.outputs e)
+      (outputs_if gives (called_place other y.0 bucket) x.1.outputs e)
+      (with_notes (notes_by on_error x.1.notes) x.0)
+      (with_notes (notes_by on_error x.1.notes) y.0)
+      (ap (λ p. outputs_if gives p x.1.outputs e) (call-place x.0 y.0 bucket h.0))
+      (notes-twin (notes_by on_error x.1.notes) x.0 y.0 h.0))
+      (ended-twin on_error x.1.ok))
+
+  called-with : (e : At) (gives : Bool) (bucket : Bucket) (s t : State) → Same s t →
+      (ready : Option (OnError × List Param)) → Goes (called_with run e gives bucket s ready)
+      (called_with other e gives bucket t ready)
+  called-with e gives bucket s t h None = h
+  called-with e gives bucket s t h (Some ready) =
+      bound T W TwinOutput Ends (answered_if (key_of (name_of e.node)) run s e ready.1)
+      (answered_if (key_of (name_of e.node)) other t e ready.1)
+      (λ x. done (answered_to run e gives bucket ready.0 x))
+      (λ x. done (answered_to other e gives bucket ready.0 x))
+      (answered-if (key_of (name_of e.node)) e ready.1 s t h)
+      (answered-to e gives bucket ready.0)
+
+  -- a text is read, and then what follows
+  read-twin : {X : Type 0} (x y : Result X EvalFault) (s t : State) (next then : X →
+      Work (Result State Stopped)) → x ≡ y → Same s t → ((a : X) → Goes (next a) (then a)) →
+      Goes (unless_stopped (or_stop s x) next) (unless_stopped (or_stop t y) then)
+  read-twin x y s t next then e h f =
+      subst (λ z. Goes (unless_stopped (or_stop s x) next) (unless_stopped (or_stop t z) then)) e
+      (unless-twin T W (λ a b. a ≡ b) (or_stop s x)
+      (or_stop t x) next then (or-stop-twin T W x s t h)
+      (λ a b q. subst (λ z. Goes (next a) (then z)) q (f a)))
+
+  call-twin : (e : At) (gives : Bool) (bucket : Bucket) (s t : State) → Same s t →
+      Goes (call run e gives bucket s) (call other e gives bucket t)
+  call-twin e gives bucket s t h =
+      read-twin (readied (called_place run s bucket) e)
+      (readied (called_place other t bucket) e) s t (called_with run e gives bucket s)
+      (called_with other e gives bucket t)
+      (ap (λ p. readied p e) (call-place s t bucket h)) h (called-with e gives bucket s t h)
+
+  called-twin : (e : At) (gives : Bool) (s t : State) → Same s t →
+      Goes (called run e gives s) (called other e gives t)
+  called-twin e gives s t h =
+      read-twin (task_buckets (place_in run s (task_scope s)) e)
+      (task_buckets (place_in other t (task_scope t)) e) s t
+      (λ buckets. each_in_turn (call run e gives) buckets s)
+      (λ buckets. each_in_turn (call other e gives) buckets t)
+      (ap (λ p. task_buckets p e) (at-tasks s t h)) h (λ buckets. each-twin T W (call run e gives)
+      (call other e gives) (call-twin e gives) buckets s t h)
+
+  inferred-twin : (e : At) (s t : State) → Same s t → Ends (inferred run e s) (inferred other e t)
+  inferred-twin e s t h = taken-same (inferred_at (place_in run s s.scope) e)
+      (inferred_at (place_in other t t.scope) e) s t (ap (λ p. inferred_at p e) (at-place s t h)) h
+
+  state-twin : (x y : Result State Stopped) → Ends x y → Same (state_of x) (state_of y)
+  state-twin (Ok s) (Ok t) h = h
+  state-twin (Ok s) (Err e) h = absurd h
+  state-twin (Err d) (Ok t) h = absurd h
+  state-twin (Err (faulted s)) (Err (faulted t)) h = h
+  state-twin (Err (failed s)) (Err (failed t)) h = h
+  state-twin (Err (faulted s)) (Err (failed t)) h = absurd h
+  state-twin (Err (failed s)) (Err (faulted t)) h = absurd h
+
+  then-inferred : (e : At) (x y : Result State Stopped) → Ends x y →
+      Ends (then_inferred run e x) (then_inferred other e y)
+  then-inferred e (Ok s) (Ok t) h = inferred-twin e s t h
+  then-inferred e (Ok s) (Err d) h = absurd h
+  then-inferred e (Err d) (Ok t) h = absurd h
+  then-inferred e (Err (failed s)) (Err (failed t)) h =
+      state-twin (inferred run e s) (inferred other e t) (inferred-twin e s t h)
+  then-inferred e (Err (faulted s)) (Err (faulted t)) h = h
+  then-inferred e (Err (faulted s)) (Err (failed t)) h = absurd h
+  then-inferred e (Err (failed s)) (Err (faulted t)) h = absurd h
+
+  pub task-twin : (choice : Choice) (e : At) (s t : State) → Same s t →
+      Goes (task run choice e s) (task other choice e t)
+  task-twin RunAll e s t h = called-twin e true s t h
+  task-twin Skip e s t h = inferred-twin e s t h
+  task-twin Nothing e s t h = h
+  task-twin (Part old) e s t h =
+      bound T W Ends Ends (called run e false s) (called other e false t)
+      (λ end. done (then_inferred run e end)) (λ end. done (then_inferred other e end))
+      (called-twin e false s t h) (then-inferred e)
+
+  -- ---- children
+
+  group-twin : (e : At) (s t : State) → Same s t → Ends (group run e s) (group other e t)
+  group-twin e s t h =
+      subst (λ x. Ends (group run e s) (map_ok (λ changes. with_changes_seen changes t)
+      (or_stop (without_scope t) x))) (ap (λ p. group_changes p e) (at-place s t h))
+      (go (group_changes (place_in run s s.scope) e))
+    where
+      go : (x : Result (List Change) EvalFault) →
+          Ends (map_ok (λ changes. with_changes_seen changes s) (or_stop (without_scope s) x))
+          (map_ok (λ changes. with_changes_seen changes t) (or_stop (without_scope t) x))
+      go (Ok changes) = by-twin T W (λ z. Same (with_changes_seen changes s)
+          (with_changes_seen changes z)) s t h (λ k a. record { alike = a; same = refl })
+      go (Err fault) = by-twin T W (λ z. Ends (map_ok (λ changes. with_changes_seen changes s)
+          (or_stop (without_scope s) (Err fault))) (map_ok (λ changes. with_changes_seen changes z)
+          (or_stop (without_scope z) (Err fault)))) s t h (λ k a. record { alike = a; same = refl })
+
+  child-by : (kind : Kind) (choice : Choice) (e : At) (s t : State) → Same s t →
+      Goes (child_by kind run choice e s) (child_by kind other choice e t)
+  child-by group_element choice e s t h = group-twin e s t h
+  child-by on_error_element choice e s t h = h
+  child-by task_element choice e s t h = task-twin choice e s t h
+
+  map-twin : (f g : State → State) (x y : Result State Stopped) → Ends x y →
+      ((s t : State) → Same s t → Same (f s) (g t)) → Ends (map_ok f x) (map_ok g y)
+  map-twin f g (Ok s) (Ok t) h n = n s t h
+  map-twin f g (Ok s) (Err e) h n = absurd h
+  map-twin f g (Err d) (Ok t) h n = absurd h
+  map-twin f g (Err d) (Err e) h n = h
+
+  pub child-twin : (choice : Choice) (e : At) (s t : State) → Same s t →
+      Goes (child run choice e s) (child other choice e t)
+  child-twin choice e s t h =
+      bound T W Ends Ends (child_by (kind_of (name_of e.node)) run choice e s)
+      (child_by (kind_of (name_of e.node)) other choice e t) (λ end. done (map_ok settled end))
+      (λ end. done (map_ok settled end))
+      (child-by (kind_of (name_of e.node)) choice e s t h)
+      (λ x y q. map-twin settled settled x y q (settled-twin T W))
+
+  pub children-twin : (choice : Choice) (s t : State) → Same s t →
+      Goes (children run choice s) (children other choice t)
+  children-twin choice s t h = each-twin T W (child run choice) (child other choice)
+      (child-twin choice) (children_of run.target.element) s t h
+
+  -- ---- buckets
+
+  on-old : (items : Option (List ℕ × List Item)) (old : List Item) (s t : State) → Same s t →
+      Same (on_old items old s) (on_old items old t)
+  on-old None old s t h = h
+  on-old (Some typed) old s t h = by-twin T W (λ z. Same (on_old (Some typed) old s)
+      (on_old (Some typed) old z)) s t h (λ k a. record { alike = a; same = refl })
+
+  treated-twin : (choice : Choice) (items : Option (List ℕ × List Item)) (s t : State) → Same s t →
+      Goes (treated run choice items s) (treated other choice items t)
+  treated-twin RunAll items s t h = children-twin RunAll s t h
+  treated-twin Skip items s t h = children-twin Skip s t h
+  treated-twin Nothing items s t h = h
+  treated-twin (Part old) items s t h = children-twin (Part old) (on_old items old s)
+      (on_old items old t) (on-old items old s t h)
+
+  returned-twin : (bucket : Bucket) (s t : State) → Same s t →
+      Ends (returned run bucket s) (returned other bucket t)
+  returned-twin bucket s t h = subst (λ x. Ends (returned run bucket s)
+      (map_ok (λ items. with_items items t) (or_stop t x))) (same (returns_of run.target))
+      (go (items_if run bucket s (returns_of run.target)))
+    where
+      same : (written : Option (List ℕ)) → items_if run bucket s written
+          ≡ items_if other bucket t written
+      same None = refl
+      same (Some written) =
+          ap (λ p. returned_items p bucket run.target.element s.items written) (at-place s t h)
+          ∙ ap (λ l. returned_items (place_in other t t.scope) bucket run.target.element l written)
+          (ap (λ (z : State). z.items) h.same)
+
+      go : (x : Result (List Item) EvalFault) → Ends (map_ok (λ items. with_items items s)
+          (or_stop s x)) (map_ok (λ items. with_items items t) (or_stop t x))
+      go (Ok items) = by-twin T W (λ z. Same (with_items items s)
+          (with_items items z)) s t h (λ k a. record { alike = a; same = refl })
+      go (Err fault) = by-twin T W (λ z. Ends (map_ok (λ items. with_items items s)
+          (or_stop s (Err fault))) (map_ok (λ items. with_items items z) (or_stop z (Err fault)))) s
+          t h (λ k a. record { alike = a; same = refl })
+
+  pub decided-twin : (bucket : Bucket) (choice : Choice) (items : Option (List ℕ × List Item))
+      (s t : State) → Same s t → Goes (decided run bucket choice items s)
+      (decided other bucket choice items t)
+  decided-twin bucket choice items s t h =
+      then-twin T W (treated run choice items s) (treated other choice items t)
+      (λ end. done (map_ok (with_decision (word_of choice items)) (returned run bucket end)))
+      (λ end. done (map_ok (with_decision (word_of choice items)) (returned other bucket end)))
+      (treated-twin choice items s t h)
+      (λ x y q. map-twin (with_decision (word_of choice items))
+      (with_decision (word_of choice items)) (returned run bucket x) (returned other bucket y)
+      (returned-twin bucket x y q)
+      (λ a b r. by-twin T W (λ z. Same (with_decision (word_of choice items) a)
+      (with_decision (word_of choice items) z)) a b r (λ k u. record {
+        alike = u;
+        same =
+            refl;
+      })))
+
+  lists-same : (bucket : Bucket) (s t : State) → Same s t →
+      lists_at run bucket s ≡ lists_at other bucket t
+  lists-same bucket s t h = ap (λ p. lists_by (in_target p bucket) run.target.element
+      (attribute_of (codes "Inputs") run.target.element)
+      (attribute_of (codes "Outputs") run.target.element)) (at-place s t h)
+
+  failed-so : (x y : Result State Stopped) → Ends x y → Ends (or_failed x) (or_failed y)
+  failed-so (Ok s) (Ok t) h = h
+  failed-so (Ok s) (Err e) h = absurd h
+  failed-so (Err d) (Ok t) h = absurd h
+  failed-so (Err (faulted s)) (Err (faulted t)) h =
+      by-twin T W (λ z. Same (with_decision FailedWord s)
+      (with_decision FailedWord z)) s t h (λ k a. record { alike = a; same = refl })
+  failed-so (Err (failed s)) (Err (failed t)) h =
+      by-twin T W (λ z. Same (with_decision FailedWord s)
+      (with_decision FailedWord z)) s t h (λ k a. record { alike = a; same = refl })
+  failed-so (Err (faulted s)) (Err (failed t)) h = absurd h
+  failed-so (Err (failed s)) (Err (faulted t)) h = absurd h
+
+  -- in both the same is chosen for each bucket with lists
+  abbrev pub ChooseSame : Chooser → Chooser → Type 0
+  ChooseSame choose choose' = (bucket : Bucket) (lists : Lists) (s t : State) → Same s t →
+      lists_at run bucket s ≡ Ok (Some lists) → choose lists s ≡ choose' lists t
+
+  module _ (choose choose' : Chooser) (agree : ChooseSame choose choose') (scope : Scope) where
+    entered-twin : (bucket : Bucket) (s t : State) → Same s t →
+        Same (entered scope bucket s) (entered scope bucket t)
+    entered-twin bucket s t h = by-twin T W (λ z. Same (entered scope bucket s)
+        (entered scope bucket z)) s t h (λ k a. record { alike = a; same = refl })
+
+    pub bucket-twin : (bucket : Bucket) (s t : State) → Same s t →
+        Goes (bucket_by choose run scope bucket s) (bucket_by choose' other scope bucket t)
+    bucket-twin bucket s t h =
+        let x : State = entered scope bucket s in
+        let y : State = entered scope bucket t in
+        let q = entered-twin bucket s t h in
+        bound T W Ends Ends (unless_stopped (or_stop x (lists_at run bucket x))
+        (chosen_or_run choose run bucket x)) (unless_stopped
+        (or_stop y (lists_at other bucket y)) (chosen_or_run choose' other bucket y))
+        (λ end. done (or_failed end)) (λ end. done (or_failed end))
+        (subst (λ z. Goes (unless_stopped (or_stop x (lists_at run bucket x))
+        (chosen_or_run choose run bucket x)) (unless_stopped (or_stop y z)
+        (chosen_or_run choose' other bucket y))) (lists-same bucket x y q)
+        (go (lists_at run bucket x) refl)) failed-so
+      where
+        go : (l : Result (Option Lists) EvalFault) →
+            lists_at run bucket (entered scope bucket s) ≡ l →
+            Goes (unless_stopped (or_stop (entered scope bucket s) l)
+            (chosen_or_run choose run bucket (entered scope bucket s)))
+            (unless_stopped (or_stop (entered scope bucket t) l)
+            (chosen_or_run choose' other bucket (entered scope bucket t)))
+        go (Ok None) e = decided-twin bucket RunAll None (entered scope bucket s)
+            (entered scope bucket t) (entered-twin bucket s t h)
+        go (Ok (Some lists)) e =
+            subst (λ c. Goes (decided run bucket (choose lists (entered scope bucket s)) lists.items
+            (entered scope bucket s)) (decided other bucket c lists.items
+            (entered scope bucket t)))
+            (agree bucket lists (entered scope bucket s) (entered scope bucket t)
+            (entered-twin bucket s t h) e)
+            (decided-twin bucket (choose lists (entered scope bucket s)) lists.items
+            (entered scope bucket s) (entered scope bucket t) (entered-twin bucket s t h))
+        go (Err fault) e =
+            let none : Result (Option Lists) EvalFault = Err fault in
+            or-stop-twin T W none (entered scope bucket s) (entered scope bucket t)
+            (entered-twin bucket s t h)
+
+    pub buckets-twin : (s t : State) → Same s t →
+        Goes (buckets_by choose run scope s) (buckets_by choose' other scope t)
+    buckets-twin s t h =
+        subst (λ z. Goes (buckets_by choose run scope s)
+        (unless_stopped (or_failed (or_stop t z))
+        (λ found. each_in_turn (bucket_by choose' other scope) found t)))
+        (ap (λ p. target_buckets p run.target.element) (at-place s t h))
+        (go (target_buckets (place_in run s s.scope) run.target.element))
+      where
+        go : (x : Result (List Bucket) EvalFault) →
+            Goes (unless_stopped (or_failed (or_stop s x))
+            (λ found. each_in_turn (bucket_by choose run scope) found s))
+            (unless_stopped (or_failed (or_stop t x))
+            (λ found. each_in_turn (bucket_by choose' other scope) found t))
+        go (Ok found) = each-twin T W (bucket_by choose run scope)
+            (bucket_by choose' other scope) bucket-twin found s t h
+        go (Err fault) =
+            by-twin T W (λ z. TwinStop T W (as_failed
+            (faulted (with_notes (Fail (fault_text fault) ∷ []) s)))
+            (as_failed (faulted (with_notes (Fail (fault_text fault) ∷ []) z)))) s t h
+            (λ k a. record { alike = a; same = refl })
+
+    pub work-twin : (j k : Journal) → AlikeJournals T W j k →
+        AlikeWork T W (λ (o p : Outcome). o ≡ p) (work_by choose run scope j)
+        (work_by choose' other scope k)
+    work-twin j k a =
+        bound T W Ends (λ o p. o ≡ p) (buckets_by choose run scope (begun scope j))
+        (buckets_by choose' other scope (begun scope k)) (λ end. done (outcome_of end))
+        (λ end. done (outcome_of end))
+        (buckets-twin (begun scope j) (begun scope k) (record { alike = a; same = refl }))
+        (outcome-twin T W)
+
+    pub body-twin : (j k : Journal) → AlikeJournals T W j k →
+        AlikeBodies T W (body_by choose run scope j) (body_by choose' other scope k)
+    body-twin j k a = bodies T W (work_by choose run scope j) (work_by choose' other scope k)
+        (work-twin j k a)

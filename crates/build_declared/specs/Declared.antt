@@ -1,0 +1,193 @@
+-- Declared worlds: what a clean build of them does says what an incremental one may leave out.
+-- (Target element; Incremental builds)
+use Rattle.std.specs.Prelude.{
+  ℕ,
+  ◌≡◌,
+  ◌-◌,
+  Bool,
+  true,
+  false,
+  not,
+  List,
+  [],
+  ◌∷◌,
+  ◌++◌,
+  length,
+  map,
+  take,
+  Option,
+  None,
+  Some,
+  IsSome,
+  is_some,
+  option_map,
+  Result,
+  Ok,
+  Err,
+}
+use Rattle.std.specs.List.{list_any}
+use Rattle.std.specs.Str.{bytes_eq}
+use Rattle.msb_values.specs.Keys.{key_of}
+use Rattle.msb_values.specs.declared.item.Item.{Item}
+use Rattle.msb_values.specs.declared.mode.Mode.{Mode}
+use Rattle.msb_values.specs.declared.mode.Mode.TheVariants.{Clean}
+use Rattle.msb_values.specs.declared.note.Note.{Note}
+use Rattle.msb_values.specs.declared.note.Note.TheVariants.{Fail, Warning}
+use Rattle.msb_values.specs.declared.put.Put.{Put}
+use Rattle.msb_values.specs.declared.scope.Scope.{Scope}
+use Rattle.msb_elements.specs.Nodes.{name_of}
+use Rattle.msb_expand.specs.declared.lens.Bucket.{Bucket}
+use Rattle.file_store.specs.Files.{file_at}
+use Rattle.file_store.specs.declared.tree.File.{File}
+use Rattle.result_cache.specs.declared.run.RunId.{RunId}
+use Rattle.result_cache.specs.declared.request.RequestResult.{RequestResult}
+use Rattle.result_cache.specs.Lists.{In}
+use Rattle.result_cache.specs.Journal.{Journal}
+use Rattle.build_world.specs.Elements.{At, children_of}
+use Rattle.build_world.specs.Instances.{UsedTarget}
+use Rattle.build_world.specs.declared.fault.EvalFault.{EvalFault}
+use Rattle.build_meaning.specs.Walk.{Outcome}
+use Rattle.build_meaning.specs.Meaning.{Given}
+use Rattle.build_meaning.specs.Demand.{IsWhole, IsSteady}
+use Rattle.build_incremental.specs.Placed.{PlacedWorld, plain_world}
+use Rattle.build_incremental.specs.Each.{EachOfMeaning}
+use Rattle.build_incremental.specs.Joins.{IsOfOneRun}
+use Rattle.build_incremental.specs.Alike.{AlikeJournals}
+use Rattle.build_incremental.specs.Alone.{last_bytes}
+use Rattle.task_trait.specs.Failures.{failure_text}
+use Rattle.task_trait.specs.declared.failures.Failure.TheVariants.{TooLarge}
+use Rattle.task_trait.specs.declared.tools.Param.{Param}
+use Rattle.task_trait.specs.declared.tools.TaskOutput.{TaskOutput}
+use Rattle.task_trait.specs.declared.tools.ToolAnswer.{ToolAnswer}
+use Rattle.task_trait.specs.declared.tools.ToolInput.{ToolInput}
+use Rattle.target_incremental.specs.declared.decision.Choice.{Choice}
+use Rattle.target_incremental.specs.declared.decision.Choice.TheVariants.{
+  Run as RunAll,
+  Skip,
+  Nothing,
+  Part,
+}
+use Rattle.msb_files.specs.Views as views
+use Rattle.target_texts.specs.Lists.{Lists}
+use Rattle.target_texts.specs.Outputs.{output_items}
+use Rattle.target_texts.specs.Parameters.{task_buckets}
+use Rattle.target_texts.specs.declared.on_error.OnError.{OnError}
+use Rattle.target_body.specs.States.{Run, State, Stopped, task_scope, place_in, view_of}
+use Rattle.target_body.specs.Children.{
+  Kind,
+  group_element,
+  on_error_element,
+  task_element,
+  kind_of,
+  child,
+}
+use Rattle.target_body.specs.Tasks.{called_place, readied, answered_if, call}
+use Rattle.build_declared.specs.CalledTasks.{Called, calls_of, ReturnsGiven}
+use Rattle.build_declared.specs.Sublists.{ArePart, kept}
+use Rattle.build_declared.specs.Written.{bytes_in, AnyPath, since, is_one_of}
+use Rattle.build_declared.specs.Chosen.{Chooser, all_or_nothing, all_of, work_by}
+use Rattle.build_declared.specs.Ends.{End, end_of}
+use Rattle.build_declared.specs.Pieces.{Piece, ByItems, pieces_of, end_of_piece}
+use Rattle.build_declared.specs.Places.{Site, run_at}
+
+-- ---- a piece
+
+module _ (tools : List ℕ → ToolInput → ToolAnswer) (id : RunId) (run : Run) where
+  -- no note says that a file is too large
+  abbrev pub IsNotTooLarge : Note → Type 0
+  IsNotTooLarge (Fail text) =
+      (task path : List ℕ) → text ≡ failure_text task (TooLarge path) → ⊥
+  IsNotTooLarge (Warning text) =
+      (task path : List ℕ) → text ≡ failure_text task (TooLarge path) → ⊥
+  IsNotTooLarge note = Unit {0}
+
+  -- A part of the items of a piece, of which the whole comes to the state t and has written these
+  -- files. Where the tasks run on the part alone, the piece succeeds and calls nothing; it writes
+  -- just the outputs of these items, with the bytes of the whole; no file is too large; and, where
+  -- the outputs of the other items are there, it changes and returns what the whole does.
+  pub record PartIsDeclared (p : Piece) (t : State) (puts : List Put) (items : List Item)
+      (marks : List Bool) : Type 0 where
+    pub after : State
+    pub written : List Put
+    pub succeeds : end_of_piece tools id run p (Part (kept marks items))
+        ≡ Some (record { value = Ok after; journal = after.journal; puts = written })
+    pub bytes : (path : List ℕ) → is_one_of path (kept marks p.lists.outputs) ≡ true →
+        last_bytes (since p.before written) path ≡ last_bytes (since p.before puts) path
+    pub no_other : (path : List ℕ) → is_one_of path (kept marks p.lists.outputs) ≡ false →
+        last_bytes (since p.before written) path ≡ None
+    pub never_large : (note : Note) → In note after.notes → IsNotTooLarge note
+    pub changes : ((path : List ℕ) → is_one_of path (kept (map not marks) p.lists.outputs) ≡ true →
+        IsSome (views.content (view_of run p.from) path)) →
+        (after.changes ≡ t.changes) × (after.items ≡ t.items)
+
+  -- Where the piece succeeds with this state and has written these files then.
+  abbrev pub SucceedsWith : Piece → State → List Put → Type 0
+  SucceedsWith p t puts = end_of_piece tools id run p RunAll
+      ≡ Some (record { value = Ok t; journal = t.journal; puts = puts })
+
+  -- The tasks of a piece return the lists that its Output elements name; it writes its outputs and
+  -- no other path; and where it takes its items one by one, each part of them is declared.
+  pub record PieceIsDeclared (p : Piece) : Type 0 where
+    pub returns_given : (c : Called) →
+        In c (calls_of tools id run (children_of run.target.element) p.from p.before) →
+        ReturnsGiven tools id run c
+    pub writes_outputs : (t : State) (puts : List Put) → SucceedsWith p t puts →
+        (path : List ℕ) →
+        is_some (last_bytes (since p.before puts) path) ≡ is_one_of path p.lists.outputs
+    pub parts : (t : State) (puts : List Put) → SucceedsWith p t puts →
+        (items : List Item) → ByItems p items → (marks : List Bool) → ArePart marks items →
+        PartIsDeclared p t puts items marks
+
+  -- ---- a run
+
+  -- what may be chosen for a bucket: nothing where there is nothing to do, else all, none or some
+  -- of its items
+  abbrev pub MayChoose : Lists → Choice → Type 0
+  MayChoose lists RunAll = all_or_nothing lists.inputs lists.outputs ≡ RunAll
+  MayChoose lists Skip = all_or_nothing lists.inputs lists.outputs ≡ RunAll
+  MayChoose lists Nothing = all_or_nothing lists.inputs lists.outputs ≡ Nothing
+  MayChoose lists (Part old) = (kind : List ℕ) × (items : List Item) × (marks : List Bool)
+      × (lists.items ≡ Some (kind, items)) × ArePart marks items × (old ≡ kept marks items)
+
+  -- A run that has a piece calls nothing, and no task of it fails because a file is too large,
+  -- whichever of its pieces are skipped or run in part. The journal and the mode from which this is
+  -- said make no difference but to what is chosen, where the journals are alike.
+  pub record RunIsDeclared (scope : Scope) (journal : Journal) (pieces : List Piece) : Type 0 where
+    pub never_large : (mode : Mode) (from : Journal) →
+        AlikeJournals (bytes_in run.files) AnyPath from journal → (choose : Chooser) →
+        ((lists : Lists) (s : State) → MayChoose lists (choose lists s)) →
+        (end : End Outcome)
+        × (end_of tools id (work_by choose (record run { mode = mode }) scope from) from []
+        ≡ Some end)
+        × ((note : Note) → In note end.value.notes → IsNotTooLarge note)
+    pub each : (p : Piece) → In p pieces → PieceIsDeclared p
+
+  -- nothing is asked of a run without a piece
+  abbrev pub DeclaredBy : Scope → Journal → List Piece → Type 0
+  DeclaredBy scope journal [] = Unit {0}
+  DeclaredBy scope journal (p ∷ pieces) = RunIsDeclared scope journal (p ∷ pieces)
+
+-- ---- a world
+
+module _ (tools : List ℕ → ToolInput → ToolAnswer) (files : List File) where
+  -- the pieces of a run in a clean build
+  abbrev pub clean_pieces : Option UsedTarget → Scope → RunId → Journal → List Piece
+  clean_pieces None scope id journal = []
+  clean_pieces (Some target) scope id journal =
+      pieces_of tools id all_of (run_at files Clean id target) scope journal
+
+  abbrev pub DeclaredAt : Option UsedTarget → Scope → RunId → Journal → Type 0
+  DeclaredAt None scope id journal = Unit {0}
+  DeclaredAt (Some target) scope id journal =
+      DeclaredBy tools id (run_at files Clean id target) scope journal
+      (clean_pieces (Some target) scope id journal)
+
+  -- The clean world is whole and steady; each of its bodies is declared; and where calls made at
+  -- once write one path, all their writes of it are of one run.
+  pub record IsDeclared (clean : PlacedWorld Site ToolInput ToolAnswer)
+      (out : Given ToolInput RequestResult) : Type 0 where
+    pub whole : IsWhole (plain_world clean) out
+    pub steady : IsSteady out.demand
+    pub each : EachOfMeaning clean
+        (λ site id journal made. DeclaredAt site.target site.scope id journal)
+        IsOfOneRun (λ key. Unit {0}) out.value out.journal

@@ -1,0 +1,87 @@
+-- Fresh worlds: outputs that are no older than unchanged inputs hold what their target writes.
+-- (Incremental builds)
+use Rattle.std.specs.Prelude.{ℕ, ◌≡◌, ◌≤◌, List, [], ◌∷◌, Option, None, Some, Ok}
+use Rattle.msb_values.specs.declared.item.Item.{Item}
+use Rattle.msb_values.specs.declared.mode.Mode.TheVariants.{Clean}
+use Rattle.msb_values.specs.declared.put.Put.{Put}
+use Rattle.msb_values.specs.declared.scope.Scope.{Scope}
+use Rattle.file_store.specs.Files.{file_at}
+use Rattle.file_store.specs.declared.tree.File.{File}
+use Rattle.result_cache.specs.declared.run.RunId.{RunId}
+use Rattle.result_cache.specs.declared.request.RequestResult.{RequestResult}
+use Rattle.result_cache.specs.Lists.{In}
+use Rattle.result_cache.specs.Journal.{Journal}
+use Rattle.build_world.specs.Instances.{UsedTarget}
+use Rattle.build_incremental.specs.Placed.{PlacedWorld}
+use Rattle.build_incremental.specs.Each.{EachOfMeaning}
+use Rattle.build_incremental.specs.Joins.{Anyhow}
+use Rattle.build_incremental.specs.Alone.{last_bytes}
+use Rattle.task_trait.specs.declared.tools.ToolAnswer.{ToolAnswer}
+use Rattle.task_trait.specs.declared.tools.ToolInput.{ToolInput}
+use Rattle.target_incremental.specs.declared.decision.Choice.TheVariants.{Run as RunAll}
+use Rattle.msb_files.specs.Views as views
+use Rattle.msb_files.specs.Views.{View}
+use Rattle.target_body.specs.States.{Run, State, view_of}
+use Rattle.build_declared.specs.Pieces.{Piece, ByItems, end_of_piece}
+use Rattle.build_declared.specs.Declared.{clean_pieces}
+use Rattle.build_declared.specs.Written.{since}
+use Rattle.build_declared.specs.Places.{Site, run_at}
+
+-- the path is in the tree, and has the tree's bytes
+pub record IsAsInTree (view : View) (path : List ℕ) (file : File) : Type 0 where
+  pub there : file_at path view.files ≡ Some file
+  pub unchanged : views.content view path ≡ Some file.bytes
+
+-- an output may be trusted: it and the inputs that it is paired with are as in the tree, and
+-- none of
+-- these has a greater stamp
+pub record IsTrusted (view : View) (inputs : List (List ℕ)) (output : List ℕ) (file : File)
+    : Type 0 where
+  pub output_there : IsAsInTree view output file
+  pub inputs_there : (input : List ℕ) → In input inputs →
+      (other : File) × IsAsInTree view input other × (other.stamp ≤ file.stamp)
+
+-- an output with the inputs that it is paired with; item by item it is its item's own input alone
+pub record Pairing : Type 0 where
+  pub output : List ℕ
+  pub inputs : List (List ℕ)
+
+abbrev pub pairs_of : List (List ℕ) → List (List ℕ) → List Pairing
+pairs_of (input ∷ inputs) (output ∷ outputs) =
+    record { output = output; inputs = input ∷ [] } ∷ pairs_of inputs outputs
+pairs_of inputs outputs = []
+
+module _ (tools : List ℕ → ToolInput → ToolAnswer) (id : RunId) (run : Run) where
+  -- the piece succeeds, and of what it writes to the path the last has the file's bytes
+  abbrev pub WritesSame : Piece → List ℕ → File → Type 0
+  WritesSame p path file = (t : State) × (puts : List Put)
+      × (end_of_piece tools id run p RunAll
+      ≡ Some (record { value = Ok t; journal = t.journal; puts = puts }))
+      × (last_bytes (since p.before puts) path ≡ Some file.bytes)
+
+  pub record PieceIsFresh (p : Piece) : Type 0 where
+    -- item by item, each trusted output is what the piece writes
+    pub by_items : (items : List Item) → ByItems p items → (pair : Pairing) →
+        In pair (pairs_of p.lists.inputs p.lists.outputs) → (file : File) →
+        IsTrusted (view_of run p.from) pair.inputs pair.output file →
+        WritesSame p pair.output file
+    -- else all are, where all are trusted with every input
+    pub by_pairs : ((items : List Item) → ByItems p items → ⊥) →
+        ((output : List ℕ) → In output p.lists.outputs →
+        (file : File) × IsTrusted (view_of run p.from) p.lists.inputs output file) →
+        (output : List ℕ) → In output p.lists.outputs → (file : File) →
+        file_at output run.files ≡ Some file → WritesSame p output file
+
+module _ (tools : List ℕ → ToolInput → ToolAnswer) (files : List File) where
+  -- each piece of a run is fresh
+  abbrev pub FreshAt : Option UsedTarget → Scope → RunId → Journal → Type 0
+  FreshAt None scope id journal = Unit {0}
+  FreshAt (Some target) scope id journal =
+      (p : Piece) → In p (clean_pieces tools files (Some target) scope id journal) →
+      PieceIsFresh tools id (run_at files Clean id target) p
+
+  -- each piece of the clean world is fresh
+  abbrev pub IsFresh : PlacedWorld Site ToolInput ToolAnswer → RequestResult → Journal → Type 0
+  IsFresh clean result last =
+      EachOfMeaning clean (λ site id journal made. FreshAt site.target site.scope id journal)
+      Anyhow (λ key. Unit {0}) result last

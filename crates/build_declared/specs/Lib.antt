@@ -1,0 +1,13 @@
+pub mod Builds
+pub mod CalledTasks
+pub mod Chosen
+pub mod Clean
+pub mod Declared
+pub mod Ends
+pub mod Fresh
+pub mod Pieces
+pub mod Places
+pub mod Settled
+pub mod Sublists
+pub mod Worlds
+pub mod Written

@@ -1,0 +1,97 @@
+-- Settled and repeated worlds: what a first build leaves as a second one finds it. (Incremental
+-- builds)
+use Rattle.std.specs.Prelude.{
+  ℕ,
+  ◌≡◌,
+  ◌<◌,
+  ◌≤◌,
+  ◌⊎◌,
+  true,
+  List,
+  [],
+  length,
+  map,
+  Option,
+  None,
+  Some,
+  IsSome,
+  Ok,
+}
+use Rattle.msb_values.specs.declared.mode.Mode.{Mode}
+use Rattle.msb_values.specs.declared.put.Put.{Put}
+use Rattle.file_store.specs.declared.tree.File.{File}
+use Rattle.result_cache.specs.declared.run.RunId.{RunId}
+use Rattle.result_cache.specs.declared.record.Segment.TheVariants.{Write}
+use Rattle.result_cache.specs.Lists.{In}
+use Rattle.result_cache.specs.Journal.{Journal, wrote, write_of, has}
+use Rattle.build_world.specs.Instances.{UsedTarget}
+use Rattle.build_incremental.specs.Demand.{Occurrence}
+use Rattle.task_trait.specs.declared.tools.ToolAnswer.{ToolAnswer}
+use Rattle.task_trait.specs.declared.tools.ToolInput.{ToolInput}
+use Rattle.msb_files.specs.Views as views
+use Rattle.target_body.specs.States.{Run, State}
+use Rattle.target_body.specs.Pieces.{choice_of}
+use Rattle.build_declared.specs.Pieces.{Piece, pieces_of, end_of_piece}
+use Rattle.build_declared.specs.Places.{Site, run_at}
+
+module _ (tools : List ℕ → ToolInput → ToolAnswer) (files : List File) (mode : Mode) where
+  -- the pieces of a body, where each is done as this mode decides
+  abbrev pub pieces_by : Option UsedTarget → Occurrence Site → List Piece
+  pieces_by None o = []
+  pieces_by (Some target) o =
+      let run : Run = run_at files mode o.run target in
+      pieces_of tools o.run (choice_of run) run o.place.scope o.from
+
+  abbrev pub pieces_at : Occurrence Site → List Piece
+  pieces_at o = pieces_by o.place.target o
+
+  -- an input or an output of the piece
+  abbrev pub is_of : List ℕ → Piece → Type 0
+  is_of path p = In path p.lists.inputs ⊎ In path p.lists.outputs
+
+  -- a run without a piece writes no input and no output of a piece
+  abbrev pub FreeRunsKeepOff : List (Occurrence Site) → Type 0
+  FreeRunsKeepOff demand = (o other : Occurrence Site) → In o demand → In other demand →
+      pieces_at o ≡ [] → (p : Piece) → In p (pieces_at other) →
+      (put : Put) → In (Write put) o.made.segments → is_of put.path p → ⊥
+
+  -- as it is decided, the piece succeeds, and the run has written these files then
+  abbrev pub Succeeds : Option UsedTarget → Occurrence Site → Piece → (puts : List Put) → Type 0
+  Succeeds None o p puts = ⊥
+  Succeeds (Some target) o p puts =
+      let run : Run = run_at files mode o.run target in
+      (t : State) × (end_of_piece tools o.run run p (choice_of run p.lists p.from)
+      ≡ Some (record { value = Ok t; journal = t.journal; puts = puts }))
+
+  -- The world settles, by the bodies of its meaning and by the last journal of its root: each piece
+  -- succeeds, and its inputs exist; what is ever written to an input of a piece was written when it
+  -- began, and what is ever written to an output of it was written then or is its own; and runs
+  -- without a piece keep off.
+  pub record IsSettled (demand : List (Occurrence Site)) (last : Journal) : Type 0 where
+    pub succeeds : (o : Occurrence Site) → In o demand → (p : Piece) → In p (pieces_at o) →
+        (puts : List Put) × Succeeds o.place.target o p puts
+    pub inputs_exist : (o : Occurrence Site) → In o demand → (p : Piece) → In p (pieces_at o) →
+        (input : List ℕ) → In input p.lists.inputs →
+        IsSome (views.content (record { files = files; journal = p.from.journal }) input)
+    pub inputs_stood : (o : Occurrence Site) → In o demand → (p : Piece) → In p (pieces_at o) →
+        (run : RunId) (number : ℕ) (put : Put) → In (wrote run number put) last →
+        In put.path p.lists.inputs → has (write_of run number) p.from.journal ≡ true
+    pub outputs_own : (o : Occurrence Site) → In o demand → (p : Piece) → In p (pieces_at o) →
+        (puts : List Put) → Succeeds o.place.target o p puts →
+        (run : RunId) (number : ℕ) (put : Put) → In (wrote run number put) last →
+        In put.path p.lists.outputs →
+        (has (write_of run number) p.from.journal ≡ true)
+        ⊎ ((run ≡ o.run) × (length p.before ≤ number) × (number < length puts))
+    pub free : FreeRunsKeepOff demand
+
+-- the lists of a piece
+abbrev pub lists_of : Piece → List (List ℕ) × List (List ℕ)
+lists_of p = (p.lists.inputs, p.lists.outputs)
+
+-- the runs with pieces of some bodies are among others too, with the same lists and records
+abbrev pub HaveSame : (first second : Occurrence Site → List Piece) → List (Occurrence Site) →
+    List (Occurrence Site) → Type 0
+HaveSame first second demand again =
+    (o : Occurrence Site) → In o demand → (first o ≡ [] → ⊥) →
+    (p : Occurrence Site) × In p again × (p.run ≡ o.run) × (p.made ≡ o.made)
+    × (map lists_of (second p) ≡ map lists_of (first o))

@@ -1,0 +1,22 @@
+-- Files of a tree, and files that a run writes.
+use Rattle.std.specs.Prelude.{ℕ, Bool, List, length, ◌-◌, take, Option, option_map}
+use Rattle.std.specs.List.{list_any}
+use Rattle.std.specs.Str.{bytes_eq}
+use Rattle.msb_values.specs.declared.put.Put.{Put}
+use Rattle.file_store.specs.Files.{file_at}
+use Rattle.file_store.specs.declared.tree.File.{File}
+
+-- the bytes of the files of a tree
+abbrev pub bytes_in : List File → List ℕ → Option (List ℕ)
+bytes_in files path = option_map (λ (f : File). f.bytes) (file_at path files)
+
+-- any path
+abbrev pub AnyPath : List ℕ → Type 0
+AnyPath path = Unit {0}
+
+-- those of some files that were not written before, the newest first
+abbrev pub since : List Put → List Put → List Put
+since before puts = take (length puts - length before) puts
+
+abbrev pub is_one_of : List ℕ → List (List ℕ) → Bool
+is_one_of path paths = list_any (bytes_eq path) paths

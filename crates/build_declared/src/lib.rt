@@ -1,0 +1,48 @@
+//! What an incremental build has to do with a clean one. (Incremental builds.)
+//!
+//! `specs/` has the definitions: the pieces of a run, and when a set of projects is declared,
+//! fresh, settled and repeated. The functions here are the laws that are proved of them: they run
+//! no code, and their contracts are what is proved.
+#![tactic(auto)]
+
+ghost use Rattle.std.specs.Prelude.{◌≡◌, ℕ, List, Some};
+ghost use Rattle.file_store.specs.declared.tree.File.{File};
+ghost use Rattle.result_cache.specs.declared.request.RequestResult.{RequestResult};
+ghost use Rattle.build_world.specs.declared.world.World.{World};
+ghost use Rattle.build_meaning.specs.Meaning.{Given, meaning};
+ghost use Rattle.build_meaning.specs.Demand.{IsWhole};
+ghost use Rattle.build_incremental.specs.Placed.{plain_world};
+ghost use Rattle.msb_files.specs.FinalTree.{IsFinalTree};
+ghost use Rattle.task_trait.specs.declared.tools.ToolAnswer.{ToolAnswer};
+ghost use Rattle.task_trait.specs.declared.tools.ToolInput.{ToolInput};
+ghost use Rattle.request_machine.specs.Worlds.{world_of};
+ghost use Rattle.build_declared.specs.Clean.{IsTrustworthy, GivesClean};
+ghost use Rattle.build_declared.specs.Builds.{placed_world};
+ghost use Rattle.build_declared.specs.Written.{bytes_in};
+
+/// A build of declared and fresh projects gives what the clean build of the same files gives: the
+/// same result, and trees with the same bytes at each path. (Incremental builds.)
+///
+/// Nothing is asked of the build itself: its world is whole then.
+pub fn incremental_is_clean()
+    ensures whole { (tools : List ℕ → ToolInput → ToolAnswer) (w : World)
+        (clean : Given ToolInput RequestResult) → IsTrustworthy tools w clean →
+        (out : Given ToolInput RequestResult) × IsWhole (world_of tools w) out
+        × GivesClean w.tree.files out clean }
+    ensures meant { (tools : List ℕ → ToolInput → ToolAnswer) (w : World)
+        (clean : Given ToolInput RequestResult) → IsTrustworthy tools w clean →
+        (out : Given ToolInput RequestResult) → meaning (world_of tools w) ≡ Some out →
+        GivesClean w.tree.files out clean }
+    ensures trees { (tools : List ℕ → ToolInput → ToolAnswer) (w : World)
+        (clean : Given ToolInput RequestResult) → IsTrustworthy tools w clean →
+        (out : Given ToolInput RequestResult) → meaning (world_of tools w) ≡ Some out →
+        (after other : List File) → IsFinalTree w.tree.files out.journal after →
+        IsFinalTree w.tree.files clean.journal other →
+        (path : List ℕ) → bytes_in after path ≡ bytes_in other path }
+{}
+
+/// The world that tells the places of its runs is the world of the build.
+pub fn places_are_the_builds()
+    ensures { (tools : List ℕ → ToolInput → ToolAnswer) (w : World) →
+        plain_world (placed_world tools w) ≡ world_of tools w }
+{}
