@@ -477,7 +477,7 @@ def a_survey_is_one_table(folder: Path) -> None:
         " times  files  effect   what       first at",
         "     3      2  fails    task Exec  a.proj:3",
         "     1      1  fails    task Del   b/b.csproj:5",
-        "4 projects, 1 of them with nothing of this",
+        "nothing is found in 1 of 4 projects",
     ]
     made = converter("--survey", folder=folder)
     expect("table", made.stdout.decode(), "\n".join(lines) + "\n")
@@ -490,7 +490,7 @@ def a_survey_is_one_table(folder: Path) -> None:
     places = ["b/b.csproj:3", "b/b.csproj:4", "a.proj:3"]
     lines[1] = "     3      2  fails    task Exec  b/b.csproj:3"
     lines[2:2] = [f"{'':15}{place}" for place in places]
-    lines[6:] = [f"{'':15}b/b.csproj:5", "2 projects, 0 of them with nothing of this"]
+    lines[6:] = [f"{'':15}b/b.csproj:5", "nothing is found in 0 of 2 projects"]
     expect("places", (made.returncode, made.stdout.decode()), (0, "\n".join(lines) + "\n"))
 
 
@@ -636,6 +636,24 @@ def a_mirror_is_built(folder: Path, program: Program) -> None:
     expect("outputs", tree_of(target / "a/out"), {"x.o": "x", "y.o": "y2"})
 
 
+def files_are_as_the_page_says(folder: Path, program: Program) -> None:
+    put_files(folder, {"s.sh": "x", "other/y.c": "y"})
+    (folder / "s.sh").chmod(0o755)
+    os.utime(folder / "s.sh", (1000, 1000))
+    (folder / "link.c").symlink_to("other/y.c")
+    (folder / "linked").symlink_to("other")
+    copy = '<Target Name="T"><Copy SourceFiles="s.sh" DestinationFolder="out" /></Target>'
+    xml = f'<Project><ItemGroup><X Include="**/*.c" /></ItemGroup>{copy}</Project>'
+    expect("links", program.project(folder, xml, "eval", "a.proj")[1], "item x other/y.c\n")
+    expect("copy", program.run(folder, "build", "a.proj")[0], 0)
+    made = (folder / "out/s.sh").stat()
+    expect(
+        "the copy is new, without the x bit",
+        (made.st_mtime > 2000, made.st_mode & 0o111),
+        (True, 0),
+    )
+
+
 def what_the_page_says_holds(folder: Path, program: Program) -> None:
     for head, rest in blocks(CASES / "claims.txt"):
         lines = rest.split("\n")
@@ -682,6 +700,7 @@ WITH_PROGRAM = [
     white_space_alone_is_no_text,
     a_refusal_has_its_line,
     a_mirror_is_built,
+    files_are_as_the_page_says,
     what_the_page_says_holds,
 ]
 

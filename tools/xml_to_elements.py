@@ -196,7 +196,7 @@ def survey(sources: list[str], without: list[str], with_places: bool) -> int:
         finds += found
         taken += not found
     lines = surveys.table(finds, with_places)
-    lines.append(f"{projects} projects, {taken} of them with nothing of this")
+    lines.append(f"nothing is found in {taken} of {projects} projects")
     put("".join(line + "\n" for line in lines))
     return 1 if faults else 0
 

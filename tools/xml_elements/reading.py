@@ -4,7 +4,7 @@ White space alone is no text, as in MSBuild, unless xml:space="preserve" holds; 
 character reference is one. Line ends in texts and attributes stay, but for those between the
 parts of an item reference. Dropped are comments and processing instructions, the attributes
 xml:.. and xmlns:.. and those of the XMLSchema-instance namespace, and what stands below
-ProjectExtensions.
+ProjectExtensions and UsingTask.
 """
 
 from __future__ import annotations
@@ -83,7 +83,7 @@ class Reader:
         self.run = Run()
         self.is_section = False
         self.content: Content | None = None  # of the property or metadata that is open
-        self.inside = 0  # how many elements are open inside that, or below ProjectExtensions
+        self.inside = 0  # elements that are open inside that, or in one without effect
 
     def place(self) -> tuple[int, int]:
         return self.parser.CurrentLineNumber, self.parser.CurrentColumnNumber + 1
@@ -96,7 +96,7 @@ class Reader:
         if self.content:
             self.content.start(name, attributes, self.scopes[-1].names, tag[1] == b"/")
             self.inside += 1
-        elif self.is_extension():
+        elif self.is_without_effect():
             self.inside += 1
         else:
             self.start_element(name, attributes)
@@ -126,9 +126,9 @@ class Reader:
         names = ["", "", *(element.name for element in self.open[-3:])]
         return names[-2] == "PropertyGroup" or names[-3] in GROUPS
 
-    def is_extension(self) -> bool:
-        """Whether the innermost element is ProjectExtensions, below which all is dropped."""
-        return len(self.open) == 2 and self.open[-1].name == "ProjectExtensions"
+    def is_without_effect(self) -> bool:
+        """Whether the innermost element is one of a project that has no effect, with all below."""
+        return len(self.open) == 2 and self.open[-1].name in ("ProjectExtensions", "UsingTask")
 
     def end(self, name: str) -> None:
         self.flush()
@@ -160,7 +160,7 @@ class Reader:
         place, text = self.run.place, self.run.take()
         if self.content and (place or self.scopes[-1].keeps_space):
             self.content.text(text)
-        elif place and not self.content and not self.is_extension():
+        elif place and not self.content and not self.is_without_effect():
             self.add_text(text, place)
 
     def add_text(self, text: str, place: tuple[int, int]) -> None:
