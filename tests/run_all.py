@@ -17,7 +17,7 @@ TOP = Path(__file__).resolve().parent.parent
 PROGRAM = TOP / "crates" / "msb" / "out" / "msb"
 
 # Each ends with such a line; a script without one has run no test, and counts as failed.
-TOLD = re.compile(r"^(\d+) passed, (\d+) failed(?:, \d+ skipped)?$", re.M)
+TOLD = re.compile(r"^(?:\w+: )?(\d+) passed, (\d+) failed(?:, \d+ skipped)?$", re.M)
 
 
 def commands(program: Path) -> list[list[str]]:
