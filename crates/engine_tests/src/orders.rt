@@ -16,7 +16,7 @@ use std::thread::Threads;
 use task_trait::Counted;
 
 /// How many sets of each kind, and how many orders of events of each.
-const SETS: u64 = 30;
+const SETS: u64 = 40;
 
 const ORDERS: u64 = 10;
 

@@ -4,6 +4,7 @@ use msb_program::{run, run_alone};
 use msb_values::{List, NoMemory, Text, Text8};
 use std::alloc::{AllocError, Global};
 use std::process::Abort;
+use std::str;
 use std::sync::Wait;
 use std::test::Fail;
 use std::thread::Threads;
@@ -11,7 +12,11 @@ use task_trait::{Counted, Tools};
 
 /// What was got is what was wanted; the line tells which row it is of.
 pub fn is_text<R: Abort>(rt: &R, got: &[u8], want: &str, line: &str) {
-    assert_eq!(*rt; got, want.as_bytes(), "{line}");
+    let text = match str::from_utf8(got) {
+        Ok(text) => text,
+        Err(_) => "no text",
+    };
+    assert_eq!(*rt; text, want, "{line}");
 }
 
 pub fn is_number<R: Abort>(rt: &R, got: u64, want: u64, line: &str) {
