@@ -426,6 +426,9 @@ def an_sdk_becomes_its_imports(folder: Path) -> None:
     expect("of an Import", imports_of(folder / "target/c.csproj"), SDK_IMPORTS[:2])
     wanted = ["Sdk=None;My.Sdk", "PropertyGroup"]
     expect("of two", imports_of(folder / "target/d.csproj"), wanted)
+    surveyed = converter("--survey", "source", folder=folder).stdout.decode()
+    row = "     1      1  refused  attribute Sdk of <Project>  source/d.csproj:1"
+    expect("a survey", surveyed.split("\n")[1:3], [row, "nothing is found in 5 of 6 projects"])
 
 
 def an_sdk_in_two_places_is_chosen(folder: Path) -> None:
@@ -636,6 +639,17 @@ def a_mirror_is_built(folder: Path, program: Program) -> None:
     expect("outputs", tree_of(target / "a/out"), {"x.o": "x", "y.o": "y2"})
 
 
+def a_staged_sdk_is_evaluated(folder: Path, program: Program) -> None:
+    props = "<Project><PropertyGroup><A>props $(B)</A></PropertyGroup></Project>"
+    targets = "<Project><PropertyGroup><A>$(A) targets $(B)</A></PropertyGroup></Project>"
+    files = {f"{SDK_PLACE}.props": props, f"{SDK_PLACE}.targets": targets}
+    project = '<Project Sdk="My.Sdk"><PropertyGroup><B>body</B></PropertyGroup></Project>'
+    put_files(folder / "source", files | {"app/a.csproj": project})
+    mirrored(folder)
+    printed = program.run(folder / "target", "eval", "app/a.csproj")[1]
+    expect("order", printed, "property a=props  targets body\nproperty b=body\n")
+
+
 def files_are_as_the_page_says(folder: Path, program: Program) -> None:
     put_files(folder, {"s.sh": "x", "other/y.c": "y"})
     (folder / "s.sh").chmod(0o755)
@@ -700,6 +714,7 @@ WITH_PROGRAM = [
     white_space_alone_is_no_text,
     a_refusal_has_its_line,
     a_mirror_is_built,
+    a_staged_sdk_is_evaluated,
     files_are_as_the_page_says,
     what_the_page_says_holds,
 ]

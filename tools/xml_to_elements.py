@@ -3,7 +3,7 @@
 
 usage: tools/xml_to_elements.py [FILE] [-o OUT] [--sdks FOLDER]
        tools/xml_to_elements.py SOURCE TARGET [--without NAME].. [--sdks FOLDER]
-       tools/xml_to_elements.py --survey [SOURCE..] [--without NAME].. [--places]
+       tools/xml_to_elements.py --survey [SOURCE..] [--without NAME].. [--sdks FOLDER] [--places]
 
 The XML of FILE, or of standard input, goes to OUT, or to standard output, as JSON in the form of
 docs/FORMATS.md, in which each element begins on the line of its XML tag. Names, attributes and
@@ -22,9 +22,9 @@ folders SOURCE, the most frequent first: what makes it refuse the project, what 
 runs, and what is empty where MSBuild has a value.
 
   -o OUT          the file for the JSON, with the stamp of FILE
-  --sdks FOLDER   the Sdks that are staged, as NAME/Sdk/Sdk.props and Sdk.targets in FOLDER; a
-                  mirror without this option takes those that stand in SOURCE. The Sdk of a project
-                  becomes its two Imports.
+  --sdks FOLDER   the Sdks that are staged, as NAME/Sdk/Sdk.props and Sdk.targets in FOLDER; without
+                  this option those that stand in a folder SOURCE. The Sdk of a project becomes its
+                  two Imports.
   --without NAME  files and folders of SOURCE that are left out; * and ? are wildcards. .git, .hg
                   and .svn always are.
   --places        all places of each row of the table, and not the first one alone
@@ -39,12 +39,13 @@ import os
 import shutil
 import stat
 import sys
+from collections.abc import Iterator
 
 sys.dont_write_bytecode = True
 
 from xml_elements import sdks, surveys  # noqa: E402
 from xml_elements.documents import HEAD, NotTaken, is_project  # noqa: E402
-from xml_elements.mirrors import LIST, MOST, BadList, Mirror, replaced  # noqa: E402
+from xml_elements.mirrors import FULL, LIST, MOST, BadList, Mirror, replaced  # noqa: E402
 from xml_elements.reading import Element, read  # noqa: E402
 from xml_elements.trees import Tree, described  # noqa: E402
 from xml_elements.writing import write  # noqa: E402
@@ -143,9 +144,11 @@ def mirror(source: str, target: str, without: list[str], folder: str | None) -> 
     except BadList as error:
         raise Wrong(f"{target + LIST}: {error}") from None
     except OSError as error:
-        raise Wrong(f"{error.filename or target}: {described(error)}") from None
-    for file, what in made.notes + made.faults:
-        tell(os.path.join(source, file), what)
+        place = target if error.errno in FULL else error.filename or target
+        raise Wrong(f"{place}: {described(error)}") from None
+    finally:
+        for file, what in made.notes + made.faults:
+            tell(os.path.join(source, file), what)
     report(made)
     return 1 if made.faults else 0
 
@@ -155,18 +158,15 @@ def staged_for(tree: Tree, source: str, target: str, folder: str | None) -> sdks
     if folder is None:
         staged, several = sdks.among(list(tree.files), target)
         for name, places in several.items():
-            tell(
-                source, f"the Sdk {name} stands in {' and '.join(places)}: --sdks FOLDER takes one"
-            )
+            shown = " and ".join(places)
+            tell(source, f"the Sdk {name} stands in {shown}: --sdks FOLDER takes one")
         return staged
     top, real = os.path.join(os.path.realpath(source), ""), os.path.realpath(folder)
     staged = staged_in(real)
-    if real.startswith(top):
-        return {
-            name: os.path.join(target, os.path.relpath(place, top))
-            for name, place in staged.items()
-        }
-    return staged
+    if not real.startswith(top):
+        return staged
+    inner = {name: os.path.relpath(place, top) for name, place in staged.items()}
+    return {name: os.path.join(target, place) for name, place in inner.items()}
 
 
 def report(made: Mirror) -> None:
@@ -181,39 +181,42 @@ def report(made: Mirror) -> None:
         tell(made.target, f"this has {has} at most, and msb reads {takes} at most")
 
 
-def survey(sources: list[str], without: list[str], with_places: bool) -> int:
+def survey(told: argparse.Namespace, without: list[str]) -> int:
     """Prints what msb does not take in some projects."""
     finds: list[surveys.Find] = []
     faults = projects = taken = 0
-    for file in projects_among(sources, without):
+    for file, staged in projects_among(told.words or ["."], without, told.sdks):
         projects += 1
         try:
-            found = surveys.look(file, project_in(file))
+            root = project_in(file)
         except Wrong as error:
             faults += 1
             print(error, file=sys.stderr)
             continue
+        sdks.Imports(staged, os.path.dirname(os.path.abspath(file))).put_in(root)
+        found = surveys.look(file, root)
         finds += found
         taken += not found
-    lines = surveys.table(finds, with_places)
+    lines = surveys.table(finds, told.places)
     lines.append(f"nothing is found in {taken} of {projects} projects")
     put("".join(line + "\n" for line in lines))
     return 1 if faults else 0
 
 
-def projects_among(sources: list[str], without: list[str]) -> list[str]:
-    """The paths of the projects among files and in folders."""
-    found = []
+def projects_among(
+    sources: list[str], without: list[str], folder: str | None
+) -> Iterator[tuple[str, sdks.Staged]]:
+    """The paths of the projects among files and in folders, and the Sdks that are staged there."""
     for source in sources:
         if not os.path.isdir(source):
-            found.append(source)
+            yield source, staged_in(folder) if folder else {}
             continue
         tree = Tree(source, without, [])
         for file, what in tree.told:
             tell(os.path.join(source, file), what)
+        staged = staged_for(tree, source, os.path.abspath(source), folder)
         paths = (os.path.join("" if source == "." else source, file) for file in tree.files)
-        found += [path for path in paths if is_project(path, head_of(path))]
-    return found
+        yield from ((path, staged) for path in paths if is_project(path, head_of(path)))
 
 
 def head_of(file: str) -> bytes:
@@ -249,7 +252,7 @@ def read_words() -> argparse.Namespace:
 def stand_together(told: argparse.Namespace) -> bool:
     """Whether the options are those of one of the three uses."""
     if told.survey:
-        return not (told.out or told.sdks)
+        return not told.out
     is_mirror = len(told.words) == 2
     return len(told.words) <= 2 and not (told.places or (told.out if is_mirror else told.without))
 
@@ -260,7 +263,7 @@ def follow(told: argparse.Namespace) -> int:
         put(__doc__)
         return 0
     if told.survey:
-        return survey(told.words or ["."], without, told.places)
+        return survey(told, without)
     if len(told.words) == 2:
         return mirror(told.words[0], told.words[1], without, told.sdks)
     return convert(INPUT if told.words in ([], ["-"]) else told.words[0], told.out, told.sdks)
