@@ -19,7 +19,7 @@ from pathlib import Path
 TOP = Path(__file__).resolve().parent.parent
 FILES = 1000
 BYTES = 1024
-ROUNDS = 9
+ROUNDS = 7
 
 # The kinds of builds, in the order of a round, and the words of each.
 BUILDS = {"new": [], "replaced": ["--clean"], "nothing": []}
@@ -46,7 +46,8 @@ def empty(folder: Path) -> None:
 
 
 def timed(program: str, folder: Path, words: list[str]) -> tuple[float, float]:
-    """The seconds by the clock, and the processor seconds."""
+    """The seconds by the clock, and the processor seconds. No earlier write is still on its way."""
+    os.sync()
     began = time.perf_counter()
     command = [program, "build", "app.proj", *words]
     run = subprocess.Popen(command, cwd=folder, stdout=subprocess.DEVNULL)
