@@ -241,9 +241,6 @@ def try_rows(folder: Path, launcher: Path) -> tuple[int, int]:
 LINK = re.compile(r"\]\(([^)#:]+)(?:#[^)]*)?\)")
 SOURCE = re.compile(r"`(\w+/(?:specs|src|proofs)/[\w/]+\.(?:rt|antt))`")
 
-# Pages that another change brings.
-NOT_YET = ("FROM_MSBUILD.md",)
-
 
 def try_links() -> tuple[int, int]:
     """What the pages name is there."""
@@ -253,7 +250,7 @@ def try_links() -> tuple[int, int]:
         places = [(link, page.parent / link) for link in LINK.findall(text)]
         places += [(path, TOP / "crates" / path) for path in SOURCE.findall(text)]
         for named, place in places:
-            if place.exists() or place.name in NOT_YET:
+            if place.exists():
                 good += 1
             else:
                 bad += 1
