@@ -1,5 +1,5 @@
 #!/usr/bin/env python3
-"""Runs every test over the built program: each script of this folder, the examples, and a look at the wrong bodies.
+"""Runs every test over the built program: each script of this folder, the examples, and a look at wrong bodies and tables.
 
 usage: tests/run_all.py [PROGRAM]
 
@@ -24,7 +24,8 @@ def commands(program: Path) -> list[list[str]]:
     """The scripts to run, with their words."""
     scripts = sorted(path for path in (TOP / "tests").glob("*.py") if path != Path(__file__).resolve())
     with_program = [*scripts, TOP / "tools" / "try_examples.py"]
-    return [[str(path), str(program)] for path in with_program] + [[str(TOP / "tools" / "try_edits.py"), "--applies"]]
+    looks = [["try_edits.py", "--applies"], ["make_tables.py", "--check"]]
+    return [[str(path), str(program)] for path in with_program] + [[str(TOP / "tools" / name), word] for name, word in looks]
 
 
 def run(words: list[str]) -> tuple[int, int]:

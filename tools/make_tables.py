@@ -253,22 +253,29 @@ def pages() -> dict[Path, str]:
     }
 
 
+def look_at(made: dict[Path, str]) -> int:
+    """Tells each page that is not what would be written."""
+    old = [path for path, text in made.items() if not path.is_file() or path.read_text() != text]
+    for path in old:
+        print(f"{path.relative_to(TOP)} is not what tools/make_tables.py writes")
+    print(f"{len(made) - len(old)} passed, {len(old)} failed")
+    return 1 if old else 0
+
+
 def main() -> int:
     if sys.argv[1:] not in ([], ["--check"]):
         print("usage: tools/make_tables.py [--check]", file=sys.stderr)
         return 2
-    status = 0
     try:
-        for path, text in pages().items():
-            if not sys.argv[1:]:
-                path.write_text(text)
-            elif not path.is_file() or path.read_text() != text:
-                print(f"{path.relative_to(TOP)} is not what tools/make_tables.py writes")
-                status = 1
+        made = pages()
+        if sys.argv[1:]:
+            return look_at(made)
+        for path, text in made.items():
+            path.write_text(text)
     except (Wrong, OSError) as error:
         print(f"make_tables: {error}", file=sys.stderr)
         return 1
-    return status
+    return 0
 
 
 if __name__ == "__main__":
