@@ -294,7 +294,20 @@ def a_lost_list_is_made_again(folder: Path) -> None:
     )
     (folder / "target.mirrored.json").write_text("{")
     told = mirrored(folder, 1)[1].split(": ")[1]
-    expect("a bad list", told, "this is no list of a mirror; without it the mirror is made anew\n")
+    expect("a bad list", told, "this is no list of a mirror")
+
+
+def a_mirror_has_one_source(folder: Path) -> None:
+    put_files(folder / "source", SOURCE)
+    put_files(folder / "other", {"g": "another g"})
+    mirrored(folder)
+    made = converter("other", "target", folder=folder)
+    told = "this is a mirror of ../source: name another folder, or remove this list\n"
+    expect("told", made.stderr.decode().split(": ", 1)[1], told)
+    expect("nothing is removed", tree_of(folder / "target"), MADE)
+    shutil.copytree(folder, folder / "moved", symlinks=True)
+    shown = "8 files, 3 of them projects: 8 written, 0 removed, without .git\n"
+    expect("both may be moved", mirrored(folder / "moved"), (shown.replace("8 w", "0 w"), ""))
 
 
 def links_are_copied(folder: Path) -> None:
@@ -698,6 +711,7 @@ IN_FOLDER = [
     what_vanished_at_the_source_vanishes,
     what_was_changed_in_the_mirror_stays,
     a_lost_list_is_made_again,
+    a_mirror_has_one_source,
     links_are_copied,
     odd_names_are_said,
     a_bad_project_is_copied_and_said,

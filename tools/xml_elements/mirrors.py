@@ -91,21 +91,25 @@ class Mirror:
                 self.list = told = json.load(file)
             self.made = {path: Made(**entry) for path, entry in told["files"].items()}
             self.is_same_form = told["form"] == FORM and told["sdks"] == self.sdks()
+            source = told["source"]
         except FileNotFoundError:
-            pass
+            return
         except (ValueError, KeyError, TypeError, AttributeError):
             raise BadList(
-                "this is no list of a mirror; without it the mirror is made anew"
+                "this is no list of a mirror: remove it to make the mirror anew"
             ) from None
+        if source != self.source():
+            raise BadList(f"this is a mirror of {source}: name another folder, or remove this list")
 
     def save(self) -> None:
         files = {path: asdict(self.made[path]) for path in sorted(self.made)}
-        told = {"form": FORM, "sdks": self.sdks(), "files": files}
+        told = {"form": FORM, "source": self.source(), "sdks": self.sdks(), "files": files}
         if told != self.list:
-            with replaced(self.target + LIST) as temporary, open(
-                temporary, "w", encoding="utf-8"
-            ) as file:
+            with replaced(self.target + LIST) as new, open(new, "w", encoding="utf-8") as file:
                 json.dump(told, file, indent=0)
+
+    def source(self) -> str:
+        return os.path.relpath(os.path.realpath(self.tree.top), os.path.realpath(self.target))
 
     def sdks(self) -> Staged:
         return {
@@ -119,16 +123,11 @@ class Mirror:
         try:
             if not os.path.lexists(file):
                 pass
-            elif self.is_as_made(path):
+            elif self.is_inside(path) and self.is_as_made(path):
                 os.remove(file)
                 self.removed += 1
             else:
-                self.notes.append(
-                    (
-                        path,
-                        "it is gone at the source, and was changed in the mirror: it stays there",
-                    )
-                )
+                self.notes.append((path, GONE))
         except OSError as error:
             self.faults.append((path, described(error)))
             return
@@ -138,6 +137,12 @@ class Mirror:
             while folder and not os.path.isdir(os.path.join(self.tree.top, folder)):
                 os.rmdir(os.path.join(self.target, folder))
                 folder = os.path.dirname(folder)
+
+    def is_inside(self, path: str) -> bool:
+        """Whether the folder of a file of the mirror is in it, and no link out of it."""
+        folder = os.path.dirname(os.path.join(self.target, path))
+        real, top = os.path.realpath(folder), os.path.realpath(self.target)
+        return real == top or real.startswith(os.path.join(top, ""))
 
     def is_as_made(self, path: str) -> bool:
         file, made = os.path.join(self.target, path), self.made.get(path)
@@ -164,8 +169,7 @@ class Mirror:
         )
         if is_same and is_there:
             return made.fault
-        real, top = os.path.realpath(os.path.dirname(file)), os.path.realpath(self.target)
-        if real != top and not real.startswith(top + os.sep):
+        if not self.is_inside(path):
             return "its folder in the mirror is a link out of it: left out"
         content, fault, is_xml = self.content(path)
         if not is_there or self.is_as_made(path):
