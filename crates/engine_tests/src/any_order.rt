@@ -14,7 +14,7 @@ use crate::random::Random;
 use build_outcome::Outcome;
 use build_scheduler::{Answer, Ask, Claimed, Core, End, Event, RequestFault, Walker};
 use build_world::World;
-use msb_values::{List, NoMemory};
+use msb_values::{List, NoMemory, Text};
 use request_machine::{Walk, root_key};
 use result_cache::{RequestKey, RunId, Table};
 use std::alloc::Global;
@@ -72,7 +72,7 @@ pub struct Watched {
     /// There is none where the build did not come to its end.
     pub outcome: Option<Outcome>,
     /// The first rule that was broken; empty where none was.
-    pub broken: &'static str,
+    pub broken: Text,
 }
 
 /// What comes of a build whose events come in the order of this seed.
@@ -121,10 +121,10 @@ fn played<W: Walker>(
     build: &mut AnyOrder<W>,
     place: &mut W::Place,
     random: Random,
-) -> Result<&'static str, NoMemory> {
+) -> Result<Text, NoMemory> {
     let mut account = Account::new(alloc)?;
     play(build, &mut account, place, random)?;
-    Ok(account.broken)
+    Text::of(alloc, account.broken)
 }
 
 /// The build goes on to its end.

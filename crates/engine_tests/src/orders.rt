@@ -16,9 +16,9 @@ use std::thread::Threads;
 use task_trait::Counted;
 
 /// How many sets of each kind, and how many orders of events of each.
-const SETS: u64 = 40;
+const SETS: u64 = 20;
 
-const ORDERS: u64 = 10;
+const ORDERS: u64 = 8;
 
 /// What a build on one node comes to.
 fn built_alone(alloc: Global, set: Tree, tools: &Gate) -> Result<(u8, Outside), Fail> {
@@ -43,7 +43,7 @@ fn every_order_comes_to_the_same(rt: HostRuntime) -> Result<(), Fail> {
         let status = status_in_every_order(&rt, rt.alloc(), seed, true)?;
         circles = circles.saturating_add(u64::from(status == 4));
     }
-    is_so(&rt, circles > 5, "there are circles");
+    is_so(&rt, circles > 3, "there are circles");
     Ok(())
 }
 
@@ -86,7 +86,7 @@ fn all_end_so<R: Abort>(
 }
 
 fn ends_so<R: Abort>(rt: &R, watched: &Watched, world: &World, status: u8, on: &Outside) {
-    is_text(rt, watched.broken.as_bytes(), "", "the account");
+    is_text(rt, watched.broken.as_str().as_bytes(), "", "the account");
     let Some(outcome) = &watched.outcome else {
         return is_so(rt, false, "an end is told");
     };
