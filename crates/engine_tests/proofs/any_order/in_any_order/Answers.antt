@@ -1,5 +1,5 @@
 use Rattle.request_machine.specs.Worlds.{root_of, world_of}
-use Rattle.msb_program.proofs.Beginning.{begins_there}
+use Rattle.msb_outcomes.proofs.Beginning.{begins_there}
 use Rattle.engine_tests.proofs.any_order.in_any_order.Goals as goal
 
 pub built-requires-clause-begins : goal.built-requires-clause-begins
