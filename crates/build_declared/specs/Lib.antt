@@ -5,6 +5,7 @@ pub mod Clean
 pub mod Declared
 pub mod Ends
 pub mod Fresh
+pub mod NoOlder
 pub mod Pieces
 pub mod Places
 pub mod Settled
