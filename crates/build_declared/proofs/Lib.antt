@@ -7,6 +7,7 @@ pub mod CleanWorlds
 pub mod Counterparts
 pub mod Cousins
 pub mod EmptyBuckets
+pub mod FirstBuilds
 pub mod Held
 pub mod LastWrites
 pub mod LeftTrees
@@ -24,6 +25,7 @@ pub mod SameRuns
 pub mod Sides
 pub mod SkippedPieces
 pub mod SkipsSame
+pub mod StaysFresh
 pub mod Steps
 pub mod Trusted
 pub mod Twins
