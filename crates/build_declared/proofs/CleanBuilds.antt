@@ -33,8 +33,9 @@ use Rattle.build_declared.specs.Declared.{IsDeclared, DeclaredAt}
 use Rattle.build_declared.specs.Written.{bytes_in, AnyPath}
 use Rattle.build_declared.specs.Fresh.{IsFresh, FreshAt}
 use Rattle.build_declared.specs.Places.{Site, run_at}
+use Rattle.build_declared.specs.Skipped.{TakesLists}
 use Rattle.build_declared.specs.Worlds.{world_by}
-use Rattle.build_declared.proofs.Sides.{TakesLists, sides}
+use Rattle.build_declared.proofs.Sides.{sides}
 
 module _ (tools : List ℕ → ToolInput → ToolAnswer) (files : List File) where
   -- what is still to be shown of one run: a declared and fresh run of a target with Inputs and

@@ -88,6 +88,7 @@ use Rattle.build_declared.specs.Ends.{End, end_of}
 use Rattle.build_declared.specs.Fresh.{PieceIsFresh}
 use Rattle.build_declared.specs.Pieces.{Piece, one_if, piece_if, pieces_among, pieces_in}
 use Rattle.build_declared.specs.Places.{run_at}
+use Rattle.build_declared.specs.Skipped.{TakesLists}
 use Rattle.build_declared.proofs.Alones.{some-same, end-bound, bound-end, alone-end}
 use Rattle.build_declared.proofs.BucketsGo.{
   Carry,
@@ -113,7 +114,6 @@ use Rattle.build_declared.proofs.EmptyBuckets.{
 }
 use Rattle.build_declared.proofs.Looks.{looks-same}
 use Rattle.build_declared.proofs.NotesStay.{bucket-keeps}
-use Rattle.build_declared.proofs.Sides.{TakesLists}
 
 -- ---- one bucket
 

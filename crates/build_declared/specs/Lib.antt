@@ -9,6 +9,8 @@ pub mod NoOlder
 pub mod Pieces
 pub mod Places
 pub mod Settled
+pub mod Skipped
 pub mod Sublists
+pub mod UpToDate
 pub mod Worlds
 pub mod Written
