@@ -18,10 +18,12 @@ pub mod PlacedWalks
 pub mod Plain
 pub mod RunLists
 pub mod SameRuns
+pub mod SecondBuilds
 pub mod Sides
 pub mod SkippedPieces
 pub mod SkippedRuns
 pub mod SkippedWork
+pub mod SkippedWorlds
 pub mod SkipsSame
 pub mod Steps
 pub mod Trusted
