@@ -9,9 +9,11 @@ pub mod Cousins
 pub mod EmptyBuckets
 pub mod FirstBuilds
 pub mod Held
+pub mod IdleBuckets
 pub mod LastWrites
 pub mod LeftTrees
 pub mod Looks
+pub mod NewPieces
 pub mod NotesStay
 pub mod PairFates
 pub mod PieceParts
@@ -22,8 +24,12 @@ pub mod PlacedWalks
 pub mod Plain
 pub mod RunLists
 pub mod SameRuns
+pub mod SecondBuilds
 pub mod Sides
 pub mod SkippedPieces
+pub mod SkippedRuns
+pub mod SkippedWork
+pub mod SkippedWorlds
 pub mod SkipsSame
 pub mod StaysFresh
 pub mod Steps

@@ -10,6 +10,8 @@ pub mod Pieces
 pub mod Places
 pub mod Repeated
 pub mod Settled
+pub mod Skipped
 pub mod Sublists
+pub mod UpToDate
 pub mod Worlds
 pub mod Written
