@@ -7,7 +7,9 @@ pub mod CleanWorlds
 pub mod Cousins
 pub mod EmptyBuckets
 pub mod Held
+pub mod IdleBuckets
 pub mod Looks
+pub mod NewPieces
 pub mod NotesStay
 pub mod PieceParts
 pub mod PieceRuns
@@ -16,8 +18,12 @@ pub mod PlacedWalks
 pub mod Plain
 pub mod RunLists
 pub mod SameRuns
+pub mod SecondBuilds
 pub mod Sides
 pub mod SkippedPieces
+pub mod SkippedRuns
+pub mod SkippedWork
+pub mod SkippedWorlds
 pub mod SkipsSame
 pub mod Steps
 pub mod Trusted

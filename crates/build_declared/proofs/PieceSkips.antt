@@ -91,7 +91,7 @@ one-in path (p ∷ paths) h = elim (or_cases (bytes_eq path p)
       | inr i ↦ inr (one-in path paths i)
     ]
 
-first-output : (inputs outputs : List (List ℕ)) → all_or_nothing inputs outputs ≡ RunAll →
+pub first-output : (inputs outputs : List (List ℕ)) → all_or_nothing inputs outputs ≡ RunAll →
     (o : List ℕ) × In o outputs
 first-output [] outputs e = absurd (cc)
 first-output (i ∷ inputs) [] e = absurd (cc)

@@ -5,9 +5,12 @@ pub mod Clean
 pub mod Declared
 pub mod Ends
 pub mod Fresh
+pub mod NoOlder
 pub mod Pieces
 pub mod Places
 pub mod Settled
+pub mod Skipped
 pub mod Sublists
+pub mod UpToDate
 pub mod Worlds
 pub mod Written

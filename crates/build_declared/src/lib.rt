@@ -1,11 +1,12 @@
 //! What an incremental build has to do with a clean one. (Incremental builds.)
 //!
 //! `specs/` has the definitions: the pieces of a run, and when a set of projects is declared,
-//! fresh, settled and repeated. The functions here are the laws that are proved of them: they run
-//! no code, and their contracts are what is proved.
+//! fresh, up to date, settled and repeated. The functions here are the laws that are proved of
+//! them: they run no code, and their contracts are what is proved.
 #![tactic(auto)]
 
 ghost use Rattle.std.specs.Prelude.{◌≡◌, ℕ, List, Some};
+ghost use Rattle.msb_values.specs.declared.mode.Mode.TheVariants.{Incremental};
 ghost use Rattle.file_store.specs.declared.tree.File.{File};
 ghost use Rattle.result_cache.specs.declared.request.RequestResult.{RequestResult};
 ghost use Rattle.build_world.specs.declared.world.World.{World};
@@ -18,6 +19,7 @@ ghost use Rattle.task_trait.specs.declared.tools.ToolInput.{ToolInput};
 ghost use Rattle.request_machine.specs.Worlds.{world_of};
 ghost use Rattle.build_declared.specs.Clean.{IsTrustworthy, GivesClean};
 ghost use Rattle.build_declared.specs.Builds.{placed_world};
+ghost use Rattle.build_declared.specs.UpToDate.{IsUpToDate, SkipsEach};
 ghost use Rattle.build_declared.specs.Written.{bytes_in};
 
 /// A build of declared and fresh projects gives what the clean build of the same files gives: the
@@ -39,6 +41,22 @@ pub fn incremental_is_clean()
         (after other : List File) → IsFinalTree w.tree.files out.journal after →
         IsFinalTree w.tree.files clean.journal other →
         (path : List ℕ) → bytes_in after path ≡ bytes_in other path }
+{}
+
+/// An incremental build of declared and fresh projects skips each piece, where in the tree each
+/// output of a piece is no older than its inputs, and runs without a piece write none of them.
+/// (Incremental builds.)
+///
+/// So it was left by a build that has done its work, where no input was changed since. Each run of
+/// a target with Inputs and Outputs writes no file and uses no tool, and its record says `up to
+/// date` once for each piece, and `nothing to do` for each other bucket, or `failed` for a fault in
+/// a text.
+pub fn second_build_skips()
+    ensures { (tools : List ℕ → ToolInput → ToolAnswer) (w : World)
+        (clean : Given ToolInput RequestResult) → IsTrustworthy tools w clean →
+        IsUpToDate tools w clean → w.mode ≡ Incremental →
+        (out : Given ToolInput RequestResult) → meaning (world_of tools w) ≡ Some out →
+        SkipsEach tools w out }
 {}
 
 /// The world that tells the places of its runs is the world of the build.
