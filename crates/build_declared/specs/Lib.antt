@@ -8,6 +8,7 @@ pub mod Fresh
 pub mod NoOlder
 pub mod Pieces
 pub mod Places
+pub mod Repeated
 pub mod Settled
 pub mod Skipped
 pub mod Sublists

@@ -1,7 +1,10 @@
 pub mod Calling
 pub mod Claims
+pub mod CleanAnswers
+pub mod CleanFiles
 pub mod Committing
 pub mod Ended
+pub mod GivenFiles
 pub mod Meant
 pub mod Ready
 pub mod TrialEnded

@@ -1,5 +1,6 @@
 pub mod Answers
 pub mod Calls
+pub mod Clean
 pub mod Endings
 pub mod Meanings
 pub mod Prepared

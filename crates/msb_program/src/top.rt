@@ -2,6 +2,9 @@ ghost use Rattle.std.specs.Prelude.{◌≡◌, ◌++◌, ◌⊎◌, ◌<◌, ◌
 ghost use Rattle.msb_laws.specs.Faults.{Rose};
 ghost use Rattle.msb_laws.specs.Gains.{Prints};
 ghost use Rattle.file_store.specs.declared.loading.LoadFault.TheVariants.{Memory};
+ghost use Rattle.result_cache.specs.declared.request.RequestResult.{RequestResult};
+ghost use Rattle.task_trait.specs.declared.tools.ToolInput.{ToolInput};
+ghost use Rattle.build_meaning.specs.Meaning.{Given};
 ghost use Rattle.msb_words.specs.Options.{options_in};
 ghost use Rattle.build_report.specs.Line.{line};
 ghost use Rattle.build_engine.specs.Statuses.{IsCompletion, IsRefusal};
@@ -9,6 +12,7 @@ ghost use Rattle.msb_outcomes.specs.Outcomes.{HasProject, load_fault_text, fault
 ghost use Rattle.msb_program.specs.Endings.{Ends, EndsMade, EndsTrial, Printed, PrintedAll, PrintedFront, Silent, printing, saving};
 ghost use Rattle.msb_program.specs.Calls.{AreMeantCalls, IsUndone};
 ghost use Rattle.msb_program.specs.Answers.{Answers, AsksForBuild, AsksForTrial, loading};
+ghost use Rattle.msb_program.specs.Clean.{AnswersClean, MeansClean};
 ghost use Rattle.msb_program.specs.Prepared.{IsLeft, IsPrepared};
 ghost use Rattle.msb_program.specs.Meanings.{AnswersMeant, Means};
 ghost use Rattle.build_outcome.specs.declared.outcome.Outcome.{Outcome as TheOutcome};
@@ -37,6 +41,9 @@ const USAGE: &str =
 /// A build takes as many nodes as the words tell, each in a thread of its own, and waits for them; over one node it starts no
 /// thread. A trial builds its set so too, and touches neither the store nor the tools. (MSBuild command-line reference,
 /// -maxCpuCount.)
+///
+/// A build that may be trusted to skip what is up to date ends as a build with `--clean` would: with its status, the items that
+/// it returns, and the bytes that it leaves at each path. (Incremental builds.)
 pub fn run<R: Threads + Wait + Sync, S: Store, K: Sink, T: Tools + Sync>(
     rt: &R,
     alloc: Global,
@@ -47,6 +54,15 @@ pub fn run<R: Threads + Wait + Sync, S: Store, K: Sink, T: Tools + Sync>(
 ) -> u8
     ensures answer { Answers T.answer (map string_bytes words.now) (loading (S.tree store.old) (S.fault_count store.old) (S.fault_count store.new) (S.failures store.old) (S.failures store.new)) (saving (S.tree store.old) (S.tree store.new)) (printing (K.fault_count sink.old) (K.fault_count sink.new) (K.told sink.old) (K.told sink.new)) result }
     ensures meaning { (meant : TheOutcome) → Means T.answer (map string_bytes words.now) (S.tree store.old) meant → AnswersMeant (map string_bytes words.now) (loading (S.tree store.old) (S.fault_count store.old) (S.fault_count store.new) (S.failures store.old) (S.failures store.new)) (saving (S.tree store.old) (S.tree store.new)) (printing (K.fault_count sink.old) (K.fault_count sink.new) (K.told sink.old) (K.told sink.new)) meant result }
+    ensures clean { (clean : Given ToolInput RequestResult) →
+        MeansClean T.answer (map string_bytes words.now) (S.tree store.old) clean →
+        AnswersClean
+        (loading (S.tree store.old) (S.fault_count store.old) (S.fault_count store.new)
+        (S.failures store.old) (S.failures store.new))
+        (saving (S.tree store.old) (S.tree store.new))
+        (printing (K.fault_count sink.old) (K.fault_count sink.new) (K.told sink.old)
+        (K.told sink.new))
+        clean result }
     ensures untouched { AsksForTrial (options_in (map string_bytes words.now)) → store.new ≡ store.old }
 {
     answered_on(rt, alloc, words, store, sink, tools)
@@ -64,6 +80,15 @@ pub fn run_alone<S: Store, K: Sink, T: CountedTools>(
 ) -> u8
     ensures answer { Answers T.answer (map string_bytes words.now) (loading (S.tree store.old) (S.fault_count store.old) (S.fault_count store.new) (S.failures store.old) (S.failures store.new)) (saving (S.tree store.old) (S.tree store.new)) (printing (K.fault_count sink.old) (K.fault_count sink.new) (K.told sink.old) (K.told sink.new)) result }
     ensures meaning { (meant : TheOutcome) → Means T.answer (map string_bytes words.now) (S.tree store.old) meant → AnswersMeant (map string_bytes words.now) (loading (S.tree store.old) (S.fault_count store.old) (S.fault_count store.new) (S.failures store.old) (S.failures store.new)) (saving (S.tree store.old) (S.tree store.new)) (printing (K.fault_count sink.old) (K.fault_count sink.new) (K.told sink.old) (K.told sink.new)) meant result }
+    ensures clean { (clean : Given ToolInput RequestResult) →
+        MeansClean T.answer (map string_bytes words.now) (S.tree store.old) clean →
+        AnswersClean
+        (loading (S.tree store.old) (S.fault_count store.old) (S.fault_count store.new)
+        (S.failures store.old) (S.failures store.new))
+        (saving (S.tree store.old) (S.tree store.new))
+        (printing (K.fault_count sink.old) (K.fault_count sink.new) (K.told sink.old)
+        (K.told sink.new))
+        clean result }
     ensures uncalled { (AsksForBuild (options_in (map string_bytes words.now)) → ⊥) → T.calls tools.new ≡ T.calls tools.old }
     ensures untouched { AsksForTrial (options_in (map string_bytes words.now)) → store.new ≡ store.old }
     ensures calls { (meant : TheOutcome) (m : Means T.answer (map string_bytes words.now) (S.tree store.old) meant) → IsCompletion result → ∥ AreMeantCalls m.out (T.calls tools.old) (T.calls tools.new) ∥₁ }
