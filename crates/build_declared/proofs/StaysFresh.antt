@@ -25,7 +25,7 @@ use Rattle.std.proofs.Common.{
 use Rattle.std.specs.Prelude.{IsSome, option_map}
 use Rattle.std.specs.Option.{option_or}
 use Rattle.msb_values.specs.declared.item.Item.{Item}
-use Rattle.msb_values.specs.declared.mode.Mode.TheVariants.{Clean}
+use Rattle.msb_values.specs.declared.mode.Mode.TheVariants.{Incremental, Clean}
 use Rattle.msb_values.specs.declared.put.Put.{Put}
 use Rattle.msb_values.specs.declared.scope.Scope.{Scope}
 use Rattle.file_store.specs.Commits.{AreWritten}
@@ -50,11 +50,11 @@ use Rattle.build_incremental.proofs.Numbered.{numbered}
 use Rattle.msb_files.specs.FinalTree.{commit_list}
 use Rattle.task_trait.specs.declared.tools.ToolAnswer.{ToolAnswer}
 use Rattle.task_trait.specs.declared.tools.ToolInput.{ToolInput}
-use Rattle.request_machine.specs.Worlds.{root_of}
+use Rattle.request_machine.specs.Worlds.{root_of, world_of}
 use Rattle.target_body.specs.States.{Run, State, view_of}
-use Rattle.build_declared.specs.Builds.{instances_of, placed_world}
+use Rattle.build_declared.specs.Builds.{in_mode, instances_of, placed_world}
 use Rattle.build_declared.specs.Clean.{IsTrustworthy}
-use Rattle.build_declared.specs.Declared.{SucceedsWith, clean_pieces}
+use Rattle.build_declared.specs.Declared.{IsDeclared, SucceedsWith, clean_pieces}
 use Rattle.build_declared.specs.Fresh.{Pairing, pairs_of, FreshAt, IsFresh, PieceIsFresh, WritesSame}
 use Rattle.build_declared.specs.NoOlder.{NoOlderAt, IsNoOlder, OutputIsNoOlder, PieceIsNoOlder}
 use Rattle.build_declared.specs.Pieces.{Piece, ByItems}
@@ -64,10 +64,12 @@ use Rattle.build_declared.specs.Repeated.{
   AreAgain,
   pieces_over,
   IsSettledBuild,
+  over,
   clean_over,
   IsRepeatedBuild,
 }
 use Rattle.build_declared.specs.Settled.{Stood}
+use Rattle.build_declared.specs.UpToDate.{SkipsEach}
 use Rattle.build_declared.specs.Written.{since}
 use Rattle.build_declared.proofs.Counterparts.{Counterpart, Fares, RunFares, run-fares}
 use Rattle.build_declared.proofs.FirstBuilds as first
@@ -82,6 +84,7 @@ use Rattle.build_declared.proofs.LastWrites.{
 }
 use Rattle.build_declared.proofs.PairFates.{IsPaired, Fate, paired-output, paired-input}
 use Rattle.build_declared.proofs.Plain.{plain-is-world}
+use Rattle.build_declared.proofs.SkippedWorlds.{second-build-skips}
 
 -- ---- a piece in the tree that is left
 
@@ -431,3 +434,16 @@ module _ (tools : List ℕ → ToolInput → ToolAnswer) (w : Build) (left : Tre
       (λ key. Unit {0}) (λ key. Unit {0})
       (λ site id k m later. no-older-at site.target site.scope id k m later)
       (λ c s n h. h) (λ key h. h) again.value again.journal r.later_bodies
+
+  -- so the next build has nothing to do, where what it is given is declared there
+  pub next-skips : IsDeclared tools after (clean_over tools w left) again →
+      (next : Given ToolInput RequestResult) →
+      meaning (world_of tools (over left (in_mode Incremental w))) ≡ Some next →
+      SkipsEach tools (over left (in_mode Incremental w)) next
+  next-skips declared next meant = second-build-skips tools (over left (in_mode Incremental w))
+      again (record { declared = declared; fresh = stays-fresh }) (record {
+        no_older = stays-no-older;
+        demand = r.later;
+        bodies = r.later_bodies;
+        keep_off = r.repeated.free;
+      }) refl next meant

@@ -104,10 +104,13 @@ pub record IsSettledBuild (tools : List ℕ → ToolInput → ToolAnswer) (w : W
   pub bodies : AreBodies (placed_world tools w) out demand
   pub settled : IsSettled tools w.tree.files w.mode demand out.journal
 
--- the clean build of the same over another tree
+-- what a build is given, over another tree; and the clean build of it
+abbrev pub over : Tree → World → World
+over tree w = record w { tree = tree }
+
 abbrev pub clean_over : (List ℕ → ToolInput → ToolAnswer) → World → Tree →
     PlacedWorld Site ToolInput ToolAnswer
-clean_over tools w tree = placed_world tools (in_mode Clean (record w { tree = tree }))
+clean_over tools w tree = placed_world tools (in_mode Clean (over tree w))
 
 -- the clean build is repeated over the tree that a build left
 pub record IsRepeatedBuild (tools : List ℕ → ToolInput → ToolAnswer) (w : World) (left : Tree)

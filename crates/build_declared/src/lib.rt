@@ -20,10 +20,11 @@ ghost use Rattle.task_trait.specs.declared.tools.ToolAnswer.{ToolAnswer};
 ghost use Rattle.task_trait.specs.declared.tools.ToolInput.{ToolInput};
 ghost use Rattle.request_machine.specs.Worlds.{world_of};
 ghost use Rattle.build_declared.specs.Clean.{IsTrustworthy, GivesClean};
-ghost use Rattle.build_declared.specs.Builds.{placed_world};
+ghost use Rattle.build_declared.specs.Builds.{in_mode, placed_world};
+ghost use Rattle.build_declared.specs.Declared.{IsDeclared};
 ghost use Rattle.build_declared.specs.Fresh.{IsFresh};
 ghost use Rattle.build_declared.specs.NoOlder.{IsNoOlder};
-ghost use Rattle.build_declared.specs.Repeated.{IsSettledBuild, IsRepeatedBuild, clean_over};
+ghost use Rattle.build_declared.specs.Repeated.{IsSettledBuild, IsRepeatedBuild, clean_over, over};
 ghost use Rattle.build_declared.specs.UpToDate.{IsUpToDate, SkipsEach};
 ghost use Rattle.build_declared.specs.Written.{bytes_in};
 
@@ -84,6 +85,21 @@ pub fn second_build_skips()
         IsUpToDate tools w clean → w.mode ≡ Incremental →
         (out : Given ToolInput RequestResult) → meaning (world_of tools w) ≡ Some out →
         SkipsEach tools w out }
+{}
+
+/// After a build that stays fresh, the next one has nothing to do: an incremental build over the
+/// tree that was left skips each piece, where what it is given is declared there too. (Incremental
+/// builds.)
+pub fn next_build_skips()
+    ensures { (tools : List ℕ → ToolInput → ToolAnswer) (w : World) (left : Tree)
+        (clean out again : Given ToolInput RequestResult) → IsTrustworthy tools w clean →
+        IsSettledBuild tools w out →
+        AreWritten (commit_list out.journal) w.tree.files left.files →
+        IsRepeatedBuild tools w left clean again →
+        IsDeclared tools left.files (clean_over tools w left) again →
+        (next : Given ToolInput RequestResult) →
+        meaning (world_of tools (over left (in_mode Incremental w))) ≡ Some next →
+        SkipsEach tools (over left (in_mode Incremental w)) next }
 {}
 
 /// The world that tells the places of its runs is the world of the build.

@@ -42,9 +42,9 @@ use Rattle.msb_program.specs.Clean.{
   SavedPart,
 }
 use Rattle.msb_program.specs.Endings.{Kept, Printing, PrintedAll, SavedAll, SavedTo, Saving}
-use Rattle.msb_program.specs.Meanings.{AnswersMeant, Means}
+use Rattle.msb_program.specs.Meanings.{AnswersMeant}
 use Rattle.msb_program.proofs.CleanFiles.{part_is_clean, whole_is_clean}
-use Rattle.msb_program.proofs.GivenFiles.{given_told, told_so}
+use Rattle.msb_program.proofs.GivenFiles.{given_told, means_of, told_so}
 use Rattle.msb_program.proofs.Meant.{answers_meant}
 
 unchanged : (journal : Journal) (told : Option (List File)) →
@@ -63,18 +63,10 @@ module _ (tools : Answering) (words : List (List ℕ)) (l : Loading) (s : Saving
     abbrev meant : Outcome
     meant = built means.build.options.low out.value out.journal
 
-    means_this : Means tools words l.told meant
-    means_this = record {
-      given = means.given;
-      build = means.build;
-      out = out;
-      whole = whole;
-      steady = means.steady out whole.means;
-      is = refl;
-    }
-
     answers_this : AnswersMeant words l s p meant status
-    answers_this = answers_meant tools words l s p status answers meant means_this
+    answers_this = answers_meant tools words l s p status answers meant
+        (means_of tools words l.told means.given means.build out whole
+        (means.steady out whole.means))
 
     same_status : meant.status ≡ status_of clean.value.ok
     same_status = ap (λ (r : RequestResult). status_of r.ok) gives.result

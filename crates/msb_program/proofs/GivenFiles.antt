@@ -1,4 +1,4 @@
--- A build is given the files that the store tells.
+-- What a build is given that the words ask for: the files that the store tells.
 use Rattle.std.proofs.Common.{
   ◌≡◌,
   ℕ,
@@ -25,7 +25,13 @@ use Rattle.file_store.specs.declared.tree.File.{File}
 use Rattle.build_world.specs.declared.fault.EvalFault.{EvalFault}
 use Rattle.build_world.specs.declared.world.World.{World}
 use Rattle.msb_instance.specs.Evaluated.{Instance, evaluated}
+use Rattle.result_cache.specs.declared.request.RequestResult.{RequestResult}
+use Rattle.task_trait.specs.declared.tools.ToolInput.{ToolInput}
+use Rattle.build_meaning.specs.Demand.{IsSteady, IsWhole}
+use Rattle.build_meaning.specs.Meaning.{Given}
+use Rattle.build_outcome.specs.Outcomes.{built}
 use Rattle.build_outcome.specs.declared.outcome.Outcome.{Outcome}
+use Rattle.request_machine.specs.Worlds.{world_of}
 use Rattle.msb_words.specs.declared.options.Options.{Options}
 use Rattle.msb_words.specs.declared.options.Action.{Action}
 use Rattle.msb_words.specs.declared.options.Action.TheVariants.{
@@ -35,6 +41,7 @@ use Rattle.msb_words.specs.declared.options.Action.TheVariants.{
   Trial,
 }
 use Rattle.msb_outcomes.specs.Outcomes.{
+  Answering,
   IsWorkAt,
   IsWorkOfAction,
   IsWorkOfFile,
@@ -42,7 +49,7 @@ use Rattle.msb_outcomes.specs.Outcomes.{
   key_at,
 }
 use Rattle.msb_outcomes.specs.declared.work.Work.TheVariants.{Told, Build}
-use Rattle.msb_program.specs.Meanings.{IsAskedOf}
+use Rattle.msb_program.specs.Meanings.{IsAskedOf, Means}
 
 -- what is told is no build
 untold : (given : World) (o : Outcome) → Build given ≡ Told o → ⊥
@@ -80,6 +87,20 @@ given_told words told given build =
     build.told_are
     ∙ ap Some (sym (files_given build.files given build.options
     (normal_path [] build.options.project) build.is))
+
+-- the outcome that its meaning tells
+abbrev pub means_of : (tools : Answering) (words : List (List ℕ)) (told : Option (List File))
+    (given : World) (build : IsAskedOf words told given) (out : Given ToolInput RequestResult) →
+    IsWhole (world_of tools given) out → IsSteady out.demand →
+    Means tools words told (built build.options.low out.value out.journal)
+means_of tools words told given build out whole steady = record {
+  given = given;
+  build = build;
+  out = out;
+  whole = whole;
+  steady = steady;
+  is = refl;
+}
 
 -- what follows for each two trees follows where the store tells them
 pub told_so : (P Q : List File → List File → Type 0) (before after : Option (List File)) →

@@ -6,6 +6,7 @@ pub mod Committing
 pub mod Ended
 pub mod GivenFiles
 pub mod Meant
+pub mod NextBuilds
 pub mod Ready
 pub mod TrialEnded
 pub mod Unloaded
