@@ -1,26 +1,6 @@
 -- A build of declared and fresh projects beside the clean build of the same files, as the journal
 -- that it leaves tells of its runs.
-use Rattle.std.proofs.Common.{
-  ◌≡◌,
-  ℕ,
-  suc,
-  ◌≤◌,
-  inl,
-  inr,
-  List,
-  [],
-  ◌∷◌,
-  Option,
-  None,
-  Some,
-  refl,
-  ap,
-  sym,
-  ◌∙◌,
-  subst,
-  arith,
-  true,
-}
+use Rattle.std.proofs.Common.{◌≡◌, ℕ, suc, ◌≤◌, inl, inr, List, [], ◌∷◌, Option, Some, refl, ap, sym, ◌∙◌, subst, arith, true}
 use Rattle.std.specs.Prelude.{Result}
 use Rattle.msb_values.specs.declared.mode.Mode.{Mode}
 use Rattle.msb_values.specs.declared.mode.Mode.TheVariants.{Incremental, Clean}
@@ -42,7 +22,7 @@ use Rattle.build_meaning.specs.SoFar.{recorded}
 use Rattle.build_meaning.specs.Meaning.{Given, meaning, requested}
 use Rattle.build_meaning.specs.Demand.{IsSteady}
 use Rattle.build_meaning.specs.Sound.{IsMade}
-use Rattle.build_incremental.specs.Alike.{AlikeFound, AlikeJournals}
+use Rattle.build_incremental.specs.Alike.{AlikeJournals}
 use Rattle.build_incremental.specs.Alone.{written}
 use Rattle.build_incremental.specs.Demand.{Occurrence, IsAmong}
 use Rattle.build_incremental.specs.Each.{EachOfMeaning}
@@ -87,7 +67,7 @@ use Rattle.build_declared.specs.Written.{bytes_in, AnyPath}
 use Rattle.build_declared.proofs.CleanOutcomes.{pieces-go}
 use Rattle.build_declared.proofs.LastWrites.{RunAtLast}
 use Rattle.build_declared.proofs.PlacedBodies.{bodies_of, world-tells}
-use Rattle.build_declared.proofs.RunLists.{runs-go}
+use Rattle.build_declared.proofs.RunLists.{alike-self, runs-go}
 use Rattle.build_declared.proofs.Sides.{sides}
 
 -- the same runs, where something else is said of the first record
@@ -109,10 +89,6 @@ no-call (put ∷ puts) key runs i =
       | inr (inr u) ↦ u
     ]
 
-found-self : (o : Option Record) → AlikeFound o o
-found-self None = tt
-found-self (Some m) = record { ok = refl; items = refl; changes = refl }
-
 ended-found : (j : Journal) (id : RunId) → Has (end_of id) j →
     (m : Record) × (record_of j id ≡ Some m)
 ended-found j id h = elim (none-or-some (record_of j id)) [
@@ -131,13 +107,6 @@ module _ (tools : List ℕ → ToolInput → ToolAnswer) (files : List File) (ro
     (demand : List (Occurrence Site)) where
   abbrev pub clean_world : PlacedWorld Site ToolInput ToolAnswer
   clean_world = world_by tools files root instances Clean
-
-  alike-self : (j : Journal) → AlikeJournals (bytes_in files) AnyPath j j
-  alike-self j = record {
-    same = λ p. refl;
-    records = λ r. found-self (record_of j r);
-    only = λ r n put i. tt;
-  }
 
   -- ---- the clean build
 
@@ -214,9 +183,9 @@ module _ (tools : List ℕ → ToolInput → ToolAnswer) (files : List File) (ro
     twins Clean = (
       clean.journal,
       weaker-meaning clean_world KnownClean Twin IsOfOneRun Anyhow AnyKey AnyKey
-          (λ p r j m h. (j, m, h, alike-self j)) (λ c s n h. tt) (λ key h. tt) clean.value
+          (λ p r j m h. (j, m, h, alike-self files j)) (λ c s n h. tt) (λ key h. tt) clean.value
           clean.journal all-clean,
-      alike-self clean.journal,
+      alike-self files clean.journal,
     )
     twins Incremental = meanings-go (bytes_in files) AnyPath
         (world_by tools files root instances Incremental) clean_world Twin KnownClean AnyKey
