@@ -62,7 +62,17 @@ use Rattle.target_body.specs.Work.{
   unless_stopped,
   each_in_turn,
 }
-use Rattle.target_body.specs.States.{Run, State, Stopped, begun, entered, or_stop, outcome_of, place_in, view_of}
+use Rattle.target_body.specs.States.{
+  Run,
+  State,
+  Stopped,
+  begun,
+  entered,
+  or_stop,
+  outcome_of,
+  place_in,
+  view_of,
+}
 use Rattle.target_body.specs.Pieces.{lists_at, choice_of, decided, or_failed}
 use Rattle.build_declared.specs.Chosen.{
   Chooser,
@@ -73,7 +83,14 @@ use Rattle.build_declared.specs.Chosen.{
   buckets_by,
   work_by,
 }
-use Rattle.build_declared.specs.Declared.{IsNotTooLarge, SucceedsWith, RunIsDeclared, DeclaredBy, DeclaredAt, clean_pieces}
+use Rattle.build_declared.specs.Declared.{
+  IsNotTooLarge,
+  SucceedsWith,
+  RunIsDeclared,
+  DeclaredBy,
+  DeclaredAt,
+  clean_pieces,
+}
 use Rattle.build_declared.specs.Ends.{End, end_of}
 use Rattle.build_declared.specs.Fresh.{Pairing, FreshAt, PieceIsFresh}
 use Rattle.build_declared.specs.Pieces.{
@@ -437,10 +454,12 @@ module _ (tools : List ℕ → ToolInput → ToolAnswer) (id : RunId) (run : Run
         let Y = end-bound tools id (second bucket t)
         (λ end. unless_stopped end (each_in_turn second buckets)) t.journal pt F hf in
         let fx : IsFine tools id run scope j k Good X.0.value = λ note u.
-        fe note (rest-keeps tools id run scope j k first (bucket-keeps tools id run (choice_of run) scope) buckets
+        fe note (rest-keeps tools id run scope j k first
+        (bucket-keeps tools id run (choice_of run) scope) buckets
         X.0.value X.0.journal X.0.puts E X.2 note u) in
         let fy : IsFine tools id run scope j k Good Y.0.value = λ note u.
-        ff note (rest-keeps tools id run scope j k second (bucket-keeps tools id clean all_of scope) buckets
+        ff note (rest-keeps tools id run scope j k second
+        (bucket-keeps tools id clean all_of scope) buckets
         Y.0.value Y.0.journal Y.0.puts F Y.2 note u) in
         let here = here_c bucket t pt in
         let later = then_pieces (end_of tools id (second bucket t) t.journal pt)

@@ -1,6 +1,25 @@
 -- A build of declared and fresh projects beside the clean build of the same files, as the journal
 -- that it leaves tells of its runs.
-use Rattle.std.proofs.Common.{◌≡◌, ℕ, suc, ◌≤◌, inl, inr, List, [], ◌∷◌, Option, Some, refl, ap, sym, ◌∙◌, subst, arith, true}
+use Rattle.std.proofs.Common.{
+  ◌≡◌,
+  ℕ,
+  suc,
+  ◌≤◌,
+  inl,
+  inr,
+  List,
+  [],
+  ◌∷◌,
+  Option,
+  Some,
+  refl,
+  ap,
+  sym,
+  ◌∙◌,
+  subst,
+  arith,
+  true,
+}
 use Rattle.std.specs.Prelude.{Result}
 use Rattle.msb_values.specs.declared.mode.Mode.{Mode}
 use Rattle.msb_values.specs.declared.mode.Mode.TheVariants.{Incremental, Clean}
@@ -251,8 +270,9 @@ module _ (tools : List ℕ → ToolInput → ToolAnswer) (files : List File) (ro
       same-record p q run j k m n x y = steady run m n x.0.1.0 y.0.1.0 x.0.1.1 y.0.1.1
 
       -- two journals of it agree on what a run has written with a number
-      agree : (from : Journal) → WritesRecorded SaidHere from → (run : RunId) (n : ℕ) (put other : Put) →
-          In (wrote run n put) from → In (wrote run n other) out.journal → put ≡ other
+      agree : (from : Journal) → WritesRecorded SaidHere from → (run : RunId) (n : ℕ)
+          (put other : Put) → In (wrote run n put) from → In (wrote run n other) out.journal →
+          put ≡ other
       agree from t run n put other i u =
           let x = t run n put i in
           let y = known-facts.1 run n other u in

@@ -1,6 +1,31 @@
--- What a build does with each output of a piece that succeeds: it writes what the whole writes, or it
--- leaves what is there, where nobody has written the output or an input that it is paired with.
-use Rattle.std.proofs.Common.{◌≡◌, ℕ, ◌≤◌, ◌⊎◌, inl, inr, Bool, true, false, List, [], ◌∷◌, ◌++◌, length, Option, None, Some, is_some, refl, ap, sym, ◌∙◌, subst, arith}
+-- What a build does with each output of a piece that succeeds: it writes what the whole writes, or
+-- it leaves what is there, where nobody has written the output or an input that it is paired with.
+use Rattle.std.proofs.Common.{
+  ◌≡◌,
+  ℕ,
+  ◌≤◌,
+  ◌⊎◌,
+  inl,
+  inr,
+  Bool,
+  true,
+  false,
+  List,
+  [],
+  ◌∷◌,
+  ◌++◌,
+  length,
+  Option,
+  None,
+  Some,
+  is_some,
+  refl,
+  ap,
+  sym,
+  ◌∙◌,
+  subst,
+  arith,
+}
 use Rattle.std.specs.Prelude.{Result, Ok, option_map, if◌then◌else◌}
 use Rattle.std.specs.List.{list_any}
 use Rattle.std.specs.Str.{bytes_eq}
@@ -348,7 +373,8 @@ module _ (tools : List ℕ → ToolInput → ToolAnswer) (id : RunId) (run : Run
         let other : End (Result State Stopped) =
         record { value = Ok w.0; journal = w.0.journal; puts = w.1 } in
         let same : other ≡ whole = some-same other whole (sym w.2 ∙ hf) in
-        sym (ap (λ (z : End (Result State Stopped)). last_bytes (since pt z.puts) output) same) ∙ w.3
+        sym (ap (λ (z : End (Result State Stopped)). last_bytes (since pt z.puts) output) same)
+        ∙ w.3
 
     whole-fates : end_of tools id (decided run bucket RunAll lists.items x) s.journal ps ≡ Some E →
         Fates
@@ -374,8 +400,8 @@ module _ (tools : List ℕ → ToolInput → ToolAnswer) (id : RunId) (run : Run
       skip-fates e he =
           let alike = carry-alike tools id run scope j k a s t ps pt c in
           let kept = skip-kept tools id run clean mode q said.1 x refl alike.same e in
-          let sk = skips-same tools id run mode scope j k a fw fc bucket lists t pt after puts said.0
-          c.c_is hf (λ o i. let f = kept o i in (f.0, f.1.there)) in
+          let sk = skips-same tools id run mode scope j k a fw fc bucket lists t pt after puts
+          said.0 c.c_is hf (λ o i. let f = kept o i in (f.0, f.1.there)) in
           let mid : End (Result State Stopped) =
           record { value = Ok sk.0; journal = t.journal; puts = pt } in
           let fine : IsFine tools id run scope j k (Fine tools id run scope j k a) (Ok sk.0) =
@@ -418,8 +444,8 @@ module _ (tools : List ℕ → ToolInput → ToolAnswer) (id : RunId) (run : Run
             | inr h ↦
                 let one = pairs-input lists.inputs lists.outputs pair y.2 in
                 let there : In one.0 pair.inputs = subst (In one.0) (sym one.1) (inl refl) in
-                let current = unmarked-old (view_of run x) lists.inputs lists.outputs items by.inputs
-                pair y.2 h in
+                let current = unmarked-old (view_of run x) lists.inputs lists.outputs items
+                by.inputs pair y.2 h in
                 let alike = carry-alike tools id run scope j k a s t ps pt c in
                 let trusted = pair-trusted (view_of run x) (view_of clean q.from) refl alike.same
                 pair one.0 one.1 (current one.0 there) in
@@ -432,7 +458,8 @@ module _ (tools : List ℕ → ToolInput → ToolAnswer) (id : RunId) (run : Run
           ]
 
       part-fates : (old : List Item) → choice_of run lists x ≡ Part old →
-          end_of tools id (decided run bucket (Part old) lists.items x) s.journal ps ≡ Some E → Fates
+          end_of tools id (decided run bucket (Part old) lists.items x) s.journal ps ≡ Some E →
+          Fates
       part-fates old e he =
           let facts = part-facts run mode lists x old e in
           let by : ByItems q facts.items = record {

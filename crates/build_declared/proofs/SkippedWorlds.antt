@@ -54,7 +54,13 @@ use Rattle.build_incremental.proofs.Meanings.{weaker-meaning}
 use Rattle.task_trait.specs.declared.tools.ToolAnswer.{ToolAnswer}
 use Rattle.task_trait.specs.declared.tools.ToolInput.{ToolInput}
 use Rattle.request_machine.specs.declared.standing.Standing.{Standing}
-use Rattle.request_machine.specs.Requests.{Project, target_at, all_targets, has_no_targets, unevaluated}
+use Rattle.request_machine.specs.Requests.{
+  Project,
+  target_at,
+  all_targets,
+  has_no_targets,
+  unevaluated,
+}
 use Rattle.request_machine.specs.Walk.{run_of, nothing_ran}
 use Rattle.request_machine.specs.Worlds.{root_of, world_of}
 use Rattle.build_declared.specs.Builds.{

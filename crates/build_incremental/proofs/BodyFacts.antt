@@ -142,8 +142,8 @@ module _ {P : Type 0} (Q : P → RunId → Journal → Record → Type 0) where
   abbrev pub WritesRecorded : Journal → Type 0
   WritesRecorded j = (r : RunId) (n : ℕ) (put : Put) → In (wrote r n put) j → Wrote r n put
 
-  recorded-wrote : (j : Journal) (s : RunId) (k : ℕ) (new : Put) → Wrote s k new → WritesRecorded j →
-      WritesRecorded (add j (wrote s k new))
+  recorded-wrote : (j : Journal) (s : RunId) (k : ℕ) (new : Put) → Wrote s k new →
+      WritesRecorded j → WritesRecorded (add j (wrote s k new))
   recorded-wrote j s k new mine t r n put i = elim (in-add (wrote r n put) j (wrote s k new) i) [
     | inl e ↦
         let a : s ≡ r = cc in
@@ -191,7 +191,8 @@ module _ {P I A : Type 0} (w : PlacedWorld P I A) (Q : P → RunId → Journal �
   abbrev Stays : Journal → Type 0
   Stays k = (s : Mark) → Has s k → Has s last
 
-  module _ (have : (key : RequestKey) (j : Journal) → Tells (HasBody bodies) (w.walks key j) j) where
+  module _ (have : (key : RequestKey) (j : Journal) →
+      Tells (HasBody bodies) (w.walks key j) j) where
     mutual
       pub walk-facts : {path : List RunId} {j : Journal} {runs : List RunId} {x : Placed P I A}
           {res : RequestResult} {k : Journal} → EachWalk w Q J K path j runs x res k →
@@ -225,12 +226,14 @@ module _ {P I A : Type 0} (w : PlacedWorld P I A) (Q : P → RunId → Journal �
 
       pub body-facts : {path : List RunId} {r : RunId} {j : Journal} {so_far : SoFar I}
           {b : Body I A} {m : Record} {tools : List (ToolUse I)} {k : Journal} →
-          EachBody w Q J K path r j so_far b m tools k → In r path → Open path j → WritesRecorded Q j →
+          EachBody w Q J K path r j so_far b m tools k → In r path → Open path j →
+          WritesRecorded Q j →
           ((n : ℕ) (put : Put) → In (wrote r n put) (writes_in r m.segments) → Wrote Q r n put) →
-          Stays k → EachBody w Facts J K path r j so_far b m tools k × Open path k × WritesRecorded Q k
+          Stays k → EachBody w Facts J K path r j so_far b m tools k × Open path k
+          × WritesRecorded Q k
       body-facts each_ended mine o t own l = (each_ended, o, t)
-      body-facts (each_wrote {path = path} {r = r} {j = j} {so_far = so_far} {put = put} {m = m} rest)
-          mine o t own l =
+      body-facts (each_wrote {path = path} {r = r} {j = j} {so_far = so_far} {put = put} {m = m}
+          rest) mine o t own l =
           let n : ℕ = length so_far.segments in
           let there : In (wrote r n put) (writes_in r m.segments) =
           has-writes w Q J K rest (wrote r n put)
@@ -247,8 +250,8 @@ module _ {P I A : Type 0} (w : PlacedWorld P I A) (Q : P → RunId → Journal �
 
       pub calls-facts : {path : List RunId} {j a : Journal} {keys : List RequestKey}
           {results : List RequestResult} {k : Journal} →
-          EachCalls w Q J K path j a keys results k → Open path j → WritesRecorded Q j → Open path a →
-          WritesRecorded Q a → Stays k →
+          EachCalls w Q J K path j a keys results k → Open path j → WritesRecorded Q j →
+          Open path a → WritesRecorded Q a → Stays k →
           EachCalls w Facts J K path j a keys results k × Open path k × WritesRecorded Q k
       calls-facts each_no_calls o t oa ta l = (each_no_calls, oa, ta)
       calls-facts (each_call {path = path} {j = j} {a = a} {i = i} {key = key}
@@ -256,7 +259,8 @@ module _ {P I A : Type 0} (w : PlacedWorld P I A) (Q : P → RunId → Journal �
           let joined : Stays (merge a i) = λ s g. l s (calls-has w Q J K rest s g) in
           let x = walk-facts walk (have key j) o t
           (λ s g. joined s (has-merge_right s a i g)) in
-          let y = calls-facts rest o t (open-merge path a i oa x.1) (recorded-merge Q a i ta x.2) l in
+          let y = calls-facts rest o t (open-merge path a i oa x.1)
+          (recorded-merge Q a i ta x.2) l in
           (each_call known less x.0 so y.0, y.1, y.2)
 
 -- of each body of the meaning, and of the journal that it leaves
