@@ -58,9 +58,11 @@ module _ (tools : List ℕ → ToolInput → ToolAnswer) (id : RunId) (first aga
 -- ---- a run again
 
 module _ (tools : List ℕ → ToolInput → ToolAnswer) (files after : List File) where
+  -- the pieces of a body of the clean build of a tree
   abbrev pub pieces_over : List File → Occurrence Site → List Piece
   pieces_over tree o = clean_pieces tools tree o.place.target o.place.scope o.run o.from
 
+  -- by their targets, which a run with a piece has
   abbrev pub again_by : (target other : Option UsedTarget) → (o earlier : Occurrence Site) → Type 0
   again_by (Some target) (Some other) o earlier =
       AreAgain tools o.run (run_at files Clean o.run other) (run_at after Clean o.run target)
