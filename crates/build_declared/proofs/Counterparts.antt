@@ -5,6 +5,9 @@ use Rattle.std.proofs.Common.{
   ◌⊎◌,
   inl,
   inr,
+  Bool,
+  true,
+  false,
   List,
   [],
   ◌∷◌,
@@ -21,7 +24,6 @@ use Rattle.std.proofs.Common.{
   append_assoc,
 }
 use Rattle.std.specs.Prelude.{Result, Ok, Err, codes}
-use Rattle.msb_laws.specs.Results.{and_then, map_ok}
 use Rattle.msb_values.specs.declared.mode.Mode.{Mode}
 use Rattle.msb_values.specs.declared.mode.Mode.TheVariants.{Incremental, Clean}
 use Rattle.msb_values.specs.declared.note.Note.{Note}
@@ -31,30 +33,24 @@ use Rattle.msb_expand.specs.declared.lens.Bucket.{Bucket}
 use Rattle.file_store.specs.declared.tree.File.{File}
 use Rattle.result_cache.specs.declared.run.RunId.{RunId}
 use Rattle.result_cache.specs.Lists.{In}
-use Rattle.result_cache.specs.declared.record.Record.{Record}
-use Rattle.result_cache.specs.Journal.{Journal, wrote, add, record_of}
+use Rattle.result_cache.specs.Journal.{Journal, wrote, add}
 use Rattle.build_world.specs.Elements.{attribute_of}
 use Rattle.build_world.specs.Instances.{UsedTarget}
 use Rattle.build_world.specs.declared.fault.EvalFault.{EvalFault}
 use Rattle.build_meaning.proofs.MeaningDerived.{in-left, in-right}
 use Rattle.build_meaning.specs.Walk.{Outcome}
-use Rattle.build_incremental.specs.Alike.{AlikeFound, AlikeJournals}
+use Rattle.build_incremental.specs.Alike.{AlikeJournals}
 use Rattle.build_incremental.specs.Alone.{alone}
 use Rattle.build_incremental.specs.SideBySide.{HasNotWritten}
 use Rattle.build_incremental.proofs.Entries.{in-parts}
 use Rattle.build_incremental.proofs.Numbered.{numbered}
-use Rattle.msb_items.specs.Places.{Place, item_place}
+use Rattle.msb_items.specs.Places.{item_place}
 use Rattle.task_trait.specs.declared.tools.ToolAnswer.{ToolAnswer}
 use Rattle.task_trait.specs.declared.tools.ToolInput.{ToolInput}
 use Rattle.target_incremental.specs.declared.decision.Choice.{Choice}
-use Rattle.target_incremental.specs.declared.decision.Choice.TheVariants.{
-  Run as RunAll,
-  Skip,
-  Nothing,
-  Part,
-}
+use Rattle.target_incremental.specs.declared.decision.Choice.TheVariants.{Run as RunAll}
 use Rattle.target_texts.specs.Batched.{target_buckets}
-use Rattle.target_texts.specs.Lists.{Lists, lists_by, paths_at, typed_items}
+use Rattle.target_texts.specs.Lists.{Lists}
 use Rattle.target_texts.specs.Returned.{in_target}
 use Rattle.target_body.specs.Work.{
   Work,
@@ -70,9 +66,6 @@ use Rattle.target_body.specs.States.{
   Run,
   State,
   Stopped,
-  faulted,
-  failed,
-  state_of,
   begun,
   entered,
   or_stop,
@@ -92,7 +85,6 @@ use Rattle.build_declared.specs.Chosen.{
 }
 use Rattle.build_declared.specs.Declared.{
   IsNotTooLarge,
-  MayChoose,
   SucceedsWith,
   RunIsDeclared,
   DeclaredBy,
@@ -113,16 +105,10 @@ use Rattle.build_declared.specs.Pieces.{
   end_of_piece,
 }
 use Rattle.build_declared.specs.Places.{run_at}
+use Rattle.build_declared.specs.Skipped.{TakesLists}
 use Rattle.build_declared.specs.Worlds.{body_if}
 use Rattle.build_declared.specs.Written.{bytes_in, AnyPath, since}
-use Rattle.build_declared.proofs.Alones.{
-  some-same,
-  end-bound,
-  bound-end,
-  alone-end,
-  KeepsNotes,
-  keeps-each,
-}
+use Rattle.build_declared.proofs.Alones.{some-same, end-bound, bound-end, alone-end}
 use Rattle.build_declared.proofs.BucketsGo.{
   Carry,
   EndsAlike,
@@ -132,6 +118,7 @@ use Rattle.build_declared.proofs.BucketsGo.{
   AreSo,
   first_of,
   second_of,
+  rest-keeps,
 }
 use Rattle.build_declared.proofs.Choices.{decided-may, clean-all}
 use Rattle.build_declared.proofs.CleanOutcomes.{pieces-go}
@@ -140,7 +127,20 @@ use Rattle.build_declared.proofs.Looks.{looks-same}
 use Rattle.build_declared.proofs.NotesStay.{bucket-keeps}
 use Rattle.build_declared.proofs.PairFates.{IsPaired, Fate, fates}
 use Rattle.build_declared.proofs.PieceRuns.{GoesBy, IsSkip, IsPart, IsNothing, piece-goes}
-use Rattle.build_declared.proofs.RunLists.{Fine, Said, piece_at, PieceGoes, bucket-goes}
+use Rattle.build_declared.proofs.RunLists.{
+  Fine,
+  Said,
+  piece_at,
+  PieceGoes,
+  in-one,
+  fine-failed,
+  bucket-goes,
+  lists-there,
+  alike-self,
+  all-may,
+  notes-of,
+}
+use Rattle.build_declared.proofs.Sides.{no-lists, takes}
 
 -- ---- what a part of a run has written
 
@@ -158,19 +158,6 @@ end-grows tools id (writes put go) j ps E h =
 end-grows tools id (uses name input go) j ps E h =
     end-grows tools id (go (tools name input)) j ps E h
 end-grows tools id (calls key keys go) j ps E h = absurd (cc)
-
-fine-failed : (Good : Note → Type 0) (r : Result State Stopped) →
-    ((note : Note) → In note (state_of (or_failed r)).notes → Good note) →
-    (note : Note) → In note (state_of r).notes → Good note
-fine-failed Good (Ok s) f = f
-fine-failed Good (Err (faulted s)) f = f
-fine-failed Good (Err (failed s)) f = f
-
-in-one : (p : Piece) (inputs outputs : List (List ℕ)) → all_or_nothing inputs outputs ≡ RunAll →
-    In p (one_if p inputs outputs)
-in-one p [] outputs e = absurd (cc)
-in-one p (input ∷ inputs) [] e = absurd (cc)
-in-one p (input ∷ inputs) (output ∷ outputs) e = inl refl
 
 the-one : (p q : Piece) (inputs outputs : List (List ℕ)) → In q (one_if p inputs outputs) →
     (all_or_nothing inputs outputs ≡ RunAll) × (p ≡ q)
@@ -319,10 +306,10 @@ module _ (tools : List ℕ → ToolInput → ToolAnswer) (id : RunId) (run : Run
             V = v.0;
             first = u.1;
             second = v.1;
-            first_fine = fine-failed Good u.0.value
+            first_fine = fine-failed tools id run scope j k a u.0.value
                 (subst (λ (z : End (Result State Stopped)). IsFine tools id run scope j k Good
                 z.value) (sym ew) fe);
-            second_fine = fine-failed Good v.0.value
+            second_fine = fine-failed tools id run scope j k a v.0.value
                 (subst (λ (z : End (Result State Stopped)). IsFine tools id run scope j k Good
                 z.value) (sym ec) ff);
             puts_so = ap (λ (z : End (Result State Stopped)). z.puts) ew;
@@ -418,19 +405,6 @@ module _ (tools : List ℕ → ToolInput → ToolAnswer) (id : RunId) (run : Run
         HasCounterpart total (qs ++ rs) q
     wider total ps qs rs q f x = (x.0, f x.0 x.1, x.2)
 
-    rest-keeps : (part : Bucket → State → Work (Result State Stopped)) →
-        ((bucket : Bucket) (s : State) → KeepsNotes tools id s (part bucket s)) →
-        (buckets : List Bucket) (r : Result State Stopped) (l : Journal) (qs : List Put)
-        (E : End (Result State Stopped)) →
-        end_of tools id (unless_stopped r (each_in_turn part buckets)) l qs ≡ Some E →
-        (note : Note) → In note (state_of r).notes → In note (state_of E.value).notes
-    rest-keeps part f buckets (Ok s) l qs E h note i =
-        keeps-each tools id part f buckets s l qs E h note i
-    rest-keeps part f buckets (Err d) l qs E h note i =
-        let same : record { value = Err d; journal = l; puts = qs } ≡ E =
-        some-same (record { value = Err d; journal = l; puts = qs }) E h in
-        subst (λ (z : End (Result State Stopped)). In note (state_of z.value).notes) same i
-
     abbrev Counters : List Bucket → Type 0
     Counters buckets = (s t : State) (ps pt : List Put) → Carry tools id run scope j k s t ps pt →
         (E F : End (Result State Stopped)) →
@@ -480,10 +454,12 @@ module _ (tools : List ℕ → ToolInput → ToolAnswer) (id : RunId) (run : Run
         let Y = end-bound tools id (second bucket t)
         (λ end. unless_stopped end (each_in_turn second buckets)) t.journal pt F hf in
         let fx : IsFine tools id run scope j k Good X.0.value = λ note u.
-        fe note (rest-keeps first (bucket-keeps tools id run (choice_of run) scope) buckets
+        fe note (rest-keeps tools id run scope j k first
+        (bucket-keeps tools id run (choice_of run) scope) buckets
         X.0.value X.0.journal X.0.puts E X.2 note u) in
         let fy : IsFine tools id run scope j k Good Y.0.value = λ note u.
-        ff note (rest-keeps second (bucket-keeps tools id clean all_of scope) buckets
+        ff note (rest-keeps tools id run scope j k second
+        (bucket-keeps tools id clean all_of scope) buckets
         Y.0.value Y.0.journal Y.0.puts F Y.2 note u) in
         let here = here_c bucket t pt in
         let later = then_pieces (end_of tools id (second bucket t) t.journal pt)
@@ -517,28 +493,6 @@ module _ (tools : List ℕ → ToolInput → ToolAnswer) (id : RunId) (run : Run
 
 -- ---- a run that takes lists, or takes none
 
-abbrev with-lists : Place → (i o : List ℕ) → List (List ℕ) → List (List ℕ) → Option Lists
-with-lists p i o ins outs = Some (record {
-  inputs = ins;
-  outputs = outs;
-  items = typed_items p.scope i o;
-})
-
-lists-there : (p : Place) (target : UsedTarget) (i o : List ℕ) →
-    attribute_of (codes "Inputs") target.element ≡ Some i →
-    attribute_of (codes "Outputs") target.element ≡ Some o →
-    lists_by p target.element (attribute_of (codes "Inputs") target.element)
-    (attribute_of (codes "Outputs") target.element) ≡ Ok None → ⊥
-lists-there p target i o ei eo e = go (paths_at p target.element i) (paths_at p target.element o)
-    (sym (ap (λ z. lists_by p target.element z (attribute_of (codes "Outputs") target.element)) ei
-    ∙ ap (λ z. lists_by p target.element (Some i) z) eo) ∙ e)
-  where
-    go : (x y : Result (List (List ℕ)) EvalFault) →
-        and_then x (λ ins. map_ok (λ outs. with-lists p i o ins outs) y) ≡ Ok None → ⊥
-    go (Ok ins) (Ok outs) h = cc
-    go (Ok ins) (Err fault) h = cc
-    go (Err fault) y h = cc
-
 module _ (run : Run) where
   abbrev TakesNone : Type 0
   TakesNone = (bucket : Bucket) (y : State) → lists_at run bucket y ≡ Ok None
@@ -546,19 +500,19 @@ module _ (run : Run) where
   abbrev NeverNone : Type 0
   NeverNone = (bucket : Bucket) (y : State) → lists_at run bucket y ≡ Ok None → ⊥
 
-  takes-or-none : (i o : Option (List ℕ)) →
-      attribute_of (codes "Inputs") run.target.element ≡ i →
-      attribute_of (codes "Outputs") run.target.element ≡ o → NeverNone ⊎ TakesNone
-  takes-or-none (Some i) (Some o) ei eo = inl (λ bucket y e.
-      lists-there (in_target (place_in run y y.scope) bucket) run.target i o ei eo e)
-  takes-or-none (Some i) None ei eo = inr (λ bucket y.
-      ap (λ z. lists_by (in_target (place_in run y y.scope) bucket) run.target.element z
-      (attribute_of (codes "Outputs") run.target.element)) ei
-      ∙ ap (λ z. lists_by (in_target (place_in run y y.scope) bucket) run.target.element
-      (Some i) z) eo)
-  takes-or-none None o ei eo = inr (λ bucket y.
-      ap (λ z. lists_by (in_target (place_in run y y.scope) bucket) run.target.element z
-      (attribute_of (codes "Outputs") run.target.element)) ei)
+  takes-or-none : NeverNone ⊎ TakesNone
+  takes-or-none =
+      let t = takes run.target (attribute_of (codes "Inputs") run.target.element)
+      (attribute_of (codes "Outputs") run.target.element) refl refl in go t.0 t.1 t.2
+    where
+      go : (b : Bool) → (b ≡ true → TakesLists run.target) →
+          (b ≡ false → TakesLists run.target → ⊥) → NeverNone ⊎ TakesNone
+      go true y n = inl (λ bucket s e.
+          lists-there (in_target (place_in run s s.scope) bucket) run.target (y refl) e)
+      go false y n = inr (λ bucket s.
+          no-lists (in_target (place_in run s s.scope) bucket) run.target
+          (attribute_of (codes "Inputs") run.target.element)
+          (attribute_of (codes "Outputs") run.target.element) refl refl (n refl))
 
 -- a run that takes no lists has no piece
 none-then : (next : State → List Put → List Piece) → ((s : State) (puts : List Put) (q : Piece) →
@@ -587,29 +541,6 @@ no-pieces tools id run scope takes (bucket ∷ buckets) s puts q i =
           (no-pieces tools id run scope takes buckets)
           (end_of tools id (bucket_by all_of run scope bucket s) s.journal puts) q u
     ]
-
--- ---- what may be chosen
-
-abbrev IsOther : Choice → Type 0
-IsOther RunAll = ⊥
-IsOther Nothing = ⊥
-IsOther Skip = Unit {0}
-IsOther (Part old) = Unit {0}
-
-never : (inputs outputs : List (List ℕ)) (choice : Choice) →
-    all_or_nothing inputs outputs ≡ choice → IsOther choice → ⊥
-never [] outputs choice e h = subst IsOther (sym e) h
-never (input ∷ inputs) [] choice e h = subst IsOther (sym e) h
-never (input ∷ inputs) (output ∷ outputs) choice e h = subst IsOther (sym e) h
-
-all-may : (tools : List ℕ → ToolInput → ToolAnswer) (id : RunId) (run : Run) (lists : Lists)
-    (choice : Choice) → all_or_nothing lists.inputs lists.outputs ≡ choice →
-    MayChoose tools id run lists choice
-all-may tools id run lists RunAll e = e
-all-may tools id run lists Nothing e = e
-all-may tools id run lists Skip e = absurd (never lists.inputs lists.outputs Skip e tt)
-all-may tools id run lists (Part old) e =
-    absurd (never lists.inputs lists.outputs (Part old) e tt)
 
 -- ---- the run of a target
 
@@ -652,22 +583,6 @@ module _ (tools : List ℕ → ToolInput → ToolAnswer) (files : List File) (ta
   run-ends Clean ps r = subst (RunEnds Clean) (sym (clean-all clean_run refl))
       (r.never_large Clean j a all_of (λ lists s. all-may tools id clean_run lists
       (all_or_nothing lists.inputs lists.outputs) refl))
-
-  found-self : (o : Option Record) → AlikeFound o o
-  found-self None = tt
-  found-self (Some m) = record { ok = refl; items = refl; changes = refl }
-
-  alike-self : AlikeJournals (bytes_in files) AnyPath k k
-  alike-self = record {
-    same = λ p. refl;
-    records = λ r. found-self (record_of k r);
-    only = λ r n put i. tt;
-  }
-
-  notes-of : (r : Result State Stopped) (note : Note) → In note (state_of r).notes →
-      In note (outcome_of r).notes
-  notes-of (Ok s) note i = i
-  notes-of (Err stop) note i = i
 
   module _ (mode : Mode) where
     abbrev run : Run
@@ -713,7 +628,7 @@ module _ (tools : List ℕ → ToolInput → ToolAnswer) (files : List File) (ta
         NeverNone clean_run → (q : Piece) → In q (all_clean found) → RunFares q
     by-run found ew ec ps r e fresh takes q i =
         let w = run-ends mode ps r in
-        let c = r.never_large Clean k alike-self all_of
+        let c = r.never_large Clean k (alike-self files k) all_of
         (λ lists s. all-may tools id clean_run lists
         (all_or_nothing lists.inputs lists.outputs) refl) in
         let x = end-bound tools id (buckets_by (choice_of run) run scope s0)
@@ -775,18 +690,17 @@ module _ (tools : List ℕ → ToolInput → ToolAnswer) (files : List File) (ta
     by-buckets (Err fault) ew ec declared fresh q i = absurd i
     by-buckets (Ok found) ew ec declared fresh q i = go (all_clean found) refl declared
       where
-        takes : NeverNone clean_run
-        takes = elim (takes-or-none clean_run (attribute_of (codes "Inputs") target.element)
-            (attribute_of (codes "Outputs") target.element) refl refl) [
-              | inl h ↦ h
-              | inr h ↦ absurd (no-pieces tools id clean_run scope h found t0 [] q i)
-            ]
+        never_none : NeverNone clean_run
+        never_none = elim (takes-or-none clean_run) [
+          | inl h ↦ h
+          | inr h ↦ absurd (no-pieces tools id clean_run scope h found t0 [] q i)
+        ]
 
         go : (ps : List Piece) → all_clean found ≡ ps →
             DeclaredBy tools id clean_run scope k (all_clean found) → RunFares q
         go [] e d = absurd (subst (In q) e i)
         go (p ∷ ps) e d = by-run found ew ec (p ∷ ps)
-            (subst (DeclaredBy tools id clean_run scope k) e d) e fresh takes q i
+            (subst (DeclaredBy tools id clean_run scope k) e d) e fresh never_none q i
 
     pub run-fares : DeclaredAt tools files (Some target) scope id k →
         FreshAt tools files (Some target) scope id k → (q : Piece) →

@@ -11,7 +11,6 @@ use Rattle.std.proofs.Common.{
   [],
   ◌∷◌,
   Option,
-  None,
   Some,
   refl,
   ap,
@@ -42,7 +41,7 @@ use Rattle.build_meaning.specs.SoFar.{recorded}
 use Rattle.build_meaning.specs.Meaning.{Given, meaning, requested}
 use Rattle.build_meaning.specs.Demand.{IsSteady}
 use Rattle.build_meaning.specs.Sound.{IsMade}
-use Rattle.build_incremental.specs.Alike.{AlikeFound, AlikeJournals}
+use Rattle.build_incremental.specs.Alike.{AlikeJournals}
 use Rattle.build_incremental.specs.Alone.{written}
 use Rattle.build_incremental.specs.Demand.{Occurrence, IsAmong}
 use Rattle.build_incremental.specs.Each.{EachOfMeaning}
@@ -55,8 +54,14 @@ use Rattle.build_incremental.specs.SideBySide.{
   SideBySide,
   HasOneRecord,
 }
-use Rattle.build_incremental.proofs.BodyFacts.{Tells, Facts, meaning-facts, also}
-use Rattle.build_incremental.proofs.Demands.{each-meaning}
+use Rattle.build_incremental.proofs.BodyFacts.{
+  WritesRecorded,
+  HasBody,
+  Facts,
+  meaning-facts,
+  also,
+}
+use Rattle.build_incremental.proofs.Demands.{told-journal, each-meaning}
 use Rattle.build_incremental.proofs.Entries.{none-or-some, in-parts, in-marked, marked-write}
 use Rattle.build_incremental.proofs.GoAlike.{meanings-go}
 use Rattle.build_incremental.proofs.Meanings.{meaning-each, weaker-meaning}
@@ -67,7 +72,6 @@ use Rattle.build_incremental.proofs.Orders.{
   once-same,
   writes-once,
   meaning-once,
-  ended-made,
   meaning-under,
 }
 use Rattle.build_incremental.proofs.Pairs.{found-first}
@@ -81,8 +85,8 @@ use Rattle.build_declared.specs.Worlds.{world_by}
 use Rattle.build_declared.specs.Written.{bytes_in, AnyPath}
 use Rattle.build_declared.proofs.CleanOutcomes.{pieces-go}
 use Rattle.build_declared.proofs.LastWrites.{RunAtLast}
-use Rattle.build_declared.proofs.PlacedBodies.{bodies_of, world-has}
-use Rattle.build_declared.proofs.RunLists.{runs-go}
+use Rattle.build_declared.proofs.PlacedBodies.{bodies_of, world-tells}
+use Rattle.build_declared.proofs.RunLists.{alike-self, runs-go}
 use Rattle.build_declared.proofs.Sides.{sides}
 
 -- the same runs, where something else is said of the first record
@@ -104,10 +108,6 @@ no-call (put ∷ puts) key runs i =
       | inr (inr u) ↦ u
     ]
 
-found-self : (o : Option Record) → AlikeFound o o
-found-self None = tt
-found-self (Some m) = record { ok = refl; items = refl; changes = refl }
-
 ended-found : (j : Journal) (id : RunId) → Has (end_of id) j →
     (m : Record) × (record_of j id ≡ Some m)
 ended-found j id h = elim (none-or-some (record_of j id)) [
@@ -126,13 +126,6 @@ module _ (tools : List ℕ → ToolInput → ToolAnswer) (files : List File) (ro
     (demand : List (Occurrence Site)) where
   abbrev pub clean_world : PlacedWorld Site ToolInput ToolAnswer
   clean_world = world_by tools files root instances Clean
-
-  alike-self : (j : Journal) → AlikeJournals (bytes_in files) AnyPath j j
-  alike-self j = record {
-    same = λ p. refl;
-    records = λ r. found-self (record_of j r);
-    only = λ r n put i. tt;
-  }
 
   -- ---- the clean build
 
@@ -166,7 +159,7 @@ module _ (tools : List ℕ → ToolInput → ToolAnswer) (files : List File) (ro
         (IsAmong demand) IsOfOneRun Anyhow AnyKey AnyKey clean.value clean.value clean.journal
         clean.journal b bodies).0 in
         (meaning-facts clean_world SaidClean IsOfOneRun AnyKey (bodies_of files Clean)
-        (world-has files Clean tools root instances) clean.value clean.journal c).0
+        (world-tells files Clean tools root instances) clean.value clean.journal c).0
 
     -- a run that is made has ended at last
     pub clean-ended : (id : RunId) (made : Record) → IsMade clean.demand id made →
@@ -209,9 +202,9 @@ module _ (tools : List ℕ → ToolInput → ToolAnswer) (files : List File) (ro
     twins Clean = (
       clean.journal,
       weaker-meaning clean_world KnownClean Twin IsOfOneRun Anyhow AnyKey AnyKey
-          (λ p r j m h. (j, m, h, alike-self j)) (λ c s n h. tt) (λ key h. tt) clean.value
+          (λ p r j m h. (j, m, h, alike-self files j)) (λ c s n h. tt) (λ key h. tt) clean.value
           clean.journal all-clean,
-      alike-self clean.journal,
+      alike-self files clean.journal,
     )
     twins Incremental = meanings-go (bytes_in files) AnyPath
         (world_by tools files root instances Incremental) clean_world Twin KnownClean AnyKey
@@ -254,9 +247,9 @@ module _ (tools : List ℕ → ToolInput → ToolAnswer) (files : List File) (ro
           (sym both-said.1) (twins mode).2
 
       known-facts : EachOfMeaning world KnownHere Anyhow AnyKey out.value out.journal
-          × Tells SaidHere out.journal
+          × WritesRecorded SaidHere out.journal
       known-facts = meaning-facts world SaidHere Anyhow AnyKey (bodies_of files mode)
-          (world-has files mode tools root instances) out.value out.journal both-said.0
+          (world-tells files mode tools root instances) out.value out.journal both-said.0
 
       -- a run that the clean build makes was made here
       pub made-here : (id : RunId) (made : Record) → IsMade clean.demand id made →
@@ -265,17 +258,21 @@ module _ (tools : List ℕ → ToolInput → ToolAnswer) (files : List File) (ro
           let c = clean-ended id made there in
           let f = found-first (record_of out.journal id) (record_of clean.journal id)
           (last-alike.records id) c.0 c.1 in
-          let x = ended-made world KnownHere Anyhow AnyKey out.value out.journal known-facts.0
-          id f.0 (had-in out.journal id f.0 f.1) in
-          (x.0, x.1, f.0, x.2)
+          let x = told-journal world KnownHere Anyhow AnyKey (HasBody (bodies_of files mode))
+          (world-tells files mode tools root instances)
+          (λ run m uses. (p : Site) × (j : Journal) × KnownHere p run j m)
+          (λ p path r j i b m uses says known of. (p, j, known)) out.value out.journal
+          known-facts.0 id f.0 (had-in out.journal id f.0 f.1) in
+          (x.1.0, x.1.1, f.0, x.1.2)
 
       same-record : (p q : Site) (run : RunId) (j k : Journal) (m n : Record) →
           SaidHere p run j m → SaidHere q run k n → m ≡ n
       same-record p q run j k m n x y = steady run m n x.0.1.0 y.0.1.0 x.0.1.1 y.0.1.1
 
       -- two journals of it agree on what a run has written with a number
-      agree : (from : Journal) → Tells SaidHere from → (run : RunId) (n : ℕ) (put other : Put) →
-          In (wrote run n put) from → In (wrote run n other) out.journal → put ≡ other
+      agree : (from : Journal) → WritesRecorded SaidHere from → (run : RunId) (n : ℕ)
+          (put other : Put) → In (wrote run n put) from → In (wrote run n other) out.journal →
+          put ≡ other
       agree from t run n put other i u =
           let x = t run n put i in
           let y = known-facts.1 run n other u in
@@ -332,9 +329,9 @@ module _ (tools : List ℕ → ToolInput → ToolAnswer) (files : List File) (ro
               let found = marked-write run n out.journal
               (known.lasts (write_of run n) (in-marked (wrote run n put) j i)) in
               subst (λ z. In (wrote run n z) out.journal)
-              (sym (agree j known.tells_so run n put found.0 i found.1)) found.1;
+              (sym (agree j known.writes_so run n put found.0 i found.1)) found.1;
           same = λ run n put i h.
               let found = marked-write run n j h in
               subst (λ z. In (wrote run n z) j)
-              (agree j known.tells_so run n found.0 put found.1 i) found.1;
+              (agree j known.writes_so run n found.0 put found.1 i) found.1;
         }

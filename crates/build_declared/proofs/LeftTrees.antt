@@ -1,5 +1,5 @@
--- The stamps of the tree that a commit leaves: what was written later has a greater one, and what was
--- not written keeps its own.
+-- The stamps of the tree that a commit leaves: what was written later has a greater one, and what
+-- was not written keeps its own.
 use Rattle.std.proofs.Common.{
   ◌≡◌,
   ◌≢◌,

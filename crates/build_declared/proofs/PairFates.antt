@@ -1,12 +1,9 @@
--- What a build does with each output of a piece that succeeds: it writes what the whole writes, or it
--- leaves what is there, where nobody has written the output or an input that it is paired with.
+-- What a build does with each output of a piece that succeeds: it writes what the whole writes, or
+-- it leaves what is there, where nobody has written the output or an input that it is paired with.
 use Rattle.std.proofs.Common.{
   ◌≡◌,
   ℕ,
   ◌≤◌,
-  ◌==◌,
-  ◌&&◌,
-  ◌||◌,
   ◌⊎◌,
   inl,
   inr,
@@ -28,12 +25,10 @@ use Rattle.std.proofs.Common.{
   ◌∙◌,
   subst,
   arith,
-  length-append,
 }
-use Rattle.std.specs.Prelude.{Result, Ok, nat_lt, option_map, if◌then◌else◌}
+use Rattle.std.specs.Prelude.{Result, Ok, option_map, if◌then◌else◌}
 use Rattle.std.specs.List.{list_any}
 use Rattle.std.specs.Str.{bytes_eq}
-use Rattle.std.proofs.lemmas.Bool.{ltb-false, eqb-true, eq-eqb}
 use Rattle.std.proofs.lemmas.Slice.Eq.{bytes_eq-Decides}
 use Rattle.msb_values.specs.declared.item.Item.{Item}
 use Rattle.msb_values.specs.declared.mode.Mode.{Mode}
@@ -47,14 +42,14 @@ use Rattle.result_cache.specs.declared.run.RunId.{RunId}
 use Rattle.result_cache.specs.Lists.{In}
 use Rattle.result_cache.specs.Journal as journals
 use Rattle.result_cache.specs.Journal.{Journal}
-use Rattle.result_cache.proofs.RunTests.{tells, clash, and_both, or_left, or_right, or_neither}
+use Rattle.result_cache.proofs.RunTests.{tells, clash, or_left, or_right, or_neither}
 use Rattle.build_incremental.specs.Alike.{AlikeJournals}
 use Rattle.build_incremental.specs.Alone.{last_bytes}
 use Rattle.build_incremental.specs.SideBySide.{HasNotWritten}
-use Rattle.msb_files.specs.Views.{View, written, stamp}
+use Rattle.msb_files.specs.Views.{View}
 use Rattle.task_trait.specs.declared.tools.ToolAnswer.{ToolAnswer}
 use Rattle.task_trait.specs.declared.tools.ToolInput.{ToolInput}
-use Rattle.target_incremental.specs.Ages.{is_missing_or_older, pair_is_old, any_is_old}
+use Rattle.target_incremental.specs.Ages.{pair_is_old, any_is_old}
 use Rattle.target_incremental.specs.Decisions.{
   by_pairs,
   item_if,
@@ -85,11 +80,20 @@ use Rattle.build_declared.proofs.BucketsGo.{Carry, carry-alike, IsFine}
 use Rattle.build_declared.proofs.Choices.{marks_of, decided-may, clean-all}
 use Rattle.build_declared.proofs.PieceParts.{part-facts}
 use Rattle.build_declared.proofs.PieceRuns.{same-goes}
-use Rattle.build_declared.proofs.PieceSkips.{since-front}
+use Rattle.build_declared.proofs.PieceSkips.{no-front, since-front}
 use Rattle.build_declared.proofs.RunLists.{Fine, Said, piece_at}
-use Rattle.build_declared.proofs.SkippedPieces.{skip-kept}
+use Rattle.build_declared.proofs.SkippedPieces.{
+  is-skip,
+  pairs-skip,
+  items-skip,
+  as_long,
+  counts-items,
+  counts-no-items,
+  names-none,
+  skip-kept,
+}
 use Rattle.build_declared.proofs.SkipsSame.{skips-same}
-use Rattle.build_declared.proofs.Trusted.{pair-trusted}
+use Rattle.build_declared.proofs.Trusted.{not-in, current-pair, pair-trusted}
 
 -- ---- an output and what it is paired with
 
@@ -150,70 +154,6 @@ some-input p pair all (inr x) =
     let one = first-input p.lists.inputs p.lists.outputs all in
     (one.0, subst (In one.0) (sym x.1) one.1)
 
--- ---- a pair that is not out of date
-
-none-written : (o : Option (List ℕ)) → is_some o ≡ false → o ≡ None
-none-written None h = refl
-none-written (Some x) h = absurd (cc)
-
-not-any : {X : Type 0} (f : X → Bool) (x : X) (xs : List X) → list_any f xs ≡ false → In x xs →
-    f x ≡ false
-not-any f x [] h i = absurd i
-not-any f x (y ∷ xs) h (inl e) = subst (λ z. f z ≡ false) e (or_neither (f y) (list_any f xs) h).0
-not-any f x (y ∷ xs) h (inr i) = not-any f x xs (or_neither (f y) (list_any f xs) h).1 i
-
-pub record LeftPair (v : View) (input output : List ℕ) : Type 0 where
-  pub in_file : File
-  pub out_file : File
-  pub in_there : file_at input v.files ≡ Some in_file
-  pub out_there : file_at output v.files ≡ Some out_file
-  pub in_unwritten : journals.content v.journal input ≡ None
-  pub out_unwritten : journals.content v.journal output ≡ None
-  pub no_newer : in_file.stamp ≤ out_file.stamp
-
-left-pair : (v : View) (input output : List ℕ) → pair_is_old v input output ≡ false →
-    LeftPair v input output
-left-pair v input output h =
-    let a = or_neither (written v input) (written v output || is_missing_or_older (stamp v input)
-    (stamp v output)) h in
-    let b = or_neither (written v output) (is_missing_or_older (stamp v input)
-    (stamp v output)) a.1 in
-    go (file_at input v.files) (file_at output v.files) refl refl
-    (none-written (journals.content v.journal input) a.0)
-    (none-written (journals.content v.journal output) b.0) b.1
-  where
-    go : (x y : Option File) → file_at input v.files ≡ x → file_at output v.files ≡ y →
-        journals.content v.journal input ≡ None → journals.content v.journal output ≡ None →
-        is_missing_or_older (option_map (λ (f : File). f.stamp) (file_at input v.files))
-        (option_map (λ (f : File). f.stamp) (file_at output v.files)) ≡ false →
-        LeftPair v input output
-    go (Some x) (Some y) e f wi wo m =
-        let n : nat_lt y.stamp x.stamp ≡ false =
-        sym (ap (λ o. is_missing_or_older (option_map (λ (z : File). z.stamp) o)
-        (option_map (λ (z : File). z.stamp) (file_at output v.files))) e
-        ∙ ap (λ o. is_missing_or_older (Some x.stamp)
-        (option_map (λ (z : File). z.stamp) o)) f) ∙ m in
-        record {
-          in_file = x;
-          out_file = y;
-          in_there = e;
-          out_there = f;
-          in_unwritten = wi;
-          out_unwritten = wo;
-          no_newer = ltb-false y.stamp x.stamp n;
-        }
-    go (Some x) None e f wi wo m =
-        let n : true ≡ false = sym (ap (λ o. is_missing_or_older
-        (option_map (λ (z : File). z.stamp) o) (option_map (λ (z : File). z.stamp)
-        (file_at output v.files))) e ∙ ap (λ o. is_missing_or_older (Some x.stamp)
-        (option_map (λ (z : File). z.stamp) o)) f) ∙ m in
-        absurd (cc)
-    go None y e f wi wo m =
-        let n : true ≡ false = sym (ap (λ o. is_missing_or_older
-        (option_map (λ (z : File). z.stamp) o) (option_map (λ (z : File). z.stamp)
-        (file_at output v.files))) e) ∙ m in
-        absurd (cc)
-
 -- ---- which pairs are not out of date
 
 -- none of the items is
@@ -273,28 +213,6 @@ unmarked-old v (one ∷ inputs) (output ∷ outputs) (item ∷ items) l pair k h
         (subst (λ z. pair_is_old v one z ≡ false) (ap (λ (z : Pairing). z.output) p) e)
     go false e n (inr u) rest = rest n u
 
-abbrev is-skip : Choice → Bool
-is-skip Skip = true
-is-skip RunAll = false
-is-skip Nothing = false
-is-skip (Part old) = false
-
-pairs-skip : (b : Bool) → (if b then RunAll else Skip) ≡ Skip → b ≡ false
-pairs-skip true e = let h : false ≡ true = ap is-skip e in absurd (cc)
-pairs-skip false e = refl
-
-items-skip : (old : List Item) (n : ℕ) → of_items old n ≡ Skip → old ≡ []
-items-skip [] n e = refl
-items-skip (item ∷ old) n e = absurd (go (length (item ∷ old) == n) e)
-  where
-    go : (b : Bool) → (if b then RunAll else Part (item ∷ old)) ≡ Skip → ⊥
-    go true e = let h : false ≡ true = ap is-skip e in cc
-    go false e = let h : false ≡ true = ap is-skip e in cc
-
-abbrev long : Option (List ℕ × List Item) → ℕ
-long None = 0
-long (Some z) = length z.1
-
 -- where all of a piece is skipped, each pair is not out of date
 module _ (run : Run) (mode : run.mode ≡ Incremental) (p : Piece) (x : State) (pair : Pairing)
     (paired : IsPaired p pair) (input : List ℕ) (one : In input pair.inputs) where
@@ -306,55 +224,28 @@ module _ (run : Run) (mode : run.mode ≡ Incremental) (p : Piece) (x : State) (
 
   by-every : any_is_old v p.lists.inputs p.lists.outputs ≡ false →
       pair.inputs ≡ p.lists.inputs → In pair.output p.lists.outputs → Current
-  by-every old e i = not-any (pair_is_old v input) pair.output p.lists.outputs
-      (not-any (λ z. list_any (pair_is_old v z) p.lists.outputs) input p.lists.inputs old
+  by-every old e i = not-in (pair_is_old v input) pair.output p.lists.outputs
+      (not-in (λ z. list_any (pair_is_old v z) p.lists.outputs) input p.lists.inputs old
       (subst (In input) e one)) i
 
   shape-current : (o : Option (List ℕ × List Item)) → p.lists.items ≡ o →
       by_shape v p.lists.inputs p.lists.outputs (option_map (λ typed. typed.1) o) ≡ Skip →
       IsPaired p pair → Current
-  shape-current None t h (inl y) = absurd (none p.lists.items t y.1.typed)
-    where
-      none : (o : Option (List ℕ × List Item)) {s : List ℕ × List Item} → o ≡ None → o ≡ Some s → ⊥
-      none o a b = cc
+  shape-current None t h (inl y) = absurd (names-none p t y.0 y.1)
   shape-current None t h (inr y) =
       by-every (pairs-skip (any_is_old v p.lists.inputs p.lists.outputs) h) y.1 y.2
-  shape-current (Some typed) t h y = go ((length p.lists.inputs == length typed.1)
-      && (length p.lists.outputs == length typed.1)) refl h y
+  shape-current (Some typed) t h y = go (as_long p typed t) refl h y
     where
-      go : (b : Bool) → ((length p.lists.inputs == length typed.1)
-          && (length p.lists.outputs == length typed.1)) ≡ b →
+      go : (b : Bool) → as_long p typed t ≡ b →
           (if b then of_items (old_items v p.lists.inputs p.lists.outputs typed.1)
           (length typed.1) else by_pairs v p.lists.inputs p.lists.outputs) ≡ Skip →
           IsPaired p pair → Current
-      go true g h (inl y) =
-          let both = and_both (length p.lists.inputs == length typed.1)
-          (length p.lists.outputs == length typed.1) g in
-          none-old v p.lists.inputs p.lists.outputs typed.1
-          (eqb-true (length p.lists.inputs) (length typed.1) both.0)
+      go true g h (inl y) = none-old v p.lists.inputs p.lists.outputs typed.1
+          (counts-items p typed t g).inputs
           (items-skip (old_items v p.lists.inputs p.lists.outputs typed.1) (length typed.1) h)
           pair y.2 input one
-      go true g h (inr y) =
-          let both = and_both (length p.lists.inputs == length typed.1)
-          (length p.lists.outputs == length typed.1) g in
-          absurd (y.0 typed.1 (record {
-            kind = typed.0;
-            typed = t;
-            inputs = eqb-true (length p.lists.inputs) (length typed.1) both.0;
-            outputs = eqb-true (length p.lists.outputs) (length typed.1) both.1;
-          }))
-      go false g h (inl y) =
-          let s : Some typed ≡ Some (y.1.kind, y.0) = sym t ∙ y.1.typed in
-          let l : length typed.1 ≡ length y.0 = ap long s in
-          let li : (length p.lists.inputs == length typed.1) ≡ true =
-          eq-eqb (length p.lists.inputs) (length typed.1) (y.1.inputs ∙ sym l) in
-          let lo : (length p.lists.outputs == length typed.1) ≡ true =
-          eq-eqb (length p.lists.outputs) (length typed.1) (y.1.outputs ∙ sym l) in
-          let both : ((length p.lists.inputs == length typed.1)
-          && (length p.lists.outputs == length typed.1)) ≡ true =
-          ap (λ z. z && (length p.lists.outputs == length typed.1)) li ∙ lo in
-          absurd (clash ((length p.lists.inputs == length typed.1)
-          && (length p.lists.outputs == length typed.1)) both g)
+      go true g h (inr y) = absurd (y.0 typed.1 (counts-items p typed t g))
+      go false g h (inl y) = absurd (counts-no-items p typed t g y.0 y.1)
       go false g h (inr y) =
           by-every (pairs-skip (any_is_old v p.lists.inputs p.lists.outputs) h) y.1 y.2
 
@@ -411,11 +302,11 @@ left-it : (v : View) (new whole : List Put) (pair : Pairing) (file : File) →
 left-it v new whole pair file there not_now theirs one current = record {
   file = file;
   there = there;
-  unwritten = (left-pair v one.0 pair.output (current one.0 one.1)).out_unwritten;
+  unwritten = (current-pair v one.0 pair.output (current one.0 one.1)).out_unwritten;
   not_now = not_now;
   theirs = theirs;
   inputs = λ input i.
-      let x = left-pair v input pair.output (current input i) in
+      let x = current-pair v input pair.output (current input i) in
       let s : Some x.out_file ≡ Some file = sym x.out_there ∙ there in
       let same : x.out_file ≡ file = cc in (
         x.in_file,
@@ -435,12 +326,6 @@ in-one-of path (p ∷ paths) (inl e) = or_left (bytes_eq path p) (is_one_of path
     ((bytes_eq-Decides path p).1 (sym e))
 in-one-of path (p ∷ paths) (inr i) = or_right (bytes_eq path p) (is_one_of path paths)
     (in-one-of path paths i)
-
-no-front : (new older : List Put) → older ≡ new ++ older → new ≡ []
-no-front [] older e = refl
-no-front (put ∷ new) older e =
-    let l : length older ≡ length ((put ∷ new) ++ older) = ap length e in
-    absurd (omega (arith, length-append (put ∷ new) older))
 
 module _ (tools : List ℕ → ToolInput → ToolAnswer) (id : RunId) (run : Run) (scope : Scope)
     (j k : Journal) (a : AlikeJournals (bytes_in run.files) AnyPath j k)
@@ -488,7 +373,8 @@ module _ (tools : List ℕ → ToolInput → ToolAnswer) (id : RunId) (run : Run
         let other : End (Result State Stopped) =
         record { value = Ok w.0; journal = w.0.journal; puts = w.1 } in
         let same : other ≡ whole = some-same other whole (sym w.2 ∙ hf) in
-        sym (ap (λ (z : End (Result State Stopped)). last_bytes (since pt z.puts) output) same) ∙ w.3
+        sym (ap (λ (z : End (Result State Stopped)). last_bytes (since pt z.puts) output) same)
+        ∙ w.3
 
     whole-fates : end_of tools id (decided run bucket RunAll lists.items x) s.journal ps ≡ Some E →
         Fates
@@ -514,8 +400,8 @@ module _ (tools : List ℕ → ToolInput → ToolAnswer) (id : RunId) (run : Run
       skip-fates e he =
           let alike = carry-alike tools id run scope j k a s t ps pt c in
           let kept = skip-kept tools id run clean mode q said.1 x refl alike.same e in
-          let sk = skips-same tools id run mode scope j k a fw fc bucket lists t pt after puts said.0
-          c.c_is hf (λ o i. let f = kept o i in (f.0, f.1.there)) in
+          let sk = skips-same tools id run mode scope j k a fw fc bucket lists t pt after puts
+          said.0 c.c_is hf (λ o i. let f = kept o i in (f.0, f.1.there)) in
           let mid : End (Result State Stopped) =
           record { value = Ok sk.0; journal = t.journal; puts = pt } in
           let fine : IsFine tools id run scope j k (Fine tools id run scope j k a) (Ok sk.0) =
@@ -558,8 +444,8 @@ module _ (tools : List ℕ → ToolInput → ToolAnswer) (id : RunId) (run : Run
             | inr h ↦
                 let one = pairs-input lists.inputs lists.outputs pair y.2 in
                 let there : In one.0 pair.inputs = subst (In one.0) (sym one.1) (inl refl) in
-                let current = unmarked-old (view_of run x) lists.inputs lists.outputs items by.inputs
-                pair y.2 h in
+                let current = unmarked-old (view_of run x) lists.inputs lists.outputs items
+                by.inputs pair y.2 h in
                 let alike = carry-alike tools id run scope j k a s t ps pt c in
                 let trusted = pair-trusted (view_of run x) (view_of clean q.from) refl alike.same
                 pair one.0 one.1 (current one.0 there) in
@@ -572,7 +458,8 @@ module _ (tools : List ℕ → ToolInput → ToolAnswer) (id : RunId) (run : Run
           ]
 
       part-fates : (old : List Item) → choice_of run lists x ≡ Part old →
-          end_of tools id (decided run bucket (Part old) lists.items x) s.journal ps ≡ Some E → Fates
+          end_of tools id (decided run bucket (Part old) lists.items x) s.journal ps ≡ Some E →
+          Fates
       part-fates old e he =
           let facts = part-facts run mode lists x old e in
           let by : ByItems q facts.items = record {

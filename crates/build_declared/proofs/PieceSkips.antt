@@ -97,7 +97,7 @@ first-output [] outputs e = absurd (cc)
 first-output (i ∷ inputs) [] e = absurd (cc)
 first-output (i ∷ inputs) (o ∷ outputs) e = (o, inl refl)
 
-no-front : (new pt : List Put) → pt ≡ new ++ pt → new ≡ []
+pub no-front : (new pt : List Put) → pt ≡ new ++ pt → new ≡ []
 no-front [] pt e = refl
 no-front (put ∷ new) pt e = let l : length pt ≡ length ((put ∷ new) ++ pt) = ap length e in
     absurd (omega (arith, length-append (put ∷ new) pt))

@@ -206,7 +206,7 @@ module _ (tools : List ℕ → ToolInput → ToolAnswer) (id : RunId) (run : Run
       ends (Err d) (Ok t) h = absurd h
       ends (Err d) (Err e) h = stops d e h
 
-  fine-failed : (r : Result State Stopped) → IsFine tools id run scope j k Fine (or_failed r) →
+  pub fine-failed : (r : Result State Stopped) → IsFine tools id run scope j k Fine (or_failed r) →
       IsFine tools id run scope j k Fine r
   fine-failed (Ok s) f = f
   fine-failed (Err (faulted s)) f = f
@@ -328,7 +328,7 @@ with-lists p i o ins outs = Some (record {
       typed_items p.scope i o;
 })
 
-lists-there : (p : Place) (target : UsedTarget) → TakesLists target →
+pub lists-there : (p : Place) (target : UsedTarget) → TakesLists target →
     lists_by p target.element (attribute_of (codes "Inputs") target.element)
     (attribute_of (codes "Outputs") target.element) ≡ Ok None → ⊥
 lists-there p target t e = go (paths_at p target.element t.inputs)
@@ -343,29 +343,37 @@ lists-there p target t e = go (paths_at p target.element t.inputs)
     go (Ok ins) (Err fault) h = cc
     go (Err fault) y h = cc
 
+found-self : (o : Option Record) → AlikeFound o o
+found-self None = tt
+found-self (Some m) = record { ok = refl; items = refl; changes = refl }
+
+pub alike-self : (files : List File) (k : Journal) → AlikeJournals (bytes_in files) AnyPath k k
+alike-self files k = record {
+  same = λ p. refl;
+  records = λ r. found-self (record_of k r);
+  only = λ r n put i. tt;
+}
+
+-- a clean build chooses what may be chosen
+pub all-may : (tools : List ℕ → ToolInput → ToolAnswer) (id : RunId) (run : Run) (lists : Lists)
+    (choice : Choice) → all_or_nothing lists.inputs lists.outputs ≡ choice →
+    MayChoose tools id run lists choice
+all-may tools id run lists RunAll e = e
+all-may tools id run lists Nothing e = e
+all-may tools id run lists Skip e = absurd (never lists.inputs lists.outputs Skip e tt)
+all-may tools id run lists (Part old) e =
+    absurd (never lists.inputs lists.outputs (Part old) e tt)
+
+-- the notes of a run are those of its record
+pub notes-of : (r : Result State Stopped) (note : Note) → In note (state_of r).notes →
+    In note (outcome_of r).notes
+notes-of (Ok s) note i = i
+notes-of (Err stop) note i = i
+
 module _ (tools : List ℕ → ToolInput → ToolAnswer) (files : List File)
     (goes : (target : UsedTarget) (scope : Scope) (id : RunId) (j k : Journal)
     (a : AlikeJournals (bytes_in files) AnyPath j k) → HasNotWritten id j → HasNotWritten id k →
     PieceGoes tools id (run_at files Incremental id target) scope j k a) where
-  found-self : (o : Option Record) → AlikeFound o o
-  found-self None = tt
-  found-self (Some m) = record { ok = refl; items = refl; changes = refl }
-
-  alike-self : (k : Journal) → AlikeJournals (bytes_in files) AnyPath k k
-  alike-self k = record {
-    same = λ p. refl;
-    records = λ r. found-self (record_of k r);
-    only =
-        λ r n put i. tt;
-  }
-
-  all-may : (id : RunId) (run : Run) (lists : Lists) (choice : Choice) →
-      all_or_nothing lists.inputs lists.outputs ≡ choice → MayChoose tools id run lists choice
-  all-may id run lists RunAll e = e
-  all-may id run lists Nothing e = e
-  all-may id run lists Skip e = absurd (never lists.inputs lists.outputs Skip e tt)
-  all-may id run lists (Part old) e = absurd (never lists.inputs lists.outputs (Part old) e tt)
-
   module _ (target : UsedTarget) (scope : Scope) (id : RunId) (j k : Journal) (made : Record)
       (a : AlikeJournals (bytes_in files) AnyPath j k) (takes : TakesLists target)
       (fw : HasNotWritten id j) (fc : HasNotWritten id k) where
@@ -457,11 +465,6 @@ module _ (tools : List ℕ → ToolInput → ToolAnswer) (files : List File)
       pub first_fine : IsFine tools id run scope j k Good E.value
       pub second_fine : IsFine tools id run scope j k Good F.value
 
-    notes-of : (r : Result State Stopped) (note : Note) → In note (state_of r).notes →
-        In note (outcome_of r).notes
-    notes-of (Ok s) note i = i
-    notes-of (Err stop) note i = i
-
     from-w : (found : List Bucket) → target_buckets (place_in run s0 scope) target.element
         ≡ Ok found → (E : End (Result State Stopped)) →
         end_of tools id (buckets_by (choice_of run) run scope s0) j [] ≡ Some E →
@@ -483,8 +486,8 @@ module _ (tools : List ℕ → ToolInput → ToolAnswer) (files : List File)
     both-end found ew ec pieces r =
         let w = r.never_large Incremental j a (choice_of run)
         (decided-may tools id run clean-run refl) in
-        let c = r.never_large Clean k (alike-self k) all_of
-        (λ lists s. all-may id clean-run lists
+        let c = r.never_large Clean k (alike-self files k) all_of
+        (λ lists s. all-may tools id clean-run lists
         (all_or_nothing lists.inputs lists.outputs) refl) in
         let x = end-bound tools id (buckets_by (choice_of run) run scope s0)
         (λ end. done (outcome_of end)) j [] w.0 w.1 in

@@ -69,7 +69,8 @@ no-lists p target (Some i) (Some o) e f n = absurd
 no-lists p target (Some i) None e f n = refl
 no-lists p target None o e f n = refl
 
-takes : (target : UsedTarget) (i o : Option (List ℕ)) →
+-- whether it has
+pub takes : (target : UsedTarget) (i o : Option (List ℕ)) →
     attribute_of (codes "Inputs") target.element ≡ i →
     attribute_of (codes "Outputs") target.element ≡ o →
     (lists : Bool) × (lists ≡ true → TakesLists target) × (lists ≡ false → TakesLists target → ⊥)

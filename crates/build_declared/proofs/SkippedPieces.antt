@@ -48,11 +48,23 @@ use Rattle.build_declared.specs.Fresh.{IsAsInTree, IsTrusted, WritesSame, PieceI
 use Rattle.build_declared.specs.Pieces.{Piece}
 use Rattle.build_declared.proofs.Trusted.{all-trusted, pairs-trusted}
 
-abbrev is-skip : Choice → Bool
+abbrev pub is-skip : Choice → Bool
 is-skip Skip = true
 is-skip RunAll = false
 is-skip Nothing = false
 is-skip (Part old) = false
+
+pub pairs-skip : (b : Bool) → (if b then RunAll else Skip) ≡ Skip → b ≡ false
+pairs-skip true e = let h : false ≡ true = ap is-skip e in absurd (cc)
+pairs-skip false e = refl
+
+pub items-skip : (old : List Item) (n : ℕ) → of_items old n ≡ Skip → old ≡ []
+items-skip [] n e = refl
+items-skip (item ∷ old) n e = absurd (go (length (item ∷ old) == n) e)
+  where
+    go : (b : Bool) → (if b then RunAll else Part (item ∷ old)) ≡ Skip → ⊥
+    go true e = let h : false ≡ true = ap is-skip e in cc
+    go false e = let h : false ≡ true = ap is-skip e in cc
 
 abbrev long : Option (List ℕ × List Item) → ℕ
 long None = 0
@@ -130,18 +142,6 @@ module _ (tools : List ℕ → ToolInput → ToolAnswer) (id : RunId) (run clean
         subst (λ o. IsAsInTree u o t.3.0) t.2 t.3.1.output_there,
         subst (λ o. WritesSame tools id clean p o t.3.0) t.2 w,
       )
-
-  pairs-skip : (b : Bool) → (if b then RunAll else Skip) ≡ Skip → b ≡ false
-  pairs-skip true e = let h : false ≡ true = ap is-skip e in absurd (cc)
-  pairs-skip false e = refl
-
-  items-skip : (old : List Item) (n : ℕ) → of_items old n ≡ Skip → old ≡ []
-  items-skip [] n e = refl
-  items-skip (item ∷ old) n e = absurd (go (length (item ∷ old) == n) e)
-    where
-      go : (b : Bool) → (if b then RunAll else Part (item ∷ old)) ≡ Skip → ⊥
-      go true e = let h : false ≡ true = ap is-skip e in cc
-      go false e = let h : false ≡ true = ap is-skip e in cc
 
   by-shape : (first : List ℕ) (inputs : List (List ℕ)) → p.lists.inputs ≡ first ∷ inputs →
       (o : Option (List ℕ × List Item)) → p.lists.items ≡ o →

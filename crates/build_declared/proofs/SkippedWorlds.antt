@@ -19,17 +19,15 @@ use Rattle.std.proofs.Common.{
   subst,
 }
 use Rattle.std.specs.Prelude.{Result, Ok, Err, codes}
-use Rattle.msb_laws.specs.Asking.{Asking, gives as ends, asks}
+use Rattle.msb_laws.specs.Asking.{Asking}
 use Rattle.msb_values.specs.declared.key.InstanceKey.{InstanceKey}
 use Rattle.msb_values.specs.declared.mode.Mode.TheVariants.{Incremental}
 use Rattle.msb_values.specs.declared.scope.Scope.{Scope}
 use Rattle.file_store.specs.Files.{file_at}
 use Rattle.file_store.specs.declared.tree.File.{File}
-use Rattle.target_order.specs.Visit.{Question, condition, depends, body, End, order}
+use Rattle.target_order.specs.Visit.{Question, End, order}
 use Rattle.target_order.specs.declared.asks.OrderAnswer.{OrderAnswer}
-use Rattle.target_order.specs.declared.asks.OrderAnswer.TheVariants.{Truth, Names}
 use Rattle.build_world.specs.Instances.{Instance, UsedTarget}
-use Rattle.build_world.specs.declared.fault.EvalFault.{EvalFault}
 use Rattle.build_world.specs.declared.world.World.{World as Build}
 use Rattle.msb_instance.specs.Evaluated.{evaluated}
 use Rattle.result_cache.specs.Lists.{In}
@@ -41,7 +39,7 @@ use Rattle.result_cache.specs.declared.run.RunId.{RunId}
 use Rattle.build_meaning.specs.Meaning.{Given, meaning}
 use Rattle.build_meaning.specs.SoFar.{ToolUse, SoFar, nothing_yet}
 use Rattle.build_meaning.specs.Walk.{Body, makes, Outcome, Reply}
-use Rattle.build_incremental.specs.Placed.{Placed, PlacedWorld}
+use Rattle.build_incremental.specs.Placed.{PlacedWorld}
 use Rattle.build_incremental.specs.Each.{
   EachBody,
   each_ended,
@@ -58,14 +56,12 @@ use Rattle.task_trait.specs.declared.tools.ToolInput.{ToolInput}
 use Rattle.request_machine.specs.declared.standing.Standing.{Standing}
 use Rattle.request_machine.specs.Requests.{
   Project,
-  holds_of,
-  depends_of,
   target_at,
   all_targets,
   has_no_targets,
   unevaluated,
 }
-use Rattle.request_machine.specs.Walk.{run_of, answer_of, after_run, nothing_ran}
+use Rattle.request_machine.specs.Walk.{run_of, nothing_ran}
 use Rattle.request_machine.specs.Worlds.{root_of, world_of}
 use Rattle.build_declared.specs.Builds.{
   instance_by,
@@ -75,7 +71,7 @@ use Rattle.build_declared.specs.Builds.{
   placed_world,
 }
 use Rattle.build_declared.specs.Clean.{IsTrustworthy}
-use Rattle.build_declared.specs.Places.{Site, or_replies, placed}
+use Rattle.build_declared.specs.Places.{Site, placed}
 use Rattle.build_declared.specs.Skipped.{
   TakesLists,
   target_by,
@@ -88,6 +84,7 @@ use Rattle.build_declared.specs.UpToDate.{IsUpToDate, SkipsEach}
 use Rattle.build_declared.specs.Worlds.{body_if, bodies_in, placed_unless, placed_by}
 use Rattle.build_declared.proofs.CleanBuilds.{Asked}
 use Rattle.build_declared.proofs.CleanOutcomes.{pieces-go}
+use Rattle.build_declared.proofs.PlacedBodies.{placed-tells}
 use Rattle.build_declared.proofs.Plain.{plain-is-world}
 use Rattle.build_declared.proofs.RunLists.{runs-go}
 use Rattle.build_declared.proofs.SecondBuilds.{second-skips}
@@ -117,30 +114,10 @@ module _ (files : List File) where
     abbrev bodies : List ℕ → Scope → Journal → Body ToolInput ToolAnswer
     bodies = bodies_in files Incremental p
 
-    or-tells : {X : Type 0} (x : Result X EvalFault) (go : X → Placed Site ToolInput ToolAnswer)
-        (j : Journal) → ((z : X) → Tells IsPlaced (go z) j) → Tells IsPlaced (or_replies x go) j
-    or-tells (Ok z) go j h = h z
-    or-tells (Err fault) go j h = tt
-
     tells-tree : (tree : Asking Question OrderAnswer End) (s : Standing) (j : Journal) →
         Tells IsPlaced (placed p key bodies tree s j) j
-    tells-tree (ends end) s j = tt
-    tells-tree (asks (condition name) go) s j =
-        or-tells (holds_of p s.scope j (target_at p name))
-        (λ holds. placed p key bodies (go (Truth holds)) s j) j
-        (λ holds. tells-tree (go (Truth holds)) s j)
-    tells-tree (asks (depends name) go) s j =
-        or-tells (depends_of p s.scope (target_at p name))
-        (λ names. placed p key bodies (go (Names names)) s j) j
-        (λ names. tells-tree (go (Names names)) s j)
-    tells-tree (asks (body name) go) s j = (
-      record { body_is = refl; target_is = at name },
-      λ made then.
-          let after : Standing = after_run s name made in
-          or-tells (answer_of p made.ok after then name)
-          (λ answer. placed p key bodies (go answer) after then) then
-          (λ answer. tells-tree (go answer) after then),
-    )
+    tells-tree = placed-tells IsPlaced p key bodies
+        (λ name scope j. record { body_is = refl; target_is = at name })
 
   -- a project's evaluation looks at its instance alone
   same-instances : (a b : RequestKey) → a.instance ≡ b.instance →

@@ -55,7 +55,14 @@ use Rattle.target_body.specs.States.{Run, State, view_of}
 use Rattle.build_declared.specs.Builds.{in_mode, instances_of, placed_world}
 use Rattle.build_declared.specs.Clean.{IsTrustworthy}
 use Rattle.build_declared.specs.Declared.{IsDeclared, SucceedsWith, clean_pieces}
-use Rattle.build_declared.specs.Fresh.{Pairing, pairs_of, FreshAt, IsFresh, PieceIsFresh, WritesSame}
+use Rattle.build_declared.specs.Fresh.{
+  Pairing,
+  pairs_of,
+  FreshAt,
+  IsFresh,
+  PieceIsFresh,
+  WritesSame,
+}
 use Rattle.build_declared.specs.NoOlder.{NoOlderAt, IsNoOlder, OutputIsNoOlder, PieceIsNoOlder}
 use Rattle.build_declared.specs.Pieces.{Piece, ByItems}
 use Rattle.build_declared.specs.Places.{Site, run_at}
@@ -277,7 +284,8 @@ module _ (tools : List ℕ → ToolInput → ToolAnswer) (w : Build) (left : Tre
             counter.begins x.1)
 
         by-fate : (pair : Pairing) → IsPaired q pair →
-            Fate (view_of (run_at files w.mode id target) p.from) f.new (since q.before f.more) pair →
+            Fate (view_of (run_at files w.mode id target) p.from) f.new (since q.before f.more)
+            pair →
             IsLeft after (since q.before f.more) pair
         by-fate pair paired (inl wrote_it) =
             let o_in : Output pair.output = subst (λ l. In pair.output l.outputs)
@@ -340,7 +348,8 @@ module _ (tools : List ℕ → ToolInput → ToolAnswer) (w : Build) (left : Tre
             left_so = λ pair paired. by-fate s.0 f parts
                 (λ run n put i u. stood run n
                 (b.settled.inputs_stood o among p fares.counter.1 run n put i u))
-                (λ run n put i u. elim (b.settled.outputs_own o among p fares.counter.1 s.0 s.1 run n
+                (λ run n put i u.
+                elim (b.settled.outputs_own o among p fares.counter.1 s.0 s.1 run n
                 put i u) [
                   | inl y ↦ inl (stood run n y)
                   | inr y ↦ inr (y.0, y.1, subst (λ l. n < length l) f.own y.2)

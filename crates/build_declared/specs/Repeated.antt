@@ -33,9 +33,9 @@ use Rattle.build_declared.specs.Written.{since}
 -- ---- a piece again
 
 module _ (tools : List ℕ → ToolInput → ToolAnswer) (id : RunId) (first again : Run) where
-  -- A piece of the second build is as one of the first: it has the same inputs and outputs, paired in
-  -- the same way; and where the first one succeeds it succeeds, and leaves the same bytes at each of
-  -- its outputs.
+  -- A piece of the second build is as one of the first: it has the same inputs and outputs, paired
+  -- in the same way; and where the first one succeeds it succeeds, and leaves the same bytes at
+  -- each of its outputs.
   pub record IsAgain (p earlier : Piece) : Type 0 where
     pub inputs : p.lists.inputs ≡ earlier.lists.inputs
     pub outputs : p.lists.outputs ≡ earlier.lists.outputs
@@ -58,9 +58,11 @@ module _ (tools : List ℕ → ToolInput → ToolAnswer) (id : RunId) (first aga
 -- ---- a run again
 
 module _ (tools : List ℕ → ToolInput → ToolAnswer) (files after : List File) where
+  -- the pieces of a body of the clean build of a tree
   abbrev pub pieces_over : List File → Occurrence Site → List Piece
   pieces_over tree o = clean_pieces tools tree o.place.target o.place.scope o.run o.from
 
+  -- by their targets, which a run with a piece has
   abbrev pub again_by : (target other : Option UsedTarget) → (o earlier : Occurrence Site) → Type 0
   again_by (Some target) (Some other) o earlier =
       AreAgain tools o.run (run_at files Clean o.run other) (run_at after Clean o.run target)
@@ -71,9 +73,10 @@ module _ (tools : List ℕ → ToolInput → ToolAnswer) (files after : List Fil
   abbrev pub HasSame : (o earlier : Occurrence Site) → Type 0
   HasSame o earlier = again_by o.place.target earlier.place.target o earlier
 
-  -- Clean builds of two trees, the second one that which a build of the first has left. The second is
-  -- whole and steady. Each run that has a piece in one of them is made in the other, with the same
-  -- record, and wherever the first makes it, it has the same pieces. Runs without a piece keep off.
+  -- Clean builds of two trees, the second one that which a build of the first has left. The second
+  -- is whole and steady. Each run that has a piece in one of them is made in the other, with the
+  -- same record, and wherever the first makes it, it has the same pieces. Runs without a piece keep
+  -- off.
   pub record IsRepeated (world : PlacedWorld Site ToolInput ToolAnswer)
       (clean again : Given ToolInput RequestResult) (demand later : List (Occurrence Site))
       : Type 0 where

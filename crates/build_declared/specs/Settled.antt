@@ -62,8 +62,8 @@ module _ (tools : List ℕ → ToolInput → ToolAnswer) (files : List File) (mo
       (t : State) × (end_of_piece tools o.run run p (choice_of run p.lists p.from)
       ≡ Some (record { value = Ok t; journal = t.journal; puts = puts }))
 
-  -- a write had been made when the piece began, at each occurrence of its run: by the run itself, or
-  -- before the run began
+  -- a write had been made when the piece began, at each occurrence of its run: by the run itself,
+  -- or before the run began
   abbrev pub Stood : List (Occurrence Site) → Occurrence Site → Piece → RunId → (number : ℕ) →
       Type 0
   Stood demand o p run number = ((run ≡ o.run) × (number < length p.before))
@@ -71,9 +71,9 @@ module _ (tools : List ℕ → ToolInput → ToolAnswer) (files : List File) (mo
       has (write_of run number) other.from ≡ true)
 
   -- The world settles, by the bodies of its meaning and by the last journal of its root: each piece
-  -- succeeds, and its inputs exist; what is ever written to an input of a piece had been written when
-  -- it began, and what is ever written to an output of it had been then or is its own; and runs
-  -- without a piece keep off.
+  -- succeeds, and its inputs exist; what is ever written to an input of a piece had been written
+  -- when it began, and what is ever written to an output of it had been then or is its own; and
+  -- runs without a piece keep off.
   pub record IsSettled (demand : List (Occurrence Site)) (last : Journal) : Type 0 where
     pub succeeds : (o : Occurrence Site) → In o demand → (p : Piece) → In p (pieces_at o) →
         (puts : List Put) × Succeeds o.place.target o p puts

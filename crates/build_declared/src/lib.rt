@@ -50,12 +50,12 @@ pub fn incremental_is_clean()
 {}
 
 /// The tree that a build leaves is one over which the next build may be trusted again: where what
-/// it is given is declared, fresh and settled, and the clean build is repeated over the tree that it
-/// left, that clean build is fresh, and in the tree no output of a piece is older than the inputs
-/// that it is paired with. (Incremental builds.)
+/// it is given is declared, fresh and settled, and the clean build is repeated over the tree that
+/// it left, that clean build is fresh, and in the tree no output of a piece is older than the
+/// inputs that it is paired with. (Incremental builds.)
 ///
-/// The tree is the one that the commit leaves: the files of the build's journal are written in order,
-/// each with a stamp that is greater than all others. The build may be a clean one itself.
+/// The tree is the one that the commit leaves: the files of the build's journal are written in
+/// order, each with a stamp that is greater than all others. The build may be a clean one itself.
 pub fn stays_fresh()
     ensures fresh { (tools : List ℕ → ToolInput → ToolAnswer) (w : World) (left : Tree)
         (clean out again : Given ToolInput RequestResult) → IsTrustworthy tools w clean →

@@ -46,7 +46,7 @@ use Rattle.result_cache.proofs.JournalEntries.{
 use Rattle.build_meaning.specs.Walk.{Body, Outcome}
 use Rattle.build_meaning.specs.SoFar.{ToolUse, SoFar, recorded}
 use Rattle.build_incremental.specs.Alone.{alone, written}
-use Rattle.build_incremental.specs.Placed.{Placed, replies, wants_at, PlacedWorld}
+use Rattle.build_incremental.specs.Placed.{Placed, PlacedWorld}
 use Rattle.build_incremental.specs.SideBySide.{HasNotWritten}
 use Rattle.build_incremental.specs.Each.{
   EachWalk,
@@ -63,6 +63,7 @@ use Rattle.build_incremental.specs.Each.{
   each_call,
   EachOfMeaning,
 }
+use Rattle.build_incremental.proofs.Demands.{Tells}
 use Rattle.build_incremental.proofs.Entries.{marked-write}
 use Rattle.build_incremental.proofs.GoAlike.{alone-told}
 use Rattle.build_incremental.proofs.Keeping.{
@@ -138,12 +139,12 @@ module _ {P : Type 0} (Q : P → RunId → Journal → Record → Type 0) where
   Wrote r n put = (p : P) × (from : Journal) × (m : Record) × Q p r from m
       × In (wrote r n put) (writes_in r m.segments)
 
-  abbrev pub Tells : Journal → Type 0
-  Tells j = (r : RunId) (n : ℕ) (put : Put) → In (wrote r n put) j → Wrote r n put
+  abbrev pub WritesRecorded : Journal → Type 0
+  WritesRecorded j = (r : RunId) (n : ℕ) (put : Put) → In (wrote r n put) j → Wrote r n put
 
-  tells-wrote : (j : Journal) (s : RunId) (k : ℕ) (new : Put) → Wrote s k new → Tells j →
-      Tells (add j (wrote s k new))
-  tells-wrote j s k new mine t r n put i = elim (in-add (wrote r n put) j (wrote s k new) i) [
+  recorded-wrote : (j : Journal) (s : RunId) (k : ℕ) (new : Put) → Wrote s k new →
+      WritesRecorded j → WritesRecorded (add j (wrote s k new))
+  recorded-wrote j s k new mine t r n put i = elim (in-add (wrote r n put) j (wrote s k new) i) [
     | inl e ↦
         let a : s ≡ r = cc in
         let b : k ≡ n = cc in
@@ -152,27 +153,26 @@ module _ {P : Type 0} (Q : P → RunId → Journal → Record → Type 0) where
     | inr u ↦ t r n put u
   ]
 
-  tells-ended : (j : Journal) (s : RunId) (m : Record) → Tells j → Tells (add j (ended s m))
-  tells-ended j s m t r n put i = elim (in-add (wrote r n put) j (ended s m) i) [
+  recorded-ended : (j : Journal) (s : RunId) (m : Record) → WritesRecorded j →
+      WritesRecorded (add j (ended s m))
+  recorded-ended j s m t r n put i = elim (in-add (wrote r n put) j (ended s m) i) [
     | inl e ↦ absurd (cc)
     | inr u ↦ t r n put u
   ]
 
-  tells-merge : (a b : Journal) → Tells a → Tells b → Tells (merge a b)
-  tells-merge a b t v r n put i = elim (in-merge (wrote r n put) a b i) [
+  recorded-merge : (a b : Journal) → WritesRecorded a → WritesRecorded b →
+      WritesRecorded (merge a b)
+  recorded-merge a b t v r n put i = elim (in-merge (wrote r n put) a b i) [
     | inl u ↦ t r n put u
     | inr u ↦ v r n put u
   ]
 
--- ---- each run that a request wants has the body of its place
-
-abbrev pub HasBodies : {P I A : Type 0} → (P → RunId → Journal → Body I A) → Placed P I A →
-    Journal → Type 0
-HasBodies bodies (replies reply) j = Unit {0}
-HasBodies bodies (wants_at p r b go) j = (b ≡ bodies p r j)
-    × ((m : Record) (i : Journal) → HasBodies bodies (go m i) i)
-
 -- ---- what is known of a body
+
+-- a run that is wanted has the body of its place
+abbrev pub HasBody : {P I A : Type 0} → (P → RunId → Journal → Body I A) → P → RunId → Journal →
+    Body I A → Type 0
+HasBody bodies p r j b = b ≡ bodies p r j
 
 module _ {P I A : Type 0} (w : PlacedWorld P I A) (Q : P → RunId → Journal → Record → Type 0)
     (J : Journal → Journal → Journal → Type 0) (K : RequestKey → Type 0)
@@ -180,7 +180,7 @@ module _ {P I A : Type 0} (w : PlacedWorld P I A) (Q : P → RunId → Journal �
   pub record Facts (p : P) (r : RunId) (j : Journal) (m : Record) : Type 0 where
     pub said : Q p r j m
     pub not_yet : HasNotWritten r j
-    pub tells_so : Tells Q j
+    pub writes_so : WritesRecorded Q j
     pub lasts : (s : Mark) → Has s j → Has s last
     pub ends : Has (end_of r) last
     pub writes : (n : ℕ) (put : Put) → In (wrote r n put) (writes_in r m.segments) →
@@ -191,12 +191,13 @@ module _ {P I A : Type 0} (w : PlacedWorld P I A) (Q : P → RunId → Journal �
   abbrev Stays : Journal → Type 0
   Stays k = (s : Mark) → Has s k → Has s last
 
-  module _ (have : (key : RequestKey) (j : Journal) → HasBodies bodies (w.walks key j) j) where
+  module _ (have : (key : RequestKey) (j : Journal) →
+      Tells (HasBody bodies) (w.walks key j) j) where
     mutual
       pub walk-facts : {path : List RunId} {j : Journal} {runs : List RunId} {x : Placed P I A}
           {res : RequestResult} {k : Journal} → EachWalk w Q J K path j runs x res k →
-          HasBodies bodies x j → Open path j → Tells Q j → Stays k →
-          EachWalk w Facts J K path j runs x res k × Open path k × Tells Q k
+          Tells (HasBody bodies) x j → Open path j → WritesRecorded Q j → Stays k →
+          EachWalk w Facts J K path j runs x res k × Open path k × WritesRecorded Q k
       walk-facts each_over h o t l = (each_over, o, t)
       walk-facts (each_used {j = j} m e rest) h o t l =
           let x = walk-facts rest (h.1 m j) o t l in (each_used m e x.0, x.1, x.2)
@@ -211,7 +212,7 @@ module _ {P I A : Type 0} (w : PlacedWorld P I A) (Q : P → RunId → Journal �
           let fact : Facts p r j m = record {
             said = q;
             not_yet = free;
-            tells_so = t;
+            writes_so = t;
             lasts = λ s g. stays s (body-has w Q J K d s g);
             ends = after (end_of r) (has-added i (ended r m));
             writes = λ n put u. stays (write_of r n)
@@ -220,23 +221,25 @@ module _ {P I A : Type 0} (w : PlacedWorld P I A) (Q : P → RunId → Journal �
                 (subst (λ z. alone w.tools r z j [] ≡ Some (oc, puts)) (sym h.0) e) refl).0;
           } in
           let y = walk-facts rest (h.1 m next) (open-ended path i r m x.1)
-          (tells-ended Q i r m x.2) l in
+          (recorded-ended Q i r m x.2) l in
           (each_made out new x.0 fact y.0, y.1, y.2)
 
       pub body-facts : {path : List RunId} {r : RunId} {j : Journal} {so_far : SoFar I}
           {b : Body I A} {m : Record} {tools : List (ToolUse I)} {k : Journal} →
-          EachBody w Q J K path r j so_far b m tools k → In r path → Open path j → Tells Q j →
+          EachBody w Q J K path r j so_far b m tools k → In r path → Open path j →
+          WritesRecorded Q j →
           ((n : ℕ) (put : Put) → In (wrote r n put) (writes_in r m.segments) → Wrote Q r n put) →
-          Stays k → EachBody w Facts J K path r j so_far b m tools k × Open path k × Tells Q k
+          Stays k → EachBody w Facts J K path r j so_far b m tools k × Open path k
+          × WritesRecorded Q k
       body-facts each_ended mine o t own l = (each_ended, o, t)
-      body-facts (each_wrote {path = path} {r = r} {j = j} {so_far = so_far} {put = put} {m = m} rest)
-          mine o t own l =
+      body-facts (each_wrote {path = path} {r = r} {j = j} {so_far = so_far} {put = put} {m = m}
+          rest) mine o t own l =
           let n : ℕ = length so_far.segments in
           let there : In (wrote r n put) (writes_in r m.segments) =
           has-writes w Q J K rest (wrote r n put)
           (subst (In (wrote r n put)) (sym (writes-more r so_far.segments put)) (inl refl)) in
           let x = body-facts rest mine (open-wrote path j r n put mine o)
-          (tells-wrote Q j r n put (own n put there) t) own l in
+          (recorded-wrote Q j r n put (own n put there) t) own l in
           (each_wrote x.0, x.1, x.2)
       body-facts (each_used_tool rest) mine o t own l =
           let x = body-facts rest mine o t own l in (each_used_tool x.0, x.1, x.2)
@@ -247,16 +250,17 @@ module _ {P I A : Type 0} (w : PlacedWorld P I A) (Q : P → RunId → Journal �
 
       pub calls-facts : {path : List RunId} {j a : Journal} {keys : List RequestKey}
           {results : List RequestResult} {k : Journal} →
-          EachCalls w Q J K path j a keys results k → Open path j → Tells Q j → Open path a →
-          Tells Q a → Stays k →
-          EachCalls w Facts J K path j a keys results k × Open path k × Tells Q k
+          EachCalls w Q J K path j a keys results k → Open path j → WritesRecorded Q j →
+          Open path a → WritesRecorded Q a → Stays k →
+          EachCalls w Facts J K path j a keys results k × Open path k × WritesRecorded Q k
       calls-facts each_no_calls o t oa ta l = (each_no_calls, oa, ta)
       calls-facts (each_call {path = path} {j = j} {a = a} {i = i} {key = key}
           known less walk so rest) o t oa ta l =
           let joined : Stays (merge a i) = λ s g. l s (calls-has w Q J K rest s g) in
           let x = walk-facts walk (have key j) o t
           (λ s g. joined s (has-merge_right s a i g)) in
-          let y = calls-facts rest o t (open-merge path a i oa x.1) (tells-merge Q a i ta x.2) l in
+          let y = calls-facts rest o t (open-merge path a i oa x.1)
+          (recorded-merge Q a i ta x.2) l in
           (each_call known less x.0 so y.0, y.1, y.2)
 
 -- of each body of the meaning, and of the journal that it leaves
@@ -264,9 +268,9 @@ pub meaning-facts : {P I A : Type 0} (w : PlacedWorld P I A)
     (Q : P → RunId → Journal → Record → Type 0) (J : Journal → Journal → Journal → Type 0)
     (K : RequestKey → Type 0) (bodies : P → RunId → Journal → Body I A)
     (have : (key : RequestKey) (j : Journal) →
-    HasBodies bodies (w.walks key j) j) (result : RequestResult) (last : Journal) →
+    Tells (HasBody bodies) (w.walks key j) j) (result : RequestResult) (last : Journal) →
     EachOfMeaning w Q J K result last →
-    EachOfMeaning w (Facts w Q J K bodies last) J K result last × Tells Q last
+    EachOfMeaning w (Facts w Q J K bodies last) J K result last × WritesRecorded Q last
 meaning-facts w Q J K bodies have result last each =
     let x = walk-facts w Q J K bodies last have each.rest (have w.root [])
     (λ r n put i. absurd i) (λ r n put i. absurd i) (λ s h. h) in

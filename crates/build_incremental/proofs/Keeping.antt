@@ -1,5 +1,5 @@
--- What a meaning keeps: the marks that a journal has, and whatever each write, each end of a run and
--- each join keeps.
+-- What a meaning keeps: the marks that a journal has, and whatever each write, each end of a run
+-- and each join keeps.
 use Rattle.std.proofs.Common.{ℕ, inl, inr, List, [], ◌∷◌, ◌++◌, length, refl, sym, subst}
 use Rattle.msb_values.specs.declared.put.Put.{Put}
 use Rattle.result_cache.specs.declared.run.RunId.{RunId}
@@ -129,8 +129,8 @@ module _ {P I A : Type 0} (w : PlacedWorld P I A) (Q : P → RunId → Journal �
 
   -- ---- what each step keeps
 
-  -- Inv holds of a journal. It is kept by the end of a run, by a join, and by a write of a run where
-  -- Ready holds of its record, of what it has done so far and of its journal.
+  -- Inv holds of a journal. It is kept by the end of a run, by a join, and by a write of a run
+  -- where Ready holds of its record, of what it has done so far and of its journal.
   module _ (Inv : Journal → Type 0) (Ready : RunId → Record → List Segment → Journal → Type 0)
       (ends : (p : P) (r : RunId) (from : Journal) (m : Record) → Q p r from m →
       (j : Journal) → Inv j → Inv (add j (ended r m)))

@@ -49,7 +49,6 @@ use Rattle.result_cache.specs.Journal.{
   add,
   merge,
 }
-use Rattle.result_cache.proofs.Closed.{in-merge}
 use Rattle.result_cache.proofs.RunTests.{
   tells,
   clash,
@@ -66,7 +65,6 @@ use Rattle.result_cache.proofs.JournalEntries.{
   has-add,
   has-added,
   has-merge_right,
-  in-add,
 }
 use Rattle.build_incremental.specs.Placed.{PlacedWorld}
 use Rattle.build_incremental.specs.Each.{EachOfMeaning}
@@ -193,41 +191,6 @@ module _ {P I A : Type 0} (w : PlacedWorld P I A) (Q : P → RunId → Journal �
       (λ p r j m q. tt)
       (λ r m segments put j i g o. (once-add j (wrote r (length segments) put) o, tt))
       (λ r m segments key keys results j i h c g. tt) each.rest tt
-
-  -- each run that has ended is one that was made
-  abbrev AllMade : Journal → Type 0
-  AllMade j = (r : RunId) (m : Record) → In (ended r m) j → (p : P) × (from : Journal)
-      × Q p r from m
-
-  made-ended : (p : P) (r : RunId) (from : Journal) (m : Record) → Q p r from m → (j : Journal) →
-      AllMade j → AllMade (add j (ended r m))
-  made-ended p r from m q j all s n i = elim (in-add (ended s n) j (ended r m) i) [
-    | inl e ↦
-        let a : r ≡ s = cc in
-        let b : m ≡ n = cc in
-        (p, from, subst (λ z. Q p z from n) a (subst (Q p r from) b q))
-    | inr u ↦ all s n u
-  ]
-
-  made-wrote : (r : RunId) (k : ℕ) (put : Put) (j : Journal) → AllMade j →
-      AllMade (add j (wrote r k put))
-  made-wrote r k put j all s n i = elim (in-add (ended s n) j (wrote r k put) i) [
-    | inl e ↦ absurd (cc)
-    | inr u ↦ all s n u
-  ]
-
-  made-merged : (a b : Journal) → AllMade a → AllMade b → AllMade (merge a b)
-  made-merged a b all more s n i = elim (in-merge (ended s n) a b i) [
-    | inl h ↦ all s n h
-    | inr h ↦ more s n h
-  ]
-
-  pub ended-made : (result : RequestResult) (last : Journal) →
-      EachOfMeaning w Q J K result last → AllMade last
-  ended-made result last each = walk-keeps w Q J K AllMade (λ r m segments j. Unit {0})
-      made-ended made-merged (λ p r j m q. tt)
-      (λ r m segments put j i g all. (made-wrote r (length segments) put j all, tt))
-      (λ r m segments key keys results j i h c g. tt) each.rest (λ s n i. absurd i)
 
   -- What stands in the journal with which a run begins, wherever it is made, stands below all its
   -- writes. Of a run that calls nothing each write stands below the later ones.
