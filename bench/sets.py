@@ -15,8 +15,8 @@ file, and an order-only dependency has it wait for the files of the projects tha
 
 - `flat`: the root calls all others.
 - `chains`: the root calls the first of each 100 projects, and each of these the next one.
-- `layers`: 25 layers of SIZE / 25 projects each, rounded up; the root calls the first layer, and
-  each project two of the next one.
+- `layers`: 25 layers where 25 divides SIZE, else layers of SIZE / 25 projects, rounded up; the root
+  calls the first layer, and each project two of the next one.
 - `tree`: the root calls project 1, and project i the projects 2 i and 2 i + 1.
 """
 

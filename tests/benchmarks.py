@@ -15,7 +15,7 @@ from pathlib import Path
 
 TOP = Path(__file__).resolve().parent.parent
 SHAPES = ("flat", "chains", "layers", "tree")
-# One project, a last layer that is not full, and a second chain.
+# One project, layers of two, and a second chain and a last layer of one project.
 SIZES = (1, 26, 101)
 SECONDS = 300
 
