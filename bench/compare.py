@@ -2,12 +2,13 @@
 """Builds sets of projects with msb, ninja, make and xbuild in turn, and prints one table.
 
 usage: bench/compare.py [PROGRAM] [--sizes 250,1000,4000] [--shapes flat,chains,layers]
-                        [--nodes 1,4] [--rounds 3] [--folder FOLDER]
+                        [--nodes 1,4] [--beside ninja,make,xbuild] [--rounds 3]
+                        [--folder FOLDER]
 
 PROGRAM is the built program, crates/msb/out/msb where it is not given. The sets are those of
 bench/sets.py, each written once for each program in a new folder of FOLDER, which is /dev/shm where
 it is there and none is named. Ninja and make have four jobs, msb builds on each of the numbers of
-nodes, and a program that is not installed is left out.
+nodes, and of the programs beside it those that are not installed are left out.
 
 In each round each program in turn builds twice: `clean`, from which no output is there, and
 `second`, which finds all up to date. Whether each output holds what it should is looked at after
@@ -16,7 +17,8 @@ build takes over 10 seconds has one round.
 
 A row has the least of the rounds, each column by itself: seconds by the clock, seconds of
 processors, those of all processes that were started included, and the peak in MiB of the largest
-process. A peak that is no larger than Python's own, which starts the program, is `-`. The ratios:
+process. A peak that is no larger than that of the small Python which starts the program, some 8
+MiB, does not show, and is `-`. The ratios:
 
 - `clock/msb`, `processor/msb`: how many times what msb takes on the least number of nodes.
 - `growth`: the seconds of processors to those of the size above it in the same shape.
@@ -31,7 +33,6 @@ import shutil
 import subprocess
 import sys
 import tempfile
-import time
 from pathlib import Path
 from typing import NamedTuple
 
@@ -42,6 +43,20 @@ BUILDS = ("clean", "second")
 JOBS = "-j4"
 SLOW_SECONDS = 10
 IN_MEMORY = Path("/dev/shm")
+
+# Runs a command and prints the seconds by the clock and of processors, the peak in KiB, and the
+# status. The system counts the memory of the process that starts a command as the command's, so
+# this one imports next to nothing.
+RUNNER = """
+import posix, sys, time
+null = posix.open("/dev/null", posix.O_RDWR)
+actions = [(posix.POSIX_SPAWN_DUP2, null, number) for number in (0, 1)]
+began = time.monotonic()
+run = posix.posix_spawnp(sys.argv[1], sys.argv[1:], posix.environ, file_actions=actions)
+_, status, used = posix.wait4(run, 0)
+clock = time.monotonic() - began
+print(clock, used.ru_utime + used.ru_stime, used.ru_maxrss, posix.waitstatus_to_exitcode(status))
+"""
 
 # What ninja leaves beside the outputs.
 LEFT_BEHIND = (".ninja_log", ".ninja_deps")
@@ -76,14 +91,17 @@ class Case(NamedTuple):
     name: str
 
 
-def programs(msb: str, nodes: list[int]) -> list[Program]:
-    """The programs that are there, msb first."""
-    known = [Program(f"msb, {number} node{'s' if number > 1 else ''}", "msb",
+BESIDE = (Program(f"ninja {JOBS}", "ninja", ["ninja", JOBS]),
+          Program(f"make {JOBS}", "make", ["make", "-rs", JOBS]),
+          Program("xbuild", "xbuild", ["xbuild", "/nologo", "/verbosity:quiet", sets.ROOT]))
+
+
+def programs(msb: str, nodes: list[int], beside: list[str]) -> list[Program]:
+    """msb on each of these numbers of nodes, and the programs of these names that are there."""
+    found = [Program(f"msb, {number} node{'s' if number > 1 else ''}", "msb",
                      [msb, "build", sets.ROOT, "--nodes", str(number)]) for number in nodes]
-    known += [Program(f"ninja {JOBS}", "ninja", ["ninja", JOBS]),
-              Program(f"make {JOBS}", "make", ["make", "-rs", JOBS]),
-              Program("xbuild", "xbuild", ["xbuild", "/nologo", "/verbosity:quiet", sets.ROOT])]
-    return [program for program in known if shutil.which(program.words[0])]
+    return found + [program for program in BESIDE
+                    if program.form in beside and shutil.which(program.words[0])]
 
 
 # ---- Builds -----------------------------------------------------------------------------------
@@ -92,14 +110,12 @@ def programs(msb: str, nodes: list[int]) -> list[Program]:
 def timed(words: list[str], folder: Path) -> Use:
     """Runs a command to its end. No earlier write is still on its way."""
     os.sync()
-    began = time.monotonic()
-    run = subprocess.Popen(words, cwd=folder, stdin=subprocess.DEVNULL, stdout=subprocess.DEVNULL)
-    _, status, used = os.wait4(run.pid, 0)
-    clock = time.monotonic() - began
-    run.returncode = os.waitstatus_to_exitcode(status)
-    if run.returncode:
-        sys.exit(f"compare: {' '.join(words)}: status {run.returncode}")
-    return Use(clock, used.ru_utime + used.ru_stime, used.ru_maxrss / 1024)
+    run = subprocess.run([sys.executable, "-ISc", RUNNER, *words], cwd=folder, check=True,
+                         stdout=subprocess.PIPE, text=True)
+    clock, processor, peak, status = map(float, run.stdout.split())
+    if status:
+        sys.exit(f"compare: {' '.join(words)}: status {status:.0f}")
+    return Use(clock, processor, peak / 1024)
 
 
 def remove_outputs(folder: Path, size: int) -> None:
@@ -110,9 +126,10 @@ def remove_outputs(folder: Path, size: int) -> None:
 
 
 def check_outputs(program: Program, folder: Path, size: int) -> None:
+    """Looks at the lines of each output; xbuild has them in the order of the disk."""
     for number in range(1, size + 1):
         place = folder / sets.output(number)
-        if not place.is_file() or place.read_text() != sets.output_text(number):
+        if not place.is_file() or sorted(place.read_text().split()) != sets.sources(number):
             sys.exit(f"compare: {program.name} has not written {sets.output(number)}")
 
 
@@ -225,6 +242,8 @@ def read_words() -> argparse.Namespace:
     parser.add_argument("--sizes", type=numbers, default=[250, 1000, 4000])
     parser.add_argument("--shapes", type=shapes, default=["flat", "chains", "layers"])
     parser.add_argument("--nodes", type=numbers, default=[1, 4])
+    parser.add_argument("--beside", type=lambda text: text.split(","),
+                        default=[program.form for program in BESIDE])
     parser.add_argument("--rounds", type=int, default=3)
     parser.add_argument("--folder", type=Path,
                         default=IN_MEMORY if os.access(IN_MEMORY, os.W_OK) else None)
@@ -240,7 +259,7 @@ def main() -> None:
     load = os.getloadavg()[0]
     rounds = f"least of {words.rounds} rounds"
     print(f"{os.cpu_count()} processors, load {load:.1f}; {rounds}\n", flush=True)
-    compare(programs(words.program, words.nodes), words)
+    compare(programs(words.program, words.nodes, words.beside), words)
 
 
 if __name__ == "__main__":

@@ -80,13 +80,8 @@ def sources(number: int) -> list[str]:
 
 
 def output(number: int) -> str:
-    """The path of the file that a project writes."""
+    """The path of the file that a project writes: a line for each source."""
     return f"{number}/{OUTPUT}"
-
-
-def output_text(number: int) -> str:
-    """What that file holds."""
-    return "".join(f"{source}\n" for source in sources(number))
 
 
 def element(name: str, attributes: dict[str, str], *children: dict) -> dict:

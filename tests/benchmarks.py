@@ -24,7 +24,8 @@ def compare(program: str, shape: str) -> str:
     """What is wrong with the comparison over sets of this shape, or nothing."""
     with tempfile.TemporaryDirectory() as folder:
         words = [TOP / "bench" / "compare.py", program, "--shapes", shape, "--rounds", "1",
-                 "--sizes", ",".join(map(str, SIZES)), "--folder", folder]
+                 "--sizes", ",".join(map(str, SIZES)), "--folder", folder,
+                 "--beside", "ninja,make"]
         ran = subprocess.run([sys.executable, "-B", *words], stdin=subprocess.DEVNULL, text=True,
                              stdout=subprocess.PIPE, stderr=subprocess.STDOUT, timeout=SECONDS)
     if ran.returncode:
