@@ -13,7 +13,7 @@ nodes, and of the programs beside it those that are not installed are left out.
 In each round each program in turn builds twice: `clean`, from which no output is there, and
 `second`, which finds all up to date. Whether each output holds what it should is looked at after
 the first, and whether each has kept its time of change after the second. A program whose clean
-build takes over 10 seconds has one round.
+build takes over 5 seconds has one round.
 
 A row has the least of the rounds, each column by itself: seconds by the clock, seconds of
 processors, those of all processes that were started included, and the peak in MiB of the largest
@@ -41,7 +41,7 @@ import sets
 TOP = Path(__file__).resolve().parent.parent
 BUILDS = ("clean", "second")
 JOBS = "-j4"
-SLOW_SECONDS = 10
+SLOW_SECONDS = 5
 IN_MEMORY = Path("/dev/shm")
 
 # Runs a command and prints the seconds by the clock and of processors, the peak in KiB, and the
