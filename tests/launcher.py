@@ -262,7 +262,7 @@ NOT_JSON = (
     ('{"e":"Pro\nject"}', "a.proj:1:10: a line end"),
     ('{"e":"Project"} x', "a.proj:1:17: the text goes on behind its end"),
     ("", "a.proj:1:1: a value was expected, and here the file ends"),
-    ('<Project />', "this is XML; tools/xml_to_elements.py"),
+    ('<Project />', "this is XML; /", "/tools/xml_to_elements.py makes an element tree of it"),
     (b'{"e":"Project\xff"}', "a.proj:1:14: the file is no UTF-8 here"),
     ('\ufeff{"e":"Project"}', "a.proj:1:1: the file begins with a byte order mark"),
     ('{"e":NaN}', "NaN is no value of JSON"),
@@ -274,10 +274,10 @@ NOT_JSON = (
 
 def try_not_json(tests: Tests) -> None:
     place = tests.place()
-    for text, wanted in NOT_JSON:
+    for text, *wanted in NOT_JSON:
         place.write("a.proj", text)
         ran = place.run("build", "a.proj")
-        tests.says(f"no JSON {text[:30]!r}", ran, 3, wanted)
+        tests.says(f"no JSON {text[:30]!r}", ran, 3, *wanted)
         tests.check(f"NotJson {text[:30]!r}",
                     ran.printed == "project refused\n  a.proj /: 1 NotJson\n", ran.printed)
 
