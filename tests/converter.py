@@ -541,6 +541,26 @@ def the_survey_knows_the_documented_elements() -> None:
         expect(f"attributes of {name}", set(kind.attributes) - {"Label"}, named)
 
 
+def first_cells(head: str) -> list[str]:
+    """The first cells of the table of docs/FORMATS.md that has this head."""
+    text = (TOP / "docs" / "FORMATS.md").read_text()
+    rows = text.split(f"\n{head}\n")[1].split("\n\n")[0].split("\n")[1:]
+    return [row.split(" | ")[0].removeprefix("| ") for row in rows]
+
+
+def the_survey_knows_the_documented_names() -> None:
+    functions = {}
+    for cell in first_cells("| Function | Its items |"):
+        name, arguments = re.findall(r"`(\w+)\((.*)\)`", cell)[0]
+        functions[name] = arguments.count("'") // 2
+    expect("item functions", functions, table.FUNCTIONS)
+    known = [cell.strip("`") for cell in first_cells("| Metadata | Value |")]
+    expect("well-known metadata", sorted(known), sorted(table.WELL_KNOWN))
+    cells = first_cells("| Property | Value |")
+    reserved = [name for cell in cells for name in re.findall(r"`(\w+)`", cell)]
+    expect("reserved properties", sorted(reserved), sorted(table.RESERVED))
+
+
 class Program:
     """A built msb."""
 
@@ -702,6 +722,7 @@ ALONE = [
     a_survey_finds_what_is_not_taken,
     the_survey_knows_the_documented_tasks,
     the_survey_knows_the_documented_elements,
+    the_survey_knows_the_documented_names,
 ]
 IN_FOLDER = [
     one_project_is_written,

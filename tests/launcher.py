@@ -22,6 +22,8 @@ import time
 from pathlib import Path
 from typing import Callable, NamedTuple
 
+from folder_tests.place import Skipped, small_disk
+
 TOP = Path(__file__).resolve().parent.parent
 USAGE = ("usage: msb ACTION PROJECT [--target LIST] [--property LIST] [--nodes N] [--clean] "
          "[--show low] [--size N]\n")
@@ -260,7 +262,7 @@ NOT_JSON = (
     ('{"e":"Pro\nject"}', "a.proj:1:10: a line end"),
     ('{"e":"Project"} x', "a.proj:1:17: the text goes on behind its end"),
     ("", "a.proj:1:1: a value was expected, and here the file ends"),
-    ('<Project />', "this is XML; tools/xml_to_elements.py"),
+    ('<Project />', "this is XML; /", "/tools/xml_to_elements.py makes an element tree of it"),
     (b'{"e":"Project\xff"}', "a.proj:1:14: the file is no UTF-8 here"),
     ('\ufeff{"e":"Project"}', "a.proj:1:1: the file begins with a byte order mark"),
     ('{"e":NaN}', "NaN is no value of JSON"),
@@ -272,14 +274,16 @@ NOT_JSON = (
 
 def try_not_json(tests: Tests) -> None:
     place = tests.place()
-    for text, wanted in NOT_JSON:
+    for text, *wanted in NOT_JSON:
         place.write("a.proj", text)
         ran = place.run("build", "a.proj")
-        tests.says(f"no JSON {text[:30]!r}", ran, 3, wanted)
+        tests.says(f"no JSON {text[:30]!r}", ran, 3, *wanted)
         tests.check(f"NotJson {text[:30]!r}",
                     ran.printed == "project refused\n  a.proj /: 1 NotJson\n", ran.printed)
 
 
+COPIER = ('{"e":"Project","c":[{"e":"Target","a":{"Name":"B"},"c":[{"e":"Copy","a":'
+          '{"SourceFiles":"a.txt;a.txt","DestinationFiles":"b.txt;c.txt"}}]}]}')
 WRITER = ('{"e":"Project","c":[{"e":"Target","a":{"Name":"B"},"c":['
           '{"e":"WriteLinesToFile","a":{"File":"out/sub/a.txt","Lines":"x"}}]}]}')
 
@@ -321,6 +325,21 @@ def try_permissions(tests: Tests, place: Place) -> None:
     tests.says("a folder that is not written to", place.run("build", "a.proj", **nobody), 5,
                ".: no permission to write in this folder")
     place.work.chmod(0o755)
+
+
+def try_full_disk(tests: Tests) -> None:
+    """Disks with no room for the second copy, and with some; neither where none can be mounted."""
+    place = tests.place()
+    for kibibytes, bytes_each, told in ((144, 60_000, "no room is left on the file system"),
+                                        (192, 100_000, "KiB are left on the file system")):
+        place.work = place.top / f"disk{kibibytes}"
+        try:
+            with small_disk(place.work, kibibytes):
+                place.write("a.proj", COPIER)
+                place.write("a.txt", "x" * bytes_each)
+                tests.says(f"a disk of {kibibytes} KiB", place.run("build", "a.proj"), 5, told)
+        except Skipped as reason:
+            print(f"passed over: {reason}")
 
 
 def try_limits(tests: Tests) -> None:
@@ -596,7 +615,7 @@ def try_pages(tests: Tests) -> None:
 
 
 PARTS = (try_words, try_random_words, try_not_found, try_places, try_not_json, try_store_faults,
-         try_limits, try_circle,
+         try_full_disk, try_limits, try_circle,
          try_text, try_output_faults, try_end_by_signal, try_progress, try_interrupts,
          try_without_kit, try_builds,
          try_unproved, try_pages)

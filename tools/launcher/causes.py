@@ -3,8 +3,9 @@
 import os
 import stat
 
-# Written files begin with this much; less room than this counts as none.
-LEAST_ROOM = 1 << 16
+# Less room than this counts as none, and with less than the largest file that a build writes there
+# may have been too little: what was begun of a file is removed where its write fails.
+LEAST_ROOM, LARGEST_FILE = 1 << 16, 1 << 24
 
 
 def why_unlisted(folder: str) -> str:
@@ -72,6 +73,15 @@ def room_fault(path: str) -> str:
     return ""
 
 
+def little_room(path: str) -> str:
+    """How much room the file system of a path has, if it may be too little, or nothing."""
+    found = os.statvfs(nearest(path))
+    room = found.f_bavail * found.f_frsize
+    if room < LARGEST_FILE:
+        return f"{path}: {room >> 10:,} KiB are left on the file system, which may be too little"
+    return ""
+
+
 def why_unread(path: str) -> str:
     """Why the file can't be read, or nothing."""
     try:
@@ -95,7 +105,7 @@ def why_unwritten(path: str) -> str:
         return f"{folder}: no permission to write in this folder"
     if os.path.lexists(path) and not os.access(path, os.W_OK):
         return f"{path}: no permission to write"
-    return ""
+    return little_room(path)
 
 
 def cause(path: str) -> str:

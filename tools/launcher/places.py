@@ -1,6 +1,7 @@
 """Where an element stands in a project file, and why a text is no JSON."""
 
 import json
+import os
 import re
 from itertools import islice
 from typing import Iterator
@@ -10,6 +11,9 @@ SPACE = re.compile(r"[ \t\r\n]*")
 
 # As many arrays and objects may stand in one another.
 MOST_LEVELS = 127
+
+TOOLS = os.path.dirname(os.path.dirname(os.path.realpath(__file__)))
+CONVERTER = os.path.join(TOOLS, "xml_to_elements.py")
 
 
 def read_text(path: str) -> str:
@@ -181,7 +185,8 @@ def json_fault(path: str) -> str:
     if text.startswith("\ufeff"):
         return f"{path}:1:1: the file begins with a byte order mark; save it as UTF-8 without one"
     if text.lstrip().startswith("<"):
-        return f"{path}: this is XML; tools/xml_to_elements.py makes an element tree of it"
+        return (f"{path}: this is XML; {CONVERTER} makes an element tree of it, or of all projects "
+                "of a folder")
     return text_fault(path, text)
 
 

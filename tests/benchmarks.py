@@ -1,0 +1,56 @@
+#!/usr/bin/env python3
+"""Runs bench/compare.py on small sets: each program has to write the outputs of each set, and once.
+
+usage: tests/benchmarks.py PROGRAM
+
+The script itself looks at the outputs of each build, and ends with a status above 0 where one is
+not as it should be. The last line is `N passed, M failed`: so many sets were built.
+"""
+
+import re
+import subprocess
+import sys
+import tempfile
+from pathlib import Path
+
+TOP = Path(__file__).resolve().parent.parent
+SHAPES = ("flat", "chains", "layers", "tree")
+# One project, layers of two, and a second chain and a last layer of one project.
+SIZES = (1, 26, 101)
+SECONDS = 300
+
+
+def compare(program: str, shape: str) -> str:
+    """What is wrong with the comparison over sets of this shape, or nothing."""
+    with tempfile.TemporaryDirectory() as folder:
+        words = [TOP / "bench" / "compare.py", program, "--shapes", shape, "--rounds", "1",
+                 "--sizes", ",".join(map(str, SIZES)), "--folder", folder,
+                 "--beside", "ninja,make"]
+        ran = subprocess.run([sys.executable, "-B", *words], stdin=subprocess.DEVNULL, text=True,
+                             stdout=subprocess.PIPE, stderr=subprocess.STDOUT, timeout=SECONDS)
+    if ran.returncode:
+        return f"status {ran.returncode}\n{ran.stdout}"
+    for size in SIZES:
+        for build in ("clean", "second"):
+            for nodes in ("1 node ", "4 nodes"):
+                row = rf"^\| {shape} +\| {size} +\| {build} +\| msb, {nodes} +\| [0-9.]+ "
+                if len(re.findall(row, ran.stdout, re.M)) != 1:
+                    return f"no row of {size} projects, {build}, {nodes}\n{ran.stdout}"
+    return ""
+
+
+def main() -> int:
+    if len(sys.argv) != 2:
+        print("usage: tests/benchmarks.py PROGRAM", file=sys.stderr)
+        return 2
+    wrong = {shape: compare(sys.argv[1], shape) for shape in SHAPES}
+    for shape, told in wrong.items():
+        if told:
+            print(f"FAIL {shape}: {told}")
+    failed = sum(map(bool, wrong.values()))
+    print(f"{len(SHAPES) - failed} passed, {failed} failed")
+    return 1 if failed else 0
+
+
+if __name__ == "__main__":
+    sys.exit(main())
