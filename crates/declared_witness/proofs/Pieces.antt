@@ -1,0 +1,89 @@
+-- The one piece of the worked set, and what comes of it and of its parts, computed.
+use Rattle.std.proofs.Common.{◌≡◌, ℕ, Bool, List, [], ◌∷◌, None, Option, Some, refl}
+use Rattle.std.specs.Prelude.{Result, Ok, codes}
+use Rattle.std.specs.Str.{chars}
+use Rattle.caseless.specs.Caseless.{default_case_fold}
+use Rattle.ucd_case.specs.CaseFolding.{full_folding}
+use Rattle.ucd_table.specs.Rows.{value_in}
+use Rattle.ucd_case.specs.FullFoldingRows.{full_folding_rows}
+use Rattle.msb_values.specs.declared.mode.Mode.TheVariants.{Incremental, Clean}
+use Rattle.msb_values.specs.declared.put.Put.{Put}
+use Rattle.msb_expand.specs.declared.lens.Bucket.{Bucket}
+use Rattle.msb_expression.specs.Machine.{run as read_on}
+use Rattle.result_cache.specs.Journal.{Journal}
+use Rattle.result_cache.specs.Same.{same_run, same_instance}
+use Rattle.task_trait.specs.declared.tools.ToolAnswer.{ToolAnswer}
+use Rattle.task_trait.specs.declared.tools.ToolInput.{ToolInput}
+use Rattle.target_incremental.specs.declared.decision.Choice.TheVariants.{Run as RunAll, Part}
+use Rattle.target_texts.specs.Lists.{Lists}
+use Rattle.target_body.specs.States.{Run, State, Stopped, begun, entered, state_of}
+use Rattle.build_declared.specs.Declared.{clean_pieces}
+use Rattle.build_declared.specs.Ends.{End}
+use Rattle.build_declared.specs.Pieces.{Piece, ByItems, end_of_piece}
+use Rattle.build_declared.specs.Places.{run_at}
+use Rattle.build_declared.specs.Settled.{pieces_at}
+use Rattle.build_declared.specs.Sublists.{kept}
+use Rattle.declared_witness.specs.ThreeCopies.{sources, target, scope, files, files_left, run, clean_record, part_record, body_of}
+
+-- no metadata batch the target
+abbrev pub bucket : Bucket
+bucket = record { values = []; lists = [] }
+
+abbrev pub lists : Lists
+lists = record {
+  inputs = codes "1.c" ∷ codes "2.c" ∷ codes "3.c" ∷ [];
+  outputs = codes "o/1.o" ∷ codes "o/2.o" ∷ codes "o/3.o" ∷ [];
+  items = Some (codes "c", sources);
+}
+
+abbrev pub begins : Journal → State
+begins journal = entered scope bucket (begun scope journal)
+
+abbrev pub piece : Piece
+piece = record { bucket = bucket; lists = lists; from = begins []; before = [] }
+
+abbrev pub clean_run : Run
+clean_run = run_at files Clean run target
+
+pub by-items : ByItems piece sources
+by-items = record { kind = codes "c"; typed = refl; inputs = refl; outputs = refl }
+
+-- what an end tells, if there is one
+abbrev pub state_in : Option (End (Result State Stopped)) → State
+state_in None = begins []
+state_in (Some end) = state_of end.value
+
+abbrev pub puts_in : Option (End (Result State Stopped)) → List Put
+puts_in None = []
+puts_in (Some end) = end.puts
+
+-- it ends well
+abbrev pub EndsWell : Option (End (Result State Stopped)) → Type 0
+EndsWell x = x ≡ Some (record {
+  value = Ok (state_in x);
+  journal = (state_in x).journal;
+  puts = puts_in x;
+})
+
+module _ (tools : List ℕ → ToolInput → ToolAnswer) where
+  pub pieces-so : clean_pieces tools files (Some target) scope run [] ≡ piece ∷ []
+  unfolding same_run same_instance read_on default_case_fold full_folding value_in full_folding_rows chars
+  pieces-so = refl
+
+  pub settled-pieces : pieces_at tools files Incremental (body_of part_record) ≡ piece ∷ []
+  unfolding same_run same_instance read_on default_case_fold full_folding value_in full_folding_rows chars
+  settled-pieces = refl
+
+  pub first-pieces : pieces_at tools files Clean (body_of clean_record) ≡ piece ∷ []
+  unfolding same_run same_instance read_on default_case_fold full_folding value_in full_folding_rows chars
+  first-pieces = refl
+
+  pub again-pieces : pieces_at tools files_left Clean (body_of clean_record) ≡ piece ∷ []
+  unfolding same_run same_instance read_on default_case_fold full_folding value_in full_folding_rows chars
+  again-pieces = refl
+
+  abbrev pub whole : Option (End (Result State Stopped))
+  whole = end_of_piece tools run clean_run piece RunAll
+
+  abbrev pub part : List Bool → Option (End (Result State Stopped))
+  part marks = end_of_piece tools run clean_run piece (Part (kept marks sources))
