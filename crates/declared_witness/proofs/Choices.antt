@@ -19,10 +19,10 @@ use Rattle.std.proofs.Common.{
 }
 use Rattle.std.specs.Prelude.{codes}
 use Rattle.std.specs.Str.{chars}
-use Rattle.caseless.specs.Caseless.{default_case_fold}
-use Rattle.ucd_case.specs.CaseFolding.{full_folding}
+use Rattle.caseless.specs.Caseless.{default_case_fold as fold_case}
+use Rattle.ucd_case.specs.CaseFolding.{full_folding as folding}
 use Rattle.ucd_table.specs.Rows.{value_in}
-use Rattle.ucd_case.specs.FullFoldingRows.{full_folding_rows}
+use Rattle.ucd_case.specs.FullFoldingRows.{full_folding_rows as rows}
 use Rattle.msb_values.specs.declared.change.Change.TheVariants.{AddItems}
 use Rattle.msb_values.specs.declared.item.Item.{Item}
 use Rattle.msb_values.specs.declared.mode.Mode.{Mode}
@@ -91,38 +91,38 @@ GoesAs choice puts decision =
     work_by (always choice) clean_run scope [] ≡ steps_of puts (outcome_as decision)
 
 all-go : GoesAs RunAll (first_put ∷ second_put ∷ third_put ∷ []) Ran
-unfolding same_run same_instance read_on default_case_fold full_folding value_in full_folding_rows chars
+unfolding same_run same_instance read_on fold_case folding value_in rows chars
 all-go = refl
 
 none-go : GoesAs Skip [] UpToDate
-unfolding same_run same_instance read_on default_case_fold full_folding value_in full_folding_rows chars
+unfolding same_run same_instance read_on fold_case folding value_in rows chars
 none-go = refl
 
 abbrev PartGoes : List Bool → List Put → Decision → Type 0
 PartGoes marks puts decision = GoesAs (Part (kept marks sources)) puts decision
 
 first-goes : PartGoes (true ∷ false ∷ false ∷ []) (first_put ∷ []) (InPart 1 3)
-unfolding same_run same_instance read_on default_case_fold full_folding value_in full_folding_rows chars
+unfolding same_run same_instance read_on fold_case folding value_in rows chars
 first-goes = refl
 
 second-goes : PartGoes (false ∷ true ∷ false ∷ []) (second_put ∷ []) (InPart 1 3)
-unfolding same_run same_instance read_on default_case_fold full_folding value_in full_folding_rows chars
+unfolding same_run same_instance read_on fold_case folding value_in rows chars
 second-goes = refl
 
 third-goes : PartGoes (false ∷ false ∷ true ∷ []) (third_put ∷ []) (InPart 1 3)
-unfolding same_run same_instance read_on default_case_fold full_folding value_in full_folding_rows chars
+unfolding same_run same_instance read_on fold_case folding value_in rows chars
 third-goes = refl
 
 not-third-go : PartGoes (true ∷ true ∷ false ∷ []) (first_put ∷ second_put ∷ []) (InPart 2 3)
-unfolding same_run same_instance read_on default_case_fold full_folding value_in full_folding_rows chars
+unfolding same_run same_instance read_on fold_case folding value_in rows chars
 not-third-go = refl
 
 not-second-go : PartGoes (true ∷ false ∷ true ∷ []) (first_put ∷ third_put ∷ []) (InPart 2 3)
-unfolding same_run same_instance read_on default_case_fold full_folding value_in full_folding_rows chars
+unfolding same_run same_instance read_on fold_case folding value_in rows chars
 not-second-go = refl
 
 not-first-go : PartGoes (false ∷ true ∷ true ∷ []) (second_put ∷ third_put ∷ []) (InPart 2 3)
-unfolding same_run same_instance read_on default_case_fold full_folding value_in full_folding_rows chars
+unfolding same_run same_instance read_on fold_case folding value_in rows chars
 not-first-go = refl
 
 module _ (tools : List ℕ → ToolInput → ToolAnswer) where

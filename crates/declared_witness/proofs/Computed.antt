@@ -1,27 +1,68 @@
 -- What the builds of the worked set mean, computed.
-use Rattle.std.proofs.Common.{◌≡◌, ◌≤◌, ℕ, inl, inr, List, length, Some, refl, sym, ◌∙◌, arith}
+use Rattle.std.proofs.Common.{
+  ◌≡◌,
+  ◌≤◌,
+  ℕ,
+  inl,
+  inr,
+  List,
+  [],
+  length,
+  Option,
+  Some,
+  refl,
+  ap,
+  sym,
+  ◌∙◌,
+  subst,
+  arith,
+}
+use Rattle.std.specs.Prelude.{Ok, codes}
 use Rattle.std.specs.Str.{chars}
-use Rattle.caseless.specs.Caseless.{default_case_fold}
-use Rattle.ucd_case.specs.CaseFolding.{full_folding}
+use Rattle.caseless.specs.Caseless.{default_case_fold as fold_case}
+use Rattle.ucd_case.specs.CaseFolding.{full_folding as folding}
 use Rattle.ucd_table.specs.Rows.{value_in}
-use Rattle.ucd_case.specs.FullFoldingRows.{full_folding_rows}
+use Rattle.ucd_case.specs.FullFoldingRows.{full_folding_rows as rows}
+use Rattle.msb_values.specs.declared.mode.Mode.{Mode}
 use Rattle.msb_values.specs.declared.mode.Mode.TheVariants.{Incremental, Clean}
+use Rattle.file_store.specs.declared.tree.File.{File}
 use Rattle.msb_expression.specs.Machine.{run as read_on}
 use Rattle.target_order.specs.Visit.{visit, order}
 use Rattle.result_cache.specs.declared.record.Record.{Record}
+use Rattle.result_cache.specs.declared.request.RequestResult.{RequestResult}
 use Rattle.result_cache.specs.declared.run.RunId.{RunId}
 use Rattle.result_cache.specs.Journal.{Journal}
 use Rattle.result_cache.specs.Lists.{In}
 use Rattle.result_cache.specs.Same.{same_run, same_instance}
-use Rattle.build_meaning.specs.Meaning.{built, deepest, most_instances, meaning}
+use Rattle.build_meaning.specs.Meaning.{
+  requested,
+  built,
+  Given,
+  containing,
+  deepest,
+  most_instances,
+  walk,
+  request,
+  meaning,
+}
+use Rattle.build_meaning.specs.World.{World}
 use Rattle.build_meaning.specs.Demand.{IsWhole, IsSteady, distinct, instances}
 use Rattle.build_meaning.specs.SoFar.{ToolUse}
-use Rattle.build_incremental.specs.Placed.{plain_world}
+use Rattle.build_incremental.specs.Placed.{Placed, plain, plain_world}
 use Rattle.task_trait.specs.declared.tools.ToolAnswer.{ToolAnswer}
 use Rattle.task_trait.specs.declared.tools.ToolInput.{ToolInput}
+use Rattle.request_machine.specs.Worlds.{world_of}
+use Rattle.build_declared.specs.Places.{Site}
+use Rattle.build_declared.specs.Worlds.{placed_by}
+use Rattle.build_declared.proofs.Plain.{plain-is-world}
+use Rattle.declared_witness.proofs.Derivations.{walk-so}
 use Rattle.declared_witness.specs.ThreeCopies.{
+  instance,
+  files_with,
   files,
   files_left,
+  root,
+  build,
   world,
   given,
   clean_record,
@@ -31,17 +72,47 @@ use Rattle.declared_witness.specs.ThreeCopies.{
 }
 
 module _ (tools : List ℕ → ToolInput → ToolAnswer) where
-  pub clean-means : meaning (plain_world (world tools files Clean)) ≡ Some clean_given
-  unfolding same_run same_instance deepest read_on visit order default_case_fold full_folding value_in full_folding_rows chars
-  clean-means = refl
+  abbrev plain_of : List File → Mode → World ToolInput ToolAnswer
+  plain_of tree mode = plain_world (world tools tree mode)
 
-  pub part-means : meaning (plain_world (world tools files Incremental)) ≡ Some part_given
-  unfolding same_run same_instance deepest read_on visit order default_case_fold full_folding value_in full_folding_rows chars
-  part-means = refl
+  -- what the root request gives by its walk
+  abbrev given_by : List File → Mode → Placed Site ToolInput ToolAnswer →
+      Option (Given ToolInput RequestResult)
+  given_by tree mode placed_walk = containing (requested root)
+      (walk (plain_of tree mode) (request (plain_of tree mode) 127) [] (plain placed_walk) [] [])
+
+  abbrev evaluated_walk : List File → Mode → Placed Site ToolInput ToolAnswer
+  evaluated_walk tree mode = placed_by tree mode root [] (Ok instance)
+
+  means : (bytes : List ℕ) (stamp : ℕ) (mode : Mode) →
+      meaning (plain_of (files_with bytes stamp) mode)
+      ≡ given_by (files_with bytes stamp) mode (evaluated_walk (files_with bytes stamp) mode)
+  unfolding deepest
+  means bytes stamp mode =
+      ap (given_by (files_with bytes stamp) mode) (walk-so tools bytes stamp mode)
+
+  clean-given : given_by files Clean (evaluated_walk files Clean) ≡ Some clean_given
+  unfolding same_run same_instance deepest read_on visit order fold_case folding value_in rows chars
+  clean-given = refl
+
+  part-given : given_by files Incremental (evaluated_walk files Incremental) ≡ Some part_given
+  unfolding same_run same_instance deepest read_on visit order fold_case folding value_in rows chars
+  part-given = refl
+
+  again-given : given_by files_left Clean (evaluated_walk files_left Clean) ≡ Some clean_given
+  unfolding same_run same_instance deepest read_on visit order fold_case folding value_in rows chars
+  again-given = refl
+
+  pub clean-means : meaning (plain_world (world tools files Clean)) ≡ Some clean_given
+  clean-means = means (codes "old") 7 Clean ∙ clean-given
+
+  pub part-means : meaning (world_of tools (build Incremental)) ≡ Some part_given
+  part-means = subst (λ w. meaning w ≡ Some part_given)
+      (plain-is-world tools (build Incremental))
+      (means (codes "old") 7 Incremental ∙ part-given)
 
   pub again-means : meaning (plain_world (world tools files_left Clean)) ≡ Some clean_given
-  unfolding same_run same_instance deepest read_on visit order default_case_fold full_folding value_in full_folding_rows chars
-  again-means = refl
+  again-means = means (codes "two") 10 Clean ∙ again-given
 
 pub few : (made : Record) (journal : Journal) →
     length (distinct (instances (given made journal).demand)) ≤ most_instances

@@ -23,10 +23,10 @@ use Rattle.std.proofs.Common.{
 }
 use Rattle.std.specs.Prelude.{Result}
 use Rattle.std.specs.Str.{chars}
-use Rattle.caseless.specs.Caseless.{default_case_fold}
-use Rattle.ucd_case.specs.CaseFolding.{full_folding}
+use Rattle.caseless.specs.Caseless.{default_case_fold as fold_case}
+use Rattle.ucd_case.specs.CaseFolding.{full_folding as folding}
 use Rattle.ucd_table.specs.Rows.{value_in}
-use Rattle.ucd_case.specs.FullFoldingRows.{full_folding_rows}
+use Rattle.ucd_case.specs.FullFoldingRows.{full_folding_rows as rows}
 use Rattle.msb_values.specs.declared.item.Item.{Item}
 use Rattle.msb_values.specs.declared.mode.Mode.TheVariants.{Clean}
 use Rattle.msb_values.specs.declared.note.Note.{Note}
@@ -42,7 +42,14 @@ use Rattle.task_trait.specs.declared.tools.ToolAnswer.{ToolAnswer}
 use Rattle.task_trait.specs.declared.tools.ToolInput.{ToolInput}
 use Rattle.target_body.specs.States.{State, Stopped}
 use Rattle.build_declared.specs.CalledTasks.{Called, calls_of, ReturnsGiven}
-use Rattle.build_declared.specs.Declared.{PartIsDeclared, SucceedsWith, PieceIsDeclared, DeclaredBy, DeclaredAt, IsDeclared}
+use Rattle.build_declared.specs.Declared.{
+  PartIsDeclared,
+  SucceedsWith,
+  PieceIsDeclared,
+  DeclaredBy,
+  DeclaredAt,
+  IsDeclared,
+}
 use Rattle.build_declared.specs.Ends.{End}
 use Rattle.build_declared.specs.Pieces.{Piece, ByItems}
 use Rattle.build_declared.specs.Sublists.{ArePart, kept}
@@ -62,7 +69,20 @@ use Rattle.declared_witness.proofs.Pieces.{
   whole,
   part,
 }
-use Rattle.declared_witness.specs.ThreeCopies.{sources, target, scope, files, world, run, first_put, second_put, third_put, clean_record, clean_journal, clean_given}
+use Rattle.declared_witness.specs.ThreeCopies.{
+  sources,
+  target,
+  scope,
+  files,
+  world,
+  run,
+  first_put,
+  second_put,
+  third_put,
+  clean_record,
+  clean_journal,
+  clean_given,
+}
 
 abbrev outputs : List (List ℕ)
 outputs = lists.outputs
@@ -94,7 +114,7 @@ module _ (tools : List ℕ → ToolInput → ToolAnswer) where
   -- what the piece comes to where it succeeds
   puts-so : (t : State) (puts : List Put) → SucceedsWith tools run clean_run piece t puts →
       all_puts ≡ puts
-  unfolding same_run same_instance read_on default_case_fold full_folding value_in full_folding_rows chars
+  unfolding same_run same_instance read_on fold_case folding value_in rows chars
   puts-so t puts e = ap puts_in e
 
   state-so : (t : State) (puts : List Put) → SucceedsWith tools run clean_run piece t puts →
@@ -104,7 +124,7 @@ module _ (tools : List ℕ → ToolInput → ToolAnswer) where
   no-outputs : (c : Called) → In c (calls_of tools run clean_run
       (children_of clean_run.target.element) piece.from piece.before) →
       ReturnsGiven tools run clean_run c
-  unfolding same_run same_instance read_on default_case_fold full_folding value_in full_folding_rows chars
+  unfolding same_run same_instance read_on fold_case folding value_in rows chars
   no-outputs c (inl e) =
       subst (λ (z : Called). ReturnsGiven tools run clean_run z) e (λ o i. absurd i)
   no-outputs c (inr i) = absurd i
@@ -145,7 +165,7 @@ module _ (tools : List ℕ → ToolInput → ToolAnswer) where
       PartIsDeclared tools run clean_run piece whole_state all_puts sources marks
 
   first-says : PartSays (true ∷ false ∷ false ∷ []) (first_put ∷ [])
-  unfolding same_run same_instance read_on default_case_fold full_folding value_in full_folding_rows chars
+  unfolding same_run same_instance read_on fold_case folding value_in rows chars
   first-says = (refl, refl, refl, refl, refl)
 
   first-is : PartIsSo (true ∷ false ∷ false ∷ [])
@@ -153,7 +173,7 @@ module _ (tools : List ℕ → ToolInput → ToolAnswer) where
       (first_put ∷ []) first-says (refl, tt) (refl, tt)
 
   second-says : PartSays (false ∷ true ∷ false ∷ []) (second_put ∷ [])
-  unfolding same_run same_instance read_on default_case_fold full_folding value_in full_folding_rows chars
+  unfolding same_run same_instance read_on fold_case folding value_in rows chars
   second-says = (refl, refl, refl, refl, refl)
 
   second-is : PartIsSo (false ∷ true ∷ false ∷ [])
@@ -161,7 +181,7 @@ module _ (tools : List ℕ → ToolInput → ToolAnswer) where
       (second_put ∷ []) second-says (refl, tt) (refl, tt)
 
   third-says : PartSays (false ∷ false ∷ true ∷ []) (third_put ∷ [])
-  unfolding same_run same_instance read_on default_case_fold full_folding value_in full_folding_rows chars
+  unfolding same_run same_instance read_on fold_case folding value_in rows chars
   third-says = (refl, refl, refl, refl, refl)
 
   third-is : PartIsSo (false ∷ false ∷ true ∷ [])
@@ -169,7 +189,7 @@ module _ (tools : List ℕ → ToolInput → ToolAnswer) where
       (third_put ∷ []) third-says (refl, tt) (refl, tt)
 
   not-third-says : PartSays (true ∷ true ∷ false ∷ []) (second_put ∷ first_put ∷ [])
-  unfolding same_run same_instance read_on default_case_fold full_folding value_in full_folding_rows chars
+  unfolding same_run same_instance read_on fold_case folding value_in rows chars
   not-third-says = (refl, refl, refl, refl, refl)
 
   not-third-is : PartIsSo (true ∷ true ∷ false ∷ [])
@@ -177,7 +197,7 @@ module _ (tools : List ℕ → ToolInput → ToolAnswer) where
       (second_put ∷ first_put ∷ []) not-third-says (refl, (refl, tt)) (refl, (refl, tt))
 
   not-second-says : PartSays (true ∷ false ∷ true ∷ []) (third_put ∷ first_put ∷ [])
-  unfolding same_run same_instance read_on default_case_fold full_folding value_in full_folding_rows chars
+  unfolding same_run same_instance read_on fold_case folding value_in rows chars
   not-second-says = (refl, refl, refl, refl, refl)
 
   not-second-is : PartIsSo (true ∷ false ∷ true ∷ [])
@@ -185,7 +205,7 @@ module _ (tools : List ℕ → ToolInput → ToolAnswer) where
       (third_put ∷ first_put ∷ []) not-second-says (refl, (refl, tt)) (refl, (refl, tt))
 
   not-first-says : PartSays (false ∷ true ∷ true ∷ []) (third_put ∷ second_put ∷ [])
-  unfolding same_run same_instance read_on default_case_fold full_folding value_in full_folding_rows chars
+  unfolding same_run same_instance read_on fold_case folding value_in rows chars
   not-first-says = (refl, refl, refl, refl, refl)
 
   not-first-is : PartIsSo (false ∷ true ∷ true ∷ [])

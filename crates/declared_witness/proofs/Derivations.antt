@@ -1,11 +1,14 @@
 -- The builds of the worked set as derivations: one request, one run, and what it writes.
-use Rattle.std.proofs.Common.{ℕ, List, [], refl}
+use Rattle.std.proofs.Common.{◌≡◌, ℕ, List, [], refl, ap, sym, subst}
+use Rattle.std.specs.Prelude.{Ok, codes}
 use Rattle.std.specs.Str.{chars}
-use Rattle.caseless.specs.Caseless.{default_case_fold}
-use Rattle.ucd_case.specs.CaseFolding.{full_folding}
+use Rattle.caseless.specs.Caseless.{default_case_fold as fold_case}
+use Rattle.ucd_case.specs.CaseFolding.{full_folding as folding}
 use Rattle.ucd_table.specs.Rows.{value_in}
-use Rattle.ucd_case.specs.FullFoldingRows.{full_folding_rows}
+use Rattle.ucd_case.specs.FullFoldingRows.{full_folding_rows as rows}
+use Rattle.msb_values.specs.declared.mode.Mode.{Mode}
 use Rattle.msb_values.specs.declared.mode.Mode.TheVariants.{Incremental, Clean}
+use Rattle.file_store.specs.declared.tree.File.{File}
 use Rattle.msb_expression.specs.Machine.{run as read_on}
 use Rattle.target_order.specs.Visit.{visit, order}
 use Rattle.result_cache.specs.declared.record.Record.{Record}
@@ -14,8 +17,10 @@ use Rattle.result_cache.specs.declared.run.RunId.{RunId}
 use Rattle.result_cache.specs.Journal.{Journal}
 use Rattle.result_cache.specs.Same.{same_run, same_instance}
 use Rattle.build_meaning.specs.Meaning.{deepest}
+use Rattle.build_incremental.specs.Placed.{Placed}
 use Rattle.build_incremental.specs.Each.{
   EachOfMeaning,
+  EachWalk,
   each_over,
   each_made,
   each_ended,
@@ -23,10 +28,16 @@ use Rattle.build_incremental.specs.Each.{
 }
 use Rattle.task_trait.specs.declared.tools.ToolAnswer.{ToolAnswer}
 use Rattle.task_trait.specs.declared.tools.ToolInput.{ToolInput}
+use Rattle.build_declared.specs.Builds.{instance_by}
 use Rattle.build_declared.specs.Places.{Site}
+use Rattle.build_declared.specs.Worlds.{placed_by}
+use Rattle.declared_witness.proofs.Evaluated.{evaluates}
 use Rattle.declared_witness.specs.ThreeCopies.{
+  instance,
+  files_with,
   files,
   files_left,
+  root,
   world,
   run,
   site,
@@ -37,34 +48,65 @@ use Rattle.declared_witness.specs.ThreeCopies.{
   part_journal,
 }
 
+-- the walk of the root request is that of the project as it is evaluated
+pub walk-so : (tools : List ℕ → ToolInput → ToolAnswer) (bytes : List ℕ) (stamp : ℕ) (mode : Mode) →
+    (world tools (files_with bytes stamp) mode).walks root []
+    ≡ placed_by (files_with bytes stamp) mode root [] (Ok instance)
+walk-so tools bytes stamp mode =
+    ap (λ r. placed_by (files_with bytes stamp) mode root [] (instance_by r))
+    (evaluates bytes stamp)
+
 module _ (tools : List ℕ → ToolInput → ToolAnswer)
     (Q : Site → RunId → Journal → Record → Type 0) (J : Journal → Journal → Journal → Type 0)
   where
     abbrev AnyKey : RequestKey → Type 0
     AnyKey key = Unit {0}
 
+    abbrev Derives : List File → Mode → Placed Site ToolInput ToolAnswer → Journal → Type 0
+    Derives tree mode walk left =
+        EachWalk (world tools tree mode) Q J AnyKey [] [] [] walk result left
+
+    abbrev evaluated_walk : List File → Mode → Placed Site ToolInput ToolAnswer
+    evaluated_walk tree mode = placed_by tree mode root [] (Ok instance)
+
+    clean-walk : Q site run [] clean_record →
+        Derives files Clean (evaluated_walk files Clean) clean_journal
+    unfolding same_run same_instance deepest read_on visit order fold_case folding value_in rows chars
+    clean-walk q = each_made {m = clean_record} (λ i. absurd i) refl
+        (each_wrote (each_wrote (each_wrote each_ended))) q each_over
+
     pub clean-each : Q site run [] clean_record →
         EachOfMeaning (world tools files Clean) Q J AnyKey result clean_journal
-    unfolding same_run same_instance deepest read_on visit order default_case_fold full_folding value_in full_folding_rows chars
     clean-each q = record {
       root = tt;
-      rest = each_made {m = clean_record} (λ i. absurd i) refl
-          (each_wrote (each_wrote (each_wrote each_ended))) q each_over;
+      rest = subst (λ walk. Derives files Clean walk clean_journal)
+          (sym (walk-so tools (codes "old") 7 Clean)) (clean-walk q);
     }
+
+    again-walk : Q site run [] clean_record →
+        Derives files_left Clean (evaluated_walk files_left Clean) clean_journal
+    unfolding same_run same_instance deepest read_on visit order fold_case folding value_in rows chars
+    again-walk q = each_made {m = clean_record} (λ i. absurd i) refl
+        (each_wrote (each_wrote (each_wrote each_ended))) q each_over
 
     pub again-each : Q site run [] clean_record →
         EachOfMeaning (world tools files_left Clean) Q J AnyKey result clean_journal
-    unfolding same_run same_instance deepest read_on visit order default_case_fold full_folding value_in full_folding_rows chars
     again-each q = record {
       root = tt;
-      rest = each_made {m = clean_record} (λ i. absurd i) refl
-          (each_wrote (each_wrote (each_wrote each_ended))) q each_over;
+      rest = subst (λ walk. Derives files_left Clean walk clean_journal)
+          (sym (walk-so tools (codes "two") 10 Clean)) (again-walk q);
     }
+
+    part-walk : Q site run [] part_record →
+        Derives files Incremental (evaluated_walk files Incremental) part_journal
+    unfolding same_run same_instance deepest read_on visit order fold_case folding value_in rows chars
+    part-walk q =
+        each_made {m = part_record} (λ i. absurd i) refl (each_wrote each_ended) q each_over
 
     pub part-each : Q site run [] part_record →
         EachOfMeaning (world tools files Incremental) Q J AnyKey result part_journal
-    unfolding same_run same_instance deepest read_on visit order default_case_fold full_folding value_in full_folding_rows chars
     part-each q = record {
       root = tt;
-      rest = each_made {m = part_record} (λ i. absurd i) refl (each_wrote each_ended) q each_over;
+      rest = subst (λ walk. Derives files Incremental walk part_journal)
+          (sym (walk-so tools (codes "old") 7 Incremental)) (part-walk q);
     }

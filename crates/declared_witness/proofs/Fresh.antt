@@ -19,10 +19,10 @@ use Rattle.std.proofs.Common.{
 }
 use Rattle.std.specs.Prelude.{codes}
 use Rattle.std.specs.Str.{chars}
-use Rattle.caseless.specs.Caseless.{default_case_fold}
-use Rattle.ucd_case.specs.CaseFolding.{full_folding}
+use Rattle.caseless.specs.Caseless.{default_case_fold as fold_case}
+use Rattle.ucd_case.specs.CaseFolding.{full_folding as folding}
 use Rattle.ucd_table.specs.Rows.{value_in}
-use Rattle.ucd_case.specs.FullFoldingRows.{full_folding_rows}
+use Rattle.ucd_case.specs.FullFoldingRows.{full_folding_rows as rows}
 use Rattle.msb_values.specs.declared.mode.Mode.TheVariants.{Clean}
 use Rattle.msb_expression.specs.Machine.{run as read_on}
 use Rattle.file_store.specs.declared.tree.File.{File}
@@ -77,11 +77,11 @@ module _ (tools : List ℕ → ToolInput → ToolAnswer) where
   found (Some f) = f
 
   first-same : Holds (file (codes "o/1.o") (codes "one") 7)
-  unfolding same_run same_instance read_on default_case_fold full_folding value_in full_folding_rows chars
+  unfolding same_run same_instance read_on fold_case folding value_in rows chars
   first-same = (state_in (whole tools), puts_in (whole tools), refl, refl)
 
   third-same : Holds (file (codes "o/3.o") (codes "three") 7)
-  unfolding same_run same_instance read_on default_case_fold full_folding value_in full_folding_rows chars
+  unfolding same_run same_instance read_on fold_case folding value_in rows chars
   third-same = (state_in (whole tools), puts_in (whole tools), refl, refl)
 
   abbrev pair : List ℕ → List ℕ → Pairing

@@ -1,11 +1,13 @@
--- The one piece of the worked set, and what comes of it and of its parts, computed.
+-- The one piece of the worked set, and what comes of it and of its parts, computed. What is opened
+-- for it are the reading of texts, the order of targets, and the table by which texts are compared
+-- without case.
 use Rattle.std.proofs.Common.{◌≡◌, ℕ, Bool, List, [], ◌∷◌, None, Option, Some, refl}
 use Rattle.std.specs.Prelude.{Result, Ok, codes}
 use Rattle.std.specs.Str.{chars}
-use Rattle.caseless.specs.Caseless.{default_case_fold}
-use Rattle.ucd_case.specs.CaseFolding.{full_folding}
+use Rattle.caseless.specs.Caseless.{default_case_fold as fold_case}
+use Rattle.ucd_case.specs.CaseFolding.{full_folding as folding}
 use Rattle.ucd_table.specs.Rows.{value_in}
-use Rattle.ucd_case.specs.FullFoldingRows.{full_folding_rows}
+use Rattle.ucd_case.specs.FullFoldingRows.{full_folding_rows as rows}
 use Rattle.msb_values.specs.declared.mode.Mode.TheVariants.{Incremental, Clean}
 use Rattle.msb_values.specs.declared.put.Put.{Put}
 use Rattle.msb_expand.specs.declared.lens.Bucket.{Bucket}
@@ -23,7 +25,17 @@ use Rattle.build_declared.specs.Pieces.{Piece, ByItems, end_of_piece}
 use Rattle.build_declared.specs.Places.{run_at}
 use Rattle.build_declared.specs.Settled.{pieces_at}
 use Rattle.build_declared.specs.Sublists.{kept}
-use Rattle.declared_witness.specs.ThreeCopies.{sources, target, scope, files, files_left, run, clean_record, part_record, body_of}
+use Rattle.declared_witness.specs.ThreeCopies.{
+  sources,
+  target,
+  scope,
+  files,
+  files_left,
+  run,
+  clean_record,
+  part_record,
+  body_of,
+}
 
 -- no metadata batch the target
 abbrev pub bucket : Bucket
@@ -67,19 +79,19 @@ EndsWell x = x ≡ Some (record {
 
 module _ (tools : List ℕ → ToolInput → ToolAnswer) where
   pub pieces-so : clean_pieces tools files (Some target) scope run [] ≡ piece ∷ []
-  unfolding same_run same_instance read_on default_case_fold full_folding value_in full_folding_rows chars
+  unfolding same_run same_instance read_on fold_case folding value_in rows chars
   pieces-so = refl
 
   pub settled-pieces : pieces_at tools files Incremental (body_of part_record) ≡ piece ∷ []
-  unfolding same_run same_instance read_on default_case_fold full_folding value_in full_folding_rows chars
+  unfolding same_run same_instance read_on fold_case folding value_in rows chars
   settled-pieces = refl
 
   pub first-pieces : pieces_at tools files Clean (body_of clean_record) ≡ piece ∷ []
-  unfolding same_run same_instance read_on default_case_fold full_folding value_in full_folding_rows chars
+  unfolding same_run same_instance read_on fold_case folding value_in rows chars
   first-pieces = refl
 
   pub again-pieces : pieces_at tools files_left Clean (body_of clean_record) ≡ piece ∷ []
-  unfolding same_run same_instance read_on default_case_fold full_folding value_in full_folding_rows chars
+  unfolding same_run same_instance read_on fold_case folding value_in rows chars
   again-pieces = refl
 
   abbrev pub whole : Option (End (Result State Stopped))

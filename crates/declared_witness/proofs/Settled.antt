@@ -1,11 +1,31 @@
 -- The worked set is settled and repeated.
-use Rattle.std.proofs.Common.{◌≡◌, ◌<◌, ◌≤◌, ℕ, ◌⊎◌, inl, inr, true, List, [], ◌∷◌, length, map, Option, refl, ap, sym, ◌∙◌, subst, arith}
+use Rattle.std.proofs.Common.{
+  ◌≡◌,
+  ◌<◌,
+  ◌≤◌,
+  ℕ,
+  ◌⊎◌,
+  inl,
+  inr,
+  true,
+  List,
+  [],
+  ◌∷◌,
+  length,
+  map,
+  Option,
+  refl,
+  ap,
+  sym,
+  ◌∙◌,
+  subst,
+  arith,
+}
 use Rattle.std.specs.Prelude.{IsSome, Result, codes}
-use Rattle.std.specs.Str.{chars}
-use Rattle.caseless.specs.Caseless.{default_case_fold}
-use Rattle.ucd_case.specs.CaseFolding.{full_folding}
+use Rattle.caseless.specs.Caseless.{default_case_fold as fold_case}
+use Rattle.ucd_case.specs.CaseFolding.{full_folding as folding}
 use Rattle.ucd_table.specs.Rows.{value_in}
-use Rattle.ucd_case.specs.FullFoldingRows.{full_folding_rows}
+use Rattle.ucd_case.specs.FullFoldingRows.{full_folding_rows as rows}
 use Rattle.msb_values.specs.declared.mode.Mode.{Mode}
 use Rattle.msb_values.specs.declared.mode.Mode.TheVariants.{Incremental, Clean}
 use Rattle.msb_values.specs.declared.put.Put.{Put}
@@ -16,8 +36,14 @@ use Rattle.result_cache.specs.declared.run.RunId.{RunId}
 use Rattle.result_cache.specs.Journal.{wrote, write_of, has}
 use Rattle.result_cache.specs.Lists.{In}
 use Rattle.result_cache.specs.Same.{same_run, same_instance}
+use Rattle.result_cache.proofs.RunTests.{tells}
+use Rattle.std.specs.Str.{bytes_eq, chars}
+use Rattle.std.proofs.lemmas.Slice.Eq.{bytes_eq-Decides}
+use Rattle.build_declared.specs.Written.{bytes_in}
+use Rattle.build_incremental.specs.Alike.{seen}
 use Rattle.build_incremental.specs.Demand.{Occurrence, IsAmong}
 use Rattle.build_incremental.specs.Joins.{Anyhow}
+use Rattle.msb_files.specs.FinalTree.{IsFinalTree}
 use Rattle.msb_files.specs.Views as views
 use Rattle.task_trait.specs.declared.tools.ToolAnswer.{ToolAnswer}
 use Rattle.task_trait.specs.declared.tools.ToolInput.{ToolInput}
@@ -53,6 +79,14 @@ use Rattle.declared_witness.specs.ThreeCopies.{
   body_of,
 }
 
+-- the build leaves the second object as it has copied it, and every other file as it was
+left-so : IsFinalTree files part_journal files_left
+left-so path = elim (tells (bytes_eq (codes "o/2.o") path)) [
+  | inl e ↦ subst (λ z. bytes_in files_left z ≡ seen (bytes_in files) part_journal z)
+      ((bytes_eq-Decides (codes "o/2.o") path).0 e) refl
+  | inr n ↦ rw n refl
+]
+
 module _ (tools : List ℕ → ToolInput → ToolAnswer) where
   abbrev body : Occurrence Site
   body = body_of part_record
@@ -84,11 +118,11 @@ module _ (tools : List ℕ → ToolInput → ToolAnswer) where
   SucceedsSo o p puts = Succeeds tools files Incremental o.place.target o p puts
 
   second-copied : SucceedsSo body piece (second_put ∷ [])
-  unfolding same_run same_instance read_on default_case_fold full_folding value_in full_folding_rows chars
+  unfolding same_run same_instance read_on fold_case folding value_in rows chars
   second-copied = (state_in decided, refl)
 
   puts-so : (puts : List Put) → SucceedsSo body piece puts → second_put ∷ [] ≡ puts
-  unfolding same_run same_instance read_on default_case_fold full_folding value_in full_folding_rows chars
+  unfolding same_run same_instance read_on fold_case folding value_in rows chars
   puts-so puts h = ap puts_in h.1
 
   abbrev Exists : List ℕ → Type 0
@@ -190,6 +224,7 @@ module _ (tools : List ℕ → ToolInput → ToolAnswer) where
 
   pub repeats : RepeatsHere tools
   repeats = record {
+    left = left-so;
     first_bodies = clean-each tools (IsAmong (again ∷ [])) Anyhow (inl refl);
     whole = again-whole tools;
     steady = steady clean_record clean_journal;

@@ -7,6 +7,7 @@ use Rattle.build_incremental.specs.Demand.{IsAmong}
 use Rattle.build_incremental.specs.Each.{EachOfMeaning}
 use Rattle.build_incremental.specs.Joins.{Anyhow}
 use Rattle.build_incremental.specs.Placed.{plain_world}
+use Rattle.msb_files.specs.FinalTree.{IsFinalTree}
 use Rattle.task_trait.specs.declared.tools.ToolAnswer.{ToolAnswer}
 use Rattle.task_trait.specs.declared.tools.ToolInput.{ToolInput}
 use Rattle.build_declared.specs.Settled.{pieces_at, IsSettled, FreeRunsKeepOff, HaveSame}
@@ -32,9 +33,10 @@ pub record SettlesHere (tools : List ℕ → ToolInput → ToolAnswer) : Type 0 
       Anyhow AnyKey part_given.value part_given.journal
   pub settled : IsSettled tools files Incremental (body_of part_record ∷ []) part_journal
 
--- over the files that it leaves the clean build is whole and steady, makes the same run with the
--- same pieces and the same record, and no other
+-- the build of the files as they stand leaves files over which the clean build is whole and steady,
+-- makes the same run with the same pieces and the same record, and no other
 pub record RepeatsHere (tools : List ℕ → ToolInput → ToolAnswer) : Type 0 where
+  pub left : IsFinalTree files part_given.journal files_left
   pub first_bodies : EachOfMeaning (world tools files Clean) (IsAmong (body_of clean_record ∷ []))
       Anyhow AnyKey clean_given.value clean_given.journal
   pub whole : IsWhole (plain_world (world tools files_left Clean)) clean_given

@@ -8,11 +8,11 @@ use Rattle.std.specs.Prelude.{
   List,
   [],
   ◌∷◌,
+  ◌++◌,
   None,
   Some,
-  Result,
-  Ok,
   codes,
+  refl,
 }
 use Rattle.msb_values.specs.declared.change.Change.TheVariants.{AddItems}
 use Rattle.msb_values.specs.declared.item.Item.{Item}
@@ -23,6 +23,7 @@ use Rattle.msb_elements.specs.Nodes.{Node, node, no_nodes, more}
 use Rattle.file_store.specs.declared.tree.File.{File}
 use Rattle.build_world.specs.Elements.{at}
 use Rattle.build_world.specs.Instances.{Instance, UsedTarget}
+use Rattle.build_world.specs.declared.world.World.{World as Build}
 use Rattle.result_cache.specs.declared.record.Decision.{Decision}
 use Rattle.result_cache.specs.declared.record.Decision.TheVariants.{Ran, Part}
 use Rattle.result_cache.specs.declared.record.Record.{Record}
@@ -33,11 +34,11 @@ use Rattle.result_cache.specs.declared.request.RequestResult.{RequestResult}
 use Rattle.result_cache.specs.declared.run.RunId.{RunId}
 use Rattle.result_cache.specs.Journal.{Journal, wrote, ended}
 use Rattle.build_meaning.specs.Meaning.{Given, requested, built}
-use Rattle.build_meaning.specs.Walk.{Reply}
 use Rattle.build_incremental.specs.Demand.{Occurrence}
 use Rattle.build_incremental.specs.Placed.{PlacedWorld}
 use Rattle.task_trait.specs.declared.tools.ToolAnswer.{ToolAnswer}
 use Rattle.task_trait.specs.declared.tools.ToolInput.{ToolInput}
+use Rattle.build_declared.specs.Builds.{instances_of}
 use Rattle.build_declared.specs.Places.{Site}
 use Rattle.build_declared.specs.Worlds.{world_by}
 
@@ -101,18 +102,40 @@ instance = record {
   duplicates = [];
 }
 
+-- ---- the project's file
+
+abbrev pub items_text : List ℕ
+items_text = codes "{\"e\":\"ItemGroup\",\"c\":[{\"e\":\"C\",\"a\":{\"Include\":\"1.c;2.c;3.c\"}}]}"
+
+abbrev pub copy_text : List ℕ
+copy_text = codes "{\"e\":\"Copy\",\"a\":{\"DestinationFiles\":\"" ++ all_objects
+    ++ codes "\",\"SourceFiles\":\"@(C)\"}}"
+
+abbrev pub group_text : List ℕ
+group_text = codes "{\"e\":\"ItemGroup\",\"c\":[{\"e\":\"O\",\"a\":{\"Include\":\"" ++ all_objects
+    ++ codes "\"}}]}"
+
+abbrev pub target_text : List ℕ
+target_text = codes "{\"e\":\"Target\",\"a\":{\"Inputs\":\"@(C)\",\"Name\":\"Build\",\"Outputs\":\""
+    ++ all_objects ++ codes "\",\"Returns\":\"@(O)\"},\"c\":[" ++ copy_text ++ codes ","
+    ++ group_text ++ codes "]}"
+
+abbrev pub project_bytes : List ℕ
+project_bytes = codes "{\"e\":\"Project\",\"c\":[" ++ items_text ++ codes "," ++ target_text
+    ++ codes "]}"
+
 -- ---- the files, and what is asked for
 
 abbrev pub file : List ℕ → List ℕ → ℕ → File
 file path bytes stamp = record { path = path; bytes = bytes; stamp = stamp }
 
--- The object of the second source has these bytes and this stamp. The project's own file is left
--- out: the world begins with what it evaluates to.
+-- the object of the second source has these bytes and this stamp
 abbrev pub files_with : List ℕ → ℕ → List File
 files_with bytes stamp =
     file (codes "1.c") (codes "one") 5 ∷ file (codes "2.c") (codes "two") 9
-    ∷ file (codes "3.c") (codes "three") 5 ∷ file (codes "o/1.o") (codes "one") 7
-    ∷ file (codes "o/2.o") bytes stamp ∷ file (codes "o/3.o") (codes "three") 7 ∷ []
+    ∷ file (codes "3.c") (codes "three") 5 ∷ file project project_bytes 1
+    ∷ file (codes "o/1.o") (codes "one") 7 ∷ file (codes "o/2.o") bytes stamp
+    ∷ file (codes "o/3.o") (codes "three") 7 ∷ []
 
 -- the files as they stand, and as the build leaves them
 abbrev pub files : List File
@@ -129,12 +152,20 @@ root = record {
   named = false;
 }
 
-abbrev pub instances : RequestKey → Result Instance Reply
-instances key = Ok instance
+-- the build of the project over the files as they stand
+abbrev pub build : Mode → Build
+build mode = record {
+  tree = record { files = files; in_order = refl };
+  root = project;
+  globals = [];
+  targets = [];
+  mode = mode;
+}
 
+-- the world of a build over some files
 abbrev pub world : (List ℕ → ToolInput → ToolAnswer) → List File → Mode →
     PlacedWorld Site ToolInput ToolAnswer
-world tools tree mode = world_by tools tree root instances mode
+world tools tree mode = world_by tools tree root (instances_of tree) mode
 
 -- ---- what a build comes to
 

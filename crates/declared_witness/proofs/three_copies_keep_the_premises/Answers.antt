@@ -7,11 +7,9 @@ use Rattle.declared_witness.proofs.three_copies_keep_the_premises.Goals as goal
 pub returns-clause-part : goal.returns-clause-part
 returns-clause-part c tools = part-means tools
 
-pub returns-clause-declared : goal.returns-clause-declared
-returns-clause-declared c tools = declared tools
-
-pub returns-clause-fresh : goal.returns-clause-fresh
-returns-clause-fresh c tools = fresh tools
+pub returns-clause-trustworthy : goal.returns-clause-trustworthy
+returns-clause-trustworthy c tools mode =
+    record { declared = declared tools; fresh = fresh tools }
 
 pub returns-clause-settled : goal.returns-clause-settled
 returns-clause-settled c tools = settles tools
