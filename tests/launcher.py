@@ -484,8 +484,10 @@ def try_interrupts(tests: Tests) -> None:
         tests.check(f"{name} says nothing", b"Traceback" not in terminal.seen, terminal.seen)
     for which in (signal.SIGTERM, signal.SIGINT, signal.SIGHUP):
         file.unlink(missing_ok=True)
+        # A test that is run by `nohup` hands on that it ignores the signal.
         run = subprocess.Popen([place.top / "msb", "build", "x"], cwd=place.work,
-                               stdout=subprocess.PIPE)
+                               stdout=subprocess.PIPE,
+                               preexec_fn=lambda: signal.signal(which, signal.SIG_DFL))
         wait_for(file.exists)
         number = int(file.read_text())
         run.send_signal(which)

@@ -107,6 +107,20 @@ module _ (tools : List ℕ → ToolInput → ToolAnswer) (id : RunId) (run : Run
       AreSo S (piece_if bucket (entered scope bucket t) pt
       (lists_at clean_run bucket (entered scope bucket t))) → GoAlike E F
 
+  -- the notes of a bucket are among those of the run
+  pub rest-keeps : (part : Bucket → State → Work (Result State Stopped)) →
+      ((bucket : Bucket) (s : State) → KeepsNotes tools id s (part bucket s)) →
+      (buckets : List Bucket) (r : Result State Stopped) (l : Journal) (qs : List Put)
+      (E : End (Result State Stopped)) →
+      end_of tools id (unless_stopped r (each_in_turn part buckets)) l qs ≡ Some E →
+      (note : Note) → In note (state_of r).notes → In note (state_of E.value).notes
+  rest-keeps part f buckets (Ok s) l qs E h note i =
+      keeps-each tools id part f buckets s l qs E h note i
+  rest-keeps part f buckets (Err d) l qs E h note i =
+      let same : record { value = Err d; journal = l; puts = qs } ≡ E =
+      some-same (record { value = Err d; journal = l; puts = qs }) E h in
+      subst (λ (z : End (Result State Stopped)). In note (state_of z.value).notes) same i
+
   module _ (Fine : Note → Type 0) (S : Piece → Type 0) (goes : BucketGoes Fine S)
       (first-keeps : (bucket : Bucket) (s : State) → KeepsNotes tools id s (first_of bucket s))
       (second-keeps : (bucket : Bucket) (t : State) →
@@ -134,10 +148,11 @@ module _ (tools : List ℕ → ToolInput → ToolAnswer) (id : RunId) (run : Run
         let y = end-bound tools id (second_of bucket t)
         (λ end. unless_stopped end (each_in_turn second_of buckets)) t.journal pt F hf in
         let fine-e : IsFine Fine x.0.value = λ note i.
-        fe note (rest-keeps first_of first-keeps x.0.value x.0.journal x.0.puts E x.2 note i) in
+        fe note (rest-keeps first_of first-keeps buckets x.0.value x.0.journal x.0.puts E x.2 note
+        i) in
         let fine-f : IsFine Fine y.0.value = λ note i.
-        ff note (rest-keeps second_of second-keeps y.0.value y.0.journal y.0.puts F y.2 note i)
-        in
+        ff note (rest-keeps second_of second-keeps buckets y.0.value y.0.journal y.0.puts F y.2 note
+        i) in
         let here = piece_if bucket (entered scope bucket t) pt
         (lists_at clean_run bucket (entered scope bucket t)) in
         let later = then_pieces (end_of tools id (second_of bucket t) t.journal pt)
@@ -150,19 +165,6 @@ module _ (tools : List ℕ → ToolInput → ToolAnswer) (id : RunId) (run : Run
         (λ z. In p (then_pieces z (pieces_among tools id all_of clean_run scope buckets)))
         (sym y.1) i)))
       where
-        rest-keeps : (part : Bucket → State → Work (Result State Stopped)) →
-            ((bucket : Bucket) (s : State) → KeepsNotes tools id s (part bucket s)) →
-            (r : Result State Stopped) (l : Journal) (qs : List Put)
-            (E : End (Result State Stopped)) →
-            end_of tools id (unless_stopped r (each_in_turn part buckets)) l qs ≡ Some E →
-            (note : Note) → In note (state_of r).notes → In note (state_of E.value).notes
-        rest-keeps part f (Ok s) l qs E h note i =
-            keeps-each tools id part f buckets s l qs E h note i
-        rest-keeps part f (Err d) l qs E h note i =
-            let same : record { value = Err d; journal = l; puts = qs } ≡ E =
-            some-same (record { value = Err d; journal = l; puts = qs }) E h in
-            subst (λ (z : End (Result State Stopped)). In note (state_of z.value).notes) same i
-
         go : (r q : Result State Stopped) (l m : Journal) (ps pt : List Put) → EndsAlike r q ps pt →
             InStep r l → InStep q m → end_of tools id
             (unless_stopped r (each_in_turn first_of buckets)) l ps ≡ Some E →

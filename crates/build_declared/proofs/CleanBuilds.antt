@@ -33,8 +33,9 @@ use Rattle.build_declared.specs.Declared.{IsDeclared, DeclaredAt}
 use Rattle.build_declared.specs.Written.{bytes_in, AnyPath}
 use Rattle.build_declared.specs.Fresh.{IsFresh, FreshAt}
 use Rattle.build_declared.specs.Places.{Site, run_at}
+use Rattle.build_declared.specs.Skipped.{TakesLists}
 use Rattle.build_declared.specs.Worlds.{world_by}
-use Rattle.build_declared.proofs.Sides.{TakesLists, sides}
+use Rattle.build_declared.proofs.Sides.{sides}
 
 module _ (tools : List ℕ → ToolInput → ToolAnswer) (files : List File) where
   -- what is still to be shown of one run: a declared and fresh run of a target with Inputs and
@@ -58,26 +59,27 @@ module _ (tools : List ℕ → ToolInput → ToolAnswer) (files : List File) whe
     clean = world_by tools files root instances Clean
 
     -- what is known of the bodies, joins and requests of the clean meaning
-    abbrev MadeThere : Site → RunId → Journal → Record → Type 0
+    abbrev pub MadeThere : Site → RunId → Journal → Record → Type 0
     MadeThere site id k made = IsMade out.demand id made
 
-    abbrev Declared : Site → RunId → Journal → Record → Type 0
+    abbrev pub Declared : Site → RunId → Journal → Record → Type 0
     Declared site id k made = DeclaredAt tools files site.target site.scope id k
 
-    abbrev Fresh : Site → RunId → Journal → Record → Type 0
+    abbrev pub Fresh : Site → RunId → Journal → Record → Type 0
     Fresh site id k made = FreshAt tools files site.target site.scope id k
 
-    abbrev Known : Site → RunId → Journal → Record → Type 0
+    abbrev pub Known : Site → RunId → Journal → Record → Type 0
     Known site id k made =
         MadeThere site id k made × Declared site id k made × Fresh site id k made
 
-    abbrev Asked : RequestKey → Type 0
+    abbrev pub Asked : RequestKey → Type 0
     Asked key = In (requested key) out.demand
 
-    abbrev AnyKey : RequestKey → Type 0
+    abbrev pub AnyKey : RequestKey → Type 0
     AnyKey key = Unit {0}
 
-    all-known : IsDeclared tools files clean out → IsFresh tools files clean out.value out.journal →
+    pub all-known : IsDeclared tools files clean out →
+        IsFresh tools files clean out.value out.journal →
         EachOfMeaning clean Known IsOfOneRun Asked out.value out.journal
     all-known declared fresh =
         let made = meaning-each clean out declared.whole.means in

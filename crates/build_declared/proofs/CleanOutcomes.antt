@@ -1,5 +1,5 @@
 -- An incremental build of a declared and fresh world is a clean one, by its files and its projects.
-use Rattle.std.proofs.Common.{◌≡◌, ℕ, List, Some, refl, sym, ◌∙◌, subst}
+use Rattle.std.proofs.Common.{◌≡◌, ℕ, List, refl, sym, ◌∙◌, subst}
 use Rattle.std.specs.Prelude.{Result}
 use Rattle.msb_values.specs.declared.mode.Mode.TheVariants.{Incremental, Clean}
 use Rattle.msb_values.specs.declared.scope.Scope.{Scope}
@@ -60,10 +60,11 @@ module _ (tools : List ℕ → ToolInput → ToolAnswer) (files : List File) whe
   nothings target scope id j k a fw fc bucket lists s t ps pt c lw lc all
       (Part old) e w E F he hf fe ff said = absurd w
 
-  pieces : (target : UsedTarget) (scope : Scope) (id : RunId) (j k : Journal)
+  -- each piece of a run goes alike
+  pub pieces-go : (target : UsedTarget) (scope : Scope) (id : RunId) (j k : Journal)
       (a : AlikeJournals (bytes_in files) AnyPath j k) → HasNotWritten id j → HasNotWritten id k →
       PieceGoes tools id (run_at files Incremental id target) scope j k a
-  pieces target scope id j k a fw fc =
+  pieces-go target scope id j k a fw fc =
       piece-goes tools id (run_at files Incremental id target) scope j k a fw fc
       (skip-goes tools id (run_at files Incremental id target) refl scope j k a fw fc
       (skips-same tools id (run_at files Incremental id target) refl scope j k a fw fc))
@@ -78,4 +79,4 @@ module _ (tools : List ℕ → ToolInput → ToolAnswer) (files : List File) whe
       (y : Given ToolInput RequestResult)
       × IsWhole (plain_world (world_by tools files root instances Incremental)) y
       × (y.value ≡ out.value) × AlikeJournals (bytes_in files) AnyPath y.journal out.journal
-  incremental-is-clean-so = incremental-is-clean tools files (runs-go tools files pieces)
+  incremental-is-clean-so = incremental-is-clean tools files (runs-go tools files pieces-go)

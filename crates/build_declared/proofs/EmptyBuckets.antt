@@ -198,7 +198,7 @@ module _ (tools : List ℕ → ToolInput → ToolAnswer) (id : RunId) (run : Run
   none-chosen (input ∷ inputs) [] e = inr refl
   none-chosen (input ∷ inputs) (output ∷ outputs) e = absurd (cc)
 
-  nothing-chosen : (lists : Lists) (s : State) →
+  pub nothing-chosen : (lists : Lists) (s : State) →
       all_or_nothing lists.inputs lists.outputs ≡ Nothing → choice_of run lists s ≡ Nothing
   nothing-chosen lists s e = go lists.inputs lists.outputs e
     where
@@ -301,7 +301,7 @@ module _ (tools : List ℕ → ToolInput → ToolAnswer) (id : RunId) (run : Run
 
   -- ---- a run without a piece
 
-  no-piece : (bucket : Bucket) (y : State) (before : List Put)
+  pub no-piece : (bucket : Bucket) (y : State) (before : List Put)
       (l : Result (Option Lists) EvalFault) → (l ≡ Ok None → ⊥) → piece_if bucket y before l ≡ [] →
       IsEmpty l
   no-piece bucket y before (Ok None) n e = n refl

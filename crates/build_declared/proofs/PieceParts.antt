@@ -257,7 +257,7 @@ module _ (v : View) (lists : Lists) (old : List Item) where
           (old_items v lists.inputs lists.outputs typed.1) refl h
       go false g h = absurd (pairs-not (any_is_old v lists.inputs lists.outputs) h)
 
-part-facts : (run : Run) → run.mode ≡ Incremental → (lists : Lists) (x : State) (old : List Item) →
+pub part-facts : (run : Run) → run.mode ≡ Incremental → (lists : Lists) (x : State) (old : List Item) →
     choice_of run lists x ≡ Part old → PartFacts (view_of run x) lists old
 part-facts run mode lists x old e = go lists.inputs lists.outputs refl refl e
   where

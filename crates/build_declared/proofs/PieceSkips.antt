@@ -91,13 +91,13 @@ one-in path (p ∷ paths) h = elim (or_cases (bytes_eq path p)
       | inr i ↦ inr (one-in path paths i)
     ]
 
-first-output : (inputs outputs : List (List ℕ)) → all_or_nothing inputs outputs ≡ RunAll →
+pub first-output : (inputs outputs : List (List ℕ)) → all_or_nothing inputs outputs ≡ RunAll →
     (o : List ℕ) × In o outputs
 first-output [] outputs e = absurd (cc)
 first-output (i ∷ inputs) [] e = absurd (cc)
 first-output (i ∷ inputs) (o ∷ outputs) e = (o, inl refl)
 
-no-front : (new pt : List Put) → pt ≡ new ++ pt → new ≡ []
+pub no-front : (new pt : List Put) → pt ≡ new ++ pt → new ≡ []
 no-front [] pt e = refl
 no-front (put ∷ new) pt e = let l : length pt ≡ length ((put ∷ new) ++ pt) = ap length e in
     absurd (omega (arith, length-append (put ∷ new) pt))

@@ -88,6 +88,7 @@ use Rattle.build_declared.specs.Ends.{End, end_of}
 use Rattle.build_declared.specs.Fresh.{PieceIsFresh}
 use Rattle.build_declared.specs.Pieces.{Piece, one_if, piece_if, pieces_among, pieces_in}
 use Rattle.build_declared.specs.Places.{run_at}
+use Rattle.build_declared.specs.Skipped.{TakesLists}
 use Rattle.build_declared.proofs.Alones.{some-same, end-bound, bound-end, alone-end}
 use Rattle.build_declared.proofs.BucketsGo.{
   Carry,
@@ -113,23 +114,22 @@ use Rattle.build_declared.proofs.EmptyBuckets.{
 }
 use Rattle.build_declared.proofs.Looks.{looks-same}
 use Rattle.build_declared.proofs.NotesStay.{bucket-keeps}
-use Rattle.build_declared.proofs.Sides.{TakesLists}
 
 -- ---- one bucket
 
-in-one : (p : Piece) (inputs outputs : List (List ℕ)) → all_or_nothing inputs outputs ≡ RunAll →
+pub in-one : (p : Piece) (inputs outputs : List (List ℕ)) → all_or_nothing inputs outputs ≡ RunAll →
     In p (one_if p inputs outputs)
 in-one p [] outputs e = absurd (cc)
 in-one p (input ∷ inputs) [] e = absurd (cc)
 in-one p (input ∷ inputs) (output ∷ outputs) e = inl refl
 
-abbrev IsOther : Choice → Type 0
+abbrev pub IsOther : Choice → Type 0
 IsOther RunAll = ⊥
 IsOther Nothing = ⊥
 IsOther Skip = Unit {0}
 IsOther (Part old) = Unit {0}
 
-never : (inputs outputs : List (List ℕ)) (choice : Choice) →
+pub never : (inputs outputs : List (List ℕ)) (choice : Choice) →
     all_or_nothing inputs outputs ≡ choice → IsOther choice → ⊥
 never [] outputs choice e h = subst IsOther (sym e) h
 never (input ∷ inputs) [] choice e h = subst IsOther (sym e) h
@@ -206,7 +206,7 @@ module _ (tools : List ℕ → ToolInput → ToolAnswer) (id : RunId) (run : Run
       ends (Err d) (Ok t) h = absurd h
       ends (Err d) (Err e) h = stops d e h
 
-  fine-failed : (r : Result State Stopped) → IsFine tools id run scope j k Fine (or_failed r) →
+  pub fine-failed : (r : Result State Stopped) → IsFine tools id run scope j k Fine (or_failed r) →
       IsFine tools id run scope j k Fine r
   fine-failed (Ok s) f = f
   fine-failed (Err (faulted s)) f = f
@@ -214,7 +214,7 @@ module _ (tools : List ℕ → ToolInput → ToolAnswer) (id : RunId) (run : Run
 
   module _ (goes : PieceGoes) (takes : (bucket : Bucket) (y : State) →
       lists_at clean bucket y ≡ Ok None → ⊥) where
-    both-same : (bucket : Bucket) (s t : State) (ps pt : List Put) →
+    pub both-same : (bucket : Bucket) (s t : State) (ps pt : List Put) →
         Carry tools id run scope j k s t ps pt → (E F : End (Result State Stopped)) →
         end_of tools id (first_of tools id run scope j k bucket s) s.journal ps ≡ Some E →
         end_of tools id (second_of tools id run scope j k bucket t) t.journal pt ≡ Some F →
@@ -328,7 +328,7 @@ with-lists p i o ins outs = Some (record {
       typed_items p.scope i o;
 })
 
-lists-there : (p : Place) (target : UsedTarget) → TakesLists target →
+pub lists-there : (p : Place) (target : UsedTarget) → TakesLists target →
     lists_by p target.element (attribute_of (codes "Inputs") target.element)
     (attribute_of (codes "Outputs") target.element) ≡ Ok None → ⊥
 lists-there p target t e = go (paths_at p target.element t.inputs)
@@ -343,49 +343,57 @@ lists-there p target t e = go (paths_at p target.element t.inputs)
     go (Ok ins) (Err fault) h = cc
     go (Err fault) y h = cc
 
+found-self : (o : Option Record) → AlikeFound o o
+found-self None = tt
+found-self (Some m) = record { ok = refl; items = refl; changes = refl }
+
+pub alike-self : (files : List File) (k : Journal) → AlikeJournals (bytes_in files) AnyPath k k
+alike-self files k = record {
+  same = λ p. refl;
+  records = λ r. found-self (record_of k r);
+  only = λ r n put i. tt;
+}
+
+-- a clean build chooses what may be chosen
+pub all-may : (tools : List ℕ → ToolInput → ToolAnswer) (id : RunId) (run : Run) (lists : Lists)
+    (choice : Choice) → all_or_nothing lists.inputs lists.outputs ≡ choice →
+    MayChoose tools id run lists choice
+all-may tools id run lists RunAll e = e
+all-may tools id run lists Nothing e = e
+all-may tools id run lists Skip e = absurd (never lists.inputs lists.outputs Skip e tt)
+all-may tools id run lists (Part old) e =
+    absurd (never lists.inputs lists.outputs (Part old) e tt)
+
+-- the notes of a run are those of its record
+pub notes-of : (r : Result State Stopped) (note : Note) → In note (state_of r).notes →
+    In note (outcome_of r).notes
+notes-of (Ok s) note i = i
+notes-of (Err stop) note i = i
+
 module _ (tools : List ℕ → ToolInput → ToolAnswer) (files : List File)
     (goes : (target : UsedTarget) (scope : Scope) (id : RunId) (j k : Journal)
     (a : AlikeJournals (bytes_in files) AnyPath j k) → HasNotWritten id j → HasNotWritten id k →
     PieceGoes tools id (run_at files Incremental id target) scope j k a) where
-  found-self : (o : Option Record) → AlikeFound o o
-  found-self None = tt
-  found-self (Some m) = record { ok = refl; items = refl; changes = refl }
-
-  alike-self : (k : Journal) → AlikeJournals (bytes_in files) AnyPath k k
-  alike-self k = record {
-    same = λ p. refl;
-    records = λ r. found-self (record_of k r);
-    only =
-        λ r n put i. tt;
-  }
-
-  all-may : (id : RunId) (run : Run) (lists : Lists) (choice : Choice) →
-      all_or_nothing lists.inputs lists.outputs ≡ choice → MayChoose tools id run lists choice
-  all-may id run lists RunAll e = e
-  all-may id run lists Nothing e = e
-  all-may id run lists Skip e = absurd (never lists.inputs lists.outputs Skip e tt)
-  all-may id run lists (Part old) e = absurd (never lists.inputs lists.outputs (Part old) e tt)
-
   module _ (target : UsedTarget) (scope : Scope) (id : RunId) (j k : Journal) (made : Record)
       (a : AlikeJournals (bytes_in files) AnyPath j k) (takes : TakesLists target)
       (fw : HasNotWritten id j) (fc : HasNotWritten id k) where
-    abbrev run : Run
+    abbrev pub run : Run
     run = run_at files Incremental id target
 
-    abbrev clean-run : Run
+    abbrev pub clean-run : Run
     clean-run = run_at files Clean id target
 
-    abbrev s0 : State
+    abbrev pub s0 : State
     s0 = begun scope j
 
-    abbrev t0 : State
+    abbrev pub t0 : State
     t0 = begun scope k
 
     abbrev Went : Type 0
     Went = AlikeRuns (bytes_in files) AnyPath tools id j k (body run scope j)
         (body clean-run scope k) made (λ first. Unit {0})
 
-    at-start : Carry tools id run scope j k s0 t0 [] []
+    pub at-start : Carry tools id run scope j k s0 t0 [] []
     at-start = record {
       items = refl;
       changes = refl;
@@ -395,7 +403,7 @@ module _ (tools : List ℕ → ToolInput → ToolAnswer) (files : List File)
           record { written = λ p. inl refl; unwritten = λ p b n e. absurd (cc) };
     }
 
-    buckets-same : target_buckets (place_in run s0 scope) target.element
+    pub buckets-same : target_buckets (place_in run s0 scope) target.element
         ≡ target_buckets (place_in clean-run t0 scope) target.element
     buckets-same = ap (λ l. target_buckets (item_place l id.instance.path scope) target.element)
         ((looks-same files AnyPath).paths j k a)
@@ -438,15 +446,77 @@ module _ (tools : List ℕ → ToolInput → ToolAnswer) (files : List File)
           F.puts,
         )) (sym (clean-all clean-run refl)) ac) o lacks (λ put i. tt) tt
 
-    takes-clean : (bucket : Bucket) (y : State) → lists_at clean-run bucket y ≡ Ok None → ⊥
+    pub takes-clean : (bucket : Bucket) (y : State) → lists_at clean-run bucket y ≡ Ok None → ⊥
     takes-clean bucket y e = lists-there (in_target (place_in clean-run y y.scope) bucket) target
         takes e
 
-    abbrev first : Bucket → State → Work (Result State Stopped)
+    abbrev pub first : Bucket → State → Work (Result State Stopped)
     first = first_of tools id run scope j k
 
-    abbrev second : Bucket → State → Work (Result State Stopped)
+    abbrev pub second : Bucket → State → Work (Result State Stopped)
     second = second_of tools id run scope j k
+
+    -- all buckets of both runs come to ends, with notes that are as Fine says
+    pub record BothEnd (Good : Note → Type 0) (found : List Bucket) : Type 0 where
+      pub E : End (Result State Stopped)
+      pub F : End (Result State Stopped)
+      pub first_ends : end_of tools id (each_in_turn first found s0) j [] ≡ Some E
+      pub second_ends : end_of tools id (each_in_turn second found t0) k [] ≡ Some F
+      pub first_fine : IsFine tools id run scope j k Good E.value
+      pub second_fine : IsFine tools id run scope j k Good F.value
+
+    from-w : (found : List Bucket) → target_buckets (place_in run s0 scope) target.element
+        ≡ Ok found → (E : End (Result State Stopped)) →
+        end_of tools id (buckets_by (choice_of run) run scope s0) j [] ≡ Some E →
+        end_of tools id (each_in_turn first found s0) j [] ≡ Some E
+    from-w found ew E h = sym (ap (λ z. end_of tools id (unless_stopped (or_failed (or_stop s0 z))
+        (λ found. each_in_turn first found s0)) j []) ew) ∙ h
+
+    from-c : (found : List Bucket) → target_buckets (place_in clean-run t0 scope) target.element
+        ≡ Ok found → (F : End (Result State Stopped)) →
+        end_of tools id (buckets_by all_of clean-run scope t0) k [] ≡ Some F →
+        end_of tools id (each_in_turn second found t0) k [] ≡ Some F
+    from-c found ec F h = sym (ap (λ z. end_of tools id (unless_stopped (or_failed (or_stop t0 z))
+        (λ found. each_in_turn second found t0)) k []) ec) ∙ h
+
+    pub both-end : (found : List Bucket) → target_buckets (place_in run s0 scope) target.element
+        ≡ Ok found → target_buckets (place_in clean-run t0 scope) target.element ≡ Ok found →
+        (pieces : List Piece) → RunIsDeclared tools id clean-run scope k pieces →
+        BothEnd (Fine tools id run scope j k a) found
+    both-end found ew ec pieces r =
+        let w = r.never_large Incremental j a (choice_of run)
+        (decided-may tools id run clean-run refl) in
+        let c = r.never_large Clean k (alike-self files k) all_of
+        (λ lists s. all-may tools id clean-run lists
+        (all_or_nothing lists.inputs lists.outputs) refl) in
+        let x = end-bound tools id (buckets_by (choice_of run) run scope s0)
+        (λ end. done (outcome_of end)) j [] w.0 w.1 in
+        let y = end-bound tools id (buckets_by all_of clean-run scope t0)
+        (λ end. done (outcome_of end)) k [] c.0 c.1 in
+        let ox : outcome_of x.0.value ≡ w.0.value =
+        ap (λ (z : End Outcome). z.value) (some-same (record {
+          value =
+              outcome_of x.0.value;
+          journal = x.0.journal;
+          puts = x.0.puts;
+        }) w.0 x.2) in
+        let oy : outcome_of y.0.value ≡ c.0.value =
+        ap (λ (z : End Outcome). z.value) (some-same (record {
+          value =
+              outcome_of y.0.value;
+          journal = y.0.journal;
+          puts = y.0.puts;
+        }) c.0 y.2) in
+        record {
+          E = x.0;
+          F = y.0;
+          first_ends = from-w found ew x.0 x.1;
+          second_ends = from-c found ec y.0 y.1;
+          first_fine = λ note i.
+              w.2 note (subst (λ (o : Outcome). In note o.notes) ox (notes-of x.0.value note i));
+          second_fine = λ note i.
+              c.2 note (subst (λ (o : Outcome). In note o.notes) oy (notes-of y.0.value note i));
+        }
 
     finish-alike : (E F : End (Result State Stopped)) →
         end_of tools id (buckets_by (choice_of run) run scope s0) j [] ≡ Some E →
@@ -499,24 +569,6 @@ module _ (tools : List ℕ → ToolInput → ToolAnswer) (files : List File)
         to-c F h = ap (λ z. end_of tools id (unless_stopped (or_failed (or_stop t0 z))
             (λ found. each_in_turn (bucket_by all_of clean-run scope) found t0)) k []) ec ∙ h
 
-        from-w : (E : End (Result State Stopped)) →
-            end_of tools id (buckets_by (choice_of run) run scope s0) j [] ≡ Some E →
-            end_of tools id (each_in_turn (bucket_by (choice_of run) run scope) found s0) j []
-            ≡ Some E
-        from-w E h = sym (ap (λ z. end_of tools id (unless_stopped (or_failed (or_stop s0 z))
-            (λ found. each_in_turn (bucket_by (choice_of run) run scope) found s0)) j []) ew) ∙ h
-
-        from-c : (F : End (Result State Stopped)) →
-            end_of tools id (buckets_by all_of clean-run scope t0) k [] ≡ Some F →
-            end_of tools id (each_in_turn (bucket_by all_of clean-run scope) found t0) k [] ≡ Some F
-        from-c F h = sym (ap (λ z. end_of tools id (unless_stopped (or_failed (or_stop t0 z))
-            (λ found. each_in_turn (bucket_by all_of clean-run scope) found t0)) k []) ec) ∙ h
-
-        notes-of : (r : Result State Stopped) (note : Note) → In note (state_of r).notes →
-            In note (outcome_of r).notes
-        notes-of (Ok s) note i = i
-        notes-of (Err stop) note i = i
-
         go : (pieces : List Piece) → pieces_among tools id all_of clean-run scope found t0 []
             ≡ pieces → DeclaredBy tools id clean-run scope k
             (pieces_among tools id all_of clean-run scope found t0 []) → Went
@@ -526,40 +578,15 @@ module _ (tools : List ℕ → ToolInput → ToolAnswer) (files : List File)
         go (p ∷ ps) e d =
             let r : RunIsDeclared tools id clean-run scope k (p ∷ ps) =
             subst (DeclaredBy tools id clean-run scope k) e d in
-            let w = r.never_large Incremental j a (choice_of run)
-            (decided-may tools id run clean-run refl) in
-            let c = r.never_large Clean k (alike-self k) all_of
-            (λ lists s. all-may id clean-run lists
-            (all_or_nothing lists.inputs lists.outputs) refl) in
-            let x = end-bound tools id (buckets_by (choice_of run) run scope s0)
-            (λ end. done (outcome_of end)) j [] w.0 w.1 in
-            let y = end-bound tools id (buckets_by all_of clean-run scope t0)
-            (λ end. done (outcome_of end)) k [] c.0 c.1 in
-            let ox : outcome_of x.0.value ≡ w.0.value =
-            ap (λ (z : End Outcome). z.value) (some-same (record {
-              value =
-                  outcome_of x.0.value;
-              journal = x.0.journal;
-              puts = x.0.puts;
-            }) w.0 x.2) in
-            let oy : outcome_of y.0.value ≡ c.0.value =
-            ap (λ (z : End Outcome). z.value) (some-same (record {
-              value =
-                  outcome_of y.0.value;
-              journal = y.0.journal;
-              puts = y.0.puts;
-            }) c.0 y.2) in
+            let x = both-end found ew ec (p ∷ ps) r in
             let g = buckets-go tools id run scope j k (Fine tools id run scope j k a)
             (Said tools id run scope j k a) (bucket-goes tools id run scope j k a
             (goes target scope id j k a fw fc) takes-clean)
             (bucket-keeps tools id run (choice_of run) scope)
             (bucket-keeps tools id clean-run all_of scope) found s0 t0 []
-            [] at-start x.0 y.0 (from-w x.0 x.1) (from-c y.0 y.1)
-            (λ note i. w.2 note (subst (λ (o : Outcome). In note o.notes) ox
-            (notes-of x.0.value note i))) (λ note i. c.2 note
-            (subst (λ (o : Outcome). In note o.notes) oy (notes-of y.0.value note i)))
+            [] at-start x.E x.F x.first_ends x.second_ends x.first_fine x.second_fine
             (λ q i. (r.each q (subst (In q) e i), fresh q i)) in
-            finish-alike x.0 y.0 x.1 y.1 g
+            finish-alike x.E x.F (to-w x.E x.first_ends) (to-c x.F x.second_ends) g
 
   pub runs-go : RunsGo tools files
   runs-go target scope id j k made a declared fresh takes fw fc =

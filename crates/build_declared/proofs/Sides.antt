@@ -53,19 +53,14 @@ use Rattle.request_machine.specs.Requests.{Project, all_targets, target_at, has_
 use Rattle.request_machine.specs.Walk.{run_of, nothing_ran}
 use Rattle.build_declared.specs.Written.{bytes_in}
 use Rattle.build_declared.specs.Places.{Site, run_at}
+use Rattle.build_declared.specs.Skipped.{TakesLists}
 use Rattle.build_declared.specs.Worlds.{body_if, bodies_in, placed_unless, placed_by, world_by}
 use Rattle.build_declared.proofs.Looks.{looks-same}
 use Rattle.build_declared.proofs.PlacedWalks.{walks-go}
 use Rattle.build_declared.proofs.SameRuns.{body-twin, ChooseSame}
 
--- a target that has both Inputs and Outputs
-pub record TakesLists (target : UsedTarget) : Type 0 where
-  pub inputs : List ℕ
-  pub outputs : List ℕ
-  pub has_inputs : attribute_of (codes "Inputs") target.element ≡ Some inputs
-  pub has_outputs : attribute_of (codes "Outputs") target.element ≡ Some outputs
-
-no-lists : (p : Place) (target : UsedTarget) (i o : Option (List ℕ)) →
+-- the lists of a target that has not both Inputs and Outputs
+pub no-lists : (p : Place) (target : UsedTarget) (i o : Option (List ℕ)) →
     attribute_of (codes "Inputs") target.element ≡ i →
     attribute_of (codes "Outputs") target.element ≡ o → (TakesLists target → ⊥) →
     lists_by p target.element i o ≡ Ok None
@@ -74,7 +69,8 @@ no-lists p target (Some i) (Some o) e f n = absurd
 no-lists p target (Some i) None e f n = refl
 no-lists p target None o e f n = refl
 
-takes : (target : UsedTarget) (i o : Option (List ℕ)) →
+-- whether it has
+pub takes : (target : UsedTarget) (i o : Option (List ℕ)) →
     attribute_of (codes "Inputs") target.element ≡ i →
     attribute_of (codes "Outputs") target.element ≡ o →
     (lists : Bool) × (lists ≡ true → TakesLists target) × (lists ≡ false → TakesLists target → ⊥)

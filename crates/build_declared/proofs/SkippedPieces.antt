@@ -48,15 +48,62 @@ use Rattle.build_declared.specs.Fresh.{IsAsInTree, IsTrusted, WritesSame, PieceI
 use Rattle.build_declared.specs.Pieces.{Piece}
 use Rattle.build_declared.proofs.Trusted.{all-trusted, pairs-trusted}
 
-abbrev is-skip : Choice → Bool
+abbrev pub is-skip : Choice → Bool
 is-skip Skip = true
 is-skip RunAll = false
 is-skip Nothing = false
 is-skip (Part old) = false
 
+pub pairs-skip : (b : Bool) → (if b then RunAll else Skip) ≡ Skip → b ≡ false
+pairs-skip true e = let h : false ≡ true = ap is-skip e in absurd (cc)
+pairs-skip false e = refl
+
+pub items-skip : (old : List Item) (n : ℕ) → of_items old n ≡ Skip → old ≡ []
+items-skip [] n e = refl
+items-skip (item ∷ old) n e = absurd (go (length (item ∷ old) == n) e)
+  where
+    go : (b : Bool) → (if b then RunAll else Part (item ∷ old)) ≡ Skip → ⊥
+    go true e = let h : false ≡ true = ap is-skip e in cc
+    go false e = let h : false ≡ true = ap is-skip e in cc
+
 abbrev long : Option (List ℕ × List Item) → ℕ
 long None = 0
 long (Some z) = length z.1
+
+-- a piece takes its items one by one where its lists are as long as these
+module _ (p : Piece) (typed : List ℕ × List Item) (t : p.lists.items ≡ Some typed) where
+  abbrev pub as_long : Bool
+  as_long = (length p.lists.inputs == length typed.1) && (length p.lists.outputs == length typed.1)
+
+  pub counts-items : as_long ≡ true → ByItems p typed.1
+  counts-items g =
+      let both = and_both (length p.lists.inputs == length typed.1)
+      (length p.lists.outputs == length typed.1) g in
+      record {
+        kind = typed.0;
+        typed = t;
+        inputs = eqb-true (length p.lists.inputs) (length typed.1) both.0;
+        outputs = eqb-true (length p.lists.outputs) (length typed.1) both.1;
+      }
+
+  pub counts-no-items : as_long ≡ false → (items : List Item) → ByItems p items → ⊥
+  counts-no-items g items b =
+      let s : Some typed ≡ Some (b.kind, items) = sym t ∙ b.typed in
+      let l : length typed.1 ≡ length items = ap long s in
+      let li : (length p.lists.inputs == length typed.1) ≡ true =
+      eq-eqb (length p.lists.inputs) (length typed.1) (b.inputs ∙ sym l) in
+      let lo : (length p.lists.outputs == length typed.1) ≡ true =
+      eq-eqb (length p.lists.outputs) (length typed.1) (b.outputs ∙ sym l) in
+      let both : as_long ≡ true =
+      ap (λ z. z && (length p.lists.outputs == length typed.1)) li ∙ lo in
+      clash as_long both g
+
+-- no items are named
+pub names-none : (p : Piece) → p.lists.items ≡ None → (items : List Item) → ByItems p items → ⊥
+names-none p t items b = none p.lists.items t b.typed
+  where
+    none : (o : Option (List ℕ × List Item)) {s : List ℕ × List Item} → o ≡ None → o ≡ Some s → ⊥
+    none o a b = cc
 
 module _ (tools : List ℕ → ToolInput → ToolAnswer) (id : RunId) (run clean : Run)
     (mode : run.mode ≡ Incremental) (p : Piece) (fresh : PieceIsFresh tools id clean p) (x : State)
@@ -96,29 +143,14 @@ module _ (tools : List ℕ → ToolInput → ToolAnswer) (id : RunId) (run clean
         subst (λ o. WritesSame tools id clean p o t.3.0) t.2 w,
       )
 
-  pairs-skip : (b : Bool) → (if b then RunAll else Skip) ≡ Skip → b ≡ false
-  pairs-skip true e = let h : false ≡ true = ap is-skip e in absurd (cc)
-  pairs-skip false e = refl
-
-  items-skip : (old : List Item) (n : ℕ) → of_items old n ≡ Skip → old ≡ []
-  items-skip [] n e = refl
-  items-skip (item ∷ old) n e = absurd (go (length (item ∷ old) == n) e)
-    where
-      go : (b : Bool) → (if b then RunAll else Part (item ∷ old)) ≡ Skip → ⊥
-      go true e = let h : false ≡ true = ap is-skip e in cc
-      go false e = let h : false ≡ true = ap is-skip e in cc
-
   by-shape : (first : List ℕ) (inputs : List (List ℕ)) → p.lists.inputs ≡ first ∷ inputs →
       (o : Option (List ℕ × List Item)) → p.lists.items ≡ o →
       by_shape v p.lists.inputs p.lists.outputs (option_map (λ typed. typed.1) o) ≡ Skip →
       (output : List ℕ) → In output p.lists.outputs → Kept output
   by-shape first inputs e None t h =
-      by-every first inputs e (λ items b. none p.lists.items t b.typed)
+      by-every first inputs e (names-none p t)
       (subst (λ l. any_is_old v l p.lists.outputs ≡ false) e
       (pairs-skip (any_is_old v p.lists.inputs p.lists.outputs) h))
-    where
-      none : (o : Option (List ℕ × List Item)) {s : List ℕ × List Item} → o ≡ None → o ≡ Some s → ⊥
-      none o a b = cc
   by-shape first inputs e (Some typed) t h = go ((length p.lists.inputs == length typed.1)
       && (length p.lists.outputs == length typed.1)) refl h
     where
@@ -128,31 +160,10 @@ module _ (tools : List ℕ → ToolInput → ToolAnswer) (id : RunId) (run clean
           (length typed.1) else by_pairs v p.lists.inputs p.lists.outputs) ≡ Skip →
           (output : List ℕ) → In output p.lists.outputs → Kept output
       go true g h =
-          let both = and_both (length p.lists.inputs == length typed.1)
-          (length p.lists.outputs == length typed.1) g in
-          by-each typed.1 (record {
-            kind = typed.0;
-            typed = t;
-            inputs =
-                eqb-true (length p.lists.inputs) (length typed.1) both.0;
-            outputs =
-                eqb-true (length p.lists.outputs) (length typed.1) both.1;
-          })
+          by-each typed.1 (counts-items p typed t g)
           (items-skip (old_items v p.lists.inputs p.lists.outputs typed.1) (length typed.1) h)
       go false g h =
-          by-every first inputs e
-          (λ items b.
-          let s : Some typed ≡ Some (b.kind, items) = sym t ∙ b.typed in
-          let l : length typed.1 ≡ length items = ap long s in
-          let li : (length p.lists.inputs == length typed.1) ≡ true =
-          eq-eqb (length p.lists.inputs) (length typed.1) (b.inputs ∙ sym l) in
-          let lo : (length p.lists.outputs == length typed.1) ≡ true =
-          eq-eqb (length p.lists.outputs) (length typed.1) (b.outputs ∙ sym l) in
-          let both : ((length p.lists.inputs == length typed.1)
-          && (length p.lists.outputs == length typed.1)) ≡ true =
-          ap (λ z. z && (length p.lists.outputs == length typed.1)) li ∙ lo in
-          clash ((length p.lists.inputs == length typed.1)
-          && (length p.lists.outputs == length typed.1)) both g)
+          by-every first inputs e (counts-no-items p typed t g)
           (subst (λ l. any_is_old v l p.lists.outputs ≡ false) e
           (pairs-skip (any_is_old v p.lists.inputs p.lists.outputs) h))
 

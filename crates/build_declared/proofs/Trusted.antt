@@ -45,22 +45,74 @@ none-written : (o : Option (List ℕ)) → is_some o ≡ false → o ≡ None
 none-written None h = refl
 none-written (Some x) h = absurd (cc)
 
-not-in : {X : Type 0} (f : X → Bool) (x : X) (xs : List X) → list_any f xs ≡ false → In x xs →
-    f x ≡ false
+pub not-in : {X : Type 0} (f : X → Bool) (x : X) (xs : List X) → list_any f xs ≡ false →
+    In x xs → f x ≡ false
 not-in f x [] h i = absurd i
 not-in f x (y ∷ xs) h (inl e) = subst (λ z. f z ≡ false) e (or_neither (f y) (list_any f xs) h).0
 not-in f x (y ∷ xs) h (inr i) = not-in f x xs (or_neither (f y) (list_any f xs) h).1 i
 
+-- an input and an output that nobody has written, and the input is no newer
+pub record CurrentPair (v : View) (input output : List ℕ) : Type 0 where
+  pub in_file : File
+  pub out_file : File
+  pub in_there : file_at input v.files ≡ Some in_file
+  pub out_there : file_at output v.files ≡ Some out_file
+  pub in_unwritten : journals.content v.journal input ≡ None
+  pub out_unwritten : journals.content v.journal output ≡ None
+  pub no_newer : in_file.stamp ≤ out_file.stamp
+
+pub current-pair : (v : View) (input output : List ℕ) → pair_is_old v input output ≡ false →
+    CurrentPair v input output
+current-pair v input output h =
+    let a = or_neither (written v input) (written v output || is_missing_or_older (stamp v input)
+    (stamp v output)) h in
+    let b = or_neither (written v output) (is_missing_or_older (stamp v input)
+    (stamp v output)) a.1 in
+    go (file_at input v.files) (file_at output v.files) refl refl
+    (none-written (journals.content v.journal input) a.0)
+    (none-written (journals.content v.journal output) b.0) b.1
+  where
+    go : (x y : Option File) → file_at input v.files ≡ x → file_at output v.files ≡ y →
+        journals.content v.journal input ≡ None → journals.content v.journal output ≡ None →
+        is_missing_or_older (option_map (λ (f : File). f.stamp) (file_at input v.files))
+        (option_map (λ (f : File). f.stamp) (file_at output v.files)) ≡ false →
+        CurrentPair v input output
+    go (Some x) (Some y) e f wi wo m =
+        let n : nat_lt y.stamp x.stamp ≡ false =
+        sym (ap (λ o. is_missing_or_older (option_map (λ (z : File). z.stamp) o)
+        (option_map (λ (z : File). z.stamp) (file_at output v.files))) e
+        ∙ ap (λ o. is_missing_or_older (Some x.stamp)
+        (option_map (λ (z : File). z.stamp) o)) f) ∙ m in
+        record {
+          in_file = x;
+          out_file = y;
+          in_there = e;
+          out_there = f;
+          in_unwritten = wi;
+          out_unwritten = wo;
+          no_newer = ltb-false y.stamp x.stamp n;
+        }
+    go (Some x) None e f wi wo m =
+        let n : true ≡ false = sym (ap (λ o. is_missing_or_older
+        (option_map (λ (z : File). z.stamp) o) (option_map (λ (z : File). z.stamp)
+        (file_at output v.files))) e ∙ ap (λ o. is_missing_or_older (Some x.stamp)
+        (option_map (λ (z : File). z.stamp) o)) f) ∙ m in
+        absurd (cc)
+    go None y e f wi wo m =
+        let n : true ≡ false = sym (ap (λ o. is_missing_or_older
+        (option_map (λ (z : File). z.stamp) o) (option_map (λ (z : File). z.stamp)
+        (file_at output v.files))) e) ∙ m in
+        absurd (cc)
+
 -- two views of one tree that have the same files
 module _ (v u : View) (files : v.files ≡ u.files) (same : (path : List ℕ) →
     views.content v path ≡ views.content u path) where
-  as-in-tree : (path : List ℕ) (file : File) → written v path ≡ false →
+  as-in-tree : (path : List ℕ) (file : File) → journals.content v.journal path ≡ None →
       file_at path v.files ≡ Some file → IsAsInTree u path file
   as-in-tree path file w e = record {
     there = sym (ap (file_at path) files) ∙ e;
     unchanged = sym (same path) ∙ (ap (λ o. option_or o (option_map (λ (f : File). f.bytes)
-        (file_at path v.files))) (none-written (journals.content v.journal path) w)
-        ∙ ap (option_map (λ (f : File). f.bytes)) e);
+        (file_at path v.files))) w ∙ ap (option_map (λ (f : File). f.bytes)) e);
   }
 
   -- an input and an output that are as in the tree, and the input is no newer
@@ -74,42 +126,14 @@ module _ (v u : View) (files : v.files ≡ u.files) (same : (path : List ℕ) �
   pub pair-there : (input output : List ℕ) → pair_is_old v input output ≡ false →
       PairThere input output
   pair-there input output h =
-      let a = or_neither (written v input) (written v output || is_missing_or_older (stamp v input)
-      (stamp v output)) h in
-      let b = or_neither (written v output) (is_missing_or_older (stamp v input)
-      (stamp v output)) a.1 in
-      go (file_at input v.files) (file_at output v.files) refl refl a.0 b.0 b.1
-    where
-      go : (x y : Option File) → file_at input v.files ≡ x → file_at output v.files ≡ y →
-          written v input ≡ false → written v output ≡ false →
-          is_missing_or_older (option_map (λ (f : File). f.stamp) (file_at input v.files))
-          (option_map (λ (f : File). f.stamp) (file_at output v.files)) ≡ false →
-          PairThere input output
-      go (Some x) (Some y) e f wi wo m =
-          let m' : nat_lt y.stamp x.stamp ≡ false =
-          sym (ap (λ o. is_missing_or_older (option_map (λ (z : File). z.stamp) o)
-          (option_map (λ (z : File). z.stamp) (file_at output v.files))) e
-          ∙ ap (λ o. is_missing_or_older (Some x.stamp)
-          (option_map (λ (z : File). z.stamp) o)) f) ∙ m in
-          record {
-            in_file = x;
-            out_file = y;
-            in_there = as-in-tree input x wi e;
-            out_there =
-                as-in-tree output y wo f;
-            no_newer = ltb-false y.stamp x.stamp m';
-          }
-      go (Some x) None e f wi wo m =
-          let m' : true ≡ false = sym (ap (λ o. is_missing_or_older
-          (option_map (λ (z : File). z.stamp) o) (option_map (λ (z : File). z.stamp)
-          (file_at output v.files))) e ∙ ap (λ o. is_missing_or_older (Some x.stamp)
-          (option_map (λ (z : File). z.stamp) o)) f) ∙ m in
-          absurd (cc)
-      go None y e f wi wo m =
-          let m' : true ≡ false = sym (ap (λ o. is_missing_or_older
-          (option_map (λ (z : File). z.stamp) o) (option_map (λ (z : File). z.stamp)
-          (file_at output v.files))) e) ∙ m in
-          absurd (cc)
+      let x = current-pair v input output h in
+      record {
+        in_file = x.in_file;
+        out_file = x.out_file;
+        in_there = as-in-tree input x.in_file x.in_unwritten x.in_there;
+        out_there = as-in-tree output x.out_file x.out_unwritten x.out_there;
+        no_newer = x.no_newer;
+      }
 
   same-file : (path : List ℕ) (x y : File) → IsAsInTree u path x → IsAsInTree u path y → x ≡ y
   same-file path x y a b = let e : Some x ≡ Some y = sym a.there ∙ b.there in cc

@@ -3,7 +3,6 @@
 use Rattle.std.specs.Prelude.{
   ℕ,
   ◌≡◌,
-  ◌-◌,
   Bool,
   true,
   false,
@@ -11,23 +10,14 @@ use Rattle.std.specs.Prelude.{
   List,
   [],
   ◌∷◌,
-  ◌++◌,
-  length,
   map,
-  take,
   Option,
   None,
   Some,
   IsSome,
   is_some,
-  option_map,
-  Result,
   Ok,
-  Err,
 }
-use Rattle.std.specs.List.{list_any}
-use Rattle.std.specs.Str.{bytes_eq}
-use Rattle.msb_values.specs.Keys.{key_of}
 use Rattle.msb_values.specs.declared.item.Item.{Item}
 use Rattle.msb_values.specs.declared.mode.Mode.{Mode}
 use Rattle.msb_values.specs.declared.mode.Mode.TheVariants.{Clean}
@@ -35,17 +25,13 @@ use Rattle.msb_values.specs.declared.note.Note.{Note}
 use Rattle.msb_values.specs.declared.note.Note.TheVariants.{Fail, Warning}
 use Rattle.msb_values.specs.declared.put.Put.{Put}
 use Rattle.msb_values.specs.declared.scope.Scope.{Scope}
-use Rattle.msb_elements.specs.Nodes.{name_of}
-use Rattle.msb_expand.specs.declared.lens.Bucket.{Bucket}
-use Rattle.file_store.specs.Files.{file_at}
 use Rattle.file_store.specs.declared.tree.File.{File}
 use Rattle.result_cache.specs.declared.run.RunId.{RunId}
 use Rattle.result_cache.specs.declared.request.RequestResult.{RequestResult}
 use Rattle.result_cache.specs.Lists.{In}
 use Rattle.result_cache.specs.Journal.{Journal}
-use Rattle.build_world.specs.Elements.{At, children_of}
+use Rattle.build_world.specs.Elements.{children_of}
 use Rattle.build_world.specs.Instances.{UsedTarget}
-use Rattle.build_world.specs.declared.fault.EvalFault.{EvalFault}
 use Rattle.build_meaning.specs.Walk.{Outcome}
 use Rattle.build_meaning.specs.Meaning.{Given}
 use Rattle.build_meaning.specs.Demand.{IsWhole, IsSteady}
@@ -56,8 +42,6 @@ use Rattle.build_incremental.specs.Alike.{AlikeJournals}
 use Rattle.build_incremental.specs.Alone.{last_bytes}
 use Rattle.task_trait.specs.Failures.{failure_text}
 use Rattle.task_trait.specs.declared.failures.Failure.TheVariants.{TooLarge}
-use Rattle.task_trait.specs.declared.tools.Param.{Param}
-use Rattle.task_trait.specs.declared.tools.TaskOutput.{TaskOutput}
 use Rattle.task_trait.specs.declared.tools.ToolAnswer.{ToolAnswer}
 use Rattle.task_trait.specs.declared.tools.ToolInput.{ToolInput}
 use Rattle.target_incremental.specs.declared.decision.Choice.{Choice}
@@ -69,19 +53,7 @@ use Rattle.target_incremental.specs.declared.decision.Choice.TheVariants.{
 }
 use Rattle.msb_files.specs.Views as views
 use Rattle.target_texts.specs.Lists.{Lists}
-use Rattle.target_texts.specs.Outputs.{output_items}
-use Rattle.target_texts.specs.Parameters.{task_buckets}
-use Rattle.target_texts.specs.declared.on_error.OnError.{OnError}
-use Rattle.target_body.specs.States.{Run, State, Stopped, task_scope, place_in, view_of}
-use Rattle.target_body.specs.Children.{
-  Kind,
-  group_element,
-  on_error_element,
-  task_element,
-  kind_of,
-  child,
-}
-use Rattle.target_body.specs.Tasks.{called_place, readied, answered_if, call}
+use Rattle.target_body.specs.States.{Run, State, view_of}
 use Rattle.build_declared.specs.CalledTasks.{Called, calls_of, ReturnsGiven}
 use Rattle.build_declared.specs.Sublists.{ArePart, kept}
 use Rattle.build_declared.specs.Written.{bytes_in, AnyPath, since, is_one_of}

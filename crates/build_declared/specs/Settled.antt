@@ -1,5 +1,5 @@
--- Settled and repeated worlds: what a first build leaves as a second one finds it. (Incremental
--- builds)
+-- Settled worlds: what a piece reads is written before it begins, and what it writes nobody writes
+-- later. (Incremental builds)
 use Rattle.std.specs.Prelude.{
   ℕ,
   ◌≡◌,
@@ -10,7 +10,6 @@ use Rattle.std.specs.Prelude.{
   List,
   [],
   length,
-  map,
   Option,
   None,
   Some,
@@ -63,10 +62,18 @@ module _ (tools : List ℕ → ToolInput → ToolAnswer) (files : List File) (mo
       (t : State) × (end_of_piece tools o.run run p (choice_of run p.lists p.from)
       ≡ Some (record { value = Ok t; journal = t.journal; puts = puts }))
 
+  -- a write had been made when the piece began, at each occurrence of its run: by the run itself,
+  -- or before the run began
+  abbrev pub Stood : List (Occurrence Site) → Occurrence Site → Piece → RunId → (number : ℕ) →
+      Type 0
+  Stood demand o p run number = ((run ≡ o.run) × (number < length p.before))
+      ⊎ ((other : Occurrence Site) → In other demand → other.run ≡ o.run →
+      has (write_of run number) other.from ≡ true)
+
   -- The world settles, by the bodies of its meaning and by the last journal of its root: each piece
-  -- succeeds, and its inputs exist; what is ever written to an input of a piece was written when it
-  -- began, and what is ever written to an output of it was written then or is its own; and runs
-  -- without a piece keep off.
+  -- succeeds, and its inputs exist; what is ever written to an input of a piece had been written
+  -- when it began, and what is ever written to an output of it had been then or is its own; and
+  -- runs without a piece keep off.
   pub record IsSettled (demand : List (Occurrence Site)) (last : Journal) : Type 0 where
     pub succeeds : (o : Occurrence Site) → In o demand → (p : Piece) → In p (pieces_at o) →
         (puts : List Put) × Succeeds o.place.target o p puts
@@ -75,23 +82,10 @@ module _ (tools : List ℕ → ToolInput → ToolAnswer) (files : List File) (mo
         IsSome (views.content (record { files = files; journal = p.from.journal }) input)
     pub inputs_stood : (o : Occurrence Site) → In o demand → (p : Piece) → In p (pieces_at o) →
         (run : RunId) (number : ℕ) (put : Put) → In (wrote run number put) last →
-        In put.path p.lists.inputs → has (write_of run number) p.from.journal ≡ true
+        In put.path p.lists.inputs → Stood demand o p run number
     pub outputs_own : (o : Occurrence Site) → In o demand → (p : Piece) → In p (pieces_at o) →
         (puts : List Put) → Succeeds o.place.target o p puts →
         (run : RunId) (number : ℕ) (put : Put) → In (wrote run number put) last →
-        In put.path p.lists.outputs →
-        (has (write_of run number) p.from.journal ≡ true)
+        In put.path p.lists.outputs → Stood demand o p run number
         ⊎ ((run ≡ o.run) × (length p.before ≤ number) × (number < length puts))
     pub free : FreeRunsKeepOff demand
-
--- the lists of a piece
-abbrev pub lists_of : Piece → List (List ℕ) × List (List ℕ)
-lists_of p = (p.lists.inputs, p.lists.outputs)
-
--- the runs with pieces of some bodies are among others too, with the same lists and records
-abbrev pub HaveSame : (first second : Occurrence Site → List Piece) → List (Occurrence Site) →
-    List (Occurrence Site) → Type 0
-HaveSame first second demand again =
-    (o : Occurrence Site) → In o demand → (first o ≡ [] → ⊥) →
-    (p : Occurrence Site) × In p again × (p.run ≡ o.run) × (p.made ≡ o.made)
-    × (map lists_of (second p) ≡ map lists_of (first o))

@@ -1,10 +1,13 @@
+pub mod BodyFacts
 pub mod Demands
 pub mod Entries
 pub mod GoAlike
 pub mod Joined
+pub mod Keeping
 pub mod Meanings
 pub mod Moves
 pub mod Numbered
 pub mod OpenRuns
+pub mod Orders
 pub mod Pairs
 pub mod Whole

@@ -1,8 +1,12 @@
 pub mod Calling
 pub mod Claims
+pub mod CleanAnswers
+pub mod CleanFiles
 pub mod Committing
 pub mod Ended
+pub mod GivenFiles
 pub mod Meant
+pub mod NextBuilds
 pub mod Ready
 pub mod TrialEnded
 pub mod Unloaded

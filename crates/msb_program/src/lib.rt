@@ -5,7 +5,8 @@
 //! outcome, the outcome's files to the store, and then its text to the sink; [`run_alone`] does the same on one node. Which
 //! outcomes there are stands in one definition, `IsOutcomeOf` in the crate `msb_outcomes`; how one ends, in
 //! `specs/Endings.antt`; what each status says, in `specs/Answers.antt`; what it says where the world of a build is whole and
-//! steady, in `specs/Meanings.antt`; and which tools a build calls, in `specs/Calls.antt`.
+//! steady, in `specs/Meanings.antt`, and where a build may be trusted to skip what is up to date, in `specs/Clean.antt`; what such
+//! a build leaves to the next one, in `specs/NextBuilds.antt`; and which tools a build calls, in `specs/Calls.antt`.
 #![tactic(auto)]
 
 mod top;

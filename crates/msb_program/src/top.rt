@@ -1,7 +1,11 @@
-ghost use Rattle.std.specs.Prelude.{◌≡◌, ◌++◌, ◌⊎◌, ◌<◌, ◌≤◌, None, map, string_bytes, IfOk, codes};
+ghost use Rattle.std.specs.Prelude.{◌≡◌, ◌++◌, ◌⊎◌, ◌<◌, ◌≤◌, Some, None, map, string_bytes, IfOk, codes};
 ghost use Rattle.msb_laws.specs.Faults.{Rose};
 ghost use Rattle.msb_laws.specs.Gains.{Prints};
 ghost use Rattle.file_store.specs.declared.loading.LoadFault.TheVariants.{Memory};
+ghost use Rattle.file_store.specs.declared.tree.Tree.{Tree as TheTree};
+ghost use Rattle.result_cache.specs.declared.request.RequestResult.{RequestResult};
+ghost use Rattle.task_trait.specs.declared.tools.ToolInput.{ToolInput};
+ghost use Rattle.build_meaning.specs.Meaning.{Given};
 ghost use Rattle.msb_words.specs.Options.{options_in};
 ghost use Rattle.build_report.specs.Line.{line};
 ghost use Rattle.build_engine.specs.Statuses.{IsCompletion, IsRefusal};
@@ -9,6 +13,8 @@ ghost use Rattle.msb_outcomes.specs.Outcomes.{HasProject, load_fault_text, fault
 ghost use Rattle.msb_program.specs.Endings.{Ends, EndsMade, EndsTrial, Printed, PrintedAll, PrintedFront, Silent, printing, saving};
 ghost use Rattle.msb_program.specs.Calls.{AreMeantCalls, IsUndone};
 ghost use Rattle.msb_program.specs.Answers.{Answers, AsksForBuild, AsksForTrial, loading};
+ghost use Rattle.msb_program.specs.Clean.{AnswersClean, MeansClean};
+ghost use Rattle.msb_program.specs.NextBuilds.{AreCallsOfOthers, HasSaved, MeansRepeated, MeansUpToDate, PrintedSkips, StaysFresh};
 ghost use Rattle.msb_program.specs.Prepared.{IsLeft, IsPrepared};
 ghost use Rattle.msb_program.specs.Meanings.{AnswersMeant, Means};
 ghost use Rattle.build_outcome.specs.declared.outcome.Outcome.{Outcome as TheOutcome};
@@ -37,6 +43,11 @@ const USAGE: &str =
 /// A build takes as many nodes as the words tell, each in a thread of its own, and waits for them; over one node it starts no
 /// thread. A trial builds its set so too, and touches neither the store nor the tools. (MSBuild command-line reference,
 /// -maxCpuCount.)
+///
+/// A build that may be trusted to skip what is up to date ends as a build with `--clean` would: with its status, the items that
+/// it returns, and the bytes that it leaves at each path. If it is settled, and the clean build is repeated over the tree that it
+/// leaves, the next build may be trusted as well. A build that finds no output older than its inputs skips each piece, and prints
+/// so. (Incremental builds.)
 pub fn run<R: Threads + Wait + Sync, S: Store, K: Sink, T: Tools + Sync>(
     rt: &R,
     alloc: Global,
@@ -47,6 +58,26 @@ pub fn run<R: Threads + Wait + Sync, S: Store, K: Sink, T: Tools + Sync>(
 ) -> u8
     ensures answer { Answers T.answer (map string_bytes words.now) (loading (S.tree store.old) (S.fault_count store.old) (S.fault_count store.new) (S.failures store.old) (S.failures store.new)) (saving (S.tree store.old) (S.tree store.new)) (printing (K.fault_count sink.old) (K.fault_count sink.new) (K.told sink.old) (K.told sink.new)) result }
     ensures meaning { (meant : TheOutcome) → Means T.answer (map string_bytes words.now) (S.tree store.old) meant → AnswersMeant (map string_bytes words.now) (loading (S.tree store.old) (S.fault_count store.old) (S.fault_count store.new) (S.failures store.old) (S.failures store.new)) (saving (S.tree store.old) (S.tree store.new)) (printing (K.fault_count sink.old) (K.fault_count sink.new) (K.told sink.old) (K.told sink.new)) meant result }
+    ensures clean { (clean : Given ToolInput RequestResult) →
+        MeansClean T.answer (map string_bytes words.now) (S.tree store.old) clean →
+        AnswersClean
+        (loading (S.tree store.old) (S.fault_count store.old) (S.fault_count store.new)
+        (S.failures store.old) (S.failures store.new))
+        (saving (S.tree store.old) (S.tree store.new))
+        (printing (K.fault_count sink.old) (K.fault_count sink.new) (K.told sink.old)
+        (K.told sink.new))
+        clean result }
+    ensures stays { (left : TheTree) (again : Given ToolInput RequestResult)
+        (m : MeansRepeated T.answer (map string_bytes words.now) (S.tree store.old) left again) →
+        S.tree store.new ≡ Some left.files → HasSaved result →
+        StaysFresh T.answer m.given left again }
+    ensures skips { (clean : Given ToolInput RequestResult)
+        (m : MeansUpToDate T.answer (map string_bytes words.now) (S.tree store.old) clean) →
+        IsCompletion result →
+        PrintedSkips T.answer m.means.given.tree.files
+        (printing (K.fault_count sink.old) (K.fault_count sink.new) (K.told sink.old)
+        (K.told sink.new))
+        clean.value }
     ensures untouched { AsksForTrial (options_in (map string_bytes words.now)) → store.new ≡ store.old }
 {
     answered_on(rt, alloc, words, store, sink, tools)
@@ -54,7 +85,8 @@ pub fn run<R: Threads + Wait + Sync, S: Store, K: Sink, T: Tools + Sync>(
 
 /// The same on one node, whatever the number of nodes that the words tell. It starts no thread and always returns. A build
 /// that is done, of a whole and steady world, has called the tools for each run of its meaning as one body of that run does, in
-/// order; where no calls are made at once, a run has one body alone, so they were called as often as in the meaning.
+/// order; where no calls are made at once, a run has one body alone, so they were called as often as in the meaning. Where each
+/// piece is skipped, no tool is called for it.
 pub fn run_alone<S: Store, K: Sink, T: CountedTools>(
     alloc: Global,
     words: &[String],
@@ -64,9 +96,33 @@ pub fn run_alone<S: Store, K: Sink, T: CountedTools>(
 ) -> u8
     ensures answer { Answers T.answer (map string_bytes words.now) (loading (S.tree store.old) (S.fault_count store.old) (S.fault_count store.new) (S.failures store.old) (S.failures store.new)) (saving (S.tree store.old) (S.tree store.new)) (printing (K.fault_count sink.old) (K.fault_count sink.new) (K.told sink.old) (K.told sink.new)) result }
     ensures meaning { (meant : TheOutcome) → Means T.answer (map string_bytes words.now) (S.tree store.old) meant → AnswersMeant (map string_bytes words.now) (loading (S.tree store.old) (S.fault_count store.old) (S.fault_count store.new) (S.failures store.old) (S.failures store.new)) (saving (S.tree store.old) (S.tree store.new)) (printing (K.fault_count sink.old) (K.fault_count sink.new) (K.told sink.old) (K.told sink.new)) meant result }
+    ensures clean { (clean : Given ToolInput RequestResult) →
+        MeansClean T.answer (map string_bytes words.now) (S.tree store.old) clean →
+        AnswersClean
+        (loading (S.tree store.old) (S.fault_count store.old) (S.fault_count store.new)
+        (S.failures store.old) (S.failures store.new))
+        (saving (S.tree store.old) (S.tree store.new))
+        (printing (K.fault_count sink.old) (K.fault_count sink.new) (K.told sink.old)
+        (K.told sink.new))
+        clean result }
+    ensures stays { (left : TheTree) (again : Given ToolInput RequestResult)
+        (m : MeansRepeated T.answer (map string_bytes words.now) (S.tree store.old) left again) →
+        S.tree store.new ≡ Some left.files → HasSaved result →
+        StaysFresh T.answer m.given left again }
+    ensures skips { (clean : Given ToolInput RequestResult)
+        (m : MeansUpToDate T.answer (map string_bytes words.now) (S.tree store.old) clean) →
+        IsCompletion result →
+        PrintedSkips T.answer m.means.given.tree.files
+        (printing (K.fault_count sink.old) (K.fault_count sink.new) (K.told sink.old)
+        (K.told sink.new))
+        clean.value }
     ensures uncalled { (AsksForBuild (options_in (map string_bytes words.now)) → ⊥) → T.calls tools.new ≡ T.calls tools.old }
     ensures untouched { AsksForTrial (options_in (map string_bytes words.now)) → store.new ≡ store.old }
     ensures calls { (meant : TheOutcome) (m : Means T.answer (map string_bytes words.now) (S.tree store.old) meant) → IsCompletion result → ∥ AreMeantCalls m.out (T.calls tools.old) (T.calls tools.new) ∥₁ }
+    ensures idle { (clean : Given ToolInput RequestResult)
+        (m : MeansUpToDate T.answer (map string_bytes words.now) (S.tree store.old) clean) →
+        IsCompletion result →
+        ∥ AreCallsOfOthers T.answer m.means.given (T.calls tools.old) (T.calls tools.new) ∥₁ }
 {
     answered_alone(alloc, words, store, sink, tools)
 }

@@ -1,0 +1,87 @@
+-- Each run that a request of a build wants has the body of its target, in the scope of its place.
+use Rattle.std.proofs.Common.{ℕ, Bool, true, false, List, refl}
+use Rattle.std.specs.Prelude.{Result, Ok, Err}
+use Rattle.msb_laws.specs.Asking.{Asking, gives as ends, asks}
+use Rattle.msb_values.specs.declared.mode.Mode.{Mode}
+use Rattle.msb_values.specs.declared.scope.Scope.{Scope}
+use Rattle.file_store.specs.declared.tree.File.{File}
+use Rattle.target_order.specs.Visit.{Question, condition, depends, body, End, order}
+use Rattle.target_order.specs.declared.asks.OrderAnswer.{OrderAnswer}
+use Rattle.target_order.specs.declared.asks.OrderAnswer.TheVariants.{Truth, Names}
+use Rattle.build_world.specs.Instances.{Instance}
+use Rattle.build_world.specs.declared.fault.EvalFault.{EvalFault}
+use Rattle.result_cache.specs.declared.run.RunId.{RunId}
+use Rattle.result_cache.specs.declared.request.RequestKey.{RequestKey}
+use Rattle.result_cache.specs.Journal.{Journal}
+use Rattle.build_meaning.specs.Walk.{Body, Reply}
+use Rattle.build_incremental.specs.Placed.{Placed}
+use Rattle.build_incremental.proofs.BodyFacts.{HasBody}
+use Rattle.build_incremental.proofs.Demands.{Tells}
+use Rattle.task_trait.specs.declared.tools.ToolAnswer.{ToolAnswer}
+use Rattle.task_trait.specs.declared.tools.ToolInput.{ToolInput}
+use Rattle.request_machine.specs.declared.standing.Standing.{Standing}
+use Rattle.request_machine.specs.Requests.{
+  Project,
+  holds_of,
+  depends_of,
+  target_at,
+  all_targets,
+  has_no_targets,
+}
+use Rattle.request_machine.specs.Walk.{run_of, answer_of, after_run, nothing_ran}
+use Rattle.build_declared.specs.Places.{Site, or_replies, placed}
+use Rattle.build_declared.specs.Worlds.{body_if, bodies_in, placed_unless, placed_by, world_by}
+
+-- what is said of each body that a request wants
+module _ (B : Site → RunId → Journal → Body ToolInput ToolAnswer → Type 0) (p : Project)
+    (key : RequestKey) (bodies : List ℕ → Scope → Journal → Body ToolInput ToolAnswer)
+    (each : (name : List ℕ) (scope : Scope) (j : Journal) →
+    B (record { target = target_at p name; scope = scope }) (run_of p.key name) j
+    (bodies name scope j)) where
+  or-tells : {X : Type 0} (x : Result X EvalFault) (next : X → Placed Site ToolInput ToolAnswer)
+      (j : Journal) → ((z : X) → Tells B (next z) j) → Tells B (or_replies x next) j
+  or-tells (Ok z) next j h = h z
+  or-tells (Err fault) next j h = tt
+
+  pub placed-tells : (tree : Asking Question OrderAnswer End) (s : Standing) (j : Journal) →
+      Tells B (placed p key bodies tree s j) j
+  placed-tells (ends end) s j = tt
+  placed-tells (asks (condition name) go) s j =
+      or-tells (holds_of p s.scope j (target_at p name))
+      (λ holds. placed p key bodies (go (Truth holds)) s j) j
+      (λ holds. placed-tells (go (Truth holds)) s j)
+  placed-tells (asks (depends name) go) s j =
+      or-tells (depends_of p s.scope (target_at p name))
+      (λ names. placed p key bodies (go (Names names)) s j) j
+      (λ names. placed-tells (go (Names names)) s j)
+  placed-tells (asks (body name) go) s j = (
+    each name s.scope j,
+    λ made then.
+        let after : Standing = after_run s name made in
+        or-tells (answer_of p made.ok after then name)
+        (λ answer. placed p key bodies (go answer) after then) then
+        (λ answer. placed-tells (go answer) after then),
+  )
+
+module _ (files : List File) (mode : Mode) where
+  -- the body of a run at its place
+  abbrev pub bodies_of : Site → RunId → Journal → Body ToolInput ToolAnswer
+  bodies_of site id journal = body_if files mode id site.target site.scope journal
+
+  unless-tells : (b : Bool) (p : Project) (key : RequestKey) (j : Journal) →
+      Tells (HasBody bodies_of) (placed_unless b files mode p key j) j
+  unless-tells true p key j = tt
+  unless-tells false p key j = placed-tells (HasBody bodies_of) p key (bodies_in files mode p)
+      (λ name scope j. refl) (order p.instance.rows (all_targets p.instance key)) (nothing_ran p) j
+
+  by-tells : (key : RequestKey) (j : Journal) (x : Result Instance Reply) →
+      Tells (HasBody bodies_of) (placed_by files mode key j x) j
+  by-tells key j (Err reply) = tt
+  by-tells key j (Ok instance) =
+      let p : Project = record { files = files; key = key.instance; instance = instance } in
+      unless-tells (has_no_targets instance key) p key j
+
+  pub world-tells : (tools : List ℕ → ToolInput → ToolAnswer) (root : RequestKey)
+      (instances : RequestKey → Result Instance Reply) (key : RequestKey) (j : Journal) →
+      Tells (HasBody bodies_of) ((world_by tools files root instances mode).walks key j) j
+  world-tells tools root instances key j = by-tells key j (instances key)

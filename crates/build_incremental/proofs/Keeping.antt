@@ -1,0 +1,179 @@
+-- What a meaning keeps: the marks that a journal has, and whatever each write, each end of a run
+-- and each join keeps.
+use Rattle.std.proofs.Common.{ℕ, inl, inr, List, [], ◌∷◌, ◌++◌, length, refl, sym, subst}
+use Rattle.msb_values.specs.declared.put.Put.{Put}
+use Rattle.result_cache.specs.declared.run.RunId.{RunId}
+use Rattle.result_cache.specs.declared.request.RequestKey.{RequestKey}
+use Rattle.result_cache.specs.declared.request.RequestResult.{RequestResult}
+use Rattle.result_cache.specs.declared.record.Record.{Record}
+use Rattle.result_cache.specs.declared.record.Segment.{Segment}
+use Rattle.result_cache.specs.declared.record.Segment.TheVariants.{Write, Call}
+use Rattle.result_cache.specs.Lists.{In}
+use Rattle.result_cache.specs.Journal.{
+  Journal,
+  Entry,
+  wrote,
+  ended,
+  Mark,
+  write_of,
+  mark,
+  add,
+  merge,
+}
+use Rattle.result_cache.proofs.JournalEntries.{Has, has-add, has-added, has-merge_left}
+use Rattle.build_meaning.proofs.MeaningDerived.{in-right}
+use Rattle.build_meaning.specs.Walk.{Body}
+use Rattle.build_meaning.specs.SoFar.{ToolUse, SoFar, with_calls, called}
+use Rattle.build_incremental.specs.Placed.{Placed, PlacedWorld}
+use Rattle.build_incremental.specs.Each.{
+  EachWalk,
+  each_over,
+  each_used,
+  each_made,
+  EachBody,
+  each_ended,
+  each_wrote,
+  each_used_tool,
+  each_called,
+  EachCalls,
+  each_no_calls,
+  each_call,
+}
+use Rattle.build_incremental.proofs.GoAlike.{has-so-far}
+use Rattle.build_incremental.proofs.Numbered.{writes_in, writes-more, writes-called}
+
+-- what is there when one write more is added
+own-added : (r : RunId) (j older : Journal) (n : ℕ) (put : Put) →
+    ((k : ℕ) (q : Put) → In (wrote r k q) older → Has (write_of r k) j) →
+    (k : ℕ) (q : Put) → In (wrote r k q) (wrote r n put ∷ older) →
+    Has (write_of r k) (add j (wrote r n put))
+own-added r j older n put f k q (inl e) =
+    subst (λ z. Has (mark z) (add j (wrote r n put))) e (has-added j (wrote r n put))
+own-added r j older n put f k q (inr i) =
+    has-add (write_of r k) j (wrote r n put) (f k q i)
+
+module _ {P I A : Type 0} (w : PlacedWorld P I A) (Q : P → RunId → Journal → Record → Type 0)
+    (J : Journal → Journal → Journal → Type 0) (K : RequestKey → Type 0) where
+  -- ---- marks stay
+
+  mutual
+    pub walk-has : {path : List RunId} {j : Journal} {runs : List RunId} {x : Placed P I A}
+        {res : RequestResult} {k : Journal} → EachWalk w Q J K path j runs x res k →
+        (s : Mark) → Has s j → Has s k
+    walk-has each_over s h = h
+    walk-has (each_used m e rest) s h = walk-has rest s h
+    walk-has (each_made {i = i} {r = r} {m = m} out new d q rest) s h =
+        walk-has rest s (has-add s i (ended r m) (body-has d s h))
+
+    pub body-has : {path : List RunId} {r : RunId} {j : Journal} {so_far : SoFar I}
+        {b : Body I A} {m : Record} {tools : List (ToolUse I)} {k : Journal} →
+        EachBody w Q J K path r j so_far b m tools k → (s : Mark) → Has s j → Has s k
+    body-has each_ended s h = h
+    body-has (each_wrote {r = r} {j = j} {so_far = so_far} {put = put} rest) s h =
+        body-has rest s (has-add s j (wrote r (length so_far.segments) put) h)
+    body-has (each_used_tool rest) s h = body-has rest s h
+    body-has (each_called asked rest) s h = body-has rest s (calls-has asked s h)
+
+    pub calls-has : {path : List RunId} {j a : Journal} {keys : List RequestKey}
+        {results : List RequestResult} {k : Journal} → EachCalls w Q J K path j a keys results k →
+        (s : Mark) → Has s a → Has s k
+    calls-has each_no_calls s h = h
+    calls-has (each_call {a = a} {i = i} known less walk so rest) s h =
+        calls-has rest s (has-merge_left s a i h)
+
+  -- ---- the writes and calls of a record
+
+  pub has-writes : {path : List RunId} {r : RunId} {j : Journal} {so_far : SoFar I}
+      {b : Body I A} {m : Record} {tools : List (ToolUse I)} {k : Journal} →
+      EachBody w Q J K path r j so_far b m tools k → (e : Entry) →
+      In e (writes_in r so_far.segments) → In e (writes_in r m.segments)
+  has-writes each_ended e i = i
+  has-writes (each_wrote {r = r} {so_far = so_far} {put = put} rest) e i =
+      has-writes rest e (subst (In e) (sym (writes-more r so_far.segments put)) (inr i))
+  has-writes (each_used_tool rest) e i = has-writes rest e i
+  has-writes (each_called {r = r} {so_far = so_far} {key = key} {keys = keys} {results = results}
+      asked rest) e i =
+      has-writes rest e
+      (subst (In e) (sym (writes-called r so_far.segments (key ∷ keys) results)) i)
+
+  -- what the record writes is there when its body has come to its end
+  pub own-there : {path : List RunId} {r : RunId} {j : Journal} {so_far : SoFar I}
+      {b : Body I A} {m : Record} {tools : List (ToolUse I)} {k : Journal} →
+      EachBody w Q J K path r j so_far b m tools k → ((n : ℕ) (put : Put) →
+      In (wrote r n put) (writes_in r so_far.segments) → Has (write_of r n) j) →
+      (n : ℕ) (put : Put) → In (wrote r n put) (writes_in r m.segments) → Has (write_of r n) k
+  own-there each_ended f n put i = f n put i
+  own-there (each_wrote {r = r} {j = j} {so_far = so_far} {put = new} rest) f n put i =
+      own-there rest (λ k q u. own-added r j (writes_in r so_far.segments)
+      (length so_far.segments) new f k q
+      (subst (In (wrote r k q)) (writes-more r so_far.segments new) u)) n put i
+  own-there (each_used_tool rest) f n put i = own-there rest f n put i
+  own-there (each_called {r = r} {so_far = so_far} {key = key} {keys = keys} {results = results}
+      asked rest) f n put i =
+      own-there rest (λ k q u. calls-has asked (write_of r k) (f k q
+      (subst (In (wrote r k q)) (writes-called r so_far.segments (key ∷ keys) results) u))) n put i
+
+  -- a record tells of each call
+  pub call-told : {path : List RunId} {r : RunId} {j a i k : Journal} {key : RequestKey}
+      {keys : List RequestKey} {results : List RequestResult} {b : Body I A} {m : Record}
+      {tools : List (ToolUse I)} (so_far : SoFar I) →
+      EachCalls w Q J K path j a (key ∷ keys) results i →
+      EachBody w Q J K path r i (with_calls so_far (key ∷ keys) results) b m tools k →
+      (runs : List RunId) × In (Call key runs) m.segments
+  call-told {key = key} {keys = keys} so_far
+      (each_call {res = res} {results = results} known less walk so rest) body = (
+        res.runs,
+        has-so-far w Q J K body (Call key res.runs) (in-right (Call key res.runs)
+            so_far.segments (called (key ∷ keys) (res ∷ results)) (inl refl)),
+      )
+
+  -- ---- what each step keeps
+
+  -- Inv holds of a journal. It is kept by the end of a run, by a join, and by a write of a run
+  -- where Ready holds of its record, of what it has done so far and of its journal.
+  module _ (Inv : Journal → Type 0) (Ready : RunId → Record → List Segment → Journal → Type 0)
+      (ends : (p : P) (r : RunId) (from : Journal) (m : Record) → Q p r from m →
+      (j : Journal) → Inv j → Inv (add j (ended r m)))
+      (joins : (a i : Journal) → Inv a → Inv i → Inv (merge a i))
+      (starts : (p : P) (r : RunId) (j : Journal) (m : Record) → Q p r j m → Ready r m [] j)
+      (writes : (r : RunId) (m : Record) (segments : List Segment) (put : Put) (j : Journal) →
+      In (wrote r (length segments) put) (writes_in r m.segments) → Ready r m segments j → Inv j →
+      Inv (add j (wrote r (length segments) put))
+      × Ready r m (segments ++ Write put ∷ []) (add j (wrote r (length segments) put)))
+      (calls : (r : RunId) (m : Record) (segments : List Segment) (key : RequestKey)
+      (keys : List RequestKey) (results : List RequestResult) (j i : Journal) →
+      ((s : Mark) → Has s j → Has s i) →
+      ((runs : List RunId) × In (Call key runs) m.segments) → Ready r m segments j →
+      Ready r m (segments ++ called (key ∷ keys) results) i) where
+    mutual
+      pub walk-keeps : {path : List RunId} {j : Journal} {runs : List RunId} {x : Placed P I A}
+          {res : RequestResult} {k : Journal} → EachWalk w Q J K path j runs x res k →
+          Inv j → Inv k
+      walk-keeps each_over v = v
+      walk-keeps (each_used m e rest) v = walk-keeps rest v
+      walk-keeps (each_made {j = j} {i = i} {p = p} {r = r} {m = m} out new d q rest) v =
+          walk-keeps rest (ends p r j m q i (body-keeps d (starts p r j m q) v))
+
+      pub body-keeps : {path : List RunId} {r : RunId} {j : Journal} {so_far : SoFar I}
+          {b : Body I A} {m : Record} {tools : List (ToolUse I)} {k : Journal} →
+          EachBody w Q J K path r j so_far b m tools k → Ready r m so_far.segments j →
+          Inv j → Inv k
+      body-keeps each_ended g v = v
+      body-keeps (each_wrote {r = r} {j = j} {so_far = so_far} {put = put} {m = m} rest) g v =
+          let e : Entry = wrote r (length so_far.segments) put in
+          let there : In e (writes_in r (so_far.segments ++ Write put ∷ [])) =
+          subst (In e) (sym (writes-more r so_far.segments put)) (inl refl) in
+          let x = writes r m so_far.segments put j (has-writes rest e there) g v in
+          body-keeps rest x.1 x.0
+      body-keeps (each_used_tool rest) g v = body-keeps rest g v
+      body-keeps (each_called {r = r} {j = j} {i = i} {so_far = so_far} {key = key} {keys = keys}
+          {results = results} {m = m} asked rest) g v =
+          body-keeps rest (calls r m so_far.segments key keys results j i (calls-has asked)
+          (call-told so_far asked rest) g) (calls-keeps asked v v)
+
+      pub calls-keeps : {path : List RunId} {j a : Journal} {keys : List RequestKey}
+          {results : List RequestResult} {k : Journal} →
+          EachCalls w Q J K path j a keys results k → Inv j → Inv a → Inv k
+      calls-keeps each_no_calls v u = u
+      calls-keeps (each_call {a = a} {i = i} known less walk so rest) v u =
+          calls-keeps rest v (joins a i u (walk-keeps walk v))

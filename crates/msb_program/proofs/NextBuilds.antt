@@ -1,0 +1,194 @@
+-- What a build leaves to the next one, and what the next one finds up to date.
+use Rattle.std.proofs.Common.{
+  ◌≡◌,
+  ℕ,
+  List,
+  [],
+  ◌∷◌,
+  Bool,
+  true,
+  false,
+  Option,
+  Some,
+  IfSome,
+  IsSomeAnd,
+  inl,
+  inr,
+  subst,
+  ◌∙◌,
+}
+use Rattle.std.proofs.Math.Logic.{∥∥₁_map}
+use Rattle.file_store.specs.Commits.{AreWritten}
+use Rattle.file_store.specs.declared.tree.File.{File}
+use Rattle.file_store.specs.declared.tree.Tree.{Tree}
+use Rattle.result_cache.specs.declared.request.RequestResult.{RequestResult}
+use Rattle.result_cache.specs.Lists.{In}
+use Rattle.result_cache.specs.Same.{same_run}
+use Rattle.result_cache.proofs.RunTests.{same_run-refl}
+use Rattle.msb_files.specs.FinalTree.{commit_list}
+use Rattle.build_world.specs.declared.world.World.{World}
+use Rattle.build_meaning.specs.Meaning.{Given}
+use Rattle.build_meaning.specs.Demand.{IsWhole, IsSteady}
+use Rattle.build_history.specs.Uses.{RunUse, uses_of, with_if}
+use Rattle.build_report.specs.Shown.{shown_text}
+use Rattle.build_outcome.specs.Outcomes.{built}
+use Rattle.build_outcome.specs.declared.outcome.Outcome.{Outcome}
+use Rattle.build_engine.specs.Statuses.{IsCompletion}
+use Rattle.task_trait.specs.declared.tools.ToolInput.{ToolInput}
+use Rattle.request_machine.specs.Worlds.{world_of}
+use Rattle.build_declared.specs.Clean.{GivesClean}
+use Rattle.build_declared.specs.UpToDate.{SkipsEach}
+use Rattle.build_declared.proofs.CleanWorlds.{build-is-clean}
+use Rattle.build_declared.proofs.SkippedWorlds.{second-build-skips}
+use Rattle.build_declared.proofs.StaysFresh.{stays-fresh, stays-no-older}
+use Rattle.msb_outcomes.specs.Calls.{Called}
+use Rattle.msb_outcomes.specs.Outcomes.{Answering}
+use Rattle.msb_program.specs.Answers.{Answers, Loading}
+use Rattle.msb_program.specs.Calls.{AreMeantCalls}
+use Rattle.msb_program.specs.Endings.{Printing, PrintedAll, SavedAll, Saving}
+use Rattle.msb_program.specs.Meanings.{AnswersMeant, IsAskedOf, Means}
+use Rattle.msb_program.specs.NextBuilds.{
+  AreCallsOfOthers,
+  HasSaved,
+  MeansRepeated,
+  MeansUpToDate,
+  PrintedSkips,
+  StaysFresh,
+}
+use Rattle.msb_program.proofs.GivenFiles.{given_told, means_of}
+use Rattle.msb_program.proofs.Meant.{answers_meant}
+
+-- what holds of the trees before and after holds of those that the store tells
+told_both : (P : List File → List File → Type 0) (before after : Option (List File))
+    (b a : List File) → before ≡ Some b → after ≡ Some a →
+    IfSome before (λ files. IsSomeAnd after (P files)) → P b a
+told_both P before after b a is_before is_after h =
+    subst (λ (told : Option (List File)). IsSomeAnd told (P b)) is_after
+    (subst (λ (told : Option (List File)). IfSome told (λ files. IsSomeAnd after (P files)))
+    is_before h)
+
+module _ (tools : Answering) (words : List (List ℕ)) (l : Loading) (s : Saving) (p : Printing)
+    (status : ℕ) (answers : Answers tools words l s p status) where
+  -- what is said of the outcome that a build means
+  answers_of : (given : World) (build : IsAskedOf words l.told given)
+      (out : Given ToolInput RequestResult) → IsWhole (world_of tools given) out →
+      IsSteady out.demand →
+      AnswersMeant words l s p (built build.options.low out.value out.journal) status
+  answers_of given build out whole steady =
+      answers_meant tools words l s p status answers
+      (built build.options.low out.value out.journal)
+      (means_of tools words l.told given build out whole steady)
+
+  saved_of : (meant : Outcome) → AnswersMeant words l s p meant status → HasSaved status →
+      SavedAll s meant.commit
+  saved_of meant answers (inl zero_is) = (answers.done (inl zero_is)).1.0
+  saved_of meant answers (inr (inl one_is)) = (answers.done (inr one_is)).1.0
+  saved_of meant answers (inr (inr six_is)) = (answers.sink six_is).saved
+
+  module _ (same : s.before ≡ l.told) (left : Tree) (again : Given ToolInput RequestResult)
+      (means : MeansRepeated tools words l.told left again) where
+    -- the list was written that the build means
+    written : s.after ≡ Some left.files → HasSaved status →
+        AreWritten (commit_list means.out.journal) means.given.tree.files left.files
+    written left_is saved =
+        let meant : Outcome =
+        built means.build.options.low means.out.value means.out.journal in
+        told_both (AreWritten (commit_list means.out.journal)) s.before s.after
+        means.given.tree.files left.files
+        (same ∙ given_told words l.told means.given means.build) left_is
+        (saved_of meant (answers_of means.given means.build means.out means.settled.whole
+        means.settled.steady) saved).written
+
+    -- the tree that is left is one over which the next build may be trusted
+    pub stays_fresh : s.after ≡ Some left.files → HasSaved status →
+        StaysFresh tools means.given left again
+    stays_fresh left_is saved = record {
+      fresh = stays-fresh tools means.given left means.clean means.out again means.trusted
+          means.settled (written left_is saved) means.repeated;
+      no_older = stays-no-older tools means.given left means.clean means.out again
+          means.trusted means.settled (written left_is saved) means.repeated;
+      up_to_date = record {
+        no_older = stays-no-older tools means.given left means.clean means.out again
+            means.trusted means.settled (written left_is saved) means.repeated;
+        demand = means.repeated.later;
+        bodies = means.repeated.later_bodies;
+        keep_off = means.repeated.repeated.free;
+      };
+    }
+
+  module _ (clean : Given ToolInput RequestResult)
+      (means : MeansUpToDate tools words l.told clean) where
+    skips_so : (out : Given ToolInput RequestResult) →
+        IsWhole (world_of tools means.means.given) out →
+        GivesClean means.means.given.tree.files out clean →
+        SkipsEach tools means.means.given out → IsCompletion status →
+        PrintedSkips tools means.means.given.tree.files p clean.value
+    skips_so out whole gives skips done = (
+      out.journal,
+      means.means.build.options.low,
+      skips.records,
+      subst (λ (r : RequestResult).
+          PrintedAll p (shown_text r out.journal means.means.build.options.low)) gives.result
+          ((answers_of means.means.given means.means.build out whole
+          (means.means.steady out whole.means)).done done).1.1,
+    )
+
+    -- each piece is skipped, and so it is printed
+    pub build_skips : IsCompletion status →
+        PrintedSkips tools means.means.given.tree.files p clean.value
+    build_skips =
+        let law = build-is-clean tools means.means.given clean means.means.trusted in
+        skips_so law.0 law.1 law.2
+        (second-build-skips tools means.means.given clean means.means.trusted means.up_to_date
+        means.mode law.0 law.1.means)
+
+-- ---- the calls of tools
+
+-- a run that is used has a use
+no_use : (u : RunUse ToolInput) (uses : List (RunUse ToolInput)) → In u uses →
+    uses_of u.run uses ≡ [] → ⊥
+no_use u [] there none = absurd there
+no_use u (x ∷ xs) (inl same) none =
+    let used : with_if (same_run u.run u.run) u.tool (uses_of u.run xs) ≡ [] =
+    subst (λ (z : RunUse ToolInput).
+    with_if (same_run z.run u.run) z.tool (uses_of u.run xs) ≡ []) same none in
+    let own : same_run u.run u.run ≡ true = same_run-refl u.run in
+    let some : u.tool ∷ uses_of u.run xs ≡ [] =
+    subst (λ (b : Bool). with_if b u.tool (uses_of u.run xs) ≡ []) own used in
+    cc
+no_use u (x ∷ xs) (inr there) none = by (same_run x.run u.run) none (no_use u xs there)
+  where
+    by : (b : Bool) → with_if b x.tool (uses_of u.run xs) ≡ [] →
+        (uses_of u.run xs ≡ [] → ⊥) → ⊥
+    by true some rest = cc
+    by false none rest = rest none
+
+module _ (tools : Answering) (words : List (List ℕ)) (told : Option (List File))
+    (clean : Given ToolInput RequestResult) (means : MeansUpToDate tools words told clean)
+    (before after : Called) where
+  others_of : (out : Given ToolInput RequestResult) →
+      IsWhole (world_of tools means.means.given) out → AreMeantCalls out before after →
+      SkipsEach tools means.means.given out →
+      AreCallsOfOthers tools means.means.given before after
+  others_of out whole calls skips = record {
+    out = out;
+    means = whole.means;
+    calls = calls;
+    others = λ u there target has takes.
+        let made = calls.meant.each u there in
+        no_use u calls.uses there (skips.uses_none u.run made.0 (uses_of u.run calls.uses)
+        (calls.meant.once u.run made.0 made.1 made.2) target has takes).1;
+  }
+
+  -- no piece calls a tool
+  pub calls_of_others : (status : ℕ) → ((meant : Outcome) (m : Means tools words told meant) →
+      IsCompletion status → ∥ AreMeantCalls m.out before after ∥₁) → IsCompletion status →
+      ∥ AreCallsOfOthers tools means.means.given before after ∥₁
+  calls_of_others status calls done =
+      let law = build-is-clean tools means.means.given clean means.means.trusted in
+      let skips = second-build-skips tools means.means.given clean means.means.trusted
+      means.up_to_date means.mode law.0 law.1.means in
+      ∥∥₁_map (calls (built means.means.build.options.low law.0.value law.0.journal)
+      (means_of tools words told means.means.given means.means.build law.0 law.1
+      (means.means.steady law.0 law.1.means)) done)
+      (λ x. others_of law.0 law.1 x skips)
