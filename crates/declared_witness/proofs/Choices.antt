@@ -30,6 +30,7 @@ use Rattle.msb_values.specs.declared.mode.Mode.TheVariants.{Clean}
 use Rattle.msb_values.specs.declared.note.Note.{Note}
 use Rattle.msb_values.specs.declared.put.Put.{Put}
 use Rattle.msb_expression.specs.Machine.{run as read_on}
+use Rattle.file_store.specs.declared.tree.File.{File}
 use Rattle.result_cache.specs.declared.record.Decision.{Decision}
 use Rattle.result_cache.specs.declared.record.Decision.TheVariants.{
   Ran,
@@ -51,7 +52,7 @@ use Rattle.target_incremental.specs.declared.decision.Choice.TheVariants.{
   Part,
 }
 use Rattle.target_texts.specs.Lists.{Lists}
-use Rattle.target_body.specs.States.{State}
+use Rattle.target_body.specs.States.{Run, State}
 use Rattle.build_declared.specs.Chosen.{Chooser, work_by}
 use Rattle.build_declared.specs.Declared.{IsNotTooLarge, MayChoose}
 use Rattle.build_declared.specs.Ends.{End, end_of}
@@ -66,7 +67,7 @@ use Rattle.declared_witness.specs.ThreeCopies.{
   sources,
   objects,
   scope,
-  files,
+  files_with,
   run,
   first_put,
   second_put,
@@ -86,110 +87,117 @@ outcome_as decision = record {
 abbrev always : Choice → Chooser
 always choice l s = choice
 
-abbrev GoesAs : Choice → List Put → Decision → Type 0
-GoesAs choice puts decision =
-    work_by (always choice) clean_run scope [] ≡ steps_of puts (outcome_as decision)
+module _ (bytes : List ℕ) (stamp : ℕ) where
+  abbrev tree : List File
+  tree = files_with bytes stamp
 
-all-go : GoesAs RunAll (first_put ∷ second_put ∷ third_put ∷ []) Ran
-unfolding same_run same_instance read_on fold_case folding value_in rows chars
-all-go = refl
+  abbrev over_tree : Run
+  over_tree = clean_run bytes stamp
 
-none-go : GoesAs Skip [] UpToDate
-unfolding same_run same_instance read_on fold_case folding value_in rows chars
-none-go = refl
+  abbrev GoesAs : Choice → List Put → Decision → Type 0
+  GoesAs choice puts decision =
+      work_by (always choice) over_tree scope [] ≡ steps_of puts (outcome_as decision)
 
-abbrev PartGoes : List Bool → List Put → Decision → Type 0
-PartGoes marks puts decision = GoesAs (Part (kept marks sources)) puts decision
+  all-go : GoesAs RunAll (first_put ∷ second_put ∷ third_put ∷ []) Ran
+  unfolding same_run same_instance read_on fold_case folding value_in rows chars
+  all-go = refl
 
-first-goes : PartGoes (true ∷ false ∷ false ∷ []) (first_put ∷ []) (InPart 1 3)
-unfolding same_run same_instance read_on fold_case folding value_in rows chars
-first-goes = refl
+  none-go : GoesAs Skip [] UpToDate
+  unfolding same_run same_instance read_on fold_case folding value_in rows chars
+  none-go = refl
 
-second-goes : PartGoes (false ∷ true ∷ false ∷ []) (second_put ∷ []) (InPart 1 3)
-unfolding same_run same_instance read_on fold_case folding value_in rows chars
-second-goes = refl
+  abbrev PartGoes : List Bool → List Put → Decision → Type 0
+  PartGoes marks puts decision = GoesAs (Part (kept marks sources)) puts decision
 
-third-goes : PartGoes (false ∷ false ∷ true ∷ []) (third_put ∷ []) (InPart 1 3)
-unfolding same_run same_instance read_on fold_case folding value_in rows chars
-third-goes = refl
+  first-goes : PartGoes (true ∷ false ∷ false ∷ []) (first_put ∷ []) (InPart 1 3)
+  unfolding same_run same_instance read_on fold_case folding value_in rows chars
+  first-goes = refl
 
-not-third-go : PartGoes (true ∷ true ∷ false ∷ []) (first_put ∷ second_put ∷ []) (InPart 2 3)
-unfolding same_run same_instance read_on fold_case folding value_in rows chars
-not-third-go = refl
+  second-goes : PartGoes (false ∷ true ∷ false ∷ []) (second_put ∷ []) (InPart 1 3)
+  unfolding same_run same_instance read_on fold_case folding value_in rows chars
+  second-goes = refl
 
-not-second-go : PartGoes (true ∷ false ∷ true ∷ []) (first_put ∷ third_put ∷ []) (InPart 2 3)
-unfolding same_run same_instance read_on fold_case folding value_in rows chars
-not-second-go = refl
+  third-goes : PartGoes (false ∷ false ∷ true ∷ []) (third_put ∷ []) (InPart 1 3)
+  unfolding same_run same_instance read_on fold_case folding value_in rows chars
+  third-goes = refl
 
-not-first-go : PartGoes (false ∷ true ∷ true ∷ []) (second_put ∷ third_put ∷ []) (InPart 2 3)
-unfolding same_run same_instance read_on fold_case folding value_in rows chars
-not-first-go = refl
+  not-third-go : PartGoes (true ∷ true ∷ false ∷ []) (first_put ∷ second_put ∷ []) (InPart 2 3)
+  unfolding same_run same_instance read_on fold_case folding value_in rows chars
+  not-third-go = refl
 
-module _ (tools : List ℕ → ToolInput → ToolAnswer) where
-  abbrev NeverBy : Chooser → Mode → Journal → Type 0
-  NeverBy choose mode from = (end : End Outcome)
-      × (end_of tools run (work_by choose (record clean_run { mode = mode }) scope from) from []
-      ≡ Some end)
-      × ((note : Note) → In note end.value.notes → IsNotTooLarge tools run clean_run note)
+  not-second-go : PartGoes (true ∷ false ∷ true ∷ []) (first_put ∷ third_put ∷ []) (InPart 2 3)
+  unfolding same_run same_instance read_on fold_case folding value_in rows chars
+  not-second-go = refl
 
-  module _ (mode : Mode) (from : Journal)
-      (alike : AlikeJournals (bytes_in files) AnyPath from []) where
-    abbrev Never : Choice → Type 0
-    Never choice = NeverBy (always choice) mode from
+  not-first-go : PartGoes (false ∷ true ∷ true ∷ []) (second_put ∷ third_put ∷ []) (InPart 2 3)
+  unfolding same_run same_instance read_on fold_case folding value_in rows chars
+  not-first-go = refl
 
-    by-choice : (choice : Choice) (puts : List Put) (decision : Decision) →
-        GoesAs choice puts decision → Never choice
-    by-choice choice puts decision goes =
-        let t = subst (λ z. AlikeWork (bytes_in files) AnyPath (λ (o p : Outcome). o ≡ p)
-        (work_by (always choice) (record clean_run { mode = mode }) scope from) z) goes
-        (work-twin (record clean_run { mode = mode }) Clean AnyPath (looks-same files AnyPath)
-        (always choice) (always choice) (λ bucket l s u h e. refl) scope from [] alike) in
-        let x = ends-so (bytes_in files) tools run
-        (work_by (always choice) (record clean_run { mode = mode }) scope from) puts
-        (outcome_as decision) from [] t in (
-          x.0,
-          x.1,
-          λ note i. absurd (subst (λ (notes : List Note). In note notes)
-              (ap (λ (o : Outcome). o.notes) x.2) i),
-        )
+  module _ (tools : List ℕ → ToolInput → ToolAnswer) where
+    abbrev NeverBy : Chooser → Mode → Journal → Type 0
+    NeverBy choose mode from = (end : End Outcome)
+        × (end_of tools run (work_by choose (record over_tree { mode = mode }) scope from) from []
+        ≡ Some end)
+        × ((note : Note) → In note end.value.notes → IsNotTooLarge tools run over_tree note)
 
-    by-part : (marks : List Bool) → ArePart marks sources → Never (Part (kept marks sources))
-    by-part = of-part (λ marks. Never (Part (kept marks sources)))
-        (by-choice (Part (kept (true ∷ false ∷ false ∷ []) sources)) (first_put ∷ []) (InPart 1 3)
-        first-goes)
-        (by-choice (Part (kept (false ∷ true ∷ false ∷ []) sources)) (second_put ∷ [])
-        (InPart 1 3) second-goes)
-        (by-choice (Part (kept (false ∷ false ∷ true ∷ []) sources)) (third_put ∷ []) (InPart 1 3)
-        third-goes)
-        (by-choice (Part (kept (true ∷ true ∷ false ∷ []) sources)) (first_put ∷ second_put ∷ [])
-        (InPart 2 3) not-third-go)
-        (by-choice (Part (kept (true ∷ false ∷ true ∷ []) sources)) (first_put ∷ third_put ∷ [])
-        (InPart 2 3) not-second-go)
-        (by-choice (Part (kept (false ∷ true ∷ true ∷ []) sources)) (second_put ∷ third_put ∷ [])
-        (InPart 2 3) not-first-go)
+    module _ (mode : Mode) (from : Journal)
+        (alike : AlikeJournals (bytes_in tree) AnyPath from []) where
+      abbrev Never : Choice → Type 0
+      Never choice = NeverBy (always choice) mode from
 
-    abbrev items_in : Option (List ℕ × List Item) → List Item
-    items_in None = []
-    items_in (Some typed) = typed.1
+      by-choice : (choice : Choice) (puts : List Put) (decision : Decision) →
+          GoesAs choice puts decision → Never choice
+      by-choice choice puts decision goes =
+          let t = subst (λ z. AlikeWork (bytes_in tree) AnyPath (λ (o p : Outcome). o ≡ p)
+          (work_by (always choice) (record over_tree { mode = mode }) scope from) z) goes
+          (work-twin (record over_tree { mode = mode }) Clean AnyPath (looks-same tree AnyPath)
+          (always choice) (always choice) (λ bucket l s u h e. refl) scope from [] alike) in
+          let x = ends-so (bytes_in tree) tools run
+          (work_by (always choice) (record over_tree { mode = mode }) scope from) puts
+          (outcome_as decision) from [] t in (
+            x.0,
+            x.1,
+            λ note i. absurd (subst (λ (notes : List Note). In note notes)
+                (ap (λ (o : Outcome). o.notes) x.2) i),
+          )
 
-    whichever : (choice : Choice) → MayChoose tools run clean_run lists choice → Never choice
-    whichever RunAll may =
-        by-choice RunAll (first_put ∷ second_put ∷ third_put ∷ []) Ran all-go
-    whichever Skip may = by-choice Skip [] UpToDate none-go
-    whichever Nothing may = absurd (apart may)
-      where
-        apart : RunAll ≡ Nothing → ⊥
-        apart g = cc
-    whichever (Part old) may =
-        let e : sources ≡ may.1 = ap items_in may.3 in
-        subst (λ z. Never (Part z)) (sym (may.5 ∙ ap (kept may.2) (sym e)))
-        (by-part may.2 (subst (λ (z : List Item). ArePart may.2 z) (sym e) may.4))
+      by-part : (marks : List Bool) → ArePart marks sources → Never (Part (kept marks sources))
+      by-part = of-part (λ marks. Never (Part (kept marks sources)))
+          (by-choice (Part (kept (true ∷ false ∷ false ∷ []) sources)) (first_put ∷ []) (InPart 1 3)
+          first-goes)
+          (by-choice (Part (kept (false ∷ true ∷ false ∷ []) sources)) (second_put ∷ [])
+          (InPart 1 3) second-goes)
+          (by-choice (Part (kept (false ∷ false ∷ true ∷ []) sources)) (third_put ∷ []) (InPart 1 3)
+          third-goes)
+          (by-choice (Part (kept (true ∷ true ∷ false ∷ []) sources)) (first_put ∷ second_put ∷ [])
+          (InPart 2 3) not-third-go)
+          (by-choice (Part (kept (true ∷ false ∷ true ∷ []) sources)) (first_put ∷ third_put ∷ [])
+          (InPart 2 3) not-second-go)
+          (by-choice (Part (kept (false ∷ true ∷ true ∷ []) sources)) (second_put ∷ third_put ∷ [])
+          (InPart 2 3) not-first-go)
 
-  -- the run has an end without a failure of that kind
-  pub never-large : (mode : Mode) (from : Journal) →
-      AlikeJournals (bytes_in files) AnyPath from [] → (choose : Chooser) →
-      ((l : Lists) (s : State) → MayChoose tools run clean_run l (choose l s)) →
-      NeverBy choose mode from
-  unfolding read_on
-  never-large mode from alike choose may =
-      whichever mode from alike (choose lists (begins from)) (may lists (begins from))
+      abbrev items_in : Option (List ℕ × List Item) → List Item
+      items_in None = []
+      items_in (Some typed) = typed.1
+
+      whichever : (choice : Choice) → MayChoose tools run over_tree lists choice → Never choice
+      whichever RunAll may =
+          by-choice RunAll (first_put ∷ second_put ∷ third_put ∷ []) Ran all-go
+      whichever Skip may = by-choice Skip [] UpToDate none-go
+      whichever Nothing may = absurd (apart may)
+        where
+          apart : RunAll ≡ Nothing → ⊥
+          apart g = cc
+      whichever (Part old) may =
+          let e : sources ≡ may.1 = ap items_in may.3 in
+          subst (λ z. Never (Part z)) (sym (may.5 ∙ ap (kept may.2) (sym e)))
+          (by-part may.2 (subst (λ (z : List Item). ArePart may.2 z) (sym e) may.4))
+
+    -- the run has an end without a failure of that kind
+    pub never-large : (mode : Mode) (from : Journal) →
+        AlikeJournals (bytes_in tree) AnyPath from [] → (choose : Chooser) →
+        ((l : Lists) (s : State) → MayChoose tools run over_tree l (choose l s)) →
+        NeverBy choose mode from
+    unfolding read_on
+    never-large mode from alike choose may =
+        whichever mode from alike (choose lists (begins from)) (may lists (begins from))

@@ -60,7 +60,6 @@ use Rattle.declared_witness.specs.ThreeCopies.{
   instance,
   files_with,
   files,
-  files_left,
   root,
   build,
   world,
@@ -68,6 +67,8 @@ use Rattle.declared_witness.specs.ThreeCopies.{
   clean_record,
   clean_journal,
   clean_given,
+  part_record,
+  part_journal,
   part_given,
 }
 
@@ -91,28 +92,19 @@ module _ (tools : List ℕ → ToolInput → ToolAnswer) where
   means bytes stamp mode =
       ap (given_by (files_with bytes stamp) mode) (walk-so tools bytes stamp mode)
 
-  clean-given : given_by files Clean (evaluated_walk files Clean) ≡ Some clean_given
+  clean-given : (bytes : List ℕ) (stamp : ℕ) → given_by (files_with bytes stamp) Clean
+      (evaluated_walk (files_with bytes stamp) Clean) ≡ Some clean_given
   unfolding same_run same_instance deepest read_on visit order fold_case folding value_in rows chars
-  clean-given = refl
+  clean-given bytes stamp = refl
 
   part-given : given_by files Incremental (evaluated_walk files Incremental) ≡ Some part_given
   unfolding same_run same_instance deepest read_on visit order fold_case folding value_in rows chars
   part-given = refl
 
-  again-given : given_by files_left Clean (evaluated_walk files_left Clean) ≡ Some clean_given
-  unfolding same_run same_instance deepest read_on visit order fold_case folding value_in rows chars
-  again-given = refl
-
-  pub clean-means : meaning (plain_world (world tools files Clean)) ≡ Some clean_given
-  clean-means = means (codes "old") 7 Clean ∙ clean-given
-
   pub part-means : meaning (world_of tools (build Incremental)) ≡ Some part_given
   part-means = subst (λ w. meaning w ≡ Some part_given)
       (plain-is-world tools (build Incremental))
       (means (codes "old") 7 Incremental ∙ part-given)
-
-  pub again-means : meaning (plain_world (world tools files_left Clean)) ≡ Some clean_given
-  again-means = means (codes "two") 10 Clean ∙ again-given
 
 pub few : (made : Record) (journal : Journal) →
     length (distinct (instances (given made journal).demand)) ≤ most_instances
@@ -120,13 +112,15 @@ unfolding same_instance most_instances
 few made journal = omega arith
 
 module _ (tools : List ℕ → ToolInput → ToolAnswer) where
-  pub clean-whole : IsWhole (plain_world (world tools files Clean)) clean_given
-  clean-whole =
-      record { means = clean-means tools; few = few clean_record clean_journal }
+  pub clean-whole : (bytes : List ℕ) (stamp : ℕ) →
+      IsWhole (plain_world (world tools (files_with bytes stamp) Clean)) clean_given
+  clean-whole bytes stamp = record {
+    means = means tools bytes stamp Clean ∙ clean-given tools bytes stamp;
+    few = few clean_record clean_journal;
+  }
 
-  pub again-whole : IsWhole (plain_world (world tools files_left Clean)) clean_given
-  again-whole =
-      record { means = again-means tools; few = few clean_record clean_journal }
+  pub part-whole : IsWhole (world_of tools (build Incremental)) part_given
+  part-whole = record { means = part-means tools; few = few part_record part_journal }
 
 -- the one run has one record
 made-so : (made : Record) (journal : Journal) (id : RunId) (other : Record)

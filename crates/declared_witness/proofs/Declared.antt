@@ -40,7 +40,7 @@ use Rattle.build_incremental.specs.Alone.{last_bytes}
 use Rattle.build_incremental.specs.Joins.{IsOfOneRun}
 use Rattle.task_trait.specs.declared.tools.ToolAnswer.{ToolAnswer}
 use Rattle.task_trait.specs.declared.tools.ToolInput.{ToolInput}
-use Rattle.target_body.specs.States.{State, Stopped}
+use Rattle.target_body.specs.States.{Run, State, Stopped}
 use Rattle.build_declared.specs.CalledTasks.{Called, calls_of, ReturnsGiven}
 use Rattle.build_declared.specs.Declared.{
   PartIsDeclared,
@@ -73,7 +73,7 @@ use Rattle.declared_witness.specs.ThreeCopies.{
   sources,
   target,
   scope,
-  files,
+  files_with,
   world,
   run,
   first_put,
@@ -84,11 +84,11 @@ use Rattle.declared_witness.specs.ThreeCopies.{
   clean_given,
 }
 
-abbrev outputs : List (List ℕ)
+abbrev pub outputs : List (List ℕ)
 outputs = lists.outputs
 
 -- what the whole writes, the newest first
-abbrev all_puts : List Put
+abbrev pub all_puts : List Put
 all_puts = third_put ∷ second_put ∷ first_put ∷ []
 
 abbrev paths_of : List Put → List (List ℕ)
@@ -104,29 +104,32 @@ all-written path = elim (tells (is_one_of path outputs)) [
   | inr n ↦ ap is_some (written-to all_puts outputs (refl, (refl, (refl, tt))) path n) ∙ sym n
 ]
 
-module _ (tools : List ℕ → ToolInput → ToolAnswer) where
+module _ (bytes : List ℕ) (stamp : ℕ) (tools : List ℕ → ToolInput → ToolAnswer) where
+  abbrev over_tree : Run
+  over_tree = clean_run bytes stamp
+
   abbrev whole_state : State
-  whole_state = state_in (whole tools)
+  whole_state = state_in (whole bytes stamp tools)
 
   abbrev Ends : Type 0
   Ends = Option (End (Result State Stopped))
 
   -- what the piece comes to where it succeeds
-  puts-so : (t : State) (puts : List Put) → SucceedsWith tools run clean_run piece t puts →
+  pub puts-so : (t : State) (puts : List Put) → SucceedsWith tools run over_tree piece t puts →
       all_puts ≡ puts
   unfolding same_run same_instance read_on fold_case folding value_in rows chars
   puts-so t puts e = ap puts_in e
 
-  state-so : (t : State) (puts : List Put) → SucceedsWith tools run clean_run piece t puts →
+  state-so : (t : State) (puts : List Put) → SucceedsWith tools run over_tree piece t puts →
       whole_state ≡ t
   state-so t puts e = ap state_in e
 
-  no-outputs : (c : Called) → In c (calls_of tools run clean_run
-      (children_of clean_run.target.element) piece.from piece.before) →
-      ReturnsGiven tools run clean_run c
+  no-outputs : (c : Called) → In c (calls_of tools run over_tree
+      (children_of target.element) piece.from piece.before) →
+      ReturnsGiven tools run over_tree c
   unfolding same_run same_instance read_on fold_case folding value_in rows chars
   no-outputs c (inl e) =
-      subst (λ (z : Called). ReturnsGiven tools run clean_run z) e (λ o i. absurd i)
+      subst (λ (z : Called). ReturnsGiven tools run over_tree z) e (λ o i. absurd i)
   no-outputs c (inr i) = absurd i
 
   -- ---- parts
@@ -137,19 +140,20 @@ module _ (tools : List ℕ → ToolInput → ToolAnswer) where
     of_marks = kept marks outputs
 
     abbrev PartSays : Type 0
-    PartSays = EndsWell (part tools marks) × (puts_in (part tools marks) ≡ puts)
-        × ((state_in (part tools marks)).notes ≡ [])
-        × ((state_in (part tools marks)).changes ≡ whole_state.changes)
-        × ((state_in (part tools marks)).items ≡ whole_state.items)
+    PartSays = EndsWell (part bytes stamp tools marks)
+        × (puts_in (part bytes stamp tools marks) ≡ puts)
+        × ((state_in (part bytes stamp tools marks)).notes ≡ [])
+        × ((state_in (part bytes stamp tools marks)).changes ≡ whole_state.changes)
+        × ((state_in (part bytes stamp tools marks)).items ≡ whole_state.items)
 
     part-by : PartSays →
         EachPath (λ path. last_bytes (since [] puts) path ≡ last_bytes (since [] all_puts) path)
         of_marks →
         EachPath (IsWritten of_marks) (paths_of (since [] puts)) →
-        PartIsDeclared tools run clean_run piece whole_state all_puts sources marks
+        PartIsDeclared tools run over_tree piece whole_state all_puts sources marks
     part-by says same own = record {
-      after = state_in (part tools marks);
-      written = puts_in (part tools marks);
+      after = state_in (part bytes stamp tools marks);
+      written = puts_in (part bytes stamp tools marks);
       succeeds = says.0;
       bytes = λ path e. ap (λ (ps : List Put). last_bytes (since [] ps) path) says.1
           ∙ at-one (λ z. last_bytes (since [] puts) z ≡ last_bytes (since [] all_puts) z) of_marks
@@ -162,7 +166,7 @@ module _ (tools : List ℕ → ToolInput → ToolAnswer) where
 
   abbrev PartIsSo : List Bool → Type 0
   PartIsSo marks =
-      PartIsDeclared tools run clean_run piece whole_state all_puts sources marks
+      PartIsDeclared tools run over_tree piece whole_state all_puts sources marks
 
   first-says : PartSays (true ∷ false ∷ false ∷ []) (first_put ∷ [])
   unfolding same_run same_instance read_on fold_case folding value_in rows chars
@@ -219,22 +223,22 @@ module _ (tools : List ℕ → ToolInput → ToolAnswer) where
   items_in None = []
   items_in (Some typed) = typed.1
 
-  parts-so : (t : State) (puts : List Put) → SucceedsWith tools run clean_run piece t puts →
+  parts-so : (t : State) (puts : List Put) → SucceedsWith tools run over_tree piece t puts →
       (items : List Item) → ByItems piece items → (marks : List Bool) → ArePart marks items →
-      PartIsDeclared tools run clean_run piece t puts items marks
+      PartIsDeclared tools run over_tree piece t puts items marks
   parts-so t puts e items by marks some =
       let same : sources ≡ items = ap items_in by.typed in
-      subst (λ (z : State). PartIsDeclared tools run clean_run piece z puts items marks)
+      subst (λ (z : State). PartIsDeclared tools run over_tree piece z puts items marks)
       (state-so t puts e)
-      (subst (λ (z : List Put). PartIsDeclared tools run clean_run piece whole_state z items marks)
+      (subst (λ (z : List Put). PartIsDeclared tools run over_tree piece whole_state z items marks)
       (puts-so t puts e)
       (subst (λ (z : List Item).
-      PartIsDeclared tools run clean_run piece whole_state all_puts z marks) same
+      PartIsDeclared tools run over_tree piece whole_state all_puts z marks) same
       (part-so marks (subst (λ (z : List Item). ArePart marks z) (sym same) some))))
 
   -- ---- the piece, the run and the world
 
-  piece-is : PieceIsDeclared tools run clean_run piece
+  piece-is : PieceIsDeclared tools run over_tree piece
   piece-is = record {
     returns_given = no-outputs;
     writes_outputs = λ t puts e path.
@@ -243,21 +247,23 @@ module _ (tools : List ℕ → ToolInput → ToolAnswer) where
     parts = parts-so;
   }
 
-  each-piece : (p : Piece) → In p (piece ∷ []) → PieceIsDeclared tools run clean_run p
-  each-piece p (inl e) = subst (λ (z : Piece). PieceIsDeclared tools run clean_run z) e piece-is
+  each-piece : (p : Piece) → In p (piece ∷ []) → PieceIsDeclared tools run over_tree p
+  each-piece p (inl e) = subst (λ (z : Piece). PieceIsDeclared tools run over_tree z) e piece-is
   each-piece p (inr i) = absurd i
 
-  run-is : DeclaredBy tools run clean_run scope [] (piece ∷ [])
-  run-is = record { never_large = never-large tools; each = each-piece }
+  run-is : DeclaredBy tools run over_tree scope [] (piece ∷ [])
+  run-is = record { never_large = never-large bytes stamp tools; each = each-piece }
 
-  at-run : DeclaredAt tools files (Some target) scope run []
-  at-run = subst (λ (pieces : List Piece). DeclaredBy tools run clean_run scope [] pieces)
-      (sym (pieces-so tools)) run-is
+  at-run : DeclaredAt tools (files_with bytes stamp) (Some target) scope run []
+  at-run = subst (λ (pieces : List Piece). DeclaredBy tools run over_tree scope [] pieces)
+      (sym (pieces-so bytes stamp tools)) run-is
 
-  pub declared : IsDeclared tools files (world tools files Clean) clean_given
+  pub declared : IsDeclared tools (files_with bytes stamp)
+      (world tools (files_with bytes stamp) Clean) clean_given
   declared = record {
-    whole = clean-whole tools;
+    whole = clean-whole tools bytes stamp;
     steady = steady clean_record clean_journal;
     each = clean-each tools (λ site id journal made.
-        DeclaredAt tools files site.target site.scope id journal) IsOfOneRun at-run;
+        DeclaredAt tools (files_with bytes stamp) site.target site.scope id journal) IsOfOneRun
+        bytes stamp at-run;
   }

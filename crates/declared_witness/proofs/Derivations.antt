@@ -16,7 +16,6 @@ use Rattle.result_cache.specs.declared.request.RequestKey.{RequestKey}
 use Rattle.result_cache.specs.declared.run.RunId.{RunId}
 use Rattle.result_cache.specs.Journal.{Journal}
 use Rattle.result_cache.specs.Same.{same_run, same_instance}
-use Rattle.build_meaning.specs.Meaning.{deepest}
 use Rattle.build_incremental.specs.Placed.{Placed}
 use Rattle.build_incremental.specs.Each.{
   EachOfMeaning,
@@ -36,7 +35,6 @@ use Rattle.declared_witness.specs.ThreeCopies.{
   instance,
   files_with,
   files,
-  files_left,
   root,
   world,
   run,
@@ -69,37 +67,24 @@ module _ (tools : List ℕ → ToolInput → ToolAnswer)
     abbrev evaluated_walk : List File → Mode → Placed Site ToolInput ToolAnswer
     evaluated_walk tree mode = placed_by tree mode root [] (Ok instance)
 
-    clean-walk : Q site run [] clean_record →
-        Derives files Clean (evaluated_walk files Clean) clean_journal
-    unfolding same_run same_instance deepest read_on visit order fold_case folding value_in rows chars
-    clean-walk q = each_made {m = clean_record} (λ i. absurd i) refl
+    clean-walk : (bytes : List ℕ) (stamp : ℕ) → Q site run [] clean_record →
+        Derives (files_with bytes stamp) Clean
+        (evaluated_walk (files_with bytes stamp) Clean) clean_journal
+    unfolding same_run same_instance read_on visit order fold_case folding value_in rows chars
+    clean-walk bytes stamp q = each_made {m = clean_record} (λ i. absurd i) refl
         (each_wrote (each_wrote (each_wrote each_ended))) q each_over
 
-    pub clean-each : Q site run [] clean_record →
-        EachOfMeaning (world tools files Clean) Q J AnyKey result clean_journal
-    clean-each q = record {
+    pub clean-each : (bytes : List ℕ) (stamp : ℕ) → Q site run [] clean_record →
+        EachOfMeaning (world tools (files_with bytes stamp) Clean) Q J AnyKey result clean_journal
+    clean-each bytes stamp q = record {
       root = tt;
-      rest = subst (λ walk. Derives files Clean walk clean_journal)
-          (sym (walk-so tools (codes "old") 7 Clean)) (clean-walk q);
-    }
-
-    again-walk : Q site run [] clean_record →
-        Derives files_left Clean (evaluated_walk files_left Clean) clean_journal
-    unfolding same_run same_instance deepest read_on visit order fold_case folding value_in rows chars
-    again-walk q = each_made {m = clean_record} (λ i. absurd i) refl
-        (each_wrote (each_wrote (each_wrote each_ended))) q each_over
-
-    pub again-each : Q site run [] clean_record →
-        EachOfMeaning (world tools files_left Clean) Q J AnyKey result clean_journal
-    again-each q = record {
-      root = tt;
-      rest = subst (λ walk. Derives files_left Clean walk clean_journal)
-          (sym (walk-so tools (codes "two") 10 Clean)) (again-walk q);
+      rest = subst (λ walk. Derives (files_with bytes stamp) Clean walk clean_journal)
+          (sym (walk-so tools bytes stamp Clean)) (clean-walk bytes stamp q);
     }
 
     part-walk : Q site run [] part_record →
         Derives files Incremental (evaluated_walk files Incremental) part_journal
-    unfolding same_run same_instance deepest read_on visit order fold_case folding value_in rows chars
+    unfolding same_run same_instance read_on visit order fold_case folding value_in rows chars
     part-walk q =
         each_made {m = part_record} (λ i. absurd i) refl (each_wrote each_ended) q each_over
 

@@ -6,4 +6,5 @@ pub mod Evaluated
 pub mod Facts
 pub mod Fresh
 pub mod Pieces
+pub mod Repeated
 pub mod Settled

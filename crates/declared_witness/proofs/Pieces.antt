@@ -12,6 +12,7 @@ use Rattle.msb_values.specs.declared.mode.Mode.TheVariants.{Incremental, Clean}
 use Rattle.msb_values.specs.declared.put.Put.{Put}
 use Rattle.msb_expand.specs.declared.lens.Bucket.{Bucket}
 use Rattle.msb_expression.specs.Machine.{run as read_on}
+use Rattle.result_cache.specs.declared.record.Record.{Record}
 use Rattle.result_cache.specs.Journal.{Journal}
 use Rattle.result_cache.specs.Same.{same_run, same_instance}
 use Rattle.task_trait.specs.declared.tools.ToolAnswer.{ToolAnswer}
@@ -29,10 +30,9 @@ use Rattle.declared_witness.specs.ThreeCopies.{
   sources,
   target,
   scope,
+  files_with,
   files,
-  files_left,
   run,
-  clean_record,
   part_record,
   body_of,
 }
@@ -54,8 +54,8 @@ begins journal = entered scope bucket (begun scope journal)
 abbrev pub piece : Piece
 piece = record { bucket = bucket; lists = lists; from = begins []; before = [] }
 
-abbrev pub clean_run : Run
-clean_run = run_at files Clean run target
+abbrev pub clean_run : List ℕ → ℕ → Run
+clean_run bytes stamp = run_at (files_with bytes stamp) Clean run target
 
 pub by-items : ByItems piece sources
 by-items = record { kind = codes "c"; typed = refl; inputs = refl; outputs = refl }
@@ -77,25 +77,26 @@ EndsWell x = x ≡ Some (record {
   puts = puts_in x;
 })
 
-module _ (tools : List ℕ → ToolInput → ToolAnswer) where
-  pub pieces-so : clean_pieces tools files (Some target) scope run [] ≡ piece ∷ []
+-- whatever the object of the second source holds
+module _ (bytes : List ℕ) (stamp : ℕ) (tools : List ℕ → ToolInput → ToolAnswer) where
+  pub pieces-so : clean_pieces tools (files_with bytes stamp) (Some target) scope run []
+      ≡ piece ∷ []
   unfolding same_run same_instance read_on fold_case folding value_in rows chars
   pieces-so = refl
 
-  pub settled-pieces : pieces_at tools files Incremental (body_of part_record) ≡ piece ∷ []
+  pub placed-pieces : (made : Record) →
+      pieces_at tools (files_with bytes stamp) Clean (body_of made) ≡ piece ∷ []
   unfolding same_run same_instance read_on fold_case folding value_in rows chars
-  settled-pieces = refl
-
-  pub first-pieces : pieces_at tools files Clean (body_of clean_record) ≡ piece ∷ []
-  unfolding same_run same_instance read_on fold_case folding value_in rows chars
-  first-pieces = refl
-
-  pub again-pieces : pieces_at tools files_left Clean (body_of clean_record) ≡ piece ∷ []
-  unfolding same_run same_instance read_on fold_case folding value_in rows chars
-  again-pieces = refl
+  placed-pieces made = refl
 
   abbrev pub whole : Option (End (Result State Stopped))
-  whole = end_of_piece tools run clean_run piece RunAll
+  whole = end_of_piece tools run (clean_run bytes stamp) piece RunAll
 
   abbrev pub part : List Bool → Option (End (Result State Stopped))
-  part marks = end_of_piece tools run clean_run piece (Part (kept marks sources))
+  part marks =
+      end_of_piece tools run (clean_run bytes stamp) piece (Part (kept marks sources))
+
+pub settled-pieces : (tools : List ℕ → ToolInput → ToolAnswer) →
+    pieces_at tools files Incremental (body_of part_record) ≡ piece ∷ []
+unfolding same_run same_instance read_on fold_case folding value_in rows chars
+settled-pieces tools = refl

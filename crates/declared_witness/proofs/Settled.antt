@@ -1,4 +1,4 @@
--- The worked set is settled and repeated.
+-- The worked set is settled.
 use Rattle.std.proofs.Common.{
   ◌≡◌,
   ◌<◌,
@@ -7,12 +7,10 @@ use Rattle.std.proofs.Common.{
   ◌⊎◌,
   inl,
   inr,
-  true,
   List,
   [],
   ◌∷◌,
   length,
-  map,
   Option,
   refl,
   ap,
@@ -27,23 +25,18 @@ use Rattle.ucd_case.specs.CaseFolding.{full_folding as folding}
 use Rattle.ucd_table.specs.Rows.{value_in}
 use Rattle.ucd_case.specs.FullFoldingRows.{full_folding_rows as rows}
 use Rattle.msb_values.specs.declared.mode.Mode.{Mode}
-use Rattle.msb_values.specs.declared.mode.Mode.TheVariants.{Incremental, Clean}
+use Rattle.msb_values.specs.declared.mode.Mode.TheVariants.{Incremental}
 use Rattle.msb_values.specs.declared.put.Put.{Put}
 use Rattle.msb_expression.specs.Machine.{run as read_on}
 use Rattle.file_store.specs.declared.tree.File.{File}
 use Rattle.result_cache.specs.declared.record.Record.{Record}
 use Rattle.result_cache.specs.declared.run.RunId.{RunId}
-use Rattle.result_cache.specs.Journal.{wrote, write_of, has}
+use Rattle.result_cache.specs.Journal.{wrote}
 use Rattle.result_cache.specs.Lists.{In}
 use Rattle.result_cache.specs.Same.{same_run, same_instance}
-use Rattle.result_cache.proofs.RunTests.{tells}
-use Rattle.std.specs.Str.{bytes_eq, chars}
-use Rattle.std.proofs.lemmas.Slice.Eq.{bytes_eq-Decides}
-use Rattle.build_declared.specs.Written.{bytes_in}
-use Rattle.build_incremental.specs.Alike.{seen}
+use Rattle.std.specs.Str.{chars}
 use Rattle.build_incremental.specs.Demand.{Occurrence, IsAmong}
 use Rattle.build_incremental.specs.Joins.{Anyhow}
-use Rattle.msb_files.specs.FinalTree.{IsFinalTree}
 use Rattle.msb_files.specs.Views as views
 use Rattle.task_trait.specs.declared.tools.ToolAnswer.{ToolAnswer}
 use Rattle.task_trait.specs.declared.tools.ToolInput.{ToolInput}
@@ -52,40 +45,23 @@ use Rattle.target_body.specs.States.{Run, State, Stopped}
 use Rattle.build_declared.specs.Ends.{End}
 use Rattle.build_declared.specs.Pieces.{Piece, end_of_piece}
 use Rattle.build_declared.specs.Places.{Site, run_at}
-use Rattle.build_declared.specs.Settled.{pieces_at, FreeRunsKeepOff, Succeeds, lists_of, HaveSame}
-use Rattle.declared_witness.proofs.Computed.{again-whole, steady}
-use Rattle.declared_witness.proofs.Derivations.{clean-each, again-each, part-each}
+use Rattle.build_declared.specs.Repeated.{IsSettledBuild}
+use Rattle.build_declared.specs.Settled.{pieces_at, FreeRunsKeepOff, Succeeds, Stood}
+use Rattle.declared_witness.proofs.Computed.{part-whole, steady}
+use Rattle.declared_witness.proofs.Derivations.{part-each}
 use Rattle.declared_witness.proofs.Facts.{differ}
-use Rattle.declared_witness.proofs.Pieces.{
-  lists,
-  piece,
-  state_in,
-  puts_in,
-  settled-pieces,
-  first-pieces,
-  again-pieces,
-}
-use Rattle.declared_witness.specs.Repeated.{SettlesHere, RepeatsHere}
+use Rattle.declared_witness.proofs.Pieces.{lists, piece, state_in, puts_in, settled-pieces}
 use Rattle.declared_witness.specs.ThreeCopies.{
   target,
   files,
-  files_left,
+  build,
   run,
   second_put,
-  clean_record,
-  clean_journal,
   part_record,
   part_journal,
+  part_given,
   body_of,
 }
-
--- the build leaves the second object as it has copied it, and every other file as it was
-left-so : IsFinalTree files part_journal files_left
-left-so path = elim (tells (bytes_eq (codes "o/2.o") path)) [
-  | inl e ↦ subst (λ z. bytes_in files_left z ≡ seen (bytes_in files) part_journal z)
-      ((bytes_eq-Decides (codes "o/2.o") path).0 e) refl
-  | inr n ↦ rw n refl
-]
 
 module _ (tools : List ℕ → ToolInput → ToolAnswer) where
   abbrev body : Occurrence Site
@@ -149,9 +125,12 @@ module _ (tools : List ℕ → ToolInput → ToolAnswer) where
   not-input (inr (inr (inl e))) = differ (codes "3.c") second_put.path refl e
   not-input (inr (inr (inr i))) = absurd i
 
+  abbrev StoodSo : Occurrence Site → Piece → RunId → ℕ → Type 0
+  StoodSo o p id number = Stood tools files Incremental (body ∷ []) o p id number
+
   abbrev StoodInputs : Occurrence Site → Piece → Type 0
   StoodInputs o p = (id : RunId) (number : ℕ) (put : Put) → In (wrote id number put) part_journal →
-      In put.path p.lists.inputs → has (write_of id number) p.from.journal ≡ true
+      In put.path p.lists.inputs → StoodSo o p id number
 
   stood : StoodInputs body piece
   stood id number put i j = absurd (not-input
@@ -160,8 +139,7 @@ module _ (tools : List ℕ → ToolInput → ToolAnswer) where
   abbrev OwnOutputs : Occurrence Site → Piece → Type 0
   OwnOutputs o p = (puts : List Put) → SucceedsSo o p puts →
       (id : RunId) (number : ℕ) (put : Put) → In (wrote id number put) part_journal →
-      In put.path p.lists.outputs →
-      (has (write_of id number) p.from.journal ≡ true)
+      In put.path p.lists.outputs → StoodSo o p id number
       ⊎ ((id ≡ o.run) × (length p.before ≤ number) × (number < length puts))
 
   own : OwnOutputs body piece
@@ -176,9 +154,8 @@ module _ (tools : List ℕ → ToolInput → ToolAnswer) where
       below : (n m : ℕ) → 0 ≡ n → 1 ≡ m → n < m
       below n m e g = omega arith
 
-  -- ---- runs without a piece: there is none
-
-  none-free : (tree : List File) (mode : Mode) (made : Record) →
+  -- runs without a piece: there is none
+  pub none-free : (tree : List File) (mode : Mode) (made : Record) →
       pieces_at tools tree mode (body_of made) ≡ piece ∷ [] →
       FreeRunsKeepOff tools tree mode (body_of made ∷ [])
   none-free tree mode made so o other (inl e) j none p q put w of =
@@ -190,8 +167,11 @@ module _ (tools : List ℕ → ToolInput → ToolAnswer) where
       some h = cc
   none-free tree mode made so o other (inr i) j none p q put w of = absurd i
 
-  pub settles : SettlesHere tools
+  pub settles : IsSettledBuild tools (build Incremental) part_given
   settles = record {
+    whole = part-whole tools;
+    steady = steady part_record part_journal;
+    demand = body ∷ [];
     bodies = part-each tools (IsAmong (body ∷ [])) Anyhow (inl refl);
     settled = record {
       succeeds = of-bodies (λ o p. (puts : List Put) × SucceedsSo o p puts)
@@ -202,33 +182,4 @@ module _ (tools : List ℕ → ToolInput → ToolAnswer) where
       outputs_own = of-bodies OwnOutputs own;
       free = none-free files Incremental part_record (settled-pieces tools);
     };
-  }
-
-  -- ---- repeated
-
-  abbrev again : Occurrence Site
-  again = body_of clean_record
-
-  same-lists : map lists_of (pieces_at tools files_left Clean again)
-      ≡ map lists_of (pieces_at tools files Clean again)
-  same-lists = ap (map lists_of) (again-pieces tools ∙ sym (first-pieces tools))
-
-  repeats-so : HaveSame (pieces_at tools files Clean) (pieces_at tools files_left Clean)
-      (again ∷ []) (again ∷ [])
-  repeats-so o (inl e) some = subst (λ (z : Occurrence Site).
-      (p : Occurrence Site) × In p (again ∷ []) × (p.run ≡ z.run) × (p.made ≡ z.made)
-      × (map lists_of (pieces_at tools files_left Clean p)
-      ≡ map lists_of (pieces_at tools files Clean z))) e
-      (again, inl refl, refl, refl, same-lists)
-  repeats-so o (inr i) some = absurd i
-
-  pub repeats : RepeatsHere tools
-  repeats = record {
-    left = left-so;
-    first_bodies = clean-each tools (IsAmong (again ∷ [])) Anyhow (inl refl);
-    whole = again-whole tools;
-    steady = steady clean_record clean_journal;
-    bodies = again-each tools (IsAmong (again ∷ [])) Anyhow (inl refl);
-    same = repeats-so;
-    free = none-free files_left Clean clean_record (again-pieces tools);
   }

@@ -21,6 +21,7 @@ use Rattle.msb_values.specs.declared.put.Put.{Put}
 use Rattle.msb_values.specs.declared.scope.Scope.{Scope}
 use Rattle.msb_elements.specs.Nodes.{Node, node, no_nodes, more}
 use Rattle.file_store.specs.declared.tree.File.{File}
+use Rattle.file_store.specs.declared.tree.Tree.{Tree}
 use Rattle.build_world.specs.Elements.{at}
 use Rattle.build_world.specs.Instances.{Instance, UsedTarget}
 use Rattle.build_world.specs.declared.world.World.{World as Build}
@@ -151,6 +152,9 @@ root = record {
   targets = [];
   named = false;
 }
+
+abbrev pub tree_left : Tree
+tree_left = record { files = files_left; in_order = refl }
 
 -- the build of the project over the files as they stand
 abbrev pub build : Mode → Build
