@@ -8,11 +8,11 @@ means and the premises of docs/INCREMENTAL.md, as plain code. A set is built, an
 of some changes of its files; the changes are drawn until that code tells that the set is declared
 and fresh. Each time the builds on 1 and on 8 nodes have to leave the files, the status and the
 returned items of a clean build. Where the set is also settled and repeated, what was left has to be
-fresh again, with no output older than its inputs, and the next build has to find each piece up to
-date and to write nothing of them. At last come sets that break one rule each: the code has to tell
-the rule, and an incremental build to leave something else than a clean one. Each set that fails
-prints a line `FAIL SET: what differs`; the last line is `N passed, M failed`. The status is 0 where
-nothing failed, 1 elsewhere, and 2 for wrong words.
+fresh again and up to date, and the next build has to skip each piece and to write nothing of them.
+At last come sets that break one rule each: the code has to tell the rule, and an incremental build
+to leave something else than a clean one. Each set that fails prints a line `FAIL SET: what
+differs`; the last line is `N passed, M failed`. The status is 0 where nothing failed, 1 elsewhere,
+and 2 for wrong words.
 """
 
 import os
@@ -31,7 +31,7 @@ sys.dont_write_bytecode = True
 
 from increments.builds import NOTHING, SKIP, Build, File, Put, Record, Tree, View  # noqa: E402
 from increments.premises import (  # noqa: E402
-    DECLARED, is_declared, is_fresh, is_repeated, is_settled, outputs_are_no_older,
+    DECLARED, is_declared, is_fresh, is_repeated, is_settled, is_up_to_date,
 )
 from increments.sets import ROOT, Broken, broken_sets, changed, random_set  # noqa: E402
 
@@ -203,8 +203,8 @@ class Set:
         if not (clean.result.ok and is_settled(first) and is_repeated(clean, again)):
             return None
         self.seen["settled and repeated"] += 1
-        if not is_fresh(again) or not outputs_are_no_older(again):
-            return "what a build left is not fresh, or an output is older than an input"
+        if not is_fresh(again) or not is_up_to_date(again):
+            return "what a build left is not fresh, or not up to date"
         if not is_declared(again):
             return None
         self.seen["second builds"] += 1

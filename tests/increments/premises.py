@@ -1,9 +1,9 @@
 """When an incremental build may be trusted to skip: docs/INCREMENTAL.md as plain code.
 
 A *piece* is a bucket of a target that has Inputs and Outputs, where both lists name something. The
-five words are said of clean builds of small sets of projects: `is_declared`, `is_trusted`,
-`is_fresh`, `is_settled`, `is_repeated`. Each is computed from what the build means alone, and never
-from what the program does. (How to build incrementally; Target element.)
+words are said of builds of small sets of projects: `is_declared`, `is_trusted`, `is_fresh`,
+`is_up_to_date`, `is_settled`, `is_repeated`. Each is computed from what a build means alone, and
+never from what the program does. (How to build incrementally; Target element.)
 """
 
 from collections.abc import Iterator
@@ -11,8 +11,8 @@ from functools import lru_cache
 from itertools import product
 
 from increments.builds import (
-    RUN, SKIP, Build, Choice, Journal, Lists, Occurrence, Part, Piece, Put, Run, State, all_of,
-    content, last_text, writes,
+    RUN, SKIP, Build, Choice, Journal, Lists, Mark, Occurrence, Part, Piece, Put, Run, State,
+    all_of, content, last_text, writes,
 )
 from increments.texts import Items, children
 
@@ -174,11 +174,12 @@ def piece_is_fresh(piece: Piece) -> bool:
         for output, told in zip(piece.lists.outputs, trusted) if told)
 
 
-def outputs_are_no_older(clean: Build) -> bool:
-    """Each output of a piece is in the tree and no older than each input that it is paired with."""
-    return all(
-        path in clean.tree and output in clean.tree
-        and clean.tree[path].stamp <= clean.tree[output].stamp
+def is_up_to_date(clean: Build) -> bool:
+    """Each output of a piece is in the tree, as each input is that it is paired with, none of them
+    with a greater stamp; and runs without a piece write no input and no output of a piece."""
+    tree = clean.tree
+    return free_runs_keep_off(clean) and all(
+        path in tree and output in tree and tree[path].stamp <= tree[output].stamp
         for piece in clean.pieces() for output, inputs in pairs(piece.lists) for path in inputs)
 
 
@@ -186,25 +187,30 @@ def outputs_are_no_older(clean: Build) -> bool:
 
 
 def is_settled(build: Build) -> bool:
-    """Every piece succeeds, its inputs exist, whatever the build writes to an input of a piece is
-    written before the piece begins and whatever it writes to an output before that or by the piece
-    itself, and runs without a piece write neither."""
-    return free_runs_keep_off(build) and all(
-        piece_is_settled(build, piece) for piece in build.pieces())
+    """Every piece succeeds, and its inputs exist. Whatever the build writes to an input of a piece
+    had been written when the piece began, at each place where its run is made; whatever it writes
+    to an output had been too, or the piece itself has written it. Runs without a piece write
+    neither. The build makes each run with one record."""
+    return runs_make_one_record(build) and free_runs_keep_off(build) and all(
+        piece_is_settled(build, o, piece) for o in build.demand for piece in o.pieces)
 
 
-def piece_is_settled(build: Build, piece: Piece) -> bool:
+def piece_is_settled(build: Build, occurrence: Occurrence, piece: Piece) -> bool:
     """So of one piece, as it is decided."""
-    tree, before = build.tree, piece.begins.journal
+    before = piece.begins.journal
     end = piece.end(build.choose(piece.lists, before))
     if end is None or not end.ok:
         return False
-    own = {(piece.body.run, number)
-           for number in range(len(piece.begins.segments), len(end.segments))}
-    return (all(content(tree, before, path) is not None for path in piece.lists.inputs)
-            and all(mark in before for path in piece.lists.inputs
+    run, begins = occurrence.body.run, len(piece.begins.segments)
+    places = [other.journal for other in build.demand if other.body.run == run]
+    def stood(mark: Mark) -> bool:
+        return mark in [(run, number) for number in range(begins)] or all(
+            mark in journal for journal in places)
+    own = [(run, number) for number in range(begins, len(end.segments))]
+    return (all(content(build.tree, before, path) is not None for path in piece.lists.inputs)
+            and all(stood(mark) for path in piece.lists.inputs
                     for mark in writes(build.journal, path))
-            and all(mark in before or mark in own for path in piece.lists.outputs
+            and all(stood(mark) or mark in own for path in piece.lists.outputs
                     for mark in writes(build.journal, path)))
 
 
@@ -216,12 +222,27 @@ def free_runs_keep_off(build: Build) -> bool:
 
 
 def is_repeated(clean: Build, again: Build) -> bool:
-    """Over the tree that the first build left, the clean build makes the same runs with pieces,
-    with the same lists and the same records, and its other runs keep off again."""
-    def made(build: Build) -> dict[Run, object]:
-        return {o.body.run: (o.record, [piece.lists for piece in o.pieces])
-                for o in build.demand if o.pieces}
-    return made(clean) == made(again) and runs_make_one_record(again) and free_runs_keep_off(again)
+    """Over the tree that the build left, the clean build makes each run with one record. It makes
+    the same runs with pieces, with the same records. Their pieces have the same inputs and outputs,
+    paired in the same way, and leave the same bytes at each output. Its runs without a piece write
+    no input and no output of a piece."""
+    first, second = made(clean), made(again)
+    return (first == second and len(first) == len({run for run, *_ in first})
+            and runs_make_one_record(again) and free_runs_keep_off(again))
+
+
+def made(clean: Build) -> set[tuple]:
+    """The runs with pieces that a build makes, with their records and pieces."""
+    return {(o.body.run, o.record, tuple(map(left, o.pieces))) for o in clean.demand if o.pieces}
+
+
+def left(piece: Piece) -> tuple:
+    """A piece: its inputs and outputs, how they are paired, and what it leaves at each output."""
+    whole, lists = whole_end(piece), piece.lists
+    texts = None
+    if whole is not None and whole.ok:
+        texts = tuple(last_text(piece.puts_since(whole), path) for path in lists.outputs)
+    return lists.inputs, lists.outputs, lists.one_by_one(), texts
 
 
 # ---- Pieces and joins ---------------------------------------------------------------------------
