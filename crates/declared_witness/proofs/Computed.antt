@@ -1,0 +1,135 @@
+-- What the builds of the worked set mean, computed.
+use Rattle.std.proofs.Common.{
+  ◌≡◌,
+  ◌≤◌,
+  ℕ,
+  inl,
+  inr,
+  List,
+  [],
+  length,
+  Option,
+  Some,
+  refl,
+  ap,
+  sym,
+  ◌∙◌,
+  subst,
+  arith,
+}
+use Rattle.std.specs.Prelude.{Ok, codes}
+use Rattle.std.specs.Str.{chars}
+use Rattle.caseless.specs.Caseless.{default_case_fold as fold_case}
+use Rattle.ucd_case.specs.CaseFolding.{full_folding as folding}
+use Rattle.ucd_table.specs.Rows.{value_in}
+use Rattle.ucd_case.specs.FullFoldingRows.{full_folding_rows as rows}
+use Rattle.msb_values.specs.declared.mode.Mode.{Mode}
+use Rattle.msb_values.specs.declared.mode.Mode.TheVariants.{Incremental, Clean}
+use Rattle.file_store.specs.declared.tree.File.{File}
+use Rattle.msb_expression.specs.Machine.{run as read_on}
+use Rattle.target_order.specs.Visit.{visit, order}
+use Rattle.result_cache.specs.declared.record.Record.{Record}
+use Rattle.result_cache.specs.declared.request.RequestResult.{RequestResult}
+use Rattle.result_cache.specs.declared.run.RunId.{RunId}
+use Rattle.result_cache.specs.Journal.{Journal}
+use Rattle.result_cache.specs.Lists.{In}
+use Rattle.result_cache.specs.Same.{same_run, same_instance}
+use Rattle.build_meaning.specs.Meaning.{
+  requested,
+  built,
+  Given,
+  containing,
+  deepest,
+  most_instances,
+  walk,
+  request,
+  meaning,
+}
+use Rattle.build_meaning.specs.World.{World}
+use Rattle.build_meaning.specs.Demand.{IsWhole, IsSteady, distinct, instances}
+use Rattle.build_meaning.specs.SoFar.{ToolUse}
+use Rattle.build_incremental.specs.Placed.{Placed, plain, plain_world}
+use Rattle.task_trait.specs.declared.tools.ToolAnswer.{ToolAnswer}
+use Rattle.task_trait.specs.declared.tools.ToolInput.{ToolInput}
+use Rattle.request_machine.specs.Worlds.{world_of}
+use Rattle.build_declared.specs.Places.{Site}
+use Rattle.build_declared.specs.Worlds.{placed_by}
+use Rattle.build_declared.proofs.Plain.{plain-is-world}
+use Rattle.declared_witness.proofs.Derivations.{walk-so}
+use Rattle.declared_witness.specs.ThreeCopies.{
+  instance,
+  files_with,
+  files,
+  root,
+  build,
+  world,
+  given,
+  clean_record,
+  clean_journal,
+  clean_given,
+  part_record,
+  part_journal,
+  part_given,
+}
+
+module _ (tools : List ℕ → ToolInput → ToolAnswer) where
+  abbrev plain_of : List File → Mode → World ToolInput ToolAnswer
+  plain_of tree mode = plain_world (world tools tree mode)
+
+  -- what the root request gives by its walk
+  abbrev given_by : List File → Mode → Placed Site ToolInput ToolAnswer →
+      Option (Given ToolInput RequestResult)
+  given_by tree mode placed_walk = containing (requested root)
+      (walk (plain_of tree mode) (request (plain_of tree mode) 127) [] (plain placed_walk) [] [])
+
+  abbrev evaluated_walk : List File → Mode → Placed Site ToolInput ToolAnswer
+  evaluated_walk tree mode = placed_by tree mode root [] (Ok instance)
+
+  means : (bytes : List ℕ) (stamp : ℕ) (mode : Mode) →
+      meaning (plain_of (files_with bytes stamp) mode)
+      ≡ given_by (files_with bytes stamp) mode (evaluated_walk (files_with bytes stamp) mode)
+  unfolding deepest
+  means bytes stamp mode =
+      ap (given_by (files_with bytes stamp) mode) (walk-so tools bytes stamp mode)
+
+  clean-given : (bytes : List ℕ) (stamp : ℕ) → given_by (files_with bytes stamp) Clean
+      (evaluated_walk (files_with bytes stamp) Clean) ≡ Some clean_given
+  unfolding same_run same_instance deepest read_on visit order fold_case folding value_in rows chars
+  clean-given bytes stamp = refl
+
+  part-given : given_by files Incremental (evaluated_walk files Incremental) ≡ Some part_given
+  unfolding same_run same_instance deepest read_on visit order fold_case folding value_in rows chars
+  part-given = refl
+
+  pub part-means : meaning (world_of tools (build Incremental)) ≡ Some part_given
+  part-means = subst (λ w. meaning w ≡ Some part_given)
+      (plain-is-world tools (build Incremental))
+      (means (codes "old") 7 Incremental ∙ part-given)
+
+pub few : (made : Record) (journal : Journal) →
+    length (distinct (instances (given made journal).demand)) ≤ most_instances
+unfolding same_instance most_instances
+few made journal = omega arith
+
+module _ (tools : List ℕ → ToolInput → ToolAnswer) where
+  pub clean-whole : (bytes : List ℕ) (stamp : ℕ) →
+      IsWhole (plain_world (world tools (files_with bytes stamp) Clean)) clean_given
+  clean-whole bytes stamp = record {
+    means = means tools bytes stamp Clean ∙ clean-given tools bytes stamp;
+    few = few clean_record clean_journal;
+  }
+
+  pub part-whole : IsWhole (world_of tools (build Incremental)) part_given
+  part-whole = record { means = part-means tools; few = few part_record part_journal }
+
+-- the one run has one record
+made-so : (made : Record) (journal : Journal) (id : RunId) (other : Record)
+    (used : List (ToolUse ToolInput)) → In (built id other used) (given made journal).demand →
+    made ≡ other
+made-so made journal id other used (inl e) = absurd (cc)
+made-so made journal id other used (inr (inl e)) = let p : made ≡ other = cc in p
+made-so made journal id other used (inr (inr i)) = absurd i
+
+pub steady : (made : Record) (journal : Journal) → IsSteady (given made journal).demand
+steady made journal id first second used others i j =
+    sym (made-so made journal id first used i) ∙ made-so made journal id second others j

@@ -1,0 +1,10 @@
+pub mod Choices
+pub mod Computed
+pub mod Declared
+pub mod Derivations
+pub mod Evaluated
+pub mod Facts
+pub mod Fresh
+pub mod Pieces
+pub mod Repeated
+pub mod Settled

@@ -1,0 +1,185 @@
+-- The worked set is settled.
+use Rattle.std.proofs.Common.{
+  ◌≡◌,
+  ◌<◌,
+  ◌≤◌,
+  ℕ,
+  ◌⊎◌,
+  inl,
+  inr,
+  List,
+  [],
+  ◌∷◌,
+  length,
+  Option,
+  refl,
+  ap,
+  sym,
+  ◌∙◌,
+  subst,
+  arith,
+}
+use Rattle.std.specs.Prelude.{IsSome, Result, codes}
+use Rattle.caseless.specs.Caseless.{default_case_fold as fold_case}
+use Rattle.ucd_case.specs.CaseFolding.{full_folding as folding}
+use Rattle.ucd_table.specs.Rows.{value_in}
+use Rattle.ucd_case.specs.FullFoldingRows.{full_folding_rows as rows}
+use Rattle.msb_values.specs.declared.mode.Mode.{Mode}
+use Rattle.msb_values.specs.declared.mode.Mode.TheVariants.{Incremental}
+use Rattle.msb_values.specs.declared.put.Put.{Put}
+use Rattle.msb_expression.specs.Machine.{run as read_on}
+use Rattle.file_store.specs.declared.tree.File.{File}
+use Rattle.result_cache.specs.declared.record.Record.{Record}
+use Rattle.result_cache.specs.declared.run.RunId.{RunId}
+use Rattle.result_cache.specs.Journal.{wrote}
+use Rattle.result_cache.specs.Lists.{In}
+use Rattle.result_cache.specs.Same.{same_run, same_instance}
+use Rattle.std.specs.Str.{chars}
+use Rattle.build_incremental.specs.Demand.{Occurrence, IsAmong}
+use Rattle.build_incremental.specs.Joins.{Anyhow}
+use Rattle.msb_files.specs.Views as views
+use Rattle.task_trait.specs.declared.tools.ToolAnswer.{ToolAnswer}
+use Rattle.task_trait.specs.declared.tools.ToolInput.{ToolInput}
+use Rattle.target_body.specs.Pieces.{choice_of}
+use Rattle.target_body.specs.States.{Run, State, Stopped}
+use Rattle.build_declared.specs.Ends.{End}
+use Rattle.build_declared.specs.Pieces.{Piece, end_of_piece}
+use Rattle.build_declared.specs.Places.{Site, run_at}
+use Rattle.build_declared.specs.Repeated.{IsSettledBuild}
+use Rattle.build_declared.specs.Settled.{pieces_at, FreeRunsKeepOff, Succeeds, Stood}
+use Rattle.declared_witness.proofs.Computed.{part-whole, steady}
+use Rattle.declared_witness.proofs.Derivations.{part-each}
+use Rattle.declared_witness.proofs.Facts.{differ}
+use Rattle.declared_witness.proofs.Pieces.{lists, piece, state_in, puts_in, settled-pieces}
+use Rattle.declared_witness.specs.ThreeCopies.{
+  target,
+  files,
+  build,
+  run,
+  second_put,
+  part_record,
+  part_journal,
+  part_given,
+  body_of,
+}
+
+module _ (tools : List ℕ → ToolInput → ToolAnswer) where
+  abbrev body : Occurrence Site
+  body = body_of part_record
+
+  abbrev pieces : Occurrence Site → List Piece
+  pieces o = pieces_at tools files Incremental o
+
+  -- what is said of the one body and of its one piece is said of each
+  of-bodies : (P : Occurrence Site → Piece → Type 0) → P body piece →
+      (o : Occurrence Site) → In o (body ∷ []) → (p : Piece) → In p (pieces o) → P o p
+  of-bodies P h o (inl e) =
+      subst (λ (z : Occurrence Site). (p : Piece) → In p (pieces z) → P z p) e
+      (λ p i. one p (subst (λ (ps : List Piece). In p ps) (settled-pieces tools) i))
+    where
+      one : (p : Piece) → In p (piece ∷ []) → P body p
+      one p (inl g) = subst (P body) g h
+      one p (inr k) = absurd k
+  of-bodies P h o (inr i) = absurd i
+
+  -- ---- settled
+
+  abbrev the_run : Run
+  the_run = run_at files Incremental run target
+
+  abbrev decided : Option (End (Result State Stopped))
+  decided = end_of_piece tools run the_run piece (choice_of the_run piece.lists piece.from)
+
+  abbrev SucceedsSo : Occurrence Site → Piece → List Put → Type 0
+  SucceedsSo o p puts = Succeeds tools files Incremental o.place.target o p puts
+
+  second-copied : SucceedsSo body piece (second_put ∷ [])
+  unfolding same_run same_instance read_on fold_case folding value_in rows chars
+  second-copied = (state_in decided, refl)
+
+  puts-so : (puts : List Put) → SucceedsSo body piece puts → second_put ∷ [] ≡ puts
+  unfolding same_run same_instance read_on fold_case folding value_in rows chars
+  puts-so puts h = ap puts_in h.1
+
+  abbrev Exists : List ℕ → Type 0
+  Exists input = IsSome (views.content
+      (record { files = files; journal = piece.from.journal }) input)
+
+  exist : (input : List ℕ) → In input lists.inputs → Exists input
+  exist input (inl e) = subst Exists e refl
+  exist input (inr (inl e)) = subst Exists e refl
+  exist input (inr (inr (inl e))) = subst Exists e refl
+  exist input (inr (inr (inr i))) = absurd i
+
+  -- it writes one file
+  one-put : (id : RunId) (number : ℕ) (put : Put) → In (wrote id number put) part_journal →
+      (run ≡ id) × (0 ≡ number) × (second_put ≡ put)
+  one-put id number put (inl e) = absurd (cc)
+  one-put id number put (inr (inl e)) =
+      let p : run ≡ id = cc in let q : 0 ≡ number = cc in let r : second_put ≡ put = cc in (p, q, r)
+  one-put id number put (inr (inr i)) = absurd i
+
+  not-input : In second_put.path lists.inputs → ⊥
+  not-input (inl e) = differ (codes "1.c") second_put.path refl e
+  not-input (inr (inl e)) = differ (codes "2.c") second_put.path refl e
+  not-input (inr (inr (inl e))) = differ (codes "3.c") second_put.path refl e
+  not-input (inr (inr (inr i))) = absurd i
+
+  abbrev StoodSo : Occurrence Site → Piece → RunId → ℕ → Type 0
+  StoodSo o p id number = Stood tools files Incremental (body ∷ []) o p id number
+
+  abbrev StoodInputs : Occurrence Site → Piece → Type 0
+  StoodInputs o p = (id : RunId) (number : ℕ) (put : Put) → In (wrote id number put) part_journal →
+      In put.path p.lists.inputs → StoodSo o p id number
+
+  stood : StoodInputs body piece
+  stood id number put i j = absurd (not-input
+      (subst (λ (z : Put). In z.path lists.inputs) (sym (one-put id number put i).2) j))
+
+  abbrev OwnOutputs : Occurrence Site → Piece → Type 0
+  OwnOutputs o p = (puts : List Put) → SucceedsSo o p puts →
+      (id : RunId) (number : ℕ) (put : Put) → In (wrote id number put) part_journal →
+      In put.path p.lists.outputs → StoodSo o p id number
+      ⊎ ((id ≡ o.run) × (length p.before ≤ number) × (number < length puts))
+
+  own : OwnOutputs body piece
+  own puts h id number put i j =
+      let one = one-put id number put i in
+      let count : 1 ≡ length puts = ap length (puts-so puts h) in
+      inr (sym one.0, least number, below number (length puts) one.1 count)
+    where
+      least : (n : ℕ) → 0 ≤ n
+      least n = omega arith
+
+      below : (n m : ℕ) → 0 ≡ n → 1 ≡ m → n < m
+      below n m e g = omega arith
+
+  -- runs without a piece: there is none
+  pub none-free : (tree : List File) (mode : Mode) (made : Record) →
+      pieces_at tools tree mode (body_of made) ≡ piece ∷ [] →
+      FreeRunsKeepOff tools tree mode (body_of made ∷ [])
+  none-free tree mode made so o other (inl e) j none p q put w of =
+      let g : piece ∷ [] ≡ [] = sym so
+      ∙ (ap (λ (z : Occurrence Site). pieces_at tools tree mode z) e ∙ none) in
+      absurd (some g)
+    where
+      some : ◌≡◌ {A = List Piece} (piece ∷ []) [] → ⊥
+      some h = cc
+  none-free tree mode made so o other (inr i) j none p q put w of = absurd i
+
+  pub settles : IsSettledBuild tools (build Incremental) part_given
+  settles = record {
+    whole = part-whole tools;
+    steady = steady part_record part_journal;
+    demand = body ∷ [];
+    bodies = part-each tools (IsAmong (body ∷ [])) Anyhow (inl refl);
+    settled = record {
+      succeeds = of-bodies (λ o p. (puts : List Put) × SucceedsSo o p puts)
+          (second_put ∷ [], second-copied);
+      inputs_exist = of-bodies (λ o p. (input : List ℕ) → In input p.lists.inputs →
+          IsSome (views.content (record { files = files; journal = p.from.journal }) input)) exist;
+      inputs_stood = of-bodies StoodInputs stood;
+      outputs_own = of-bodies OwnOutputs own;
+      free = none-free files Incremental part_record (settled-pieces tools);
+    };
+  }
