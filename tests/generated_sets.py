@@ -8,9 +8,9 @@ targets, whose bodies call some targets of others, and write what these return. 
 itself, text and files have to be those of a recursion that shares nothing, on any number of nodes;
 else the build is refused with runs each of which calls the next. The sets of the action `trial`
 are made here again, by the rule of docs/FORMATS.md, built, and tried. At last come sets at the
-limits: 128 nested requests, and 4,096 instances. Each set that fails prints a line
-`FAIL SET: what differs`; the last line is `N passed, M failed`. The status is 0 where nothing
-failed, 1 elsewhere, and 2 for wrong words.
+limits: 128 nested requests, 4,096 instances, and 64 files that import each other in a chain. Each
+set that fails prints a line `FAIL SET: what differs`; the last line is `N passed, M failed`. The
+status is 0 where nothing failed, 1 elsewhere, and 2 for wrong words.
 """
 
 import json
@@ -397,6 +397,24 @@ def side_by_side(count: int) -> Check:
     return Check(f"{count} instances", files, words, is_outcome(wanted))
 
 
+def importing(name: str, after: str | None) -> str:
+    """A file that sets a property to its name, and then imports another one."""
+    group = {"e": "PropertyGroup", "c": [{"e": "P", "t": name}]}
+    imports = [] if after is None else [{"e": "Import", "a": {"Project": after}}]
+    return json.dumps({"e": "Project", "c": [group, *imports]})
+
+
+def imported(count: int) -> Check:
+    """So many files, each of which imports the next one; the 64th may not."""
+    names = [f"f{number}.props" for number in range(count)]
+    files = {name: importing(name, after) for name, after in zip(names, [*names[1:], None])}
+    lines = [f"property p={names[-1]}"]
+    if count > 64:
+        lines = ["project refused", f"  {names[63]} /1: 22 ImportDepth"]
+    wanted = Outcome(3 if count > 64 else 0, text_of(lines), {})
+    return Check(f"{count} imported", files, [["eval", names[0]]], is_outcome(wanted))
+
+
 # ---- All of them ------------------------------------------------------------------------------
 
 
@@ -407,7 +425,8 @@ def checks(sets: int) -> list[Check]:
     made += [trial_build(seed, 1 + seed % 16) for seed in range(sets)]
     made += [trial_told(seed, 1 + seed % 100, (1, 2, 64)[seed % 3]) for seed in range(sets)]
     made += [trial_told(2**64 - 1, 100, 64), nested(128), nested(129), nested(130)]
-    return made + [side_by_side(4096), side_by_side(4097), side_by_side(4098)]
+    made += [side_by_side(4096), side_by_side(4097), side_by_side(4098)]
+    return made + [imported(64), imported(65), imported(66)]
 
 
 def run_all(program: Path, sets: int) -> int:
