@@ -145,6 +145,9 @@ def build(crates: dict[str, tuple[str, list[str]]], digest: str) -> int:
 
 
 def main() -> int:
+    if sys.argv[1:]:
+        print(__doc__, end="")
+        return 0 if sys.argv[1:] == ["--help"] else 2
     signal.signal(signal.SIGTERM, lambda *_: sys.exit(1))
     if not shutil.which("rt"):
         say("the command `rt` of the Rattle kit is not in PATH; it proves and builds the program")
