@@ -1,3 +1,4 @@
+pub mod Acts
 pub mod Caused
 pub mod Causes
 pub mod Changes

@@ -4,6 +4,7 @@
 //! a [`Name`] as the bytes of its key, and a [`Named`] as its names with what they have.
 #![tactic(auto)]
 
+mod act;
 mod apply;
 mod cause;
 mod change;
@@ -26,10 +27,12 @@ mod overlay;
 mod put;
 mod same;
 mod scope;
+mod shared;
 mod text;
 mod text8;
 mod truth;
 
+pub use act::Act;
 pub use cause::Cause;
 pub use change::Change;
 pub use errors::{NameFault, NoMemory};
@@ -48,6 +51,7 @@ pub use overlay::{overlaid, put_all_missing};
 pub use put::Put;
 pub use same::same_text;
 pub use scope::Scope;
+pub use shared::Shared;
 pub use text::Text;
 pub use text8::Text8;
 pub use truth::truth_of;

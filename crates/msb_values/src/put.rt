@@ -1,9 +1,9 @@
-use crate::{Copied, NoMemory, Text, Text8};
+use crate::{Copied, NoMemory, Shared, Text, Text8};
 
-/// A file that is to be written whole: its path from the root of the store, and its bytes.
+/// A file that is to be written whole: its path from the root of the store, and its bytes, which copies share.
 pub struct Put {
     pub path: Text,
-    pub bytes: Text8,
+    pub bytes: Shared<Text8>,
 }
 
 // A drop that is written out is proved here alone.
