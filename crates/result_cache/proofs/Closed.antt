@@ -1,11 +1,11 @@
 -- A closed journal stays closed, and a run that is replayed twice adds nothing the second time.
 use Rattle.std.proofs.Common.{◌≡◌, ℕ, ◌⊎◌, inl, inr, List, [], ◌∷◌, Some, ap, subst}
-use Rattle.msb_values.specs.declared.put.Put.{Put}
+use Rattle.msb_values.specs.declared.act.Act.{Act}
 use Rattle.result_cache.specs.declared.run.RunId.{RunId}
 use Rattle.result_cache.specs.declared.record.Record.{Record}
 use Rattle.result_cache.specs.Lists.{In}
 use Rattle.result_cache.specs.Same.{same_run}
-use Rattle.result_cache.specs.Journal.{Entry, wrote, ended, Journal, end_of, add, merge}
+use Rattle.result_cache.specs.Journal.{Entry, acted, ended, Journal, end_of, add, merge}
 use Rattle.result_cache.specs.Table.{Records}
 use Rattle.result_cache.specs.Replay.{Effect, effects_of, mark_of, HasAll, IsClosed, replay_by, unless_there, replay}
 use Rattle.result_cache.proofs.JournalEntries.{Has, has-add, has-added, in-add, has-merge_left, has-merge_right, HasAll-mono}
@@ -21,9 +21,9 @@ in-merge a j (e ∷ k) h = elim (in-add a (merge j k) e h) [
 pub closed-nothing : IsClosed []
 closed-nothing r m i = absurd i
 
-pub closed-wrote : (j : Journal) (r : RunId) (n : ℕ) (p : Put) → IsClosed j → IsClosed (add j (wrote r n p))
-closed-wrote j r n p c s m i = HasAll-mono (effects_of s m) j (add j (wrote r n p)) (λ t. has-add t j (wrote r n p))
-    (elim (in-add (ended s m) j (wrote r n p) i) [ inl e ↦ absurd (cc) | inr q ↦ c s m q ])
+pub closed-acted : (j : Journal) (r : RunId) (n : ℕ) (p : Act) → IsClosed j → IsClosed (add j (acted r n p))
+closed-acted j r n p c s m i = HasAll-mono (effects_of s m) j (add j (acted r n p)) (λ t. has-add t j (acted r n p))
+    (elim (in-add (ended s m) j (acted r n p) i) [ inl e ↦ absurd (cc) | inr q ↦ c s m q ])
 
 pub closed-ended : (j : Journal) (r : RunId) (m : Record) → IsClosed j → HasAll (effects_of r m) j → IsClosed (add j (ended r m))
 closed-ended j r m c h s n i = HasAll-mono (effects_of s n) j (add j (ended r m)) (λ t. has-add t j (ended r m))
@@ -45,14 +45,14 @@ closed-merged j k c d s m i = elim (in-merge (ended s m) j k i) [
 pub rep-there : {P : RunId → Record → Type 0} {x : Effect} {j k : Journal} → Rep P x j k → Has (mark_of x) k
 rep-there (old h) = h
 rep-there (new {r = r} {k = k} {m = m} h u d) = has-added k (ended r m)
-rep-there (puts {r} {n} {p} {j}) = has-added j (wrote r n p)
+rep-there (puts {r} {n} {p} {j}) = has-added j (acted r n p)
 
 module _ (P : RunId → Record → Type 0) where
   mutual
     pub rep-stays : {x : Effect} {j k : Journal} → Rep P x j k → IsClosed j → IsClosed k
     rep-stays (old h) c = c
     rep-stays (new {r} {j} {k} {m} h u d) c = let x : HasAll (effects_of r m) k × IsClosed k = reps-stay d c in closed-ended k r m x.1 x.0
-    rep-stays (puts {r} {n} {p} {j}) c = closed-wrote j r n p c
+    rep-stays (puts {r} {n} {p} {j}) c = closed-acted j r n p c
 
     pub reps-stay : {xs : List Effect} {j k : Journal} → Reps P xs j k → IsClosed j → HasAll xs k × IsClosed k
     reps-stay none c = (tt, c)

@@ -3,7 +3,7 @@ use Rattle.std.proofs.Common.{◌≡◌, Bool, true, false, ◌||◌, ◌⊎◌,
 use Rattle.result_cache.specs.declared.run.RunId.{RunId}
 use Rattle.result_cache.specs.declared.record.Record.{Record}
 use Rattle.result_cache.specs.Lists.{In, this_or}
-use Rattle.result_cache.specs.Journal.{Entry, ended, wrote, Journal, Mark, end_of, mark, same_mark, has, add_unless, add, merge, record_of}
+use Rattle.result_cache.specs.Journal.{Entry, ended, acted, Journal, Mark, end_of, mark, same_mark, has, add_unless, add, merge, record_of}
 use Rattle.result_cache.specs.Replay.{Effect, mark_of, HasAll}
 use Rattle.result_cache.specs.Same.{same_run}
 use Rattle.result_cache.proofs.RunTests.{tells, or_right, or_left, or_cases, same_mark-refl, same_mark-true, same_run-true}
@@ -71,7 +71,7 @@ in-has r m (e ∷ j) (inr p) = or_right (same_mark (mark e) (end_of r)) (has (en
 
 pub has-in : (r : RunId) (j : Journal) → Has (end_of r) j → (m : Record) × In (ended r m) j
 has-in r [] h = absurd (cc)
-has-in r (wrote s n p ∷ j) h = let x = has-in r j h in (x.0, inr x.1)
+has-in r (acted s n p ∷ j) h = let x = has-in r j h in (x.0, inr x.1)
 has-in r (ended s m ∷ j) h = elim (or_cases (same_mark (end_of s) (end_of r)) (has (end_of r) j) h) [
   | inl p ↦ (m, inl (ap (λ t. ended t m) (same_run-true s r p)))
   | inr p ↦ let x = has-in r j p in (x.0, inr x.1)
@@ -93,7 +93,7 @@ HasAll-in (y ∷ items) j x h (inr i) = HasAll-in items j x h.1 i
 -- the record of a run that has ended
 pub had-in : (j : Journal) (r : RunId) (m : Record) → record_of j r ≡ Some m → In (ended r m) j
 had-in [] r m h = absurd (cc)
-had-in (wrote s n p ∷ j) r m h = inr (had-in j r m h)
+had-in (acted s n p ∷ j) r m h = inr (had-in j r m h)
 had-in (ended s x ∷ j) r m h = go (same_run s r) refl h (had-in j r m)
   where
     go : (b : Bool) → same_run s r ≡ b → this_or b (record_of j r) x ≡ Some m → (record_of j r ≡ Some m → In (ended r m) j) → In (ended r m) (ended s x ∷ j)
@@ -102,7 +102,7 @@ had-in (ended s x ∷ j) r m h = go (same_run s r) refl h (had-in j r m)
 
 pub had-none : (j : Journal) (r : RunId) → record_of j r ≡ None → has (end_of r) j ≡ false
 had-none [] r h = refl
-had-none (wrote s n p ∷ j) r h = had-none j r h
+had-none (acted s n p ∷ j) r h = had-none j r h
 had-none (ended s x ∷ j) r h = go (same_run s r) refl h (had-none j r)
   where
     go : (b : Bool) → same_run s r ≡ b → this_or b (record_of j r) x ≡ None → (record_of j r ≡ None → has (end_of r) j ≡ false) → has (end_of r) (ended s x ∷ j) ≡ false
@@ -111,7 +111,7 @@ had-none (ended s x ∷ j) r h = go (same_run s r) refl h (had-none j r)
 
 pub none-had : (j : Journal) (r : RunId) → has (end_of r) j ≡ false → record_of j r ≡ None
 none-had [] r h = refl
-none-had (wrote s n p ∷ j) r h = none-had j r h
+none-had (acted s n p ∷ j) r h = none-had j r h
 none-had (ended s x ∷ j) r h = go (same_run s r) h (none-had j r)
   where
     go : (b : Bool) → (b || has (end_of r) j) ≡ false → (has (end_of r) j ≡ false → record_of j r ≡ None) → this_or b (record_of j r) x ≡ None

@@ -1,12 +1,12 @@
 -- Replaying as a relation, where P says which record a run has, and its laws.
 use Rattle.std.proofs.Common.{◌≡◌, ℕ, Bool, true, false, inl, inr, List, [], ◌∷◌, ◌++◌, Option, Some, refl, ap, sym, ◌∙◌, subst}
-use Rattle.msb_values.specs.declared.put.Put.{Put}
+use Rattle.msb_values.specs.declared.act.Act.{Act}
 use Rattle.result_cache.specs.declared.run.RunId.{RunId}
 use Rattle.result_cache.specs.declared.record.Record.{Record}
 use Rattle.result_cache.specs.Same.{same_run}
 use Rattle.result_cache.specs.Lists.{In}
-use Rattle.result_cache.specs.Journal.{Entry, ended, wrote, Journal, Mark, end_of, has, add, merge}
-use Rattle.result_cache.specs.Replay.{Effect, puts_file, replays_run, effects_of, mark_of, HasAll, replays, replay_by, unless_there, replay}
+use Rattle.result_cache.specs.Journal.{Entry, ended, acted, Journal, Mark, end_of, has, add, merge}
+use Rattle.result_cache.specs.Replay.{Effect, puts_act, replays_run, effects_of, mark_of, HasAll, replays, replay_by, unless_there, replay}
 use Rattle.result_cache.specs.Table.{FinishedRun, Records, found}
 use Rattle.result_cache.proofs.RunTests.{tells, same_run-true, and_then-some}
 use Rattle.result_cache.proofs.JournalEntries.{Has, has-add, has-added, of-add, in-add, has-merge_right, merge-absorbs, merge-add, HasAll-mono}
@@ -15,7 +15,7 @@ mutual
   pub data Rep (P : RunId → Record → Type 0) : Effect → Journal → Journal → Type 0 where
     old : {r : RunId} {j : Journal} → Has (end_of r) j → Rep P (replays_run r) j j
     new : {r : RunId} {j k : Journal} {m : Record} → has (end_of r) j ≡ false → P r m → Reps P (effects_of r m) j k → Rep P (replays_run r) j (add k (ended r m))
-    puts : {r : RunId} {n : ℕ} {p : Put} {j : Journal} → Rep P (puts_file r n p) j (add j (wrote r n p))
+    puts : {r : RunId} {n : ℕ} {p : Act} {j : Journal} → Rep P (puts_act r n p) j (add j (acted r n p))
 
   pub data Reps (P : RunId → Record → Type 0) : List Effect → Journal → Journal → Type 0 where
     none : {j : Journal} → Reps P [] j j
@@ -49,7 +49,7 @@ module _ (Q : RunId → Record → Type 0) (E : RunId → Record → Type 0) (fr
       | inl q ↦ ended_is r s m n q (from r m u)
       | inr q ↦ reps_all d f s n q
     ]
-    rep_all (puts {r} {n} {p} {j}) f s m i = elim (in-add (ended s m) j (wrote r n p) i) [
+    rep_all (puts {r} {n} {p} {j}) f s m i = elim (in-add (ended s m) j (acted r n p) i) [
       | inl q ↦ absurd (cc)
       | inr q ↦ f s m q
     ]
@@ -63,7 +63,7 @@ module _ (P : RunId → Record → Type 0) where
     pub rep-keeps : {x : Effect} {j k : Journal} → Rep P x j k → (s : Mark) → Has s j → Has s k
     rep-keeps (old h) s p = p
     rep-keeps (new {r} {j} {k} {m} h q d) s p = has-add s k (ended r m) (reps-keep d s p)
-    rep-keeps (puts {r} {n} {p} {j}) s i = has-add s j (wrote r n p) i
+    rep-keeps (puts {r} {n} {p} {j}) s i = has-add s j (acted r n p) i
 
     pub reps-keep : {xs : List Effect} {j k : Journal} → Reps P xs j k → (s : Mark) → Has s j → Has s k
     reps-keep none s p = p
@@ -88,10 +88,10 @@ module _ (P : RunId → Record → Type 0) (one : (r : RunId) (m n : Record) →
         ]);
   }
 
-  pub closed-write : (j : Journal) (r : RunId) (n : ℕ) (p : Put) → Closed j → Closed (add j (wrote r n p))
-  closed-write j r n p c = record {
-    has_items = λ s q m pm. HasAll-mono (effects_of s m) j (add j (wrote r n p)) (λ t. has-add t j (wrote r n p))
-        (elim (of-add (end_of s) j (wrote r n p) q) [
+  pub closed-act : (j : Journal) (r : RunId) (n : ℕ) (p : Act) → Closed j → Closed (add j (acted r n p))
+  closed-act j r n p c = record {
+    has_items = λ s q m pm. HasAll-mono (effects_of s m) j (add j (acted r n p)) (λ t. has-add t j (acted r n p))
+        (elim (of-add (end_of s) j (acted r n p) q) [
           | inl e ↦ absurd (cc)
           | inr q ↦ c.has_items s q m pm
         ]);
@@ -104,7 +104,7 @@ module _ (P : RunId → Record → Type 0) (one : (r : RunId) (m n : Record) →
     rep-closed (new {r} {j} {k} {m} h q d) c =
         let x : HasAll (effects_of r m) k × Closed k = reps-closed d c in
         (has-added k (ended r m), closed-add k r m x.1 q x.0)
-    rep-closed (puts {r} {n} {p} {j}) c = (has-added j (wrote r n p), closed-write j r n p c)
+    rep-closed (puts {r} {n} {p} {j}) c = (has-added j (acted r n p), closed-act j r n p c)
 
     pub reps-closed : {xs : List Effect} {j k : Journal} → Reps P xs j k → Closed j → HasAll xs k × Closed k
     reps-closed none c = (tt, c)
@@ -121,7 +121,7 @@ module _ (P : RunId → Record → Type 0) (one : (r : RunId) (m n : Record) →
       | inl e ↦ subst (λ x. Has x y) e p
       | inr t ↦ reps-within d y c f (c.has_items r p m u) s t
     ]
-    rep-within (puts {r} {n} {p} {j}) y c f i s q = elim (of-add s j (wrote r n p) q) [
+    rep-within (puts {r} {n} {p} {j}) y c f i s q = elim (of-add s j (acted r n p) q) [
       | inl e ↦ subst (λ x. Has x y) e i
       | inr t ↦ f s t
     ]
@@ -138,7 +138,7 @@ module _ (P : RunId → Record → Type 0) (one : (r : RunId) (m n : Record) →
         let e : Entry = ended r m in
         merge-add (merge y j) k e ∙ (ap (λ x. add x e) (reps-merge d y) ∙ sym (merge-add y k e))
     rep-merges (puts {r} {n} {p} {j}) y =
-        let e : Entry = wrote r n p in
+        let e : Entry = acted r n p in
         merge-add (merge y j) j e ∙ (ap (λ x. add x e) (merge-absorbs (merge y j) j (λ s. has-merge_right s y j)) ∙ sym (merge-add y j e))
 
     pub reps-merge : {xs : List Effect} {j k : Journal} → Reps P xs j k → (y : Journal) → merge (merge y j) k ≡ merge y k
@@ -157,7 +157,7 @@ module _ (P : RunId → Record → Type 0) (one : (r : RunId) (m n : Record) →
           | inl p ↦ rw (merge-absorbs y (add k e) (rep-within (new h u d) y c f p)) (old p)
           | inr p ↦ rw (merge-add y k e) (new p u (reps-grow d y c f))
         ]
-    rep-grows (puts {r} {n} {p} {j}) y c f = rw (merge-add y j (wrote r n p), merge-absorbs y j f) puts
+    rep-grows (puts {r} {n} {p} {j}) y c f = rw (merge-add y j (acted r n p), merge-absorbs y j f) puts
 
     pub reps-grow : {xs : List Effect} {j k : Journal} → Reps P xs j k → (y : Journal) → Closed y → ((s : Mark) → Has s j → Has s y) → Reps P xs y (merge y k)
     reps-grow (none {j}) y c f = rw (merge-absorbs y j f) none
@@ -193,7 +193,7 @@ module _ (Q : RunId → Record → Type 0) where
   pub replays-sound : (one : RunId → Journal → Option Journal) → ((r : RunId) (j k : Journal) → one r j ≡ Some k → Rep Q (replays_run r) j k) →
       (xs : List Effect) (j k : Journal) → replays one xs j ≡ Some k → Reps Q xs j k
   replays-sound one f [] j k h = let e : j ≡ k = cc in subst (λ x. Reps Q [] j x) e none
-  replays-sound one f (puts_file r n p ∷ xs) j k h = also puts (replays-sound one f xs (add j (wrote r n p)) k h)
+  replays-sound one f (puts_act r n p ∷ xs) j k h = also puts (replays-sound one f xs (add j (acted r n p)) k h)
   replays-sound one f (replays_run r ∷ xs) j k h =
       let x = and_then-some (one r j) (replays one xs) k h in
       also (f r j x.0 x.1) (replays-sound one f xs x.0 k x.2)

@@ -6,7 +6,7 @@ use Rattle.result_cache.specs.declared.run.RunId.{RunId}
 use Rattle.result_cache.specs.Same.{same_run, is_in}
 use Rattle.result_cache.specs.Exact.{run-exact}
 use Rattle.result_cache.specs.Lists.{In}
-use Rattle.result_cache.specs.Journal.{Mark, write_of, end_of, same_mark}
+use Rattle.result_cache.specs.Journal.{Mark, act_of, end_of, same_mark}
 
 pub clash : (b : Bool) → b ≡ true → b ≡ false → ⊥
 clash b h g = cc
@@ -47,16 +47,16 @@ same_run-eq r s h = (run-exact r s).1 h
 
 pub same_mark-refl : (m : Mark) → same_mark m m ≡ true
 same_mark-refl (end_of r) = same_run-refl r
-same_mark-refl (write_of r n) = rw (same_run-refl r, eq-eqb n n refl)
+same_mark-refl (act_of r n) = rw (same_run-refl r, eq-eqb n n refl)
 
 pub same_mark-true : (a b : Mark) → same_mark a b ≡ true → a ≡ b
 same_mark-true (end_of r) (end_of s) h = ap end_of (same_run-true r s h)
-same_mark-true (write_of r n) (write_of s k) h =
+same_mark-true (act_of r n) (act_of s k) h =
     let x = and_both (same_run r s) (n == k) h in
     let p : r ≡ s = same_run-true r s x.0 in
     let q : n ≡ k = eqb-true n k x.1 in cc
-same_mark-true (end_of r) (write_of s k) h = absurd (cc)
-same_mark-true (write_of r n) (end_of s) h = absurd (cc)
+same_mark-true (end_of r) (act_of s k) h = absurd (cc)
+same_mark-true (act_of r n) (end_of s) h = absurd (cc)
 
 pub is_in-true : (r : RunId) (runs : List RunId) → In r runs → is_in r runs ≡ true
 is_in-true r [] i = absurd i

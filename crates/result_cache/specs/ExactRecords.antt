@@ -11,15 +11,17 @@ use Rattle.msb_values.specs.declared.change.Change.{Change}
 use Rattle.msb_values.specs.declared.change.Change.TheVariants.{SetProp, AddItems, RemoveItems, SetMeta}
 use Rattle.msb_values.specs.declared.note.Note.{Note}
 use Rattle.msb_values.specs.declared.note.Note.TheVariants.{Low, Message, Warning, Fail}
+use Rattle.msb_values.specs.declared.act.Act.{Act}
+use Rattle.msb_values.specs.declared.act.Act.TheVariants.{Write, Remove}
 use Rattle.msb_values.specs.declared.put.Put.{Put}
 use Rattle.result_cache.specs.declared.record.Decision.{Decision}
 use Rattle.result_cache.specs.declared.record.Decision.TheVariants.{Ran, UpToDate, NothingToDo, Part, Failed}
 use Rattle.result_cache.specs.declared.record.Record.{Record}
 use Rattle.result_cache.specs.declared.record.Segment.{Segment}
-use Rattle.result_cache.specs.declared.record.Segment.TheVariants.{Write, Call}
+use Rattle.result_cache.specs.declared.record.Segment.TheVariants.{File, Call}
 use Rattle.result_cache.specs.Exact.{both, into, pair-exact, truth-exact, run-exact, key-exact}
 use Rattle.result_cache.specs.Same.{same_run, same_truth, same_key}
-use Rattle.result_cache.specs.SameRecords.{same_put, same_note, same_change, same_decision, same_segment, same_record}
+use Rattle.result_cache.specs.SameRecords.{same_put, same_act, same_note, same_change, same_decision, same_segment, same_record}
 
 -- a test that fails, of different things
 apart : {P : Type 0} → (P → false ≡ true) → Decides false P
@@ -39,6 +41,12 @@ put-exact a b = into (same_put a b)
     (λ h. ap (λ x. record { path = x; bytes = a.bytes }) h.0 ∙ ap (λ y. record { path = b.path; bytes = y }) h.1)
     (λ h. (ap (λ (x : Put). x.path) h, ap (λ (x : Put). x.bytes) h))
     (both (bytes_eq a.path b.path) (bytes_eq a.bytes b.bytes) (bytes_eq-Decides a.path b.path) (bytes_eq-Decides a.bytes b.bytes))
+
+act-exact : (a b : Act) → Decides (same_act a b) (a ≡ b)
+act-exact (Write a) (Write b) = into (same_put a b) (λ h. ap Write h) (λ h. cc) (put-exact a b)
+act-exact (Write a) (Remove b) = apart (λ h. cc)
+act-exact (Remove a) (Write b) = apart (λ h. cc)
+act-exact (Remove a) (Remove b) = into (bytes_eq a b) (λ h. ap Remove h) (λ h. cc) (bytes_eq-Decides a b)
 
 note-exact : (a b : Note) → Decides (same_note a b) (a ≡ b)
 note-exact (Low n) (Low m) = into (bytes_eq n m) (λ h. ap Low h) (λ h. cc) (bytes_eq-Decides n m)
@@ -111,9 +119,9 @@ decision-exact Failed (Part m b) = apart (λ h. cc)
 decision-exact Failed Failed = (λ h. refl, λ h. refl)
 
 pub segment-exact : (a b : Segment) → Decides (same_segment a b) (a ≡ b)
-segment-exact (Write n) (Write m) = into (same_put n m) (λ h. ap Write h) (λ h. cc) (put-exact n m)
-segment-exact (Write n) (Call m b) = apart (λ h. cc)
-segment-exact (Call n a) (Write m) = apart (λ h. cc)
+segment-exact (File n) (File m) = into (same_act n m) (λ h. ap File h) (λ h. cc) (act-exact n m)
+segment-exact (File n) (Call m b) = apart (λ h. cc)
+segment-exact (Call n a) (File m) = apart (λ h. cc)
 segment-exact (Call n a) (Call m b) = into (same_key n m && pointwise same_run a b) (λ h. ap (λ x. Call x a) h.0 ∙ ap (λ y. Call m y) h.1) (λ h. (cc, cc))
     (both (same_key n m) (pointwise same_run a b) (key-exact n m) (pointwise_decides run-exact a b))
 

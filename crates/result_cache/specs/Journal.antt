@@ -1,36 +1,37 @@
--- What a request knows of the files that targets have written and of the runs that have ended.
+-- What a request knows of the files that targets have written or removed, and of the runs that have ended. (MSBuild targets.)
 use Rattle.std.specs.Prelude.{ℕ, Bool, true, false, ◌==◌, ◌||◌, ◌&&◌, List, [], ◌∷◌, Option, None}
 use Rattle.std.specs.Str.{bytes_eq}
-use Rattle.msb_values.specs.declared.put.Put.{Put}
+use Rattle.msb_values.specs.declared.act.Act.{Act}
+use Rattle.msb_values.specs.Acts.{act_path, act_bytes}
 use Rattle.result_cache.specs.declared.run.RunId.{RunId}
 use Rattle.result_cache.specs.declared.record.Record.{Record}
 use Rattle.result_cache.specs.Lists.{this_or}
 use Rattle.result_cache.specs.Same.{same_run}
 
--- a file that a run has written, with its place among the segments of the run's record; a run that has ended, with its record
+-- what a run did to a path, with its place among the segments of the run's record; a run that has ended, with its record
 pub data Entry : Type 0 where
-  wrote : RunId → ℕ → Put → Entry
+  acted : RunId → ℕ → Act → Entry
   ended : RunId → Record → Entry
 
 -- the newest entry first
 abbrev pub Journal : Type 0
 Journal = List Entry
 
--- what tells one entry from another: of a written file the run and the place, of an ended run the run
+-- what tells one entry from another: of an act the run and the place, of an ended run the run
 pub data Mark : Type 0 where
-  write_of : RunId → ℕ → Mark
+  act_of : RunId → ℕ → Mark
   end_of : RunId → Mark
 
 -- the mark of an entry
 abbrev pub mark : Entry → Mark
-mark (wrote run place put) = write_of run place
+mark (acted run place act) = act_of run place
 mark (ended run made) = end_of run
 
 -- two marks are equal
 abbrev pub same_mark : Mark → Mark → Bool
-same_mark (write_of run place) (write_of other number) = same_run run other && (place == number)
-same_mark (write_of run place) (end_of other) = false
-same_mark (end_of run) (write_of other number) = false
+same_mark (act_of run place) (act_of other number) = same_run run other && (place == number)
+same_mark (act_of run place) (end_of other) = false
+same_mark (end_of run) (act_of other number) = false
 same_mark (end_of run) (end_of other) = same_run run other
 
 -- the journal has an entry with this mark
@@ -52,14 +53,14 @@ abbrev pub merge : Journal → Journal → Journal
 merge journal [] = journal
 merge journal (e ∷ other) = add (merge journal other) e
 
--- the bytes of a file as it was last written; none where no run has written it
-abbrev pub content : Journal → List ℕ → Option (List ℕ)
+-- what the last act on a path left there, which is nothing where it removed the file; none where no run has acted on the path
+abbrev pub content : Journal → List ℕ → Option (Option (List ℕ))
 content [] path = None
-content (wrote run place put ∷ journal) path = this_or (bytes_eq put.path path) (content journal path) put.bytes
+content (acted run place act ∷ journal) path = this_or (bytes_eq (act_path act) path) (content journal path) (act_bytes act)
 content (ended run made ∷ journal) path = content journal path
 
 -- the record of a run that has ended
 abbrev pub record_of : Journal → RunId → Option Record
 record_of [] run = None
-record_of (wrote other place put ∷ journal) run = record_of journal run
+record_of (acted other place act ∷ journal) run = record_of journal run
 record_of (ended other made ∷ journal) run = this_or (same_run other run) (record_of journal run) made

@@ -1,6 +1,7 @@
 pub mod Exact
 pub mod ExactRecords
 pub mod Found
+pub mod Hashes
 pub mod Journal
 pub mod Lists
 pub mod Replay

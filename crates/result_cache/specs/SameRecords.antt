@@ -7,17 +7,25 @@ use Rattle.msb_values.specs.declared.change.Change.{Change}
 use Rattle.msb_values.specs.declared.change.Change.TheVariants.{SetProp, AddItems, RemoveItems, SetMeta}
 use Rattle.msb_values.specs.declared.note.Note.{Note}
 use Rattle.msb_values.specs.declared.note.Note.TheVariants.{Low, Message, Warning, Fail}
+use Rattle.msb_values.specs.declared.act.Act.{Act}
+use Rattle.msb_values.specs.declared.act.Act.TheVariants.{Write, Remove}
 use Rattle.msb_values.specs.declared.put.Put.{Put}
 use Rattle.result_cache.specs.declared.record.Decision.{Decision}
 use Rattle.result_cache.specs.declared.record.Decision.TheVariants.{Ran, UpToDate, NothingToDo, Part, Failed}
 use Rattle.result_cache.specs.declared.record.Record.{Record}
 use Rattle.result_cache.specs.declared.record.Segment.{Segment}
-use Rattle.result_cache.specs.declared.record.Segment.TheVariants.{Write, Call}
+use Rattle.result_cache.specs.declared.record.Segment.TheVariants.{File, Call}
 use Rattle.result_cache.specs.Same.{same_run, same_truth, same_key}
 
 -- one file with the same bytes
 abbrev pub same_put : Put → Put → Bool
 same_put a b = bytes_eq a.path b.path && bytes_eq a.bytes b.bytes
+
+-- one file written or removed alike
+abbrev pub same_act : Act → Act → Bool
+same_act (Write a) (Write b) = same_put a b
+same_act (Remove a) (Remove b) = bytes_eq a b
+same_act a b = false
 
 -- one kind of note with the same text
 abbrev pub same_note : Note → Note → Bool
@@ -44,9 +52,9 @@ same_decision (Part n m) (Part k l) = (n == k) && (m == l)
 same_decision Failed Failed = true
 same_decision a b = false
 
--- one file written, or one request called that made or used the same runs
+-- one act on a file, or one request called that made or used the same runs
 abbrev pub same_segment : Segment → Segment → Bool
-same_segment (Write a) (Write b) = same_put a b
+same_segment (File a) (File b) = same_act a b
 same_segment (Call key a) (Call other b) = same_key key other && pointwise same_run a b
 same_segment a b = false
 

@@ -3,10 +3,10 @@
 ghost use Rattle.std.specs.Prelude.{◌≡◌, Bool};
 ghost use Rattle.std.specs.Cmp.Lexicographic.{pointwise};
 ghost use Rattle.std.specs.List.{list_all, zip};
-ghost use Rattle.result_cache.specs.SameRecords.{same_put};
+ghost use Rattle.result_cache.specs.SameRecords.{same_act, same_put};
 
 use crate::{Decision, Record, Segment};
-use msb_values::{Change, Note, Put};
+use msb_values::{Act, Change, Note, Put};
 
 /// Two values that may be the same.
 trait Alike {
@@ -64,7 +64,17 @@ fn pairs_are_same<T: Alike>(a: &[T], b: &[T]) -> bool
 fn is_same_put(a: &Put, b: &Put) -> bool
     ensures { result ≡ same_put a.now b.now }
 {
-    a.path == b.path && a.bytes.as_bytes() == b.bytes.as_bytes()
+    a.path == b.path && a.bytes.get().as_bytes() == b.bytes.get().as_bytes()
+}
+
+fn is_same_act(a: &Act, b: &Act) -> bool
+    ensures { result ≡ same_act a.now b.now }
+{
+    match (a, b) {
+        (Act::Write(a), Act::Write(b)) => is_same_put(a, b),
+        (Act::Remove(a), Act::Remove(b)) => a == b,
+        _ => false,
+    }
 }
 
 impl PartialEq for Decision {
@@ -107,7 +117,7 @@ impl PartialEq for Segment {
 
     fn eq(&self, other: &Segment) -> bool {
         match (self, other) {
-            (Segment::Write(a), Segment::Write(b)) => is_same_put(a, b),
+            (Segment::File(a), Segment::File(b)) => is_same_act(a, b),
             (Segment::Call(key, a), Segment::Call(other, b)) => key == other && a == b,
             _ => false,
         }

@@ -8,13 +8,13 @@
 ghost use Rattle.std.specs.Prelude.{◌≡◌, ℕ, [], List, Some};
 ghost use Rattle.std.specs.Bool.{Decides};
 ghost use Rattle.msb_values.specs.declared.key.InstanceKey.{InstanceKey};
-ghost use Rattle.msb_values.specs.declared.put.Put.{Put};
+ghost use Rattle.msb_values.specs.declared.act.Act.{Act};
 ghost use Rattle.result_cache.specs.declared.run.RunId.{RunId};
 ghost use Rattle.result_cache.specs.declared.request.RequestKey.{RequestKey};
 ghost use Rattle.result_cache.specs.declared.record.Record.{Record};
 ghost use Rattle.result_cache.specs.Same.{same_run, same_instance, same_keys};
 ghost use Rattle.result_cache.specs.SameRecords.{same_record};
-ghost use Rattle.result_cache.specs.Journal.{Journal, wrote, ended, add, merge};
+ghost use Rattle.result_cache.specs.Journal.{Journal, acted, ended, add, merge};
 ghost use Rattle.result_cache.specs.Table.{Records};
 ghost use Rattle.result_cache.specs.Replay.{HasAll, effects_of, IsClosed, replay};
 
@@ -23,12 +23,14 @@ mod record;
 mod record_ref;
 mod request;
 mod run;
+mod run_ref;
 mod table;
 
 pub use record::{Decision, Record, Segment};
 pub use record_ref::RecordRef;
 pub use request::{RequestKey, RequestResult, Returned};
 pub use run::RunId;
+pub use run_ref::{RunRef, hash_of};
 pub use table::{Found, Table};
 
 /// The tests that tell instances, runs, lists of requests and records apart hold exactly of equal ones.
@@ -39,11 +41,12 @@ pub fn tests_are_exact()
     ensures records { (a b : Record) → Decides (same_record a b) (a ≡ b) }
 {}
 
-/// A closed journal stays closed: when a file is written, when a run ends of whose record it has everything, when another
+/// A closed journal stays closed: when a file is written or removed, when a run ends of whose record it has everything, when another
 /// closed journal is merged, and when a run is replayed.
 pub fn closed_stays()
     ensures empty { IsClosed [] }
-    ensures wrote { (journal : Journal) (run : RunId) (place : ℕ) (put : Put) → IsClosed journal → IsClosed (add journal (wrote run place put)) }
+    ensures acted { (journal : Journal) (run : RunId) (place : ℕ) (act : Act) → IsClosed journal →
+        IsClosed (add journal (acted run place act)) }
     ensures ended { (journal : Journal) (run : RunId) (made : Record) → IsClosed journal → HasAll (effects_of run made) journal →
         IsClosed (add journal (ended run made)) }
     ensures merged { (journal other : Journal) → IsClosed journal → IsClosed other → IsClosed (merge journal other) }

@@ -1,6 +1,6 @@
 ghost use Rattle.std.specs.Prelude.{◌≡◌, IfOk};
 
-use crate::Record;
+use crate::{Record, RunId, RunRef};
 use msb_values::{Copied, NoMemory};
 use std::alloc::Global;
 use std::marker::Model;
@@ -8,7 +8,7 @@ use std::sync::Arc;
 
 /// A record that its copies share, in any threads.
 pub struct RecordRef {
-    shared: Arc<Record>,
+    shared: Arc<Kept>,
 }
 
 // A drop that is written out is proved here alone.
@@ -18,28 +18,67 @@ impl Drop for RecordRef {
     }
 }
 
+/// A record, and the name of its run, for those that put the run in a journal.
+struct Kept {
+    made: Record,
+    run: Option<RunRef>,
+}
+
+// A drop that is written out is proved here alone.
+impl Drop for Kept {
+    fn drop(self) {
+        let Kept { made: _, run: _ } = self;
+    }
+}
+
 impl Model for RecordRef {
     ghost use Rattle.std.specs.Arc.{arc_value};
     ghost use Rattle.result_cache.specs.declared.record.Record.{Record};
+    ghost use Rattle.result_cache.specs.declared.record_ref.Kept.{Kept};
 
     ghost Value = { Record };
 
-    ghost view = { λ r. arc_value r.shared };
+    ghost view = { λ r. (arc_value r.shared).made };
 }
 
 impl RecordRef {
     pub fn new(alloc: Global, made: Record) -> Result<RecordRef, NoMemory>
         ensures { IfOk result (λ r. r ≡ made) }
     {
+        RecordRef::kept(alloc, Kept { made, run: None })
+    }
+
+    /// The record of this run, which shares the run's name with all that put it in a journal.
+    pub fn of_run(alloc: Global, run: &RunId, made: Record) -> Result<RecordRef, NoMemory>
+        ensures { IfOk result (λ r. r ≡ made) }
+    {
+        let run = RunRef::new(alloc, run)?;
+        let run = Some(run);
+        RecordRef::kept(alloc, Kept { made, run })
+    }
+
+    fn kept(alloc: Global, kept: Kept) -> Result<RecordRef, NoMemory>
+        ensures { IfOk result (λ r. r ≡ kept.made) }
+    {
         Ok(RecordRef {
-            shared: Arc::new(alloc, made)?,
+            shared: Arc::new(alloc, kept)?,
         })
     }
 
     pub fn get(&self) -> &Record
         ensures { result.now ≡ self.now }
     {
-        &self.shared
+        &self.shared.made
+    }
+
+    /// The name of a run: the one that is kept, if it is that run's, else a copy.
+    pub fn name(&self, alloc: Global, run: &RunId) -> Result<RunRef, NoMemory>
+        ensures { IfOk result (λ r. r ≡ run.now) }
+    {
+        match &self.shared.run {
+            Some(kept) if *kept.get() == *run => kept.copy(),
+            _ => RunRef::new(alloc, run),
+        }
     }
 }
 

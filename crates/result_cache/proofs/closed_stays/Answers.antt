@@ -1,11 +1,11 @@
-use Rattle.result_cache.proofs.Closed.{closed-nothing, closed-wrote, closed-ended, closed-merged, closed-replayed}
+use Rattle.result_cache.proofs.Closed.{closed-nothing, closed-acted, closed-ended, closed-merged, closed-replayed}
 use Rattle.result_cache.proofs.closed_stays.Goals as goal
 
 pub returns-clause-empty : goal.returns-clause-empty
 returns-clause-empty c = closed-nothing
 
-pub returns-clause-wrote : goal.returns-clause-wrote
-returns-clause-wrote c = closed-wrote
+pub returns-clause-acted : goal.returns-clause-acted
+returns-clause-acted c = closed-acted
 
 pub returns-clause-ended : goal.returns-clause-ended
 returns-clause-ended c = closed-ended
