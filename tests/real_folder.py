@@ -1,5 +1,5 @@
 #!/usr/bin/env python3
-"""Tries the built program over real folders: files stay whole, nothing outside is written, and each
+"""Tries the built program over real folders: files stay whole, nothing outside is touched, and each
 fault is told.
 
 usage: tests/real_folder.py PROGRAM [TEST ..]
@@ -14,10 +14,10 @@ import sys
 import tempfile
 from pathlib import Path
 
-from folder_tests import faults, links, whole
+from folder_tests import faults, links, removals, whole
 from folder_tests.place import Failed, Place, Skipped
 
-TESTS = [*whole.TESTS, *links.TESTS, *faults.TESTS]
+TESTS = [*whole.TESTS, *links.TESTS, *removals.TESTS, *faults.TESTS]
 
 
 def outcome(test, place: Place) -> str:

@@ -6,6 +6,7 @@ pub mod Commits
 pub mod FirstFaults
 pub mod Loaded
 pub mod Puts
+pub mod Removals
 pub mod Places
 pub mod AsListed
 pub mod FaultKinds

@@ -24,10 +24,10 @@ reversed Less = refl
 reversed Equal = refl
 reversed Greater = refl
 
-before_is : (path : List ℕ) (f : File) → is_at_side path Less f ≡ is_before f.path path
+pub before_is : (path : List ℕ) (f : File) → is_at_side path Less f ≡ is_before f.path path
 before_is path f = sym (is_lt_index (slice_cmp nat_cmp f.path path))
 
-after_is : (path : List ℕ) (f : File) → is_at_side path Greater f ≡ is_before path f.path
+pub after_is : (path : List ℕ) (f : File) → is_at_side path Greater f ≡ is_before path f.path
 after_is path f =
     sym (is_gt_index (slice_cmp nat_cmp f.path path)) ∙ sym (reversed _) ∙ ap is_lt (sym (nat_list_cmp_total.antisymm path f.path))
 
@@ -35,7 +35,7 @@ passes_next : (t u : File → Bool) (f : File) (rest : List File) (b : Bool) →
 passes_next t u f rest true h r = both_true _ _ (h refl) r
 passes_next t u f rest false h r = r
 
-passes : (t u : File → Bool) → ((f : File) → t f ≡ true → u f ≡ true) → (fs : List File) → list_all u (filter t fs) ≡ true
+pub passes : (t u : File → Bool) → ((f : File) → t f ≡ true → u f ≡ true) → (fs : List File) → list_all u (filter t fs) ≡ true
 passes t u h [] = refl
 passes t u h (f ∷ fs) = passes_next t u f (filter t fs) (t f) (h f) (passes t u h fs)
 
@@ -51,7 +51,7 @@ ordered_next : (f : File) (rest : List File) (b : Bool) → list_all (is_before 
 ordered_next f rest true h r = both_true _ _ h r
 ordered_next f rest false h r = r
 
-ordered-filter : (t : File → Bool) (fs : List File) → are_in_order fs ≡ true → are_in_order (filter t fs) ≡ true
+pub ordered-filter : (t : File → Bool) (fs : List File) → are_in_order fs ≡ true → are_in_order (filter t fs) ≡ true
 ordered-filter t [] h = refl
 ordered-filter t (f ∷ fs) h = let both = and_true _ _ h in ordered_next f (filter t fs) (t f) (all_kept f.path t fs both.0) (ordered-filter t fs both.1)
 
@@ -79,7 +79,7 @@ option_or-next : (b : Bool) (f : File) (o p : Option File) → cond b (Some f) (
 option_or-next true f o p = refl
 option_or-next false f o p = refl
 
-file_at-joined : (q : List ℕ) (fs gs : List File) → file_at q (fs ++ gs) ≡ option_or (file_at q fs) (file_at q gs)
+pub file_at-joined : (q : List ℕ) (fs gs : List File) → file_at q (fs ++ gs) ≡ option_or (file_at q fs) (file_at q gs)
 file_at-joined q [] gs = refl
 file_at-joined q (f ∷ fs) gs = ap (cond (bytes_eq f.path q) (Some f)) (file_at-joined q fs gs) ∙ option_or-next (bytes_eq f.path q) f (file_at q fs) (file_at q gs)
 
@@ -97,12 +97,12 @@ none_either : (b : Bool) → ◌≡◌ {A = Option File} None (cond b None None)
 none_either true = refl
 none_either false = refl
 
-file_at-filter : (t : List ℕ → Bool) (q : List ℕ) (fs : List File) → file_at q (filter (λ f. t f.path) fs) ≡ cond (t q) (file_at q fs) None
+pub file_at-filter : (t : List ℕ → Bool) (q : List ℕ) (fs : List File) → file_at q (filter (λ f. t f.path) fs) ≡ cond (t q) (file_at q fs) None
 file_at-filter t q [] = none_either (t q)
 file_at-filter t q (f ∷ fs) = file_at-filter_next t q f (filter (λ g. t g.path) fs) (file_at q fs) (t f.path) (bytes_eq f.path q) refl refl (file_at-filter t q fs)
 
 -- which side of a path another one stands at
-side : List ℕ → Ordering → List ℕ → Bool
+unfoldable pub side : List ℕ → Ordering → List ℕ → Bool
 side path o q = ordering_index (slice_cmp nat_cmp q path) == ordering_index o
 
 file_at-put_in_self : (path bytes : List ℕ) (stamp : ℕ) (fs : List File) → file_at path (put_in path bytes stamp fs) ≡ Some (record { path = path; bytes = bytes; stamp = stamp })
@@ -114,7 +114,7 @@ apart : (path q : List ℕ) → q ≢ path → bytes_eq path q ≡ false
 apart path q n = not_true (bytes_eq path q) (λ t. n (sym ((bytes_eq-Decides path q).0 t)))
 
 -- a path that is not Equal stands at one of the two sides
-of_sides : (o : Ordering) (f : Option File) → is_eq o ≡ false → option_or (cond (ordering_index o == 0) f None) (cond (ordering_index o == 2) f None) ≡ f
+pub of_sides : (o : Ordering) (f : Option File) → is_eq o ≡ false → option_or (cond (ordering_index o == 0) f None) (cond (ordering_index o == 2) f None) ≡ f
 of_sides Less None n = refl
 of_sides Less (Some f) n = refl
 of_sides Equal f n = cc

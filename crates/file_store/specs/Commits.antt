@@ -1,34 +1,51 @@
--- A list of files, written in order.
-use Rattle.std.specs.Prelude.{◌≡◌, ℕ, List, [], ◌∷◌, take, slice_get, Option, Some, None, IsSomeAnd, MatchOption, if◌then◌else◌}
+-- A list of acts, done in order. (MSBuild targets; Delete task.)
+use Rattle.std.specs.Prelude.{◌≡◌, ℕ, List, [], ◌∷◌, take, slice_get, Option, Some, None, option_map, IsSomeAnd, MatchOption, if◌then◌else◌}
 use Rattle.std.specs.Option.{option_or}
 use Rattle.std.specs.Str.{bytes_eq}
 use Rattle.msb_laws.specs.Faults.{Rose}
-use Rattle.msb_values.specs.declared.put.Put.{Put}
+use Rattle.msb_values.specs.Acts.{act_path, act_bytes}
+use Rattle.msb_values.specs.declared.act.Act.{Act}
+use Rattle.msb_values.specs.declared.act.Act.TheVariants.{Write, Remove}
 use Rattle.file_store.specs.Files.{file_at}
-use Rattle.file_store.specs.Writes.{IsWritten, IsOldOrNew}
+use Rattle.file_store.specs.Writes.{IsWritten, IsOldOrNew, IsRemoved, IsOldOrGone}
 use Rattle.file_store.specs.declared.tree.File.{File}
 use Rattle.file_store.specs.declared.committing.CommitFault.{CommitFault}
 use Rattle.file_store.specs.declared.committing.CommitFault.TheVariants.{Writing, Memory}
 
--- each was written, one after the other
-abbrev pub AreWritten : List Put → List File → List File → Type 0
-AreWritten [] before after = after ≡ before
-AreWritten (p ∷ ps) before after = (between : List File) × (IsWritten p.path p.bytes before between) × AreWritten ps between after
+-- the act was done
+abbrev pub IsDone : Act → List File → List File → Type 0
+IsDone (Write put) before after = IsWritten put.path put.bytes before after
+IsDone (Remove path) before after = IsRemoved path before after
 
--- the bytes that the list has last for a path
-abbrev pub last_bytes : List ℕ → List Put → Option (List ℕ)
+-- the act was done or was not
+abbrev pub MayBeDone : Act → List File → List File → Type 0
+MayBeDone (Write put) before after = IsOldOrNew put.path put.bytes before after
+MayBeDone (Remove path) before after = IsOldOrGone path before after
+
+-- each was done, one after the other
+abbrev pub AreDone : List Act → List File → List File → Type 0
+AreDone [] before after = after ≡ before
+AreDone (act ∷ acts) before after = (between : List File) × IsDone act before between × AreDone acts between after
+
+-- what the last act of the list on a path leaves there, which is nothing where it removes the file
+abbrev pub last_bytes : List ℕ → List Act → Option (Option (List ℕ))
 last_bytes path [] = None
-last_bytes path (p ∷ ps) = option_or (last_bytes path ps) (if bytes_eq p.path path then Some p.bytes else None)
+last_bytes path (act ∷ acts) = option_or (last_bytes path acts) (if bytes_eq (act_path act) path then Some (act_bytes act) else None)
 
--- each path of the list has the bytes that the list has last for it, and every other path is as it was
-abbrev pub HasContents : List Put → List File → List File → Type 0
-HasContents list before after = (path : List ℕ) → MatchOption (last_bytes path list) (file_at path after ≡ file_at path before) (λ bytes. IsSomeAnd (file_at path after) (λ f. f.bytes ≡ bytes))
+-- the bytes of the file at a path, if it is there
+abbrev pub bytes_there : List ℕ → List File → Option (List ℕ)
+bytes_there path files = option_map (λ f. f.bytes) (file_at path files)
 
--- those before a place were written, and the one there was or was not
-pub record AreWrittenTo (place : ℕ) (list : List Put) (before after : List File) : Type 0 where
+-- each path of the list has what the last act on it leaves there, and every other path is as it was
+abbrev pub HasContents : List Act → List File → List File → Type 0
+HasContents list before after = (path : List ℕ) → MatchOption (last_bytes path list)
+    (file_at path after ≡ file_at path before) (λ left. bytes_there path after ≡ left)
+
+-- those before a place were done, and the one there was or was not
+pub record AreDoneTo (place : ℕ) (list : List Act) (before after : List File) : Type 0 where
   pub between : List File
-  pub first : AreWritten (take place list) before between
-  pub next : IsSomeAnd (slice_get list place) (λ p. IsOldOrNew p.path p.bytes between after)
+  pub first : AreDone (take place list) before between
+  pub next : IsSomeAnd (slice_get list place) (λ act. MayBeDone act between after)
 
 -- the place at which a commit stopped
 abbrev pub place_of : CommitFault → ℕ

@@ -1,5 +1,5 @@
--- What a write makes of a tree.
-use Rattle.std.specs.Prelude.{◌≡◌, ◌≢◌, ◌<◌, ◌≤◌, ◌⊎◌, ◌==◌, ℕ, List, ◌∷◌, ◌++◌, length, take, drop, IfSome, IsSomeAnd, Bool}
+-- What a write and a removal make of a tree.
+use Rattle.std.specs.Prelude.{◌≡◌, ◌≢◌, ◌<◌, ◌≤◌, ◌⊎◌, ◌==◌, ℕ, List, ◌∷◌, ◌++◌, length, take, drop, None, IfSome, IsSomeAnd, Bool}
 use Rattle.std.specs.List.{filter}
 use Rattle.std.specs.declared.cmp.Ordering.{Ordering}
 use Rattle.std.specs.declared.cmp.Ordering.TheVariants.{Less, Greater}
@@ -27,6 +27,16 @@ pub record IsOldOrNew (path bytes : List ℕ) (before after : List File) : Type 
   pub here : (file_at path after ≡ file_at path before) ⊎ HasNew path bytes after
   pub others : KeepsOthers path before after
 
+-- the removal was made
+pub record IsRemoved (path : List ℕ) (before after : List File) : Type 0 where
+  pub here : file_at path after ≡ None
+  pub others : KeepsOthers path before after
+
+-- the removal was made or was not
+pub record IsOldOrGone (path : List ℕ) (before after : List File) : Type 0 where
+  pub here : (file_at path after ≡ file_at path before) ⊎ (file_at path after ≡ None)
+  pub others : KeepsOthers path before after
+
 -- the file's path stands at this side of another path
 abbrev pub is_at_side : List ℕ → Ordering → File → Bool
 is_at_side path side f = ordering_index (slice_cmp nat_cmp f.path path) == ordering_index side
@@ -34,6 +44,10 @@ is_at_side path side f = ordering_index (slice_cmp nat_cmp f.path path) == order
 -- the files before a path, a new file there, and the files after it
 abbrev pub put_in : List ℕ → List ℕ → ℕ → List File → List File
 put_in path bytes stamp files = filter (is_at_side path Less) files ++ record { path = path; bytes = bytes; stamp = stamp } ∷ filter (is_at_side path Greater) files
+
+-- the files before a path and those after it
+abbrev pub taken_out : List ℕ → List File → List File
+taken_out path files = filter (is_at_side path Less) files ++ filter (is_at_side path Greater) files
 
 -- the files before place i stand before the path, those from i up to j have it, and those from j on stand after it
 pub record IsPlace (path : List ℕ) (files : List File) (i j : ℕ) : Type 0 where

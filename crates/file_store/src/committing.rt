@@ -1,34 +1,51 @@
-ghost use Rattle.std.specs.Prelude.{◌≤◌, ◌<◌, length, IfErr, OnOk, IfSome, IsSomeAnd};
-ghost use Rattle.file_store.specs.Commits.{AreWritten, AreWrittenTo, HasContents, IsCommitCaused, place_of};
+ghost use Rattle.std.specs.Prelude.{◌≤◌, ◌<◌, length, IfErr, OnOk, OnErr, IfSome, IsSomeAnd};
+ghost use Rattle.msb_laws.specs.Faults.{HasCause};
+ghost use Rattle.file_store.specs.Commits.{AreDone, AreDoneTo, HasContents, IsCommitCaused, IsDone, MayBeDone, place_of};
+ghost use Rattle.file_store.specs.declared.store.StoreError.TheVariants.{Failed};
 
 use crate::{Store, StoreError};
-use msb_values::{List, Put};
+use msb_values::{Act, List};
 use std::alloc::Global;
 
-/// Why a list of files was not written whole, with the place in the list at which it stopped. All before it were
-/// written.
+/// Why a list of acts was not done whole, with the place in the list at which it stopped. All before it were done.
 #[derive(Clone, Copy, Debug, PartialEq, Eq)]
 pub enum CommitFault {
-    /// The store failed to write the file there.
+    /// The store failed to do the act there.
     Writing(u64),
     Memory(u64),
 }
 
-/// Writes files in order, and stops at the first that the store doesn't write.
-pub fn commit<S: Store>(alloc: Global, store: &mut S, list: &List<Put>) -> Result<(), CommitFault>
-    ensures whole { OnOk result (IfSome (S.tree store.old) (λ t. IsSomeAnd (S.tree store.new) (AreWritten list.now t))) }
-    ensures contents { OnOk result (IfSome (S.tree store.old) (λ t. IsSomeAnd (S.tree store.new) (HasContents list.now t))) }
-    ensures part { IfErr result (λ e. IfSome (S.tree store.old) (λ t. IsSomeAnd (S.tree store.new) (AreWrittenTo (place_of e) list.now t))) }
+/// Does acts in order, and stops at the first that the store doesn't do. (MSBuild targets; Delete task.)
+pub fn commit<S: Store>(alloc: Global, store: &mut S, list: &List<Act>) -> Result<(), CommitFault>
+    ensures whole { OnOk result (IfSome (S.tree store.old) (λ t.
+        IsSomeAnd (S.tree store.new) (AreDone list.now t))) }
+    ensures contents { OnOk result (IfSome (S.tree store.old) (λ t.
+        IsSomeAnd (S.tree store.new) (HasContents list.now t))) }
+    ensures part { IfErr result (λ e. IfSome (S.tree store.old) (λ t.
+        IsSomeAnd (S.tree store.new) (AreDoneTo (place_of e) list.now t))) }
     ensures place { IfErr result (λ e. place_of e < length list.now) }
     ensures later { S.fault_count store.old ≤ S.fault_count store.new }
     ensures cause { IfErr result (IsCommitCaused (S.fault_count store.old) (S.fault_count store.new)) }
 {
-    for (place, put) in list.as_slice().iter().enumerate() {
-        match store.write(alloc, put.path.as_str(), put.bytes.as_bytes()) {
+    for (place, act) in list.as_slice().iter().enumerate() {
+        match do_act(alloc, store, act) {
             Ok(()) => {}
             Err(StoreError::Failed) => return Err(CommitFault::Writing(place as u64)),
             Err(StoreError::Memory) => return Err(CommitFault::Memory(place as u64)),
         }
     }
     Ok(())
+}
+
+fn do_act<S: Store>(alloc: Global, store: &mut S, act: &Act) -> Result<(), StoreError>
+    ensures done { OnOk result (IfSome (S.tree store.old) (λ t.
+        IsSomeAnd (S.tree store.new) (IsDone act.now t))) }
+    ensures stopped { OnErr result (IfSome (S.tree store.old) (λ t.
+        IsSomeAnd (S.tree store.new) (MayBeDone act.now t))) }
+    ensures cause { HasCause Failed (S.fault_count store.old) (S.fault_count store.new) result }
+{
+    match act {
+        Act::Write(put) => store.write(alloc, put.path.as_str(), put.bytes.get().as_bytes()),
+        Act::Remove(path) => store.remove(alloc, path.as_str()),
+    }
 }

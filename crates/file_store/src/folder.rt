@@ -5,6 +5,7 @@ ghost use Rattle.file_store.specs.Failed.{counted};
 
 use crate::limits::check_limits;
 use crate::listing::{Found, Held, list_folder, read_found, take_or_read};
+use crate::removing::remove_file;
 use crate::writing::write_file;
 use crate::{Entry, Store, StoreError};
 use msb_values::{Copied, List, NoMemory, Text, Text8};
@@ -120,6 +121,14 @@ impl<'a, R: Files> Store for DirStore<'a, R> {
     fn write(&mut self, alloc: Global, path: &str, bytes: &[u8]) -> Result<(), StoreError> {
         self.held.remove(path);
         match write_file(&(self.rt, alloc), self.folder.as_str(), path, bytes) {
+            Ok(()) => Ok(()),
+            Err(error) => Err(self.fault(error)),
+        }
+    }
+
+    fn remove(&mut self, alloc: Global, path: &str) -> Result<(), StoreError> {
+        self.held.remove(path);
+        match remove_file(&(self.rt, alloc), self.folder.as_str(), path) {
             Ok(()) => Ok(()),
             Err(error) => Err(self.fault(error)),
         }

@@ -13,6 +13,7 @@ mod memory;
 mod memory_sink;
 mod output;
 mod presence;
+mod removing;
 mod sink;
 mod store;
 mod tree;

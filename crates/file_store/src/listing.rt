@@ -86,8 +86,8 @@ fn take_name(
     Ok(())
 }
 
-// A name has vanished, or a folder on the way to it.
-fn is_gone(error: &io::Error) -> bool {
+/// No file has the name, or what stands on the way to it is no folder.
+pub(crate) fn is_gone(error: &io::Error) -> bool {
     matches!(error.kind(), ErrorKind::NotFound | ErrorKind::NotADirectory)
 }
 

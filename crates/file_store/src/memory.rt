@@ -4,7 +4,7 @@ ghost use Rattle.std.specs.Option.{IfNone};
 ghost use Rattle.msb_laws.specs.Faults.{HasCause};
 ghost use Rattle.file_store.specs.Files.{bytes_at};
 ghost use Rattle.file_store.specs.Entries.{entries_of, are_listed_in_order};
-ghost use Rattle.file_store.specs.Writes.{IsWritten};
+ghost use Rattle.file_store.specs.Writes.{IsWritten, IsRemoved};
 ghost use Rattle.file_store.specs.Failed.{has_failed, CountsListing, CountsRead, CountsNeither};
 ghost use Rattle.file_store.specs.declared.store.StoreError.TheVariants.{Failed};
 
@@ -14,7 +14,7 @@ use std::alloc::Global;
 
 /// A store in memory, which tells its files.
 ///
-/// Its calls of `list`, `read` and `write` are numbered from 0, and some numbers may be chosen to fail.
+/// Its calls of `list`, `read`, `write` and `remove` are numbered from 0, and some numbers may be chosen to fail.
 pub struct MemStore {
     tree: Tree,
     fail: Vec<u64>,
@@ -149,6 +149,22 @@ impl Store for MemStore {
                 Err(StoreError::Failed)
             }
         }
+    }
+
+    /// It fails exactly at the chosen numbers. The files then are as they were.
+    fn remove(&mut self, alloc: Global, path: &str) -> Result<(), StoreError>
+        ensures removed { OnOk result (IsRemoved path.now (files_in self.old) (files_in self.new)) }
+        ensures stopped { OnErr result (files_in self.new ≡ files_in self.old) }
+        ensures cause { HasCause Failed self.old.faults self.new.faults result }
+        ensures kind { CountsNeither (failures_of self.old) (failures_of self.new) }
+        ensures failed { (result ≡ Err Failed) ↔ IsToFail self.old }
+        ensures counts { Counts (has_failed result) self.old self.new }
+    {
+        if self.is_failing() {
+            return Err(StoreError::Failed);
+        }
+        self.tree.remove(alloc, path);
+        Ok(())
     }
 
     fn faults(&self) -> u64 {

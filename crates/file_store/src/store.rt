@@ -3,7 +3,7 @@ ghost use Rattle.msb_laws.specs.Faults.{HasCause};
 ghost use Rattle.file_store.specs.Files.{are_in_order, bytes_at};
 ghost use Rattle.file_store.specs.Entries.{entries_of, are_listed_in_order};
 ghost use Rattle.file_store.specs.Failed.{Failures, CountsListing, CountsRead, CountsNeither};
-ghost use Rattle.file_store.specs.Writes.{IsWritten, IsOldOrNew};
+ghost use Rattle.file_store.specs.Writes.{IsWritten, IsOldOrNew, IsRemoved, IsOldOrGone};
 ghost use Rattle.file_store.specs.declared.tree.File.{File};
 ghost use Rattle.file_store.specs.declared.store.StoreError.TheVariants.{Failed, Memory};
 
@@ -66,6 +66,15 @@ pub trait Store {
     fn write(&mut self, alloc: Global, path: &str, bytes: &[u8]) -> Result<(), StoreError>
         ensures written { OnOk result (IfSome (tree self.old) (λ t. IsSomeAnd (tree self.new) (IsWritten path.now bytes.now t))) }
         ensures stopped { OnErr result (IfSome (tree self.old) (λ t. IsSomeAnd (tree self.new) (IsOldOrNew path.now bytes.now t))) }
+        ensures cause { HasCause Failed (fault_count self.old) (fault_count self.new) result }
+        ensures kind { CountsNeither (failures self.old) (failures self.new) };
+
+    /// Takes the file at a path away. Where none is there, all stays as it is. (MSBuild Delete task.)
+    fn remove(&mut self, alloc: Global, path: &str) -> Result<(), StoreError>
+        ensures removed { OnOk result (IfSome (tree self.old) (λ t.
+            IsSomeAnd (tree self.new) (IsRemoved path.now t))) }
+        ensures stopped { OnErr result (IfSome (tree self.old) (λ t.
+            IsSomeAnd (tree self.new) (IsOldOrGone path.now t))) }
         ensures cause { HasCause Failed (fault_count self.old) (fault_count self.new) result }
         ensures kind { CountsNeither (failures self.old) (failures self.new) };
 

@@ -1,6 +1,6 @@
 ghost use Rattle.std.specs.Prelude.{◌≡◌, ◌↔◌, ◌+◌, option_copied, IsSome, IfSome, IfOk, IfErr, OnOk, OnErr, true};
 ghost use Rattle.file_store.specs.Files.{are_in_order, file_at};
-ghost use Rattle.file_store.specs.Writes.{put_in, IsPlace};
+ghost use Rattle.file_store.specs.Writes.{put_in, taken_out, IsPlace};
 
 use msb_values::{Copied, List, NoMemory, Text, Text8};
 use std::alloc::Global;
@@ -81,6 +81,20 @@ impl Tree {
         };
         done
     }
+
+    // Takes the file at a path away, if one is there.
+    pub(crate) fn remove(&mut self, alloc: Global, path: &str)
+        ensures { self.new.files ≡ taken_out path.now self.old.files }
+    {
+        let none = Tree {
+            files: List::new(alloc),
+        };
+        let mut files = mem::replace(self, none).files.into_vec();
+        take_from_place(&mut files, path);
+        *self = Tree {
+            files: List::from(files),
+        };
+    }
 }
 
 impl Copied for Tree {
@@ -101,6 +115,15 @@ fn put_at_place(files: &mut Vec<File>, file: File) -> Result<(), NoMemory>
         Err(at) => files.insert(at, file)?,
     }
     Ok(())
+}
+
+fn take_from_place(files: &mut Vec<File>, path: &str)
+    requires { are_in_order files.old.items ≡ true }
+    ensures { files.new.items ≡ taken_out path.now files.old.items }
+{
+    if let Ok(at) = place_of(files, path) {
+        files.remove(at);
+    }
 }
 
 // The place of the file at a path, or the place where one would stand.
