@@ -2,9 +2,9 @@
 use Rattle.std.proofs.Common.{List, [], ◌∷◌, Bool, true, false, Option, Some, None, IsSome, refl}
 use Rattle.msb_laws.specs.Asking.{and_then}
 use Rattle.result_cache.specs.declared.run.RunId.{RunId}
-use Rattle.result_cache.specs.Journal.{Journal, wrote, ended, end_of, has, add}
+use Rattle.result_cache.specs.Journal.{Journal, acted, ended, end_of, has, add}
 use Rattle.result_cache.specs.Lists.{this_or}
-use Rattle.result_cache.specs.Replay.{Effect, puts_file, replays_run, effects_of, replays, replay_by, replay}
+use Rattle.result_cache.specs.Replay.{Effect, puts_act, replays_run, effects_of, replays, replay_by, replay}
 use Rattle.result_cache.specs.Same.{same_run}
 use Rattle.result_cache.specs.Table.{FinishedRun, Records, found}
 use Rattle.msb_files.specs.Ordered.{AreFinished, IsOrdered}
@@ -15,7 +15,7 @@ and_then_some (Some journal) f h all = all journal
 
 replays_some : (older : Records) (effects : List Effect) (journal : Journal) → AreFinished effects older → ((run : RunId) (j : Journal) → IsSome (found older run) → IsSome (replay older run j)) → IsSome (replays (replay older) effects journal)
 replays_some older [] journal there each = refl
-replays_some older (puts_file run place put ∷ effects) journal there each = replays_some older effects (add journal (wrote run place put)) there each
+replays_some older (puts_act run place act ∷ effects) journal there each = replays_some older effects (add journal (acted run place act)) there each
 replays_some older (replays_run run ∷ effects) journal there each = and_then_some (replay older run journal) (replays (replay older) effects) (each run journal there.0) (λ j. replays_some older effects j there.1 each)
 
 by_some : (ended_there newest : Bool) (f : FinishedRun) (older : Records) (run : RunId) (journal : Journal) → AreFinished (effects_of f.run f.made) older → IsSome (this_or newest (found older run) f.made) →

@@ -3,8 +3,8 @@ use Rattle.std.proofs.Common.{◌≡◌, List, [], ◌∷◌, ◌++◌, Bool, tr
 use Rattle.std.specs.List.{filter}
 use Rattle.msb_laws.specs.Asking.{and_then}
 use Rattle.result_cache.specs.declared.run.RunId.{RunId}
-use Rattle.result_cache.specs.Journal.{Journal, Entry, wrote, ended, end_of, Mark, mark, same_mark, has, add, add_unless, merge}
-use Rattle.result_cache.specs.Replay.{Effect, puts_file, replays_run, effects_of, replays, replay_by, replay, unless_there}
+use Rattle.result_cache.specs.Journal.{Journal, Entry, acted, ended, end_of, Mark, mark, same_mark, has, add, add_unless, merge}
+use Rattle.result_cache.specs.Replay.{Effect, puts_act, replays_run, effects_of, replays, replay_by, replay, unless_there}
 use Rattle.result_cache.specs.Same.{same_run}
 use Rattle.result_cache.specs.Table.{FinishedRun, Records}
 use Rattle.result_cache.proofs.RunTests.{or_neither, and_then-some}
@@ -23,7 +23,7 @@ module _ (P : Journal → Type 0) (kept : (journal : Journal) (e : Entry) → P 
 
   replays_keep : (one : RunId → Journal → Option Journal) → ((run : RunId) → Keeps (one run)) → (effects : List Effect) → Keeps (replays one effects)
   replays_keep one keeps [] journal after p is = let e : journal ≡ after = cc in subst P e p
-  replays_keep one keeps (puts_file run place put ∷ effects) journal after p is = replays_keep one keeps effects (add journal (wrote run place put)) after (kept journal (wrote run place put) p) is
+  replays_keep one keeps (puts_act run place act ∷ effects) journal after p is = replays_keep one keeps effects (add journal (acted run place act)) after (kept journal (acted run place act) p) is
   replays_keep one keeps (replays_run run ∷ effects) journal after p is =
       let made = and_then-some (one run journal) (replays one effects) after is in
       replays_keep one keeps effects made.0 after (keeps run journal made.0 p made.1) made.2

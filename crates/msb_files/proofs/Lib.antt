@@ -6,8 +6,10 @@ pub mod Indexed
 pub mod IndexSteps
 pub mod LayerSteps
 pub mod MergeSteps
+pub mod PartSteps
 pub mod PathLaws
 pub mod Paths
 pub mod ReplaySteps
 pub mod Replays
 pub mod Searches
+pub mod ViewSteps

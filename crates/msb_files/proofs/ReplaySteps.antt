@@ -2,13 +2,13 @@
 use Rattle.std.proofs.Common.{◌≡◌, ℕ, suc, ◌+◌, ◌<◌, List, [], ◌∷◌, ◌++◌, length, map, drop, get_or, Option, Some, None, IsSome, refl, ap, ◌∙◌, sym, subst, arith}
 use Rattle.std.proofs.lemmas.List.{drop_more}
 use Rattle.msb_laws.specs.Asking.{and_then}
-use Rattle.msb_values.specs.declared.put.Put.{Put}
+use Rattle.msb_values.specs.declared.act.Act.{Act}
 use Rattle.result_cache.specs.declared.run.RunId.{RunId}
 use Rattle.result_cache.specs.declared.request.RequestKey.{RequestKey}
 use Rattle.result_cache.specs.declared.record.Segment.{Segment}
-use Rattle.result_cache.specs.declared.record.Segment.TheVariants.{Write, Call}
-use Rattle.result_cache.specs.Journal.{Journal, wrote, add}
-use Rattle.result_cache.specs.Replay.{Effect, puts_file, replays_run, effects_from, replays}
+use Rattle.result_cache.specs.declared.record.Segment.TheVariants.{File, Call}
+use Rattle.result_cache.specs.Journal.{Journal, acted, add}
+use Rattle.result_cache.specs.Replay.{Effect, puts_act, replays_run, effects_from, replays}
 
 module _ (one : RunId → Journal → Option Journal) where
   from_run : (o : Option Journal) (first rest : List Effect) → ((j : Journal) → replays one (first ++ rest) j ≡ and_then (replays one first j) (replays one rest)) →
@@ -18,7 +18,7 @@ module _ (one : RunId → Journal → Option Journal) where
 
   replays-append : (first rest : List Effect) (journal : Journal) → replays one (first ++ rest) journal ≡ and_then (replays one first journal) (replays one rest)
   replays-append [] rest journal = refl
-  replays-append (puts_file run place put ∷ first) rest journal = replays-append first rest (add journal (wrote run place put))
+  replays-append (puts_act run place act ∷ first) rest journal = replays-append first rest (add journal (acted run place act))
   replays-append (replays_run run ∷ first) rest journal = from_run (one run journal) first rest (replays-append first rest)
 
   -- ---- a segment on
@@ -33,8 +33,8 @@ module _ (one : RunId → Journal → Option Journal) where
     one_more : suc n ≡ n + 1
     one_more = omega arith
 
-    pub write_step : (put : Put) (journal : Journal) → segment ≡ Write put → left run (n + 1) segments (add journal (wrote run n put)) ≡ left run n segments journal
-    write_step put journal is = sym (ap (λ s. replays one (effects_from run n s) journal) (next ∙ ap (λ s. s ∷ drop (n + 1) segments) is) ∙ ap (λ k. replays one (effects_from run k (drop (n + 1) segments)) (add journal (wrote run n put))) one_more)
+    pub act_step : (act : Act) (journal : Journal) → segment ≡ File act → left run (n + 1) segments (add journal (acted run n act)) ≡ left run n segments journal
+    act_step act journal is = sym (ap (λ s. replays one (effects_from run n s) journal) (next ∙ ap (λ s. s ∷ drop (n + 1) segments) is) ∙ ap (λ k. replays one (effects_from run k (drop (n + 1) segments)) (add journal (acted run n act))) one_more)
 
     call_first : (key : RequestKey) (runs : List RunId) (journal : Journal) → segment ≡ Call key runs → left run n segments journal ≡ and_then (replays one (map replays_run runs) journal) (left run (n + 1) segments)
     call_first key runs journal is =

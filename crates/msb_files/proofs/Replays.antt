@@ -3,23 +3,23 @@ use Rattle.std.proofs.Common.{◌≡◌, ℕ, ◌<◌, List, [], ◌∷◌, leng
 use Rattle.std.proofs.lemmas.Option.{slice_get-get_or}
 use Rattle.msb_laws.specs.Asking.{and_then}
 use Rattle.msb_values.specs.declared.errors.NoMemory.{NoMemory}
-use Rattle.msb_values.specs.declared.put.Put.{Put}
+use Rattle.msb_values.specs.declared.act.Act.{Act}
 use Rattle.result_cache.specs.declared.run.RunId.{RunId}
 use Rattle.result_cache.specs.declared.record.Record.{Record}
 use Rattle.result_cache.specs.Found.{FoundIn}
-use Rattle.result_cache.specs.Journal.{Journal, Entry, wrote, ended, end_of, has, add}
+use Rattle.result_cache.specs.Journal.{Journal, Entry, acted, ended, end_of, has, add}
 use Rattle.result_cache.specs.Lists.{this_or}
 use Rattle.result_cache.specs.Replay.{effects_of, replays, replay_by, replay, unless_there}
 use Rattle.result_cache.specs.Same.{same_run, is_in, AreDistinct}
 use Rattle.result_cache.specs.Table.{FinishedRun, Records, TableRuns, found}
 use Rattle.result_cache.specs.declared.record.Segment.{Segment}
-use Rattle.result_cache.specs.declared.record.Segment.TheVariants.{Write}
+use Rattle.result_cache.specs.declared.record.Segment.TheVariants.{File}
 use Rattle.result_cache.specs.declared.table.Found.{Found}
 use Rattle.result_cache.specs.declared.table.Found.TheVariants.{Absent, Begun}
 use Rattle.result_cache.proofs.RunTests.{same_run-true, or_right}
 use Rattle.file_store.proofs.Order.{not_true}
 use Rattle.msb_files.specs.Before.{before, these_or}
-use Rattle.msb_files.specs.Recorded.{put_of, written_at}
+use Rattle.msb_files.specs.Recorded.{segment_act, act_at}
 
 abbrev pub runs_of : Records → List RunId
 runs_of = map (λ (f : FinishedRun). f.run)
@@ -160,8 +160,8 @@ if_ok (Ok done) h f = f h
 if_ok (Err fault) h f = h
 
 -- the file of a segment that is a write
-pub recorded_is : (made : Record) (run : RunId) (n : ℕ) (segment : Segment) (put : Put) (e : Entry) → n < length made.segments → segment ≡ get_or made.segments n segment → segment ≡ Write put →
-    IfSome (written_at made n) (λ p. e ≡ wrote run n p) → e ≡ wrote run n put
-recorded_is made run n segment put e within at is gives =
-    let there : written_at made n ≡ Some put = ap put_of (slice_get-get_or made.segments n segment within ∙ ap Some (sym at ∙ is)) in
-    subst (λ o. IfSome o (λ p. e ≡ wrote run n p)) there gives
+pub recorded_is : (made : Record) (run : RunId) (n : ℕ) (segment : Segment) (act : Act) (e : Entry) → n < length made.segments → segment ≡ get_or made.segments n segment → segment ≡ File act →
+    IfSome (act_at made n) (λ p. e ≡ acted run n p) → e ≡ acted run n act
+recorded_is made run n segment act e within at is gives =
+    let there : act_at made n ≡ Some act = ap segment_act (slice_get-get_or made.segments n segment within ∙ ap Some (sym at ∙ is)) in
+    subst (λ o. IfSome o (λ p. e ≡ acted run n p)) there gives

@@ -1,5 +1,5 @@
--- What a search by halves finds among files by path.
-use Rattle.std.proofs.Common.{◌≡◌, ℕ, ◌<◌, ◌≤◌, List, [], ◌∷◌, length, get_or, Bool, true, false, refl, sym, ap, ◌∙◌, subst, arith, inl, inr}
+-- What a walk along paths in byte order finds below a folder.
+use Rattle.std.proofs.Common.{◌≡◌, ℕ, ◌+◌, ◌<◌, ◌≤◌, List, [], ◌∷◌, length, get_or, Bool, true, false, ◌&&◌, refl, sym, ap, ◌∙◌, subst, arith, inl, inr}
 use Rattle.std.specs.List.{list_any}
 use Rattle.std.specs.List.Sorted.{IsSorted, IsPartitionedBy, IsPartitionPoint}
 use Rattle.std.specs.declared.cmp.Ordering.{Ordering}
@@ -7,42 +7,72 @@ use Rattle.std.specs.declared.cmp.Ordering.TheVariants.{Less, Equal, Greater}
 use Rattle.std.specs.Ordering.{is_lt, ordering_reverse, ordering_then, nat_cmp, MatchOrdering}
 use Rattle.std.specs.Cmp.{IsStrictWeakOrder}
 use Rattle.std.specs.Cmp.Lexicographic.{slice_cmp}
-use Rattle.std.proofs.lemmas.Bool.{eqb-true, eq-eqb}
+use Rattle.std.proofs.lemmas.Bool.{eqb-true, eq-eqb, cases_lt}
 use Rattle.std.proofs.lemmas.Cmp.{ranked, nat_cmp_total, nat_list_cmp_total, tied_itself}
 use Rattle.std.proofs.lemmas.List.{get_or_default}
 use Rattle.std.proofs.lemmas.List.Sorted.{ranks_by, sorted_far}
 use Rattle.std.proofs.lemmas.List.Folds.{list_any_none, list_any_at}
+use Rattle.file_store.specs.Files.{are_in_order}
 use Rattle.file_store.specs.Paths.{is_before}
+use Rattle.file_store.specs.declared.tree.File.{File}
 use Rattle.file_store.proofs.Below.{begins}
 use Rattle.file_store.proofs.Lookups.{below_or_not}
-use Rattle.file_store.proofs.Order.{and_true, both_true, not_true}
-use Rattle.msb_values.specs.declared.put.Put.{Put}
+use Rattle.file_store.proofs.Order.{and_true, both_true, not_true, before_later}
+use Rattle.msb_values.specs.Acts.{act_path}
+use Rattle.msb_values.specs.declared.act.Act.{Act}
 use Rattle.msb_files.specs.Indices.{path_cmp}
 
--- ---- files in byte order of their paths
+-- ---- what has paths in byte order
+
+-- no later path stands before an earlier one
+abbrev pub Rises : {X : Type 0} → (X → List ℕ) → List X → Type 0
+Rises {X} key xs = (i j : ℕ) (d : X) → i ≤ j → j < length xs →
+    is_before (key (get_or xs j d)) (key (get_or xs i d)) ≡ false
+
+pub acts_rise : (acts : List Act) → IsSorted path_cmp acts → Rises act_path acts
+acts_rise acts up =
+    sorted_far (λ p q. is_before (act_path p) (act_path q)) (ranks_by nat_list_cmp_total act_path) acts up
+
+not_both : (o : Ordering) → is_lt o ≡ true → is_lt (ordering_reverse o) ≡ false
+not_both Less h = refl
+not_both Equal h = cc
+not_both Greater h = cc
+
+not_back : (p q : List ℕ) → is_before p q ≡ true → is_before q p ≡ false
+not_back p q h = ap is_lt (nat_list_cmp_total.antisymm q p) ∙ not_both (slice_cmp nat_cmp p q) h
+
+not_itself : (p : List ℕ) → is_before p p ≡ false
+not_itself p = ap is_lt (tied_itself nat_list_cmp_total p)
+
+pub files_rise : (files : List File) → are_in_order files ≡ true → Rises (λ f. f.path) files
+files_rise files up i j d h w = elim (cases_lt i j) [
+  | inl b ↦ not_back (get_or files i d).path (get_or files j d).path (before_later files i j d up b w)
+  | inr b ↦ (let e : i ≡ j = omega arith in
+      subst (λ k. is_before (get_or files j d).path (get_or files k d).path ≡ false) (sym e)
+      (not_itself (get_or files j d).path))
+]
 
 texts_rank : IsStrictWeakOrder is_before
 texts_rank = ranks_by nat_list_cmp_total (λ p. p)
 
-abbrev pub is_ahead : List ℕ → Put → Bool
-is_ahead path put = is_before put.path path
+abbrev pub ahead : {X : Type 0} → (X → List ℕ) → List ℕ → X → Bool
+ahead key front x = is_before (key x) front
 
--- no file is before those that stand ahead of it
-sorted_paths : (puts : List Put) → IsSorted path_cmp puts → (i j : ℕ) (d : Put) → i ≤ j → j < length puts → is_before (get_or puts j d).path (get_or puts i d).path ≡ false
-sorted_paths puts up = sorted_far (λ p q. is_before p.path q.path) (ranks_by nat_list_cmp_total (λ (p : Put). p.path)) puts up
-
-pub parted : (path : List ℕ) (puts : List Put) → IsSorted path_cmp puts → IsPartitionedBy (is_ahead path) puts
-parted path puts up i j d h w is = elim (is_before (get_or puts i d).path path) as (λ b. is_before (get_or puts i d).path path ≡ b → b ≡ true) [
-  | true ↦ λ e. refl
-  | false ↦ λ e. let f : is_before (get_or puts j d).path path ≡ false = texts_rank.chain _ (get_or puts i d).path path (sorted_paths puts up i j d h w) e in cc
-] refl
+pub parted : {X : Type 0} (key : X → List ℕ) (front : List ℕ) (xs : List X) → Rises key xs →
+    IsPartitionedBy (ahead key front) xs
+parted key front xs up i j d h w is =
+    elim (is_before (key (get_or xs i d)) front) as (λ b. is_before (key (get_or xs i d)) front ≡ b → b ≡ true) [
+      | true ↦ λ e. refl
+      | false ↦ λ e. let f : is_before (key (get_or xs j d)) front ≡ false =
+          texts_rank.chain _ (key (get_or xs i d)) front (up i j d h w) e in cc
+    ] refl
 
 -- the place that a search by halves has met
-pub record IsMet (path : List ℕ) (puts : List Put) (i : ℕ) : Type 0 where
-  pub up : IsSorted path_cmp puts
-  pub split : IsPartitionPoint (λ put. is_ahead path put ≡ true) (λ put. is_ahead path put ≡ false) puts i
+pub record IsMet {X : Type 0} (key : X → List ℕ) (front : List ℕ) (xs : List X) (first : ℕ) : Type 0 where
+  pub up : Rises key xs
+  pub split : IsPartitionPoint (λ x. ahead key front x ≡ true) (λ x. ahead key front x ≡ false) xs first
 
--- ---- files below a folder
+-- ---- paths that begin with a front
 
 -- neither is before the other, so that both begin alike
 both_tie : (o m n : Ordering) → is_lt (ordering_then o m) ≡ false → is_lt (ordering_then (ordering_reverse o) n) ≡ false → (o ≡ Equal) × (is_lt m ≡ false) × (is_lt n ≡ false)
@@ -76,15 +106,38 @@ ahead_not (a ∷ front) (x ∷ path) h = not_true (begins (a ∷ front) (x ∷ p
     let rest : is_before path front ≡ true = ap (λ o. is_lt (ordering_then o (slice_cmp nat_cmp path front))) (sym tie) ∙ h in
     let no = ahead_not front path rest in cc)
 
-none_begins : (front : List ℕ) (puts : List Put) (i : ℕ) → IsMet front puts i → ((d : Put) → i < length puts → begins front (get_or puts i d).path ≡ false) → list_any (λ put. begins front put.path) puts ≡ false
-none_begins front puts i met not = list_any_none (λ put. begins front put.path) puts (λ k d w. elim (below_or_not k i) [
-  | inl b ↦ ahead_not front _ (met.split.0 k d (omega arith) b)
-  | inr b ↦ not_true _ (λ s. let t = between front (get_or puts i d).path _ (met.split.1 i d (omega arith) (omega arith)) (sorted_paths puts met.up i k d b w) s in let n = not d (omega arith) in cc)
-])
+-- ---- the walk from the place on
 
-pub below_tells : (front : List ℕ) (puts : List Put) (i : ℕ) (put : Put) (r : Bool) → IsMet front puts i → i < length puts → put ≡ get_or puts i put → r ≡ begins front put.path → r ≡ list_any (λ p. begins front p.path) puts
-below_tells front puts i put true met w is r = sym (list_any_at (λ p. begins front p.path) puts i put w (ap (λ p. begins front p.path) (sym is) ∙ sym r))
-below_tells front puts i put false met w is r = sym (none_begins front puts i met (λ d h. ap (λ p. begins front p.path) (get_or_default puts i d put h ∙ sym is) ∙ sym r))
+-- none of those before a place is one
+abbrev pub NoneTo : {X : Type 0} → (X → Bool) → List X → ℕ → Type 0
+NoneTo {X} test xs n = (k : ℕ) (d : X) → k < n → k < length xs → test (get_or xs k d) ≡ false
 
-pub none_below : (front : List ℕ) (puts : List Put) (i : ℕ) (r : Bool) → IsMet front puts i → length puts ≤ i → r ≡ false → r ≡ list_any (λ p. begins front p.path) puts
-none_below front puts i r met past left = left ∙ sym (none_begins front puts i met (λ d w. absurd (omega arith)))
+module _ {X : Type 0} (test : X → Bool) (xs : List X) (i : ℕ) where
+  pub none_more : (x : X) → i < length xs → x ≡ get_or xs i x → test x ≡ false → NoneTo test xs i → NoneTo test xs (i + 1)
+  none_more x within is fails none k d b w = elim (cases_lt k i) [
+    | inl before ↦ none k d before w
+    | inr later ↦ (let e : k ≡ i = omega arith in
+        subst (λ n. test (get_or xs n d) ≡ false) (sym e) (ap test (get_or_default xs i d x within ∙ sym is) ∙ fails))
+  ]
+
+  pub one_there : (x : X) → i < length xs → x ≡ get_or xs i x → test x ≡ true → true ≡ list_any test xs
+  one_there x within is holds = sym (list_any_at test xs i x within (ap test (sym is) ∙ holds))
+
+  pub none_there : length xs ≤ i → NoneTo test xs i → false ≡ list_any test xs
+  none_there past none = sym (list_any_none test xs (λ k d w. none k d (omega arith) w))
+
+module _ {X : Type 0} (key : X → List ℕ) (front : List ℕ) (live : List ℕ → Bool) (xs : List X) (first : ℕ) (met : IsMet key front xs first) where
+  abbrev is_one : X → Bool
+  is_one x = begins front (key x) && live (key x)
+
+  pub none_ahead : NoneTo is_one xs first
+  none_ahead k d b w = ap (λ t. t && live (key (get_or xs k d))) (ahead_not front _ (met.split.0 k d (omega arith) b))
+
+  -- behind one that doesn't begin with the front none does
+  pub none_behind : (i : ℕ) (x : X) → first ≤ i → i < length xs → x ≡ get_or xs i x → begins front (key x) ≡ false → NoneTo is_one xs i → false ≡ list_any is_one xs
+  none_behind i x from within is not none = sym (list_any_none is_one xs (λ k d w. elim (below_or_not k i) [
+    | inl b ↦ none k d b w
+    | inr b ↦ ap (λ t. t && live (key (get_or xs k d))) (not_true (begins front (key (get_or xs k d))) (λ s.
+        let t = between front (key (get_or xs i d)) _ (met.split.1 i d from within) (met.up i k d b w) s in
+        let n : begins front (key (get_or xs i d)) ≡ false = ap (λ y. begins front (key y)) (get_or_default xs i d x within ∙ sym is) ∙ not in cc))
+  ]))

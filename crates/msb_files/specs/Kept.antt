@@ -1,17 +1,18 @@
--- How entries and their files are kept.
+-- How acts are kept.
 use Rattle.std.specs.Prelude.{[], IsSome, unwrap_or}
 use Rattle.std.specs.Arc.{arc_value}
-use Rattle.msb_values.specs.declared.put.Put.{Put}
-use Rattle.msb_files.specs.Recorded.{written_at}
-use Rattle.msb_files.specs.declared.shared.KeptPut.{KeptPut}
-use Rattle.msb_files.specs.declared.shared.KeptPut.TheVariants.{Own, Recorded}
+use Rattle.msb_values.specs.declared.act.Act.{Act}
+use Rattle.msb_values.specs.declared.act.Act.TheVariants.{Remove}
+use Rattle.msb_files.specs.Recorded.{act_at}
+use Rattle.msb_files.specs.declared.shared.KeptAct.{KeptAct}
+use Rattle.msb_files.specs.declared.shared.KeptAct.TheVariants.{Own, Recorded}
 
--- the file, which a record that is kept for it has
-abbrev pub put_kept : KeptPut → Put
-put_kept (Own put) = arc_value put
-put_kept (Recorded made number) = unwrap_or (written_at made number) (record { path = []; bytes = [] })
+-- the act, which a record that is kept for it has
+abbrev pub act_kept : KeptAct → Act
+act_kept (Own act) = arc_value act
+act_kept (Recorded made number) = unwrap_or (act_at made number) (Remove [])
 
--- a record that is kept for a file has it
-abbrev pub IsKept : KeptPut → Type 0
-IsKept (Own put) = Unit {0}
-IsKept (Recorded made number) = IsSome (written_at made number)
+-- a record that is kept for an act has it
+abbrev pub IsKept : KeptAct → Type 0
+IsKept (Own act) = Unit {0}
+IsKept (Recorded made number) = IsSome (act_at made number)

@@ -1,4 +1,5 @@
 pub mod Before
+pub mod Below
 pub mod Entries
 pub mod FinalTree
 pub mod Growth

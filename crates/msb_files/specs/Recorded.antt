@@ -1,16 +1,17 @@
--- The files that the segments of a record write.
+-- What the segments of a record do to files.
 use Rattle.std.specs.Prelude.{ℕ, Option, Some, None}
 use Rattle.std.specs.List.{slice_get}
-use Rattle.msb_values.specs.declared.put.Put.{Put}
+use Rattle.msb_values.specs.declared.act.Act.{Act}
 use Rattle.result_cache.specs.declared.record.Record.{Record}
 use Rattle.result_cache.specs.declared.record.Segment.{Segment}
-use Rattle.result_cache.specs.declared.record.Segment.TheVariants.{Write, Call}
+use Rattle.result_cache.specs.declared.record.Segment.TheVariants.{File, Call}
 
-abbrev pub put_of : Option Segment → Option Put
-put_of None = None
-put_of (Some (Write put)) = Some put
-put_of (Some (Call key runs)) = None
+-- the act of a segment, if it is there and no call
+abbrev pub segment_act : Option Segment → Option Act
+segment_act None = None
+segment_act (Some (File act)) = Some act
+segment_act (Some (Call key runs)) = None
 
--- the file that the segment of this number writes, if it is there and no call
-abbrev pub written_at : Record → ℕ → Option Put
-written_at made number = put_of (slice_get made.segments number)
+-- the act of the segment of this number
+abbrev pub act_at : Record → ℕ → Option Act
+act_at made number = segment_act (slice_get made.segments number)

@@ -4,50 +4,52 @@ ghost use Rattle.std.specs.Cmp.Lexicographic.{slice_cmp};
 ghost use Rattle.std.specs.List.{list_any};
 ghost use Rattle.std.specs.Ordering.{nat_cmp};
 ghost use Rattle.std.specs.Str.{bytes_eq};
-ghost use Rattle.msb_files.specs.FinalTree.{commit_list, last_puts};
-ghost use Rattle.msb_files.specs.Views.{puts_of};
+ghost use Rattle.msb_values.specs.Acts.{act_path};
+ghost use Rattle.msb_files.specs.FinalTree.{commit_list, last_acts};
+ghost use Rattle.msb_files.specs.Views.{acts_of};
 
 use crate::Journal;
-use msb_values::{Copied, List, NoMemory, Put, Text};
+use msb_values::{Act, Copied, List, NoMemory, Text};
 use std::alloc::Global;
 use std::collections::BTreeSet;
 
 impl Journal {
-    /// The files that a build leaves: of each path the file that was written last, in the order of the journal.
-    pub fn commit_list(&self, alloc: Global) -> Result<List<Put>, NoMemory>
+    /// What a build does to files once it is over: of each path the last act on it, in the order of the journal.
+    pub fn commit_list(&self, alloc: Global) -> Result<List<Act>, NoMemory>
         ensures { IfOk result (λ list. list ≡ commit_list self.now) }
     {
-        let mut puts = last_puts(alloc, self)?;
-        puts.reverse();
-        Ok(List::from(puts))
+        let mut acts = last_acts(alloc, self)?;
+        acts.reverse();
+        Ok(List::from(acts))
     }
 }
 
 // The newest first.
-fn last_puts(alloc: Global, journal: &Journal) -> Result<Vec<Put>, NoMemory>
-    ensures { IfOk result (λ puts. puts.items ≡ last_puts (puts_of journal.now)) }
+fn last_acts(alloc: Global, journal: &Journal) -> Result<Vec<Act>, NoMemory>
+    ensures { IfOk result (λ acts. acts.items ≡ last_acts (acts_of journal.now)) }
 {
-    let mut puts = Vec::new(alloc);
-    let mut written = BTreeSet::new(alloc);
+    let mut acts = Vec::new(alloc);
+    let mut paths = BTreeSet::new(alloc);
     for at in 0..journal.count() {
-        if let Some(put) = journal.newest(at).put() {
-            push_unless_written(&mut puts, &mut written, put.get())?;
+        if let Some(act) = journal.newest(at).act() {
+            push_unless_acted(alloc, &mut acts, &mut paths, act.get())?;
         }
     }
-    Ok(puts)
+    Ok(acts)
 }
 
-fn push_unless_written(
-    puts: &mut Vec<Put>,
-    written: &mut BTreeSet<Text>,
-    put: &Put,
+fn push_unless_acted(
+    alloc: Global,
+    acts: &mut Vec<Act>,
+    paths: &mut BTreeSet<Text>,
+    act: &Act,
 ) -> Result<(), NoMemory>
-    ensures puts { OnOk result (puts.new.items ≡
-        (if list_any (bytes_eq put.now.path) written.old.keys then puts.old.items else puts.old.items ++ put.now ∷ [])) }
-    ensures written { OnOk result (written.new.keys ≡ insert_key (slice_cmp nat_cmp) written.old.keys put.now.path) }
+    ensures acts { OnOk result (acts.new.items ≡
+        (if list_any (bytes_eq (act_path act.now)) paths.old.keys then acts.old.items else acts.old.items ++ act.now ∷ [])) }
+    ensures paths { OnOk result (paths.new.keys ≡ insert_key (slice_cmp nat_cmp) paths.old.keys (act_path act.now)) }
 {
-    if written.insert(put.path.copy()?)? {
-        puts.push(put.copy()?)?;
+    if paths.insert(Text::of(alloc, act.path())?)? {
+        acts.push(act.copy()?)?;
     }
     Ok(())
 }

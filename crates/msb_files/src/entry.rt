@@ -1,23 +1,33 @@
-ghost use Rattle.std.specs.Prelude.{◌≡◌, IfOk, IfSome, IsSome, option_copied};
-ghost use Rattle.result_cache.specs.Journal.{wrote, ended, mark};
-ghost use Rattle.msb_files.specs.Recorded.{written_at};
-ghost use Rattle.msb_files.specs.Seen.{entry_shown, put_in, mark_shown};
+ghost use Rattle.std.specs.Prelude.{◌≡◌, [], ◌∷◌, IfOk, IfSome, IsSome, option_copied};
+ghost use Rattle.std.specs.List.{list_any};
+ghost use Rattle.msb_values.specs.Acts.{act_path};
+ghost use Rattle.result_cache.specs.Journal.{acted, ended, mark};
+ghost use Rattle.msb_files.specs.Below.{has_file_below};
+ghost use Rattle.msb_files.specs.Indices.{last_act};
+ghost use Rattle.msb_files.specs.Marks.{run_in, number_in};
+ghost use Rattle.msb_files.specs.Recorded.{act_at};
+ghost use Rattle.msb_files.specs.Seen.{entry_shown, act_in, mark_shown};
+ghost use Rattle.msb_files.specs.Views.{acts_of};
 
-use crate::mark::Mark;
-use crate::shared::{PutRef, RunRef};
-use msb_values::{Copied, NoMemory, Put};
-use result_cache::{Record, RecordRef, RunId};
+use crate::FileView;
+use crate::below::is_below;
+use crate::mark::{KeptMark, Mark};
+use crate::shared::ActRef;
+use msb_values::{Act, Copied, NoMemory};
+use result_cache::{Record, RecordRef, RunId, RunRef};
 use std::alloc::Global;
 use std::marker::Model;
 
 /// An entry of a journal, as a report reads it: a file that a run has written, with its place among the segments of the
-/// run's record, its path and its bytes; or a run that has ended, with its record.
+/// run's record, its path and its bytes; a file that a run has removed, with its place and its path; or a run that has
+/// ended, with its record. (Delete task.)
 pub enum JView<'a> {
     Wrote(&'a RunId, u64, &'a str, &'a [u8]),
+    Removed(&'a RunId, u64, &'a str),
     Ended(&'a RunId, &'a Record),
 }
 
-/// An entry of a journal. Its copies share the run, the bytes and the record.
+/// An entry of a journal. Its copies share the run, the act and the record.
 pub(crate) struct Entry {
     kept: JEntry,
 }
@@ -30,7 +40,7 @@ impl Drop for Entry {
 }
 
 enum JEntry {
-    Wrote(RunRef, u64, PutRef),
+    Acted(RunRef, u64, ActRef),
     Ended(RunRef, RecordRef),
 }
 
@@ -38,7 +48,7 @@ enum JEntry {
 impl Drop for JEntry {
     fn drop(self) {
         match self {
-            JEntry::Wrote(_, _, _) => {}
+            JEntry::Acted(_, _, _) => {}
             JEntry::Ended(_, _) => {}
         }
     }
@@ -54,54 +64,71 @@ impl Model for Entry {
 }
 
 impl Entry {
-    pub(crate) fn wrote(
+    pub(crate) fn acted(
         alloc: Global,
-        run: &RunId,
+        run: RunRef,
         number: u64,
-        put: Put,
+        act: Act,
     ) -> Result<Entry, NoMemory>
-        ensures { IfOk result (λ e. e ≡ wrote run.now number put) }
+        ensures { IfOk result (λ e. e ≡ acted run number act) }
     {
-        let run = RunRef::new(alloc, run)?;
-        let put = PutRef::new(alloc, put)?;
+        let act = ActRef::new(alloc, act)?;
         Ok(Entry {
-            kept: JEntry::Wrote(run, number, put),
+            kept: JEntry::Acted(run, number, act),
         })
     }
 
-    /// The file that a segment of a run's record writes.
-    pub(crate) fn recorded(
-        alloc: Global,
-        run: &RunId,
-        made: &RecordRef,
-        number: usize,
-    ) -> Result<Entry, NoMemory>
-        requires { IsSome (written_at made.now number) }
-        ensures { IfOk result (λ e. IfSome (written_at made.now number) (λ put. e ≡ wrote run.now number put)) }
+    /// The act of a segment of a run's record.
+    pub(crate) fn recorded(run: &RunRef, made: &RecordRef, number: usize) -> Result<Entry, NoMemory>
+        requires { IsSome (act_at made.now number) }
+        ensures { IfOk result (λ e. IfSome (act_at made.now number) (λ act. e ≡ acted run.now number act)) }
     {
-        let run = RunRef::new(alloc, run)?;
-        let put = PutRef::recorded(made, number)?;
+        let run = run.copy()?;
+        let act = ActRef::recorded(made, number)?;
         Ok(Entry {
-            kept: JEntry::Wrote(run, number as u64, put),
+            kept: JEntry::Acted(run, number as u64, act),
         })
     }
 
-    pub(crate) fn ended(alloc: Global, run: &RunId, made: RecordRef) -> Result<Entry, NoMemory>
-        ensures { IfOk result (λ e. e ≡ ended run.now made) }
+    pub(crate) fn ended(run: RunRef, made: RecordRef) -> Entry
+        ensures { result ≡ ended run made }
     {
-        let run = RunRef::new(alloc, run)?;
-        Ok(Entry {
+        Entry {
             kept: JEntry::Ended(run, made),
-        })
+        }
     }
 
-    /// The file, if it is one that a run has written.
-    pub(crate) fn put(&self) -> Option<&PutRef>
-        ensures { option_copied result ≡ put_in self.now }
+    /// The act, if it is that of one.
+    pub(crate) fn act(&self) -> Option<&ActRef>
+        ensures { option_copied result ≡ act_in self.now }
     {
         match &self.kept {
-            JEntry::Wrote(_, _, put) => Some(put),
+            JEntry::Acted(_, _, act) => Some(act),
             JEntry::Ended(_, _) => None,
+        }
+    }
+
+    /// The act, if it is one on this path.
+    pub(crate) fn act_on(&self, path: &str) -> Option<&Act>
+        ensures { option_copied result ≡ last_act (self.now ∷ []) path.now }
+    {
+        let act = self.act()?.get();
+        if act.path() == path {
+            return Some(act);
+        }
+        None
+    }
+
+    /// Whether it is an act on a path below a folder at which the view has a file.
+    pub(crate) fn is_below(&self, view: &FileView<'_>, folder: &str) -> bool
+        ensures { result ≡ list_any (λ act. has_file_below view.now folder.now (act_path act)) (acts_of (self.now ∷ [])) }
+    {
+        match self.act() {
+            Some(act) => {
+                let path = act.get().path();
+                is_below(path, folder) && view.content(path).is_some()
+            }
+            None => false,
         }
     }
 
@@ -109,8 +136,25 @@ impl Entry {
         ensures { mark_shown result ≡ mark self.now }
     {
         match &self.kept {
-            JEntry::Wrote(run, number, _) => Mark::WriteOf(run.get(), *number),
+            JEntry::Acted(run, number, _) => Mark::ActOf(run.get(), *number),
             JEntry::Ended(run, _) => Mark::EndOf(run.get()),
+        }
+    }
+
+    /// The mark, as an index keeps it.
+    pub(crate) fn kept_mark(&self) -> Result<KeptMark, NoMemory>
+        ensures run { IfOk result (λ kept. kept.run ≡ run_in (mark self.now)) }
+        ensures number { IfOk result (λ kept. kept.number ≡ number_in (mark self.now)) }
+    {
+        match &self.kept {
+            JEntry::Acted(run, number, _) => Ok(KeptMark {
+                run: run.copy()?,
+                number: Some(*number),
+            }),
+            JEntry::Ended(run, _) => Ok(KeptMark {
+                run: run.copy()?,
+                number: None,
+            }),
         }
     }
 
@@ -118,10 +162,13 @@ impl Entry {
         ensures { entry_shown result ≡ self.now }
     {
         match &self.kept {
-            JEntry::Wrote(run, number, put) => {
-                let put = put.get();
-                JView::Wrote(run.get(), *number, put.path.as_str(), put.bytes.as_bytes())
-            }
+            JEntry::Acted(run, number, act) => match act.get() {
+                Act::Write(put) => {
+                    let bytes = put.bytes.get().as_bytes();
+                    JView::Wrote(run.get(), *number, put.path.as_str(), bytes)
+                }
+                Act::Remove(path) => JView::Removed(run.get(), *number, path.as_str()),
+            },
             JEntry::Ended(run, made) => JView::Ended(run.get(), made.get()),
         }
     }
@@ -130,7 +177,7 @@ impl Entry {
 impl Copied for Entry {
     fn copy(&self) -> Result<Entry, NoMemory> {
         let kept = match &self.kept {
-            JEntry::Wrote(run, number, put) => JEntry::Wrote(run.copy()?, *number, put.copy()?),
+            JEntry::Acted(run, number, act) => JEntry::Acted(run.copy()?, *number, act.copy()?),
             JEntry::Ended(run, made) => JEntry::Ended(run.copy()?, made.copy()?),
         };
         Ok(Entry { kept })

@@ -1,38 +1,35 @@
-//! Indices of entries by hash: of each path the file that was written last, and of each number the runs whose entries
-//! have it.
+//! Indices of entries by hash: of each path the last act on it, and of each run the marks of its entries.
 
-ghost use Rattle.std.specs.Prelude.{◌≡◌, ℕ, List, [], ◌∷◌, false, ◌||◌, Option, nat_eq, IfOk, OnOk};
-ghost use Rattle.std.specs.HashMap.{get, get_by_text};
-ghost use Rattle.std.specs.HashSet.{contains};
-ghost use Rattle.std.specs.List.{find};
-ghost use Rattle.std.specs.Option.{option_or, option_eq, option_map_or};
-ghost use Rattle.result_cache.specs.declared.run.RunId.{RunId};
+ghost use Rattle.std.specs.Prelude.{◌≡◌, ◌<◌, ◌≤◌, ℕ, List, [], ◌∷◌, false, ◌||◌, Some, nat_eq, unwrap_or, IfOk, OnOk, OnErr, if◌then◌else◌};
+ghost use Rattle.std.specs.HashMap.{get, get_by_text, spare};
+ghost use Rattle.std.specs.List.{find, list_any};
+ghost use Rattle.std.specs.Option.{option_or};
 ghost use Rattle.result_cache.specs.Journal as journals;
-ghost use Rattle.result_cache.specs.Journal.{same_mark};
-ghost use Rattle.result_cache.specs.Same.{same_run};
-ghost use Rattle.msb_files.specs.Indices.{HasNewest, HasMarks, is_marked, has_path};
+ghost use Rattle.result_cache.specs.Hashes.{run_hash};
+ghost use Rattle.msb_files.specs.Indices.{HasNewest, HasMarks, is_marked, is_of, kept_with, has_path};
+ghost use Rattle.msb_files.specs.Marks.{run_in, number_in};
 ghost use Rattle.msb_files.specs.Seen.{mark_shown};
-ghost use Rattle.msb_files.specs.Views.{puts_of};
+ghost use Rattle.msb_files.specs.Views.{acts_of};
 
 use crate::entry::Entry;
-use crate::mark::Mark;
-use crate::shared::PutRef;
-use msb_values::{Copied, NoMemory};
+use crate::mark::{KeptMark, Mark};
+use crate::shared::ActRef;
+use msb_values::{Copied, List, NoMemory};
 use result_cache::RunId;
 use std::alloc::Global;
-use std::collections::{HashMap, HashSet};
+use std::collections::HashMap;
 
-/// The newest file of each path. The entries stand newest first.
+/// The newest act on each path. The entries stand newest first.
 pub(crate) fn newest_by_path(
     alloc: Global,
     entries: &[Entry],
-) -> Result<HashMap<String, PutRef>, NoMemory>
-    ensures { IfOk result (λ newest. HasNewest (puts_of entries.now) newest) }
+) -> Result<HashMap<String, ActRef>, NoMemory>
+    ensures { IfOk result (λ newest. HasNewest (acts_of entries.now) newest) }
 {
     let mut newest = HashMap::new(alloc);
     for entry in entries {
-        if let Some(put) = entry.put() {
-            insert_unless_there(alloc, &mut newest, put)?;
+        if let Some(act) = entry.act() {
+            insert_unless_there(alloc, &mut newest, act)?;
         }
     }
     Ok(newest)
@@ -40,68 +37,86 @@ pub(crate) fn newest_by_path(
 
 fn insert_unless_there(
     alloc: Global,
-    newest: &mut HashMap<String, PutRef>,
-    put: &PutRef,
+    newest: &mut HashMap<String, ActRef>,
+    act: &ActRef,
 ) -> Result<(), NoMemory>
-    ensures { OnOk result ((path : List ℕ) → get_by_text newest.new path ≡ option_or (get_by_text newest.old path) (find (has_path path) (put.now ∷ []))) }
+    ensures { OnOk result ((path : List ℕ) → get_by_text newest.new path ≡ option_or (get_by_text newest.old path) (find (has_path path) (act.now ∷ []))) }
 {
-    let path = put.get().path.as_str();
+    let path = act.get().path();
     if newest.contains_key(path) {
         return Ok(());
     }
-    newest.insert(String::from_str(alloc, path)?, put.copy()?)?;
+    newest.insert(String::from_str(alloc, path)?, act.copy()?)?;
     Ok(())
 }
 
-/// Of each number the runs whose entries have it.
-pub(crate) fn runs_by_number(
+/// The marks of the entries, by the hashes of their runs.
+pub(crate) fn marks_of(
     alloc: Global,
     entries: &[Entry],
-) -> Result<HashMap<Option<u64>, HashSet<RunId>>, NoMemory>
-    ensures { IfOk result (λ runs. HasMarks entries.now runs) }
+) -> Result<HashMap<u64, List<KeptMark>>, NoMemory>
+    ensures { IfOk result (λ marks. HasMarks entries.now marks) }
 {
-    let mut runs = HashMap::new(alloc);
+    let mut marks = HashMap::new(alloc);
     for entry in entries {
-        insert_mark(alloc, &mut runs, entry.mark())?;
+        insert_mark(alloc, &mut marks, entry.kept_mark()?)?;
     }
-    Ok(runs)
+    Ok(marks)
 }
 
-fn insert_mark(
+/// Puts a mark among the others. Where there is no memory, they stay as they were.
+pub(crate) fn insert_mark(
     alloc: Global,
-    runs: &mut HashMap<Option<u64>, HashSet<RunId>>,
-    mark: Mark<'_>,
+    marks: &mut HashMap<u64, List<KeptMark>>,
+    mark: KeptMark,
 ) -> Result<(), NoMemory>
-    ensures { OnOk result ((m : journals.Mark) → is_marked runs.new m ≡ (is_marked runs.old m || same_mark (mark_shown mark.entry) m)) }
+    ensures ok { OnOk result ((m : journals.Mark) → is_marked marks.new m ≡ (is_marked marks.old m || is_of (run_in m) (number_in m) mark)) }
+    ensures err { OnErr result ((m : journals.Mark) → is_marked marks.new m ≡ is_marked marks.old m) }
 {
-    let number = mark.number();
-    let mut numbered = take_numbered(alloc, runs, number);
-    numbered.insert(mark.run().copy()?)?;
-    runs.insert(number, numbered)?;
-    Ok(())
+    let hash = mark.run.hash();
+    marks.reserve(1)?;
+    let mut kept = take_kept(alloc, marks, hash);
+    let pushed = kept.push(mark);
+    put_kept(marks, hash, kept);
+    pushed
 }
 
-// The runs with a number, which are taken out.
-fn take_numbered(
-    alloc: Global,
-    runs: &mut HashMap<Option<u64>, HashSet<RunId>>,
-    number: Option<u64>,
-) -> HashSet<RunId>
-    ensures taken { (run : RunId) → contains same_run result run ≡ option_map_or (λ numbered. contains same_run numbered run) (get (option_eq nat_eq) runs.old number) false }
-    ensures left { (other : Option ℕ) → option_eq nat_eq number other ≡ false → get (option_eq nat_eq) runs.new other ≡ get (option_eq nat_eq) runs.old other }
+// The marks with a hash, which are taken out.
+fn take_kept(alloc: Global, marks: &mut HashMap<u64, List<KeptMark>>, hash: u64) -> List<KeptMark>
+    ensures taken { result ≡ kept_with marks.old hash }
+    ensures left { (other : ℕ) → nat_eq hash other ≡ false → get nat_eq marks.new other ≡ get nat_eq marks.old other }
+    ensures room { spare marks.old ≤ spare marks.new }
 {
-    match runs.remove(&number) {
-        Some(numbered) => numbered,
-        None => HashSet::new(alloc),
+    match marks.remove(&hash) {
+        Some(kept) => kept,
+        None => List::new(alloc),
     }
 }
 
-/// Whether one of the entries has this mark.
-pub(crate) fn has_mark(runs: &HashMap<Option<u64>, HashSet<RunId>>, mark: Mark<'_>) -> bool
-    ensures { result ≡ is_marked runs.now (mark_shown mark.entry) }
+// There is room for them.
+fn put_kept(marks: &mut HashMap<u64, List<KeptMark>>, hash: u64, kept: List<KeptMark>)
+    requires { 0 < spare marks.old }
+    ensures { (other : ℕ) → get nat_eq marks.new other ≡ (if nat_eq hash other then Some kept else get nat_eq marks.old other) }
 {
-    match runs.get(&mark.number()) {
-        Some(numbered) => numbered.contains(mark.run()),
+    match marks.insert(hash, kept) {
+        Ok(_) => {}
+        Err(_) => unreachable!(),
+    }
+}
+
+/// Whether one of the entries has this mark, whose run has this hash.
+pub(crate) fn has_mark(marks: &HashMap<u64, List<KeptMark>>, hash: u64, mark: Mark<'_>) -> bool
+    requires { hash ≡ run_hash (run_in (mark_shown mark)) }
+    ensures { result ≡ is_marked marks.now (mark_shown mark.entry) }
+{
+    match marks.get(&hash) {
+        Some(kept) => is_among(kept.as_slice(), mark.run(), mark.number()),
         None => false,
     }
+}
+
+fn is_among(marks: &[KeptMark], run: &RunId, number: Option<u64>) -> bool
+    ensures { result ≡ list_any (is_of run.now number) marks.now }
+{
+    marks.iter().any(|kept| kept.is_of(run, number))
 }

@@ -1,25 +1,35 @@
 ghost use Rattle.std.specs.Prelude.{◌≡◌, ◌<◌, [], ◌∷◌, length, reverse, slice_get, IfOk, OnOk, OnErr, Some, map, option_copied};
-ghost use Rattle.msb_paths.specs.Presence.{is_there};
-ghost use Rattle.result_cache.specs.Journal.{wrote, ended, end_of, has, add, content};
+ghost use Rattle.std.specs.List.{list_any};
+ghost use Rattle.msb_values.specs.Acts.{act_path};
+ghost use Rattle.result_cache.specs.Journal.{acted, ended, end_of, has, add};
+ghost use Rattle.msb_files.specs.Below.{has_file_below};
+ghost use Rattle.msb_files.specs.Indices.{last_act};
 ghost use Rattle.msb_files.specs.Seen.{entry_shown, mark_shown};
-ghost use Rattle.msb_files.specs.Views.{puts_of, with_paths};
+ghost use Rattle.msb_files.specs.Views.{acts_of, with_paths};
 
+use crate::FileView;
 use crate::entry::{Entry, JView};
 use crate::layer::{Layer, LayerRef};
-use crate::layers::{add_paths, content_of, entry_at, has_mark, is_there, with_new};
+use crate::layers::{entry_at, has_mark, is_any_below, last_act, with_new};
 use crate::mark::Mark;
-use msb_values::{Copied, List, NoMemory, Put, Text};
-use result_cache::{RecordRef, RunId};
+use crate::part::Part;
+use msb_values::{Act, Copied, List, NoMemory, Text};
+use result_cache::{RecordRef, RunId, RunRef, hash_of};
 use std::alloc::Global;
 use std::collections::BTreeSet;
 use std::marker::Model;
 
-/// What a request knows of the files that runs have written and of the runs that have ended. (MSBuild targets; MSBuild
+/// How many entries a journal may hold in front of its layers, where each copy of it copies them.
+const MOST: usize = 16;
+
+/// What a request knows of what runs have done to files and of the runs that have ended. (MSBuild targets; MSBuild
 /// task.)
 ///
 /// A copy takes a time and room that grow with the logarithm of the number of entries, and shares the rest. So does the time
-/// of a look for the content of a path, or for a run, which takes no memory; one for files below a folder takes the square.
+/// of a look for the last act on a path, or for a run, which takes no memory; one for files below a folder takes the square.
 pub struct Journal {
+    /// The newest entries, which no other journal shares.
+    part: Part,
     /// The newest first.
     layers: List<LayerRef>,
     count: usize,
@@ -29,6 +39,7 @@ pub struct Journal {
 impl Drop for Journal {
     fn drop(self) {
         let Journal {
+            part: _,
             layers: _,
             count: _,
         } = self;
@@ -36,15 +47,15 @@ impl Drop for Journal {
 }
 
 impl Model for Journal {
-    ghost use Rattle.std.specs.Prelude.{◌≡◌, length};
+    ghost use Rattle.std.specs.Prelude.{◌≡◌, ◌++◌, length};
     ghost use Rattle.result_cache.specs.Journal.{Journal};
     ghost use Rattle.msb_files.specs.Layers.{all_of};
 
     ghost Value = { Journal };
 
-    ghost view = { λ j. all_of j.layers };
+    ghost view = { λ j. j.part ++ all_of j.layers };
 
-    ghost invariant = { λ j. j.count ≡ length (all_of j.layers) };
+    ghost invariant = { λ j. j.count ≡ length (j.part ++ all_of j.layers) };
 }
 
 impl Journal {
@@ -52,27 +63,29 @@ impl Journal {
         ensures { IfOk result (λ j. j ≡ []) }
     {
         Ok(Journal {
+            part: Part::new(alloc),
             layers: List::new(alloc),
             count: 0,
         })
     }
 
-    /// A file that a run has written, with its place among the segments of the run's record; a file that is there by
-    /// run and place is not taken again. Want of memory leaves the journal as it was.
-    pub fn wrote(
+    /// What a run has done to a path, with its place among the segments of the run's record; an act that is there by run
+    /// and place is not taken again. Want of memory leaves the journal as it was. (Delete task.)
+    pub fn acted(
         &mut self,
         alloc: Global,
         run: &RunId,
         number: u64,
-        put: Put,
+        act: Act,
     ) -> Result<(), NoMemory>
-        ensures ok { OnOk result (self.new ≡ add self.old (wrote run.now number put)) }
+        ensures ok { OnOk result (self.new ≡ add self.old (acted run.now number act)) }
         ensures err { OnErr result (self.new ≡ self.old) }
     {
-        if self.has(Mark::WriteOf(run, number)) {
+        if self.has(Mark::ActOf(run, number)) {
             return Ok(());
         }
-        self.push(alloc, Entry::wrote(alloc, run, number, put)?)
+        let shared = RunRef::new(alloc, run)?;
+        self.enter(alloc, Entry::acted(alloc, shared, number, act)?)
     }
 
     /// A run that has ended, with its record; a run that has ended before is not taken again. Want of memory leaves the
@@ -84,7 +97,8 @@ impl Journal {
         if self.has_ended(run) {
             return Ok(());
         }
-        self.push(alloc, Entry::ended(alloc, run, made)?)
+        let shared = made.name(alloc, run)?;
+        self.enter(alloc, Entry::ended(shared, made))
     }
 
     pub fn has_ended(&self, run: &RunId) -> bool
@@ -110,32 +124,42 @@ impl Journal {
 }
 
 impl Journal {
-    // The bytes of a path as it was last written.
-    pub(crate) fn content(&self, path: &str) -> Option<&[u8]>
-        ensures { option_copied result ≡ content self.now path.now }
+    // The last act on a path.
+    pub(crate) fn last_act(&self, path: &str) -> Option<&Act>
+        ensures { option_copied result ≡ last_act self.now path.now }
     {
-        content_of(self.layers.as_slice(), path)
+        match self.part.last_act(path) {
+            Some(act) => Some(act),
+            None => last_act(self.layers.as_slice(), path),
+        }
     }
 
-    // Whether a file was written at a path or below it.
-    pub(crate) fn there(&self, path: &str) -> bool
-        ensures { result ≡ is_there (map (λ put. put.path) (puts_of self.now)) path.now }
+    // Whether there is an act on a path below a folder at which the view has a file.
+    pub(crate) fn is_any_below(&self, view: &FileView<'_>, folder: &str) -> bool
+        ensures { result ≡ list_any (λ act. has_file_below view.now folder.now (act_path act)) (acts_of self.now) }
     {
-        is_there(self.layers.as_slice(), path)
+        self.part.is_any_below(view, folder) || is_any_below(self.layers.as_slice(), view, folder)
     }
 
-    // Puts the paths that were written among others, in byte order.
-    pub(crate) fn add_paths(&self, all: &mut BTreeSet<Text>) -> Result<(), NoMemory>
-        ensures { OnOk result (all.new.keys ≡ with_paths (map (λ put. put.path) (puts_of self.now)) all.old.keys) }
+    // Puts the paths of all acts among others, in byte order.
+    pub(crate) fn add_paths(&self, alloc: Global, all: &mut BTreeSet<Text>) -> Result<(), NoMemory>
+        ensures { OnOk result (all.new.keys ≡ with_paths (map act_path (acts_of self.now)) all.old.keys) }
     {
-        add_paths(all, self.layers.as_slice())
+        let count = self.count();
+        for at in 0..count {
+            if let Some(act) = self.newest(at).act() {
+                all.insert(Text::of(alloc, act.get().path())?)?;
+            }
+        }
+        Ok(())
     }
 
     // Whether there is an entry with this mark.
     fn has(&self, mark: Mark<'_>) -> bool
         ensures { result ≡ has (mark_shown mark.entry) self.now }
     {
-        has_mark(self.layers.as_slice(), mark)
+        let hash = hash_of(mark.run());
+        self.part.has(hash, mark) || has_mark(self.layers.as_slice(), hash, mark)
     }
 
     // The entry at a place, from the newest on.
@@ -143,7 +167,11 @@ impl Journal {
         requires { at < length self.now }
         ensures { slice_get self.now at ≡ Some result.now }
     {
-        match entry_at(self.layers.as_slice(), at) {
+        let len = self.part.len();
+        if at < len {
+            return self.part.entry(at);
+        }
+        match entry_at(self.layers.as_slice(), at - len) {
             Some(entry) => entry,
             None => unreachable!(),
         }
@@ -167,16 +195,51 @@ impl Journal {
         let Some(count) = self.count.checked_add(1) else {
             return Err(NoMemory);
         };
-        let newest = Layer::of(alloc, vec![in alloc; entry]?)?;
-        self.layers = with_new(alloc, self.layers.as_slice(), newest)?;
+        self.part.push(alloc, entry)?;
         self.count = count;
         Ok(())
+    }
+
+    // Puts an entry in front, where the entries in front of the layers stay few.
+    fn enter(&mut self, alloc: Global, entry: Entry) -> Result<(), NoMemory>
+        ensures ok { OnOk result (self.new ≡ entry ∷ self.old) }
+        ensures err { OnErr result (self.new ≡ self.old) }
+    {
+        if self.part.len() < MOST {
+            return self.push(alloc, entry);
+        }
+        let mut settled = self.copy()?.settled(alloc)?;
+        settled.push(alloc, entry)?;
+        *self = settled;
+        Ok(())
+    }
+
+    /// The same entries, of which few stand in front of the layers, so that copies take little.
+    pub(crate) fn settled(self, alloc: Global) -> Result<Journal, NoMemory>
+        ensures { IfOk result (λ j. j ≡ self) }
+    {
+        if self.part.len() < MOST {
+            return Ok(self);
+        }
+        let Journal {
+            part,
+            layers,
+            count,
+        } = self;
+        let newest = Layer::of_part(alloc, part)?;
+        let layers = with_new(alloc, layers.as_slice(), newest)?;
+        Ok(Journal {
+            part: Part::new(alloc),
+            layers,
+            count,
+        })
     }
 }
 
 impl Copied for Journal {
     fn copy(&self) -> Result<Journal, NoMemory> {
         Ok(Journal {
+            part: self.part.copy()?,
             layers: self.layers.copy()?,
             count: self.count,
         })

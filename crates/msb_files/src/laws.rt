@@ -4,7 +4,7 @@ ghost use Rattle.std.specs.Prelude.{◌≡◌, ℕ, List, [], ◌++◌, Some, Is
 ghost use Rattle.std.specs.List.{list_any};
 ghost use Rattle.std.specs.Option.{option_or};
 ghost use Rattle.std.specs.Str.{bytes_eq};
-ghost use Rattle.file_store.specs.Commits.{AreWritten, HasContents};
+ghost use Rattle.file_store.specs.Commits.{AreDone, HasContents};
 ghost use Rattle.file_store.specs.Paths.{are_rising};
 ghost use Rattle.file_store.specs.declared.tree.File.{File};
 ghost use Rattle.result_cache.specs.declared.run.RunId.{RunId};
@@ -19,7 +19,7 @@ ghost use Rattle.msb_files.specs.Views.{View, paths};
 
 /// A whole commit leaves the final tree: each path has what the journal has for it, and else what it had before.
 pub fn commits_leave_the_final_tree()
-    ensures written { (journal : Journal) (before after : List File) → AreWritten (commit_list journal) before after → IsFinalTree before journal after }
+    ensures done { (journal : Journal) (before after : List File) → AreDone (commit_list journal) before after → IsFinalTree before journal after }
     ensures contents { (journal : Journal) (before after : List File) → HasContents (commit_list journal) before after → IsFinalTree before journal after }
 {}
 

@@ -1,31 +1,37 @@
-ghost use Rattle.std.specs.Prelude.{◌≡◌, ◌++◌, IfOk, OnOk, map, option_copied};
-ghost use Rattle.msb_paths.specs.Presence.{is_there};
-ghost use Rattle.result_cache.specs.Journal.{content, has};
+ghost use Rattle.std.specs.Prelude.{◌≡◌, ◌++◌, IfOk, OnOk, option_copied};
+ghost use Rattle.std.specs.List.{list_any};
+ghost use Rattle.msb_values.specs.Acts.{act_path};
+ghost use Rattle.result_cache.specs.Journal.{has};
+ghost use Rattle.msb_files.specs.Below.{has_file_below};
+ghost use Rattle.result_cache.specs.Hashes.{run_hash};
+ghost use Rattle.msb_files.specs.Indices.{HasMarks, last_act};
+ghost use Rattle.msb_files.specs.Marks.{run_in};
 ghost use Rattle.msb_files.specs.Seen.{mark_shown};
-ghost use Rattle.msb_files.specs.Views.{puts_of, with_paths};
+ghost use Rattle.msb_files.specs.Views.{acts_of};
 
+use crate::FileView;
 use crate::entry::Entry;
-use crate::hashed::{has_mark, newest_by_path, runs_by_number};
-use crate::mark::Mark;
-use crate::shared::PutRef;
-use crate::sorted::{by_path, has_below};
-use msb_values::{Copied, NoMemory, Text};
-use result_cache::RunId;
+use crate::hashed::{has_mark, marks_of, newest_by_path};
+use crate::mark::{KeptMark, Mark};
+use crate::part::Part;
+use crate::shared::ActRef;
+use crate::sorted::{by_path, is_any_below};
+use msb_values::{Act, Copied, List, NoMemory};
 use std::alloc::Global;
-use std::collections::{BTreeSet, HashMap, HashSet};
+use std::collections::HashMap;
 use std::marker::Model;
 use std::sync::Arc;
 
-/// Entries that stand together in a journal, with an index by path and one by mark, both by hash, and the files in order.
+/// Entries that stand together in a journal, with an index by path and one by mark, both by hash, and the acts in order.
 pub(crate) struct Layer {
     /// The newest first.
     entries: Vec<Entry>,
-    /// The files that are written, in byte order of their paths.
-    by_path: Vec<PutRef>,
-    /// The newest file of each path.
-    newest: HashMap<String, PutRef>,
-    /// Of each number the runs whose entries have it.
-    runs: HashMap<Option<u64>, HashSet<RunId>>,
+    /// Their acts, in byte order of the paths.
+    by_path: Vec<ActRef>,
+    /// The newest act on each path.
+    newest: HashMap<String, ActRef>,
+    /// The marks of the entries, by the hashes of their runs.
+    marks: HashMap<u64, List<KeptMark>>,
 }
 
 // A drop that is written out is proved here alone.
@@ -35,21 +41,21 @@ impl Drop for Layer {
             entries: _,
             by_path: _,
             newest: _,
-            runs: _,
+            marks: _,
         } = self;
     }
 }
 
 impl Model for Layer {
     ghost use Rattle.result_cache.specs.Journal.{Journal};
-    ghost use Rattle.msb_files.specs.Views.{puts_of};
+    ghost use Rattle.msb_files.specs.Views.{acts_of};
     ghost use Rattle.msb_files.specs.Indices.{IsIndexed};
 
     ghost Value = { Journal };
 
     ghost view = { λ l. l.entries.items };
 
-    ghost invariant = { λ l. IsIndexed l.entries.items l.by_path.items l.newest l.runs };
+    ghost invariant = { λ l. IsIndexed l.entries.items l.by_path.items l.newest l.marks };
 }
 
 impl Layer {
@@ -57,14 +63,34 @@ impl Layer {
     pub(crate) fn of(alloc: Global, entries: Vec<Entry>) -> Result<Layer, NoMemory>
         ensures { IfOk result (λ l. l ≡ entries.items) }
     {
+        let marks = marks_of(alloc, &entries)?;
+        Layer::marked(alloc, entries, marks)
+    }
+
+    /// The entries of a part.
+    pub(crate) fn of_part(alloc: Global, part: Part) -> Result<Layer, NoMemory>
+        ensures { IfOk result (λ l. l ≡ part) }
+    {
+        let (entries, marks) = part.into_parts();
+        Layer::marked(alloc, entries, marks)
+    }
+
+    // The entries that have these marks.
+    fn marked(
+        alloc: Global,
+        entries: Vec<Entry>,
+        marks: HashMap<u64, List<KeptMark>>,
+    ) -> Result<Layer, NoMemory>
+        requires { HasMarks entries.items marks }
+        ensures { IfOk result (λ l. l ≡ entries.items) }
+    {
         let by_path = by_path(alloc, &entries)?;
         let newest = newest_by_path(alloc, &entries)?;
-        let runs = runs_by_number(alloc, &entries)?;
         Ok(Layer {
             entries,
             by_path,
             newest,
-            runs,
+            marks,
         })
     }
 
@@ -84,40 +110,30 @@ impl Layer {
         &self.entries
     }
 
-    /// The bytes of a path as it was last written here.
-    pub(crate) fn content(&self, path: &str) -> Option<&[u8]>
-        ensures { option_copied result ≡ content self.now path.now }
+    /// The last act on a path here.
+    pub(crate) fn last_act(&self, path: &str) -> Option<&Act>
+        ensures { option_copied result ≡ last_act self.now path.now }
     {
         match self.newest.get(path) {
-            Some(put) => Some(put.get().bytes.as_bytes()),
+            Some(act) => Some(act.get()),
             None => None,
         }
     }
 
-    pub(crate) fn has(&self, mark: Mark<'_>) -> bool
+    /// Whether there is an entry with this mark, whose run has this hash.
+    pub(crate) fn has(&self, hash: u64, mark: Mark<'_>) -> bool
+        requires { hash ≡ run_hash (run_in (mark_shown mark)) }
         ensures { result ≡ has (mark_shown mark.entry) self.now }
     {
-        has_mark(&self.runs, mark)
+        has_mark(&self.marks, hash, mark)
     }
 
-    /// Whether a file is written here at a path or below it.
-    pub(crate) fn there(&self, path: &str) -> bool
-        ensures { result ≡ is_there (map (λ put. put.path) (puts_of self.now)) path.now }
+    /// Whether an act here is on a path below a folder at which the view has a file.
+    pub(crate) fn is_any_below(&self, view: &FileView<'_>, folder: &str) -> bool
+        ensures { result ≡ list_any (λ act. has_file_below view.now folder.now (act_path act)) (acts_of self.now) }
     {
-        self.newest.contains_key(path) || has_below(&self.by_path, path)
+        is_any_below(&self.by_path, view, folder)
     }
-}
-
-/// Puts the paths of the files that are written among others in byte order.
-pub(crate) fn add_paths(all: &mut BTreeSet<Text>, entries: &[Entry]) -> Result<(), NoMemory>
-    ensures { OnOk result (all.new.keys ≡ with_paths (map (λ put. put.path) (puts_of entries.now)) all.old.keys) }
-{
-    for entry in entries {
-        if let Some(put) = entry.put() {
-            all.insert(put.get().path.copy()?)?;
-        }
-    }
-    Ok(())
 }
 
 fn push_copies(entries: &mut Vec<Entry>, more: &[Entry]) -> Result<(), NoMemory>

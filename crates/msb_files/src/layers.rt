@@ -1,18 +1,23 @@
 //! The layers of a journal, the newest first.
 
-ghost use Rattle.std.specs.Prelude.{◌≡◌, ◌++◌, IfOk, OnOk, map, slice_get, option_copied};
-ghost use Rattle.msb_paths.specs.Presence.{is_there};
-ghost use Rattle.result_cache.specs.Journal.{content, has};
+ghost use Rattle.std.specs.Prelude.{◌≡◌, ◌++◌, IfOk, slice_get, option_copied};
+ghost use Rattle.std.specs.List.{list_any};
+ghost use Rattle.msb_values.specs.Acts.{act_path};
+ghost use Rattle.result_cache.specs.Journal.{has};
+ghost use Rattle.msb_files.specs.Below.{has_file_below};
+ghost use Rattle.result_cache.specs.Hashes.{run_hash};
+ghost use Rattle.msb_files.specs.Indices.{last_act};
 ghost use Rattle.msb_files.specs.Layers.{all_of};
+ghost use Rattle.msb_files.specs.Marks.{run_in};
 ghost use Rattle.msb_files.specs.Seen.{mark_shown};
-ghost use Rattle.msb_files.specs.Views.{puts_of, with_paths};
+ghost use Rattle.msb_files.specs.Views.{acts_of};
 
+use crate::FileView;
 use crate::entry::Entry;
-use crate::layer::{self, Layer, LayerRef};
+use crate::layer::{Layer, LayerRef};
 use crate::mark::Mark;
-use msb_values::{Copied, List, NoMemory, Text};
+use msb_values::{Act, List, NoMemory};
 use std::alloc::Global;
-use std::collections::BTreeSet;
 
 /// The layers with a new one over them, which takes in those that are no larger than itself: so each layer is larger
 /// than the one over it, and there are no more of them than the logarithm of the number of entries.
@@ -39,50 +44,41 @@ pub(crate) fn with_new(
     Ok(all)
 }
 
-/// The bytes of a path as it was last written.
-pub(crate) fn content_of<'a>(layers: &'a [LayerRef], path: &str) -> Option<&'a [u8]>
-    ensures { option_copied result ≡ content (all_of layers.now) path.now }
+/// The last act on a path.
+pub(crate) fn last_act<'a>(layers: &'a [LayerRef], path: &str) -> Option<&'a Act>
+    ensures { option_copied result ≡ last_act (all_of layers.now) path.now }
 {
     for layer in layers {
-        if let Some(bytes) = layer.get().content(path) {
-            return Some(bytes);
+        if let Some(act) = layer.get().last_act(path) {
+            return Some(act);
         }
     }
     None
 }
 
-/// Whether a file was written at a path or below it.
-pub(crate) fn is_there(layers: &[LayerRef], path: &str) -> bool
-    ensures { result ≡ is_there (map (λ put. put.path) (puts_of (all_of layers.now))) path.now }
+/// Whether there is an act on a path below a folder at which the view has a file.
+pub(crate) fn is_any_below(layers: &[LayerRef], view: &FileView<'_>, folder: &str) -> bool
+    ensures { result ≡ list_any (λ act. has_file_below view.now folder.now (act_path act)) (acts_of (all_of layers.now)) }
 {
     for layer in layers {
-        if layer.get().there(path) {
+        if layer.get().is_any_below(view, folder) {
             return true;
         }
     }
     false
 }
 
-/// Whether there is an entry with this mark.
-pub(crate) fn has_mark(layers: &[LayerRef], mark: Mark<'_>) -> bool
+/// Whether there is an entry with this mark, whose run has this hash.
+pub(crate) fn has_mark(layers: &[LayerRef], hash: u64, mark: Mark<'_>) -> bool
+    requires { hash ≡ run_hash (run_in (mark_shown mark)) }
     ensures { result ≡ has (mark_shown mark.entry) (all_of layers.now) }
 {
     for layer in layers {
-        if layer.get().has(mark) {
+        if layer.get().has(hash, mark) {
             return true;
         }
     }
     false
-}
-
-/// Puts the paths of the files that are written among others in byte order.
-pub(crate) fn add_paths(all: &mut BTreeSet<Text>, layers: &[LayerRef]) -> Result<(), NoMemory>
-    ensures { OnOk result (all.new.keys ≡ with_paths (map (λ put. put.path) (puts_of (all_of layers.now))) all.old.keys) }
-{
-    for layer in layers {
-        layer::add_paths(all, layer.get().entries())?;
-    }
-    Ok(())
 }
 
 /// The entry at a place, from the newest on.

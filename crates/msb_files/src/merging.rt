@@ -14,7 +14,7 @@ impl Journal {
     {
         let mut merged = self.copy()?;
         add_all(alloc, &mut merged, other)?;
-        *self = merged;
+        *self = merged.settled(alloc)?;
         Ok(())
     }
 }

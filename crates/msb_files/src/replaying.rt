@@ -6,7 +6,7 @@ ghost use Rattle.msb_files.specs.Before.{before};
 use crate::Journal;
 use crate::entry::Entry;
 use msb_values::{Copied, NoMemory};
-use result_cache::{Found, RecordRef, RunId, Segment, Table};
+use result_cache::{Found, RecordRef, RunId, RunRef, Segment, Table};
 use std::alloc::Global;
 
 impl Journal {
@@ -24,7 +24,7 @@ impl Journal {
         }
         let mut grown = self.copy()?;
         take_run(alloc, &mut grown, table, run)?;
-        *self = grown;
+        *self = grown.settled(alloc)?;
         Ok(())
     }
 }
@@ -44,8 +44,9 @@ fn take_run(
 {
     match table.find(run) {
         Found::Done(made) => {
-            take_record(alloc, journal, table, run, made)?;
-            journal.ended(alloc, run, made.copy()?)
+            let shared = made.name(alloc, run)?;
+            take_record(alloc, journal, table, &shared, made)?;
+            journal.add(alloc, Entry::ended(shared, made.copy()?))
         }
         Found::Absent | Found::Begun(_) => unreachable!(),
     }
@@ -56,7 +57,7 @@ fn take_record(
     alloc: Global,
     journal: &mut Journal,
     table: &Table,
-    run: &RunId,
+    run: &RunRef,
     made: &RecordRef,
 ) -> Result<(), NoMemory>
     requires { IsSome (replays (replay (before run.now table.now.finished)) (effects_of run.now made.now) journal.old) }
@@ -64,7 +65,7 @@ fn take_record(
 {
     for (number, segment) in made.get().segments.as_slice().iter().enumerate() {
         match segment {
-            Segment::Write(_) => journal.add(alloc, Entry::recorded(alloc, run, made, number)?)?,
+            Segment::File(_) => journal.add(alloc, Entry::recorded(run, made, number)?)?,
             Segment::Call(_, runs) => take_runs(alloc, journal, table, run, runs.as_slice())?,
         }
     }
@@ -77,7 +78,7 @@ fn take_runs(
     alloc: Global,
     journal: &mut Journal,
     table: &Table,
-    outer: &RunId,
+    outer: &RunRef,
     runs: &[RunId],
 ) -> Result<(), NoMemory>
     requires { IsSome (replays (replay (before outer.now table.now.finished)) (map replays_run runs.now) journal.old) }

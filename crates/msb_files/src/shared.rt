@@ -1,137 +1,92 @@
 //! What the copies of a journal share.
 
 ghost use Rattle.std.specs.Prelude.{◌≡◌, Some, IfOk, IsSome};
-ghost use Rattle.msb_files.specs.Recorded.{written_at};
+ghost use Rattle.msb_files.specs.Recorded.{act_at};
 
-use msb_values::{Copied, NoMemory, Put};
-use result_cache::{RecordRef, RunId, Segment};
+use msb_values::{Act, Copied, NoMemory};
+use result_cache::{RecordRef, Segment};
 use std::alloc::Global;
 use std::marker::Model;
 use std::sync::Arc;
 
-/// A file that a run has written, which all journals that have it share, with the record of the run where the run has
+/// What a run has done to a path, which all journals that have it share, with the record of the run where the run has
 /// ended.
-pub(crate) struct PutRef {
-    kept: KeptPut,
+pub(crate) struct ActRef {
+    kept: KeptAct,
 }
 
 // A drop that is written out is proved here alone.
-impl Drop for PutRef {
+impl Drop for ActRef {
     fn drop(self) {
-        let PutRef { kept: _ } = self;
+        let ActRef { kept: _ } = self;
     }
 }
 
-enum KeptPut {
-    Own(Arc<Put>),
-    /// The segment of this number in the record, which writes the file.
+enum KeptAct {
+    Own(Arc<Act>),
+    /// The segment of this number in the record.
     Recorded(RecordRef, usize),
 }
 
 // A drop that is written out is proved here alone.
-impl Drop for KeptPut {
+impl Drop for KeptAct {
     fn drop(self) {
         match self {
-            KeptPut::Own(_) => {}
-            KeptPut::Recorded(_, _) => {}
+            KeptAct::Own(_) => {}
+            KeptAct::Recorded(_, _) => {}
         }
     }
 }
 
-impl Model for PutRef {
-    ghost use Rattle.msb_values.specs.declared.put.Put.{Put};
-    ghost use Rattle.msb_files.specs.Kept.{put_kept, IsKept};
+impl Model for ActRef {
+    ghost use Rattle.msb_values.specs.declared.act.Act.{Act};
+    ghost use Rattle.msb_files.specs.Kept.{act_kept, IsKept};
 
-    ghost Value = { Put };
+    ghost Value = { Act };
 
-    ghost view = { λ p. put_kept p.kept };
+    ghost view = { λ a. act_kept a.kept };
 
-    ghost invariant = { λ p. IsKept p.kept };
+    ghost invariant = { λ a. IsKept a.kept };
 }
 
-impl PutRef {
-    pub(crate) fn new(alloc: Global, put: Put) -> Result<PutRef, NoMemory>
-        ensures { IfOk result (λ p. p ≡ put) }
+impl ActRef {
+    pub(crate) fn new(alloc: Global, act: Act) -> Result<ActRef, NoMemory>
+        ensures { IfOk result (λ a. a ≡ act) }
     {
-        Ok(PutRef {
-            kept: KeptPut::Own(Arc::new(alloc, put)?),
+        Ok(ActRef {
+            kept: KeptAct::Own(Arc::new(alloc, act)?),
         })
     }
 
-    /// The file that a segment of a record writes.
-    pub(crate) fn recorded(made: &RecordRef, number: usize) -> Result<PutRef, NoMemory>
-        requires { IsSome (written_at made.now number) }
-        ensures { IfOk result (λ p. written_at made.now number ≡ Some p) }
+    /// The act of a segment of a record.
+    pub(crate) fn recorded(made: &RecordRef, number: usize) -> Result<ActRef, NoMemory>
+        requires { IsSome (act_at made.now number) }
+        ensures { IfOk result (λ a. act_at made.now number ≡ Some a) }
     {
-        Ok(PutRef {
-            kept: KeptPut::Recorded(made.copy()?, number),
+        Ok(ActRef {
+            kept: KeptAct::Recorded(made.copy()?, number),
         })
     }
 
-    pub(crate) fn get(&self) -> &Put
+    pub(crate) fn get(&self) -> &Act
         ensures { result.now ≡ self.now }
     {
         match &self.kept {
-            KeptPut::Own(put) => put,
-            KeptPut::Recorded(made, number) => match &made.get().segments.as_slice()[*number] {
-                Segment::Write(put) => put,
+            KeptAct::Own(act) => act,
+            KeptAct::Recorded(made, number) => match &made.get().segments.as_slice()[*number] {
+                Segment::File(act) => act,
                 Segment::Call(_, _) => unreachable!(),
             },
         }
     }
 }
 
-impl Copied for PutRef {
-    fn copy(&self) -> Result<PutRef, NoMemory> {
+impl Copied for ActRef {
+    fn copy(&self) -> Result<ActRef, NoMemory> {
         let kept = match &self.kept {
-            KeptPut::Own(put) => KeptPut::Own(Arc::try_clone(put)?),
-            KeptPut::Recorded(made, number) => KeptPut::Recorded(made.copy()?, *number),
+            KeptAct::Own(act) => KeptAct::Own(Arc::try_clone(act)?),
+            KeptAct::Recorded(made, number) => KeptAct::Recorded(made.copy()?, *number),
         };
-        Ok(PutRef { kept })
-    }
-}
-
-/// The run of an entry, which all journals that have the entry share.
-pub(crate) struct RunRef {
-    shared: Arc<RunId>,
-}
-
-// A drop that is written out is proved here alone.
-impl Drop for RunRef {
-    fn drop(self) {
-        let RunRef { shared: _ } = self;
-    }
-}
-
-impl Model for RunRef {
-    ghost use Rattle.std.specs.Arc.{arc_value};
-    ghost use Rattle.result_cache.specs.declared.run.RunId.{RunId};
-
-    ghost Value = { RunId };
-
-    ghost view = { λ r. arc_value r.shared };
-}
-
-impl RunRef {
-    pub(crate) fn new(alloc: Global, run: &RunId) -> Result<RunRef, NoMemory>
-        ensures { IfOk result (λ r. r ≡ run.now) }
-    {
-        Ok(RunRef {
-            shared: Arc::new(alloc, run.copy()?)?,
-        })
-    }
-
-    pub(crate) fn get(&self) -> &RunId
-        ensures { result.now ≡ self.now }
-    {
-        &self.shared
-    }
-}
-
-impl Copied for RunRef {
-    fn copy(&self) -> Result<RunRef, NoMemory> {
-        Ok(RunRef {
-            shared: Arc::try_clone(&self.shared)?,
-        })
+        Ok(ActRef { kept })
     }
 }

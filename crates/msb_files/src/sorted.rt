@@ -1,61 +1,56 @@
-//! Files in byte order of their paths, which are searched by halves.
+//! Acts in byte order of their paths, which are searched by halves.
 
-ghost use Rattle.std.specs.Prelude.{◌≡◌, [], ◌∷◌, ◌++◌, IfOk, nat_eq};
-ghost use Rattle.std.specs.List.{list_any, starts_with};
+ghost use Rattle.std.specs.Prelude.{◌≡◌, IfOk};
+ghost use Rattle.std.specs.List.{list_any};
 ghost use Rattle.std.specs.List.Sorted.{IsSorted};
-ghost use Rattle.file_store.specs.Paths.{is_before};
+ghost use Rattle.msb_values.specs.Acts.{act_path};
+ghost use Rattle.msb_files.specs.Below.{has_file_below};
 ghost use Rattle.msb_files.specs.Indices.{IsByPath, path_cmp};
-ghost use Rattle.msb_files.specs.Views.{puts_of};
+ghost use Rattle.msb_files.specs.Views.{acts_of};
 
+use crate::FileView;
+use crate::below::{is_ahead, is_below};
 use crate::entry::Entry;
-use crate::shared::PutRef;
+use crate::shared::ActRef;
 use msb_values::{Copied, NoMemory};
 use std::alloc::Global;
-use std::iter::once;
 
-/// The files that are written, in byte order of their paths.
-pub(crate) fn by_path(alloc: Global, entries: &[Entry]) -> Result<Vec<PutRef>, NoMemory>
-    ensures { IfOk result (λ puts. IsByPath (puts_of entries.now) puts.items) }
+/// The acts of the entries, in byte order of their paths.
+pub(crate) fn by_path(alloc: Global, entries: &[Entry]) -> Result<Vec<ActRef>, NoMemory>
+    ensures { IfOk result (λ acts. IsByPath (acts_of entries.now) acts.items) }
 {
-    let mut puts = puts_of(alloc, entries)?;
-    puts.sort_by(|a, b| a.get().path.cmp(&b.get().path))?;
-    Ok(puts)
+    let mut acts = acts_of(alloc, entries)?;
+    acts.sort_by(|a, b| a.get().path().cmp(b.get().path()))?;
+    Ok(acts)
 }
 
-/// The files that are written, in the order of the entries.
-fn puts_of(alloc: Global, entries: &[Entry]) -> Result<Vec<PutRef>, NoMemory>
-    ensures { IfOk result (λ puts. puts.items ≡ puts_of entries.now) }
+/// The acts of the entries, in their order.
+fn acts_of(alloc: Global, entries: &[Entry]) -> Result<Vec<ActRef>, NoMemory>
+    ensures { IfOk result (λ acts. acts.items ≡ acts_of entries.now) }
 {
-    let mut puts = Vec::new(alloc);
+    let mut acts = Vec::new(alloc);
     for entry in entries {
-        if let Some(put) = entry.put() {
-            puts.push(put.copy()?)?;
+        if let Some(act) = entry.act() {
+            acts.push(act.copy()?)?;
         }
     }
-    Ok(puts)
+    Ok(acts)
 }
 
-/// Whether a file lies below a folder: if any does, so does the first that does not stand ahead of all these.
-pub(crate) fn has_below(puts: &[PutRef], folder: &str) -> bool
-    requires { IsSorted path_cmp puts.now }
-    ensures { result ≡ list_any (λ put. starts_with nat_eq put.path (folder.now ++ 47 ∷ [])) puts.now }
+/// Whether one of the acts is on a path below a folder at which the view has a file.
+pub(crate) fn is_any_below(acts: &[ActRef], view: &FileView<'_>, folder: &str) -> bool
+    requires { IsSorted path_cmp acts.now }
+    ensures { result ≡ list_any (λ act. has_file_below view.now folder.now (act_path act)) acts.now }
 {
-    let first = puts.partition_point(|put| is_ahead(put.get().path.as_str(), folder));
-    first < puts.len() && is_below(puts[first].get().path.as_str(), folder)
-}
-
-// Whether a path stands ahead of all those below a folder.
-fn is_ahead(path: &str, folder: &str) -> bool
-    ensures { result ≡ is_before path.now (folder.now ++ 47 ∷ []) }
-{
-    path.bytes().cmp(folder.bytes().chain(once(b'/'))).is_lt()
-}
-
-fn is_below(path: &str, folder: &str) -> bool
-    ensures { result ≡ starts_with nat_eq path.now (folder.now ++ 47 ∷ []) }
-{
-    match path.as_bytes().strip_prefix(folder.as_bytes()) {
-        Some(rest) => rest.starts_with(b"/"),
-        None => false,
+    let first = acts.partition_point(|act| is_ahead(act.get().path(), folder));
+    for at in first..acts.len() {
+        let path = acts[at].get().path();
+        if !is_below(path, folder) {
+            return false;
+        }
+        if view.content(path).is_some() {
+            return true;
+        }
     }
+    false
 }

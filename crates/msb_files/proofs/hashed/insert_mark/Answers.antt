@@ -1,8 +1,20 @@
-use Rattle.std.proofs.Common.{◌∙◌}
-use Rattle.msb_files.specs.Seen.{mark_shown}
-use Rattle.msb_files.proofs.IndexSteps.{mark_more}
+use Rattle.std.proofs.Common.{[], unwrap_or, ap, ◌∙◌}
+use Rattle.msb_files.proofs.IndexSteps.{if_err, marks_more, marks_stay}
+use Rattle.msb_files.proofs.Replays.{if_ok}
 use Rattle.msb_files.proofs.hashed.insert_mark.Goals as goal
 
-pub returns : goal.returns
-returns c = mark_more c.args.runs.now c.take_numbered-numbered.new.runs c.insert-2.new.self c.take_numbered-numbered.result c.insert.new.self c.number-number.result c.in_ok-copy.field-0 (mark_shown c.args.mark)
-    c.number-number.ensures (c.in_ok-copy.ensures ∙ c.run.ensures) c.take_numbered-numbered.ensures.taken c.take_numbered-numbered.ensures.left c.in_ok-insert.ensures.updates.0 c.in_ok-insert-2.ensures.updates.0
+pub returns-clause-ok : goal.returns-clause-ok
+returns-clause-ok c =
+    let room = c.reserve.ensures.entries.2 in
+    let hash = c.hash-hash.result in
+    if_ok c.push-pushed.result c.push-pushed.ensures.ok
+    (marks_more c.args.marks.now c.take_kept-kept.new.marks c.put_kept.new.marks hash c.args.mark c.take_kept-kept.result c.push-pushed.new.self c.hash-hash.ensures
+    (c.take_kept-kept.ensures.taken ∙ ap (λ o. unwrap_or o []) (room hash)) (λ other e. c.take_kept-kept.ensures.left other e ∙ room other) c.put_kept.ensures)
+
+pub returns-clause-err : goal.returns-clause-err
+returns-clause-err c =
+    let room = c.reserve.ensures.entries.2 in
+    let hash = c.hash-hash.result in
+    if_err c.push-pushed.result c.push-pushed.ensures.err
+    (marks_stay c.args.marks.now c.take_kept-kept.new.marks c.put_kept.new.marks hash c.args.mark c.take_kept-kept.result c.push-pushed.new.self c.hash-hash.ensures
+    (c.take_kept-kept.ensures.taken ∙ ap (λ o. unwrap_or o []) (room hash)) (λ other e. c.take_kept-kept.ensures.left other e ∙ room other) c.put_kept.ensures)

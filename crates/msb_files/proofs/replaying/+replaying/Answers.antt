@@ -1,15 +1,23 @@
 use Rattle.std.proofs.Common.{◌≡◌, ◌+◌, ◌<◌, Some, length, map, drop, get_or, false, IsSome, ap, ◌∙◌, sym, subst, rules, arith, tests}
 use Rattle.result_cache.specs.Journal.{ended, end_of, has, add}
-use Rattle.result_cache.specs.Replay.{replay, replays, replays_run}
+use Rattle.result_cache.specs.Replay.{effects_of, replay, replays, replays_run}
 use Rattle.result_cache.proofs.Closed.{replay-has}
 use Rattle.msb_files.specs.Before.{before}
 use Rattle.msb_files.proofs.Replays.{replays_before, before_fewer, replayed_in, taken_defined, taken_gives, not_found, never, if_ok, recorded_is}
-use Rattle.msb_files.proofs.ReplaySteps.{left, write_step, call_step, call_defined, run_step, run_defined}
+use Rattle.msb_files.proofs.ReplaySteps.{left, act_step, call_step, call_defined, run_step, run_defined}
 use Rattle.msb_files.proofs.replaying.+replaying.Goals as goal
-use Rattle.msb_files.proofs.replaying.+replaying.Goals.{take_record-in-Write+in_ok-recorded-in-Write+in_ok-add-in-Write, take_record-in-Call+in_ok-take_runs-in-Call, take_runs-then-not-has_ended+in_ok-take_run, take_runs-else-not-has_ended}
+use Rattle.msb_files.proofs.replaying.+replaying.Goals.{take_record-in-File+in_ok-recorded-in-File+in_ok-add-in-File, take_record-in-Call+in_ok-take_runs-in-Call, take_runs-then-not-has_ended+in_ok-take_run, take_runs-else-not-has_ended}
 
 pub take_run-take_record-requires : goal.take_run-take_record-requires
-take_run-take_record-requires t c = (omega arith, taken_defined c.args.table.now.finished c.args.run.now c.in-Done.made.now c.args.journal.now c.requires.goes_on c.in-Done.ensures c.requires.defined)
+take_run-take_record-requires t c =
+    let table = c.args.table.now.finished in
+    let run = c.args.run.now in
+    let shared = c.in_ok-shared-in-Done.ensures in
+    let same : length (before c.in_ok-shared-in-Done.shared table) ≡ length (before run table) = ap (λ r. length (before r table)) shared in (
+      omega (arith, same),
+      subst (λ r. IsSome (replays (replay (before r table)) (effects_of r c.in-Done.made.now) c.args.journal.now)) (sym shared)
+          (taken_defined table run c.in-Done.made.now c.args.journal.now c.requires.goes_on c.in-Done.ensures c.requires.defined),
+    )
 
 pub take_run-unreachable-requires : goal.take_run-unreachable-requires
 take_run-unreachable-requires t c =
@@ -18,9 +26,14 @@ take_run-unreachable-requires t c =
 pub take_run-returns : goal.take_run-returns
 take_run-returns t c =
     let after = c.take_record.new.journal in
+    let journal = c.args.journal.now in
+    let table = c.args.table.now.finished in
     let run = c.args.run.now in
-    if_ok c.ended.result c.ended.ensures.ok (λ is. taken_gives c.args.table.now.finished run c.in-Done.made.now c.args.journal.now after c.requires.goes_on c.in-Done.ensures c.in_ok-take_record-in-Done.ensures
-    ∙ ap Some (ap (λ m. add after (ended run m)) (sym c.in_ok-copy-in-Done.ensures) ∙ sym is))
+    let made = c.in-Done.made.now in
+    let shared = c.in_ok-shared-in-Done.ensures in
+    let gives = subst (λ r. replays (replay (before r table)) (effects_of r made) journal ≡ Some after) shared c.in_ok-take_record-in-Done.ensures in
+    let entry = c.ended.ensures ∙ (ap (ended c.in_ok-shared-in-Done.shared) c.in_ok-copy-in-Done.ensures ∙ ap (λ r. ended r made) shared) in
+    if_ok c.add.result c.add.ensures.ok (λ is. taken_gives table run made journal after c.requires.goes_on c.in-Done.ensures gives ∙ ap Some (sym (is ∙ ap (add after) entry)))
 
 pub take_record-take_runs-requires : goal.take_record-take_runs-requires
 take_record-take_runs-requires t c =
@@ -46,10 +59,10 @@ take_record-loop-number-preserved t c =
     let within = subst (λ s. n < length s) same c.loop-number-test.true in
     let at = c.segment-item.is ∙ ap (λ s. get_or s n c.segment-item.result) same in
     elim c.match-segment.branch [
-      | take_record-in-Write+in_ok-recorded-in-Write+in_ok-add-in-Write w ↦
-          ap (left one run (n + 1) segments) (w.journal-is ∙ (w.in_ok-add-in-Write.ensures.ok
-          ∙ ap (add c.loop-number.journal) (recorded_is c.args.made.now run n c.segment-item.result w.in-Write.field-0 w.in_ok-recorded-in-Write.field-0 within at w.in-Write.is w.in_ok-recorded-in-Write.ensures)))
-          ∙ (write_step one run segments n c.segment-item.result within at w.in-Write.field-0 c.loop-number.journal w.in-Write.is ∙ c.loop-number.invariant)
+      | take_record-in-File+in_ok-recorded-in-File+in_ok-add-in-File w ↦
+          ap (left one run (n + 1) segments) (w.journal-is ∙ (w.in_ok-add-in-File.ensures.ok
+          ∙ ap (add c.loop-number.journal) (recorded_is c.args.made.now run n c.segment-item.result w.in-File.field-0 w.in_ok-recorded-in-File.field-0 within at w.in-File.is w.in_ok-recorded-in-File.ensures)))
+          ∙ (act_step one run segments n c.segment-item.result within at w.in-File.field-0 c.loop-number.journal w.in-File.is ∙ c.loop-number.invariant)
       | take_record-in-Call+in_ok-take_runs-in-Call w ↦
           ap (left one run (n + 1) segments) w.journal-is
           ∙ (call_step one run segments n c.segment-item.result within at w.in-Call.field-0 w.in-Call.runs c.loop-number.journal w.take_runs.new.journal w.in-Call.is

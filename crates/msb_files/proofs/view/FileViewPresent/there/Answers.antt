@@ -1,23 +1,26 @@
-use Rattle.std.proofs.Common.{sym, ap, ◌∙◌}
-use Rattle.msb_paths.specs.Presence.{is_there}
-use Rattle.file_store.specs.Files.{paths_of}
-use Rattle.msb_files.specs.Views.{View, paths}
+use Rattle.std.proofs.Common.{◌||◌, is_some, ◌∙◌, rules}
+use Rattle.std.specs.List.{list_any}
+use Rattle.msb_values.specs.Acts.{act_path}
+use Rattle.msb_values.specs.declared.act.Act.{Act}
+use Rattle.file_store.specs.declared.tree.File.{File}
+use Rattle.msb_files.specs.Below.{has_file_below}
+use Rattle.msb_files.specs.Views.{content, acts_of}
 use Rattle.msb_files.proofs.Indexed.{or_first, or_second}
-use Rattle.msb_files.proofs.Paths.{paths_in, there_of}
+use Rattle.msb_files.proofs.PathLaws.{there_is}
 use Rattle.msb_files.proofs.view.FileViewPresent.there.Goals as goal
 
-pub returns-then-there : goal.returns-then-there
-returns-then-there c =
+pub returns-then-is_some : goal.returns-then-is_some
+returns-then-is_some c =
+    let view = c.args.self.now in
     let path = c.args.path.now in
-    let tree = paths_of c.self.inside.tree.now.files in
-    let written = paths_in c.self.inside.journal.now in
-    or_first c.there.result (is_there tree path) (is_there written path) c.there.ensures c.if-there.true
-    ∙ (sym (there_of path tree written) ∙ ap (λ (v : View). is_there (paths v) path) c.self.view_is)
+    or_first c.is_some.result (is_some (content view path))
+    (list_any (λ (file : File). has_file_below view path file.path) view.files || list_any (λ (act : Act). has_file_below view path (act_path act)) (acts_of view.journal))
+    (search rules) c.if-is_some.true ∙ there_is view path
 
-pub returns-else-there : goal.returns-else-there
-returns-else-there c =
+pub returns-else-is_some : goal.returns-else-is_some
+returns-else-is_some c =
+    let view = c.args.self.now in
     let path = c.args.path.now in
-    let tree = paths_of c.self.inside.tree.now.files in
-    let written = paths_in c.self.inside.journal.now in
-    or_second c.there-else-there.result c.there.result (is_there tree path) (is_there written path) c.there.ensures c.if-there.false c.there-else-there.ensures
-    ∙ (sym (there_of path tree written) ∙ ap (λ (v : View). is_there (paths v) path) c.self.view_is)
+    or_second c.is_any_below.result c.is_some.result (is_some (content view path))
+    (list_any (λ (file : File). has_file_below view path file.path) view.files || list_any (λ (act : Act). has_file_below view path (act_path act)) (acts_of view.journal))
+    (search rules) c.if-is_some.false c.is_any_below.ensures ∙ there_is view path
