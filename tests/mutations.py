@@ -96,7 +96,8 @@ PIECES = [b"$(", b"%(", b"@(", b")", b"(", b"->", b"'", b'"', b"\\", b"/", b"../
           b".msb-0", b"Identity", b"RecursiveDir", b"MSBuildThisFile", b"->Count()", b"\\u0000"]
 ELEMENTS = ["Project", "PropertyGroup", "ItemGroup", "ItemDefinitionGroup", "Import", "ImportGroup",
             "Choose", "When", "Otherwise", "UsingTask", "Target", "Output", "OnError", "Message",
-            "Error", "Copy", "WriteLinesToFile", "CreateItem", "CreateProperty", "MSBuild", "P"]
+            "Error", "Copy", "WriteLinesToFile", "ReadLinesFromFile", "Delete", "CreateItem",
+            "CreateProperty", "MSBuild", "P"]
 ATTRIBUTES = ["Condition", "Label", "Include", "Exclude", "Remove", "Update", "KeepDuplicates",
               "KeepMetadata", "RemoveMetadata", "Project", "Name", "DependsOnTargets",
               "BeforeTargets", "AfterTargets", "Inputs", "Outputs", "Returns", "ContinueOnError",

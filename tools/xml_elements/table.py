@@ -78,6 +78,8 @@ TASKS = {
     "Error": "Text",
     "Copy": "SourceFiles DestinationFiles DestinationFolder SkipUnchangedFiles",
     "WriteLinesToFile": "File Lines Overwrite",
+    "ReadLinesFromFile": "File",
+    "Delete": "Files",
     "CreateItem": "Include Exclude AdditionalMetadata",
     "CreateProperty": "Value",
     "MSBuild": """

@@ -8,7 +8,7 @@ use Rattle.task_trait.specs.declared.tools.ToolInput.{ToolInput}
 
 -- a task that succeeds and makes nothing
 abbrev pub success : TaskOutput
-success = record { ok = true; outputs = []; files = []; notes = [] }
+success = record { ok = true; outputs = []; acts = []; notes = [] }
 
 -- there are two tools, and both succeed
 abbrev pub gate_answer : List ℕ → ToolInput → ToolAnswer

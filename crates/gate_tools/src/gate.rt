@@ -85,7 +85,7 @@ fn success(alloc: Global) -> ToolAnswer
     ToolAnswer::Made(TaskOutput {
         ok: true,
         outputs: List::new(alloc),
-        files: List::new(alloc),
+        acts: List::new(alloc),
         notes: List::new(alloc),
     })
 }

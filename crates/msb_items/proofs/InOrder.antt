@@ -1,5 +1,5 @@
--- Paths that are put in byte order, each once, stand in byte order.
-use Rattle.std.proofs.Common.{◌≡◌, ℕ, zero, suc, ◌+◌, ◌<◌, List, [], ◌∷◌, length, get_or, false, refl, ap, ◌∙◌, add-one, arith, IsSorted}
+-- Paths that are put in byte order, each once, stand in byte order, and so do some of them.
+use Rattle.std.proofs.Common.{◌≡◌, ℕ, zero, suc, ◌+◌, ◌<◌, List, [], ◌∷◌, length, get_or, filter, Bool, cond, true, false, refl, ap, ◌∙◌, add-one, arith, IsSorted}
 use Rattle.std.proofs.lemmas.Cmp.{nat_list_cmp_total}
 use Rattle.std.specs.BTreeSet.{insert_key}
 use Rattle.std.specs.Cmp.Lexicographic.{slice_cmp}
@@ -45,6 +45,22 @@ put_rising path (next ∷ paths) rising = go (put_rising path paths rising.1) (s
 pub all_rising : (paths others : List (List ℕ)) → IsRising others → IsRising (with_paths paths others)
 all_rising [] others rising = rising
 all_rising (path ∷ paths) others rising = all_rising paths (insert_key (slice_cmp nat_cmp) others path) (put_rising path others rising)
+
+some_below : (test : List ℕ → Bool) (path : List ℕ) (paths : List (List ℕ)) → IsBelow path paths → IsBelow path (filter test paths)
+some_below test path [] below = tt
+some_below test path (next ∷ paths) below = go (some_below test path paths below.1) (test next)
+  where
+    go : IsBelow path (filter test paths) → (b : Bool) → IsBelow path (cond b (next ∷ filter test paths) (filter test paths))
+    go later true = (below.0, later)
+    go later false = later
+
+pub some_rising : (test : List ℕ → Bool) (paths : List (List ℕ)) → IsRising paths → IsRising (filter test paths)
+some_rising test [] rising = tt
+some_rising test (path ∷ paths) rising = go (some_rising test paths rising.1) (test path)
+  where
+    go : IsRising (filter test paths) → (b : Bool) → IsRising (cond b (path ∷ filter test paths) (filter test paths))
+    go later true = (some_below test path paths rising.0, later)
+    go later false = later
 
 next : (paths : List (List ℕ)) (k : ℕ) (d : List ℕ) → IsRising paths → k + 1 < length paths → is_lt (slice_cmp nat_cmp (get_or paths (suc k) d) (get_or paths k d)) ≡ false
 next [] k d rising within = absurd (omega arith)

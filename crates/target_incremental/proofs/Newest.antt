@@ -10,7 +10,7 @@ missing : (stamp : Option ℕ) → is_missing_or_older stamp None ≡ true
 missing None = refl
 missing (Some n) = refl
 
--- a pair by the stamps of files that the journal has not written
+-- a pair by the stamps of files that the journal has neither written nor removed
 by_stamps : (input_written output_written : Bool) (input output : Option ℕ)
     → is_missing_or_older (unless_written input_written input) (unless_written output_written output) ≡ (input_written || (output_written || is_missing_or_older input output))
 by_stamps true output_written input output = refl

@@ -9,7 +9,8 @@ is_missing_or_older (Some input) (Some output) = nat_lt output input
 is_missing_or_older (Some input) None = true
 is_missing_or_older None output = true
 
--- a pair is out of date if the request's journal has written the input or the output, if one of them is missing, or if the input's stamp is greater
+-- a pair is out of date if the request's journal has written or removed the input or the output, if one of
+-- them is missing, or if the input's stamp is greater
 abbrev pub pair_is_old : View → (input output : List ℕ) → Bool
 pair_is_old view input output = written view input || (written view output || is_missing_or_older (stamp view input) (stamp view output))
 

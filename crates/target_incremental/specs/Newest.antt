@@ -4,7 +4,7 @@ use Rattle.std.specs.List.{list_any}
 use Rattle.msb_files.specs.Views.{View, written, stamp}
 use Rattle.target_incremental.specs.Ages.{is_missing_or_older}
 
--- the stamp of a file that is there and that the request's journal has not written
+-- the stamp of a file that is there and that the request's journal has neither written nor removed
 abbrev pub unless_written : Bool → Option ℕ → Option ℕ
 unless_written true stamp = None
 unless_written false stamp = stamp

@@ -5,8 +5,8 @@ ghost use Rattle.target_incremental.specs.Newest.{settled_stamp, newest_of, any_
 use msb_files::FileView;
 use msb_values::Text;
 
-/// Whether an output is out of date against an input: the request's journal has written one of them, one of them is
-/// missing, or the input's stamp is greater. Equal stamps are up to date. It takes no memory. (How to build incrementally.)
+/// Whether an output is out of date against an input: the request's journal has written or removed one of them, one
+/// of them is missing, or the input's stamp is greater. Equal stamps are up to date. It takes no memory. (How to build incrementally.)
 pub fn pair_is_old(view: &FileView<'_>, input: &str, output: &str) -> bool
     ensures { result ≡ pair_is_old view.now input.now output.now }
 {
@@ -23,7 +23,7 @@ pub(crate) fn any_is_old(view: &FileView<'_>, inputs: &[Text], outputs: &[Text])
     any_older(view, newest, outputs)
 }
 
-// The stamp of a file that is there and that the request's journal has not written.
+// The stamp of a file that is there and that the request's journal has neither written nor removed.
 fn settled_stamp(view: &FileView<'_>, path: &str) -> Option<u64>
     ensures { result ≡ settled_stamp view.now path.now }
 {

@@ -34,9 +34,11 @@ list_parameters =
     (codes "copy", codes "destinationfiles" ∷ codes "sourcefiles" ∷ []) ∷
     (codes "createitem", codes "additionalmetadata" ∷ codes "exclude" ∷ codes "include" ∷ []) ∷
     (codes "createproperty", codes "value" ∷ []) ∷
+    (codes "delete", codes "files" ∷ []) ∷
     (codes "error", []) ∷
     (codes "message", []) ∷
     (codes "msbuild", codes "projects" ∷ codes "properties" ∷ codes "removeproperties" ∷ codes "targets" ∷ []) ∷
+    (codes "readlinesfromfile", []) ∷
     (codes "warning", []) ∷
     (codes "writelinestofile", codes "lines" ∷ []) ∷ []
 

@@ -199,7 +199,8 @@ fn takes_list(task: &str, name: &str) -> bool
         "copy" => matches!(name, "destinationfiles" | "sourcefiles"),
         "createitem" => matches!(name, "additionalmetadata" | "exclude" | "include"),
         "createproperty" => name == "value",
-        "error" | "message" | "warning" => false,
+        "delete" => name == "files",
+        "error" | "message" | "readlinesfromfile" | "warning" => false,
         "msbuild" => matches!(
             name,
             "projects" | "properties" | "removeproperties" | "targets"

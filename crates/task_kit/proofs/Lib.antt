@@ -4,5 +4,6 @@ pub mod Joining
 pub mod OtherWritten
 pub mod Pairing
 pub mod Percents
+pub mod Reading
 pub mod Rising
 pub mod SameViews

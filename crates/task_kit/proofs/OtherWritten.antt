@@ -33,6 +33,9 @@ use Rattle.msb_values.specs.Pairs.{value_at}
 use Rattle.msb_values.specs.declared.item.Item.{Item}
 use Rattle.msb_values.specs.declared.note.Note.{Note}
 use Rattle.msb_values.specs.declared.note.Note.TheVariants.{Fail}
+use Rattle.msb_values.specs.Acts.{act_path}
+use Rattle.msb_values.specs.declared.act.Act.{Act}
+use Rattle.msb_values.specs.declared.act.Act.TheVariants.{Write}
 use Rattle.msb_values.specs.declared.put.Put.{Put}
 use Rattle.msb_paths.specs.Normal.{is_normal}
 use Rattle.msb_files.specs.Views.{View, content}
@@ -64,8 +67,9 @@ use Rattle.task_kit.specs.Copies.{
   counted,
 }
 use Rattle.task_kit.specs.Made.{
-  has_room,
   added,
+  fits,
+  with_act,
   with_file,
   made_by,
   made_in,
@@ -75,7 +79,7 @@ use Rattle.task_kit.specs.Made.{
   succeeded,
 }
 use Rattle.task_kit.specs.Lines.{written_lines, output_written, write_lines, text_after}
-use Rattle.task_kit.specs.Foreign.{written_by_tool, foreign_output}
+use Rattle.task_kit.specs.Foreign.{acted_by_tool, foreign_output}
 use Rattle.task_kit.specs.Paths.{path_in}
 use Rattle.task_kit.specs.Tasks.{built_in, done, output_of, answer_of, answer}
 use Rattle.task_kit.specs.declared.copies.Source.{Source}
@@ -88,6 +92,8 @@ use Rattle.task_kit.specs.declared.tasks.BuiltIn.TheVariants.{
   Error,
   Copy,
   WriteLinesToFile,
+  ReadLinesFromFile,
+  Delete,
   CreateItem,
   CreateProperty,
 }
@@ -108,7 +114,7 @@ pub data EqualOrLarge (x y : TaskOutput) : Type 0 where
 -- ---- what is made
 
 record Shifted (a b : Made) : Type 0 where
-  files : a.files ≡ b.files
+  acts : a.acts ≡ b.acts
   items : a.items ≡ b.items
 
 -- the same but for what was written before, or a file is too large
@@ -118,17 +124,22 @@ data MadeAlike : Result Made Failure → Result Made Failure → Type 0 where
   large_first : (path : List ℕ) (r : Result Made Failure) → MadeAlike (Err (TooLarge path)) r
   large_second : (path : List ℕ) (r : Result Made Failure) → MadeAlike r (Err (TooLarge path))
 
+added-alike : (act : Act) (a b : Made) → Shifted a b → Shifted (added act a) (added act b)
+added-alike act a b s = record { acts = ap (λ l. l ++ act ∷ []) s.acts; items = s.items }
+
+act-alike : (told : List ℕ) (act : Act) (a b : Made) → Shifted a b →
+    MadeAlike (with_act told act a) (with_act told act b)
+act-alike told act a b s = go (fits act a.written) (fits act b.written)
+  where
+    go : (x y : Bool) → MadeAlike (if x then Ok (added act a) else Err (TooLarge told))
+        (if y then Ok (added act b) else Err (TooLarge told))
+    go true true = both_made (added act a) (added act b) (added-alike act a b s)
+    go true false = large_second told (Ok (added act a))
+    go false y = large_first told (if y then Ok (added act b) else Err (TooLarge told))
+
 file-alike : (told : List ℕ) (put : Put) (a b : Made) → Shifted a b →
     MadeAlike (with_file told put a) (with_file told put b)
-file-alike told put a b s = go (has_room a.written (length put.bytes))
-    (has_room b.written (length put.bytes))
-  where
-    go : (x y : Bool) → MadeAlike (if x then Ok (added put a) else Err (TooLarge told))
-        (if y then Ok (added put b) else Err (TooLarge told))
-    go true true = both_made (added put a) (added put b)
-        (record { files = ap (λ l. l ++ put ∷ []) s.files; items = s.items })
-    go true false = large_second told (Ok (added put a))
-    go false y = large_first told (if y then Ok (added put b) else Err (TooLarge told))
+file-alike told put a b s = act-alike told (Write put) a b s
 
 -- acts in turn
 data AllAlike : Result Made (Made × Failure) → Result Made (Made × Failure) → Type 0 where
@@ -172,38 +183,38 @@ output-alike task g h r q (all_made a b s) =
     equal (ap (λ (o : TaskOutput). record {
       ok = o.ok;
       outputs = o.outputs;
-      files = a.files;
+      acts = a.acts;
       notes =
           o.notes;
     }) (h a b s) ∙ ap (λ l. record {
       ok = (g b).ok;
       outputs = (g b).outputs;
-      files =
+      acts =
           l;
       notes = (g b).notes;
-    }) s.files)
+    }) s.acts)
 output-alike task g h r q (all_fail a b failure s) =
     equal (ap (λ (o : TaskOutput). record {
       ok = false;
       outputs = o.outputs;
-      files =
-          a.files;
+      acts =
+          a.acts;
       notes = o.notes ++ Fail (failure_text task failure) ∷ [];
     }) (h a b s)
     ∙ ap (λ l. record {
       ok = false;
       outputs = (g b).outputs;
-      files = l;
+      acts = l;
       notes =
           (g b).notes ++ Fail (failure_text task failure) ∷ [];
-    }) s.files)
+    }) s.acts)
 output-alike task g h r q (all_large_first a path y) =
     first_large (record { task = task; path = path; there = ((g a).notes, refl) })
 output-alike task g h r q (all_large_second b path y) =
     second_large (record { task = task; path = path; there = ((g b).notes, refl) })
 
 starts : (n m : ℕ) → Shifted (started n) (started m)
-starts n m = record { files = refl; items = refl }
+starts n m = record { acts = refl; items = refl }
 
 -- ---- results with an output
 
@@ -244,7 +255,7 @@ of-lift name (Err f) (Err g) h = equal (ap (λ z. output_of name (Err z)) h)
 item-alike : (item : Item) (r q : Result Made Failure) → MadeAlike r q →
     MadeAlike (map_ok (with_item item) r) (map_ok (with_item item) q)
 item-alike item r q (both_made a b s) = both_made (with_item item a) (with_item item b)
-    (record { files = s.files; items = ap (λ l. l ++ item ∷ []) s.items })
+    (record { acts = s.acts; items = ap (λ l. l ++ item ∷ []) s.items })
 item-alike item r q (both_fail failure) = both_fail failure
 item-alike item r q (large_first path y) = large_first path (map_ok (with_item item) y)
 item-alike item r q (large_second path y) = large_second path (map_ok (with_item item) y)
@@ -353,6 +364,8 @@ done-alike Warning dir v params n m = same-lift (done Warning dir v params n)
 done-alike Error dir v params n m = same-lift (done Error dir v params n)
 done-alike Copy dir v params n m = copy-alike dir v params n m
 done-alike WriteLinesToFile dir v params n m = write-alike dir v params n m
+done-alike ReadLinesFromFile dir v params n m = same-lift (done ReadLinesFromFile dir v params n)
+done-alike Delete dir v params n m = same-lift (done Delete dir v params n)
 done-alike CreateItem dir v params n m = same-lift (done CreateItem dir v params n)
 done-alike CreateProperty dir v params n m = same-lift (done CreateProperty dir v params n)
 
@@ -374,21 +387,24 @@ pub answers-alike : (name dir : List ℕ) (v : View) (params : List Param) (n m 
     AnswersAlike (answer name dir v params n) (answer name dir v params m)
 answers-alike name dir v params n m = answer-alike (value_at name built_in) name dir v params n m
 
-tool-alike : (a b : Made) (put : Put) → Shifted a b →
-    MadeAlike (written_by_tool a put) (written_by_tool b put)
-tool-alike a b put s = go (is_normal put.path)
+tool-alike : (a b : Made) (act : Act) → Shifted a b →
+    MadeAlike (acted_by_tool a act) (acted_by_tool b act)
+tool-alike a b act s = go (is_normal (act_path act))
   where
-    go : (t : Bool) → MadeAlike (if t then with_file put.path put a else Err (BadPath put.path))
-        (if t then with_file put.path put b else Err (BadPath put.path))
-    go true = file-alike put.path put a b s
-    go false = both_fail (BadPath put.path)
+    path : List ℕ
+    path = act_path act
+
+    go : (t : Bool) → MadeAlike (if t then with_act path act a else Err (BadPath path))
+        (if t then with_act path act b else Err (BadPath path))
+    go true = act-alike path act a b s
+    go false = both_fail (BadPath path)
 
 pub tools-alike : (name : List ℕ) (n m : ℕ) (a : ToolAnswer) →
     EqualOrLarge (foreign_output name n a) (foreign_output name m a)
 tools-alike name n m Unknown = equal refl
 tools-alike name n m (MadeBy output) =
     output-alike name (λ a. output) (λ a b s. refl)
-    (made_by written_by_tool (started n) output.files)
-    (made_by written_by_tool (started m) output.files)
-    (made-alike written_by_tool (λ a b x s. tool-alike a b x s) output.files (started n) (started m)
+    (made_by acted_by_tool (started n) output.acts)
+    (made_by acted_by_tool (started m) output.acts)
+    (made-alike acted_by_tool (λ a b x s. tool-alike a b x s) output.acts (started n) (started m)
     (starts n m))

@@ -1,5 +1,5 @@
 -- The paths of a view stand in byte order.
-use Rattle.std.proofs.Common.{◌≡◌, ℕ, zero, suc, ◌+◌, ◌<◌, List, [], ◌∷◌, length, get_or, map, true, false, refl, ap, ◌∙◌, add-one, arith, IsSorted}
+use Rattle.std.proofs.Common.{◌≡◌, ℕ, zero, suc, ◌+◌, ◌<◌, List, [], ◌∷◌, length, get_or, map, filter, Bool, cond, true, false, refl, ap, ◌∙◌, add-one, arith, IsSorted}
 use Rattle.std.specs.List.{list_all}
 use Rattle.std.specs.BTreeSet.{insert_key}
 use Rattle.std.specs.Cmp.Lexicographic.{slice_cmp}
@@ -7,10 +7,11 @@ use Rattle.std.specs.Ordering.{is_lt, nat_cmp, match_ordering, ordering_reverse}
 use Rattle.std.specs.declared.cmp.Ordering.{Ordering}
 use Rattle.std.specs.declared.cmp.Ordering.TheVariants.{Less, Equal, Greater}
 use Rattle.std.proofs.lemmas.Cmp.{nat_list_cmp_total}
+use Rattle.msb_values.specs.Acts.{act_path}
 use Rattle.file_store.specs.Files.{paths_of}
 use Rattle.file_store.specs.Paths.{is_before, are_rising}
 use Rattle.file_store.proofs.Order.{and_true, both_true, chain, greater}
-use Rattle.msb_files.specs.Views.{View, with_paths, puts_of, paths}
+use Rattle.msb_files.specs.Views.{View, with_paths, acts_of, paths, paths_met}
 
 all_after : (p q : List ℕ) (ps : List (List ℕ)) → is_before p q ≡ true → list_all (is_before q) ps ≡ true → list_all (is_before p) ps ≡ true
 all_after p q [] first rest = refl
@@ -50,5 +51,28 @@ next (p ∷ q ∷ ps) (suc k) d rising within = next (q ∷ ps) k d (and_true _ 
 sorted : (ps : List (List ℕ)) → are_rising ps ≡ true → IsSorted (slice_cmp nat_cmp) ps
 sorted ps rising = λ k d low within. rw add-one (next ps k d rising within)
 
+filtered_after : (test : List ℕ → Bool) (p : List ℕ) (ps : List (List ℕ)) → list_all (is_before p) ps ≡ true
+    → list_all (is_before p) (filter test ps) ≡ true
+filtered_after test p [] after = refl
+filtered_after test p (q ∷ ps) after = by (test q) (filtered_after test p ps (and_true _ _ after).1)
+  where
+    by : (b : Bool) → list_all (is_before p) (filter test ps) ≡ true
+        → list_all (is_before p) (cond b (q ∷ filter test ps) (filter test ps)) ≡ true
+    by true more = both_true _ _ (and_true _ _ after).0 more
+    by false more = more
+
+-- some of the paths stand in byte order too
+filtered : (test : List ℕ → Bool) (ps : List (List ℕ)) → are_rising ps ≡ true → are_rising (filter test ps) ≡ true
+filtered test [] rising = refl
+filtered test (p ∷ ps) rising = by (test p) (filtered test ps (and_true _ _ rising).1)
+  where
+    by : (b : Bool) → are_rising (filter test ps) ≡ true → are_rising (cond b (p ∷ filter test ps) (filter test ps)) ≡ true
+    by true more = both_true _ _ (filtered_after test p ps (and_true _ _ rising).0) more
+    by false more = more
+
+met : (view : View) → are_rising (paths_met view) ≡ true
+met view =
+    with_all (paths_of view.files) _ (with_all (map act_path (acts_of view.journal)) [] refl)
+
 pub paths_sorted : (view : View) → IsSorted (slice_cmp nat_cmp) (paths view)
-paths_sorted view = sorted (paths view) (with_all (paths_of view.files) (with_paths (map (λ put. put.path) (puts_of view.journal)) []) (with_all (map (λ put. put.path) (puts_of view.journal)) [] refl))
+paths_sorted view = sorted (paths view) (filtered _ (paths_met view) (met view))

@@ -11,6 +11,7 @@ use Rattle.std.proofs.Common.{
   List,
   [],
   ◌∷◌,
+  ◌++◌,
   length,
   Option,
   None,
@@ -20,10 +21,12 @@ use Rattle.std.proofs.Common.{
   ◌∙◌,
   zip,
 }
-use Rattle.std.specs.Prelude.{Result, Ok, Err, codes, if◌then◌else◌, map}
+use Rattle.std.specs.Prelude.{Result, Ok, Err, codes, if◌then◌else◌, map, fold, is_some}
 use Rattle.msb_laws.specs.Results.{and_then, map_ok, all_ok}
 use Rattle.msb_values.specs.Changes.{with_metadata}
 use Rattle.msb_values.specs.Pairs.{value_at}
+use Rattle.msb_values.specs.declared.act.Act.{Act}
+use Rattle.msb_values.specs.declared.act.Act.TheVariants.{Remove}
 use Rattle.msb_values.specs.declared.item.Item.{Item}
 use Rattle.msb_files.specs.Views as views
 use Rattle.msb_files.specs.Views.{View, content}
@@ -62,6 +65,8 @@ use Rattle.task_kit.specs.Copies.{
 use Rattle.task_kit.specs.Made.{with_file, made_by, started, kept_by, output_with, succeeded}
 use Rattle.task_kit.specs.Lines.{written_lines, output_written, write_lines, text_after}
 use Rattle.task_kit.specs.Included.{create_item, metadata_in, include_output, items_created}
+use Rattle.task_kit.specs.Read.{read_lines, lines_read}
+use Rattle.task_kit.specs.Removed.{delete, path_at, is_acted, with_removed, removed, output_removed}
 use Rattle.task_kit.specs.Foreign.{file_at as file_in, foreign_input}
 use Rattle.task_kit.specs.Paths.{path_in}
 use Rattle.task_kit.specs.Tasks.{built_in, done, output_of, answer_of, answer}
@@ -75,6 +80,8 @@ use Rattle.task_kit.specs.declared.tasks.BuiltIn.TheVariants.{
   Error,
   Copy,
   WriteLinesToFile,
+  ReadLinesFromFile,
+  Delete,
   CreateItem,
   CreateProperty,
 }
@@ -186,6 +193,41 @@ module _ (v u : View) (seen-same : (path : List ℕ) → content v path ≡ cont
       ap (λ ps. map_ok (λ items. succeeded (include_output (map (with_metadata metadata) items)
       ∷ [])) (items_created dir ps entries (items_of (codes "exclude") params))) paths-same)))
 
+  -- ---- ReadLinesFromFile
+
+  read-same : (dir : List ℕ) (params : List Param) →
+      read_lines dir v params ≡ read_lines dir u params
+  read-same dir params =
+      ap (unless (check_known (codes "file" ∷ []) params))
+      (and-same (needed_text (codes "file") params) _ _ (λ file.
+      and-same (path_in dir (codes "file") file) _ _ (λ path.
+      ap (lines_read file) (seen-same path))))
+
+  -- ---- Delete
+
+  with-removed : (acts : List Act) (path : List ℕ) →
+      with_removed v acts path ≡ with_removed u acts path
+  with-removed acts path =
+      ap (λ c. if is_some c && not (is_acted acts path) then acts ++ Remove path ∷ [] else acts)
+      (seen-same path)
+
+  all-removed : (paths : List (List ℕ)) → removed v paths ≡ removed u paths
+  all-removed paths = ap (λ f. fold f [] paths)
+      (ext (with_removed v) (with_removed u)
+      (λ acts. ext (with_removed v acts) (with_removed u acts) (with-removed acts)))
+
+  delete-same : (dir : List ℕ) (params : List Param) → delete dir v params ≡ delete dir u params
+  delete-same dir params =
+      ap (unless (check_known (codes "files" ∷ []) params))
+      (and-same (needed_items (codes "files") params) _ _ (λ items.
+      map-same (output_removed v items) (output_removed u items) (all_ok (path_at dir) items)
+      (λ paths. ap (λ acts. record {
+        ok = true;
+        outputs = record { name = codes "deletedfiles"; items = items } ∷ [];
+        acts = acts;
+        notes = [];
+      }) (all-removed paths))))
+
   -- ---- all tasks
 
   done-same : (task : BuiltIn) (dir : List ℕ) (params : List Param) (written : ℕ) →
@@ -195,6 +237,8 @@ module _ (v u : View) (seen-same : (path : List ℕ) → content v path ≡ cont
   done-same Error dir params written = refl
   done-same Copy dir params written = copy-same dir params written
   done-same WriteLinesToFile dir params written = write-same dir params written
+  done-same ReadLinesFromFile dir params written = read-same dir params
+  done-same Delete dir params written = delete-same dir params
   done-same CreateItem dir params written = create-same dir params
   done-same CreateProperty dir params written = refl
 

@@ -55,7 +55,7 @@ abbrev pub item_copied : Source → Destination → Item
 item_copied source destination = record { ident = destination.text; recursive = source.item.recursive; meta = source.item.meta }
 
 abbrev pub with_item : Item → Made → Made
-with_item item made = record { written = made.written; files = made.files; items = made.items ++ item ∷ [] }
+with_item item made = record { written = made.written; acts = made.acts; items = made.items ++ item ∷ [] }
 
 -- a destination that has these bytes already
 abbrev pub is_unchanged : Option (List ℕ) → List ℕ → Bool

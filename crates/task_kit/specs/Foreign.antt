@@ -3,7 +3,8 @@ use Rattle.std.specs.Prelude.{ℕ, List, Result, Err, codes, if◌then◌else◌
 use Rattle.msb_laws.specs.Results.{map_ok, all_ok}
 use Rattle.msb_paths.specs.Normal.{is_normal}
 use Rattle.msb_values.specs.declared.item.Item.{Item}
-use Rattle.msb_values.specs.declared.put.Put.{Put}
+use Rattle.msb_values.specs.Acts.{act_path}
+use Rattle.msb_values.specs.declared.act.Act.{Act}
 use Rattle.msb_files.specs.Views.{View, content}
 use Rattle.task_trait.specs.Failures.{failed}
 use Rattle.task_trait.specs.Params.{items_of}
@@ -15,7 +16,7 @@ use Rattle.task_trait.specs.declared.tools.TaskOutput.{TaskOutput}
 use Rattle.task_trait.specs.declared.tools.ToolAnswer.{ToolAnswer}
 use Rattle.task_trait.specs.declared.tools.ToolAnswer.TheVariants.{Unknown, Made as made_answer}
 use Rattle.task_trait.specs.declared.tools.ToolInput.{ToolInput}
-use Rattle.task_kit.specs.Made.{started, with_file, made_by, output_with}
+use Rattle.task_kit.specs.Made.{started, with_act, made_by, output_with}
 use Rattle.task_kit.specs.Paths.{path_in}
 use Rattle.task_kit.specs.declared.made.Made.{Made}
 
@@ -27,11 +28,14 @@ file_at dir view item = map_ok (λ path. record { path = path; content = content
 abbrev pub foreign_input : List ℕ → View → List Param → Result ToolInput Failure
 foreign_input dir view params = map_ok (λ files. record { params = params; files = files }) (all_ok (file_at dir view) (items_of (codes "sources") params))
 
--- a file of a tool is written at a normal path alone
-abbrev pub written_by_tool : Made → Put → Result Made Failure
-written_by_tool made put = if is_normal put.path then with_file put.path put made else Err (BadPath put.path)
+-- a tool writes and removes files at normal paths alone
+abbrev pub acted_by_tool : Made → Act → Result Made Failure
+acted_by_tool made act =
+    let path = act_path act in
+    if is_normal path then with_act path act made else Err (BadPath path)
 
 -- what is taken from a tool, in a run that has written this much before
 abbrev pub foreign_output : List ℕ → ℕ → ToolAnswer → TaskOutput
 foreign_output name written Unknown = failed name UnknownTask
-foreign_output name written (made_answer output) = output_with name output (made_by written_by_tool (started written) output.files)
+foreign_output name written (made_answer output) =
+    output_with name output (made_by acted_by_tool (started written) output.acts)

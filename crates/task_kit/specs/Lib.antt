@@ -5,5 +5,7 @@ pub mod Messages
 pub mod Copies
 pub mod Lines
 pub mod Included
+pub mod Removed
+pub mod Read
 pub mod Computed
 pub mod Foreign

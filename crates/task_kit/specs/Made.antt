@@ -1,10 +1,13 @@
--- What a task has made, file by file, and the limits of what it may write. (MSBuild tasks)
+-- What a task has done, act by act, and the limits of what it may write. (MSBuild tasks)
 use Rattle.std.specs.Prelude.{◌≡◌, ℕ, ◌+◌, Bool, true, false, ◌&&◌, nat_le, List, [], ◌∷◌, ◌++◌, length, Result, Ok, Err, if◌then◌else◌}
 use Rattle.msb_laws.specs.Results.{fold_ok}
+use Rattle.msb_values.specs.declared.act.Act.{Act}
+use Rattle.msb_values.specs.declared.act.Act.TheVariants.{Write, Remove}
 use Rattle.msb_values.specs.declared.note.Note.TheVariants.{Fail}
 use Rattle.msb_values.specs.declared.put.Put.{Put}
 use Rattle.task_trait.specs.Answers.{UnlessMemory}
 use Rattle.task_trait.specs.Failures.{failure_text}
+use Rattle.task_trait.specs.Tools.{act_size}
 use Rattle.task_trait.specs.declared.failures.Failure.{Failure}
 use Rattle.task_trait.specs.declared.failures.Failure.TheVariants.{TooLarge}
 use Rattle.task_trait.specs.declared.tools.Param.{Param}
@@ -17,14 +20,28 @@ has_room written size = nat_le size 16777216 && nat_le (written + size) 67108864
 
 -- nothing yet, in a run that has written this much before
 abbrev pub started : ℕ → Made
-started written = record { written = written; files = []; items = [] }
+started written = record { written = written; acts = []; items = [] }
 
-abbrev pub added : Put → Made → Made
-added put made = record { written = made.written + length put.bytes; files = made.files ++ put ∷ []; items = made.items }
+-- an act more
+abbrev pub added : Act → Made → Made
+added act made = record {
+  written = made.written + act_size act;
+  acts = made.acts ++ act ∷ [];
+  items = made.items;
+}
 
--- a file more, unless it is too large; its path is told as the task was handed it
+-- a removal always has room
+abbrev pub fits : Act → ℕ → Bool
+fits (Write put) written = has_room written (length put.bytes)
+fits (Remove path) written = true
+
+-- an act more, unless it writes too much; its path is told as the task was handed it
+abbrev pub with_act : List ℕ → Act → Made → Result Made Failure
+with_act told act made =
+    if fits act made.written then Ok (added act made) else Err (TooLarge told)
+
 abbrev pub with_file : List ℕ → Put → Made → Result Made Failure
-with_file told put made = if has_room made.written (length put.bytes) then Ok (added put made) else Err (TooLarge told)
+with_file told put made = with_act told (Write put) made
 
 -- an act that fails leaves what was made before it
 abbrev pub kept_by : Made → Result Made Failure → Result Made (Made × Failure)
@@ -42,13 +59,19 @@ made_in (Err stop) = stop.0
 
 -- the output of a task that does what it is to do
 abbrev pub succeeded : List Param → TaskOutput
-succeeded outputs = record { ok = true; outputs = outputs; files = []; notes = [] }
+succeeded outputs = record { ok = true; outputs = outputs; acts = []; notes = [] }
 
--- an output with the files that were written; a failure makes the task fail, with its note behind the others
+-- an output with what was done to files; a failure makes the task fail, with its note behind the others
 abbrev pub output_with : List ℕ → TaskOutput → Result Made (Made × Failure) → TaskOutput
-output_with task output (Ok made) = record { ok = output.ok; outputs = output.outputs; files = made.files; notes = output.notes }
+output_with task output (Ok made) =
+    record { ok = output.ok; outputs = output.outputs; acts = made.acts; notes = output.notes }
 output_with task output (Err stop) =
-    record { ok = false; outputs = output.outputs; files = stop.0.files; notes = output.notes ++ Fail (failure_text task stop.1) ∷ [] }
+    record {
+      ok = false;
+      outputs = output.outputs;
+      acts = stop.0.acts;
+      notes = output.notes ++ Fail (failure_text task stop.1) ∷ [];
+    }
 
 -- one act of the code, and acts in turn: what is made then is what the answer says, but for want of memory
 abbrev pub Acts : {T : Type 0} → Result T Failure → Made → Made → Result Made Failure → Type 0

@@ -14,7 +14,7 @@ use Rattle.task_kit.specs.Made.{succeeded}
 
 -- a task that only says something
 abbrev pub said : Note → TaskOutput
-said note = record { ok = true; outputs = []; files = []; notes = note ∷ [] }
+said note = record { ok = true; outputs = []; acts = []; notes = note ∷ [] }
 
 -- `low`, or `normal` or `high`, without case; an empty text is normal
 abbrev pub is_low : List ℕ → Option Bool

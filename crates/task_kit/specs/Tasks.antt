@@ -13,8 +13,20 @@ use Rattle.task_kit.specs.Messages as messages
 use Rattle.task_kit.specs.Copies.{copy}
 use Rattle.task_kit.specs.Lines.{write_lines}
 use Rattle.task_kit.specs.Included.{create_item}
+use Rattle.task_kit.specs.Removed.{delete}
+use Rattle.task_kit.specs.Read.{read_lines}
 use Rattle.task_kit.specs.declared.tasks.BuiltIn.{BuiltIn}
-use Rattle.task_kit.specs.declared.tasks.BuiltIn.TheVariants.{Message, Warning, Error, Copy, WriteLinesToFile, CreateItem, CreateProperty}
+use Rattle.task_kit.specs.declared.tasks.BuiltIn.TheVariants.{
+  Message,
+  Warning,
+  Error,
+  Copy,
+  WriteLinesToFile,
+  ReadLinesFromFile,
+  Delete,
+  CreateItem,
+  CreateProperty,
+}
 
 -- the tasks by their names; MSBuild is planned elsewhere, and every other name is a tool's
 abbrev pub built_in : List (List ℕ × BuiltIn)
@@ -24,6 +36,8 @@ built_in =
     (codes "error", Error) ∷
     (codes "copy", Copy) ∷
     (codes "writelinestofile", WriteLinesToFile) ∷
+    (codes "readlinesfromfile", ReadLinesFromFile) ∷
+    (codes "delete", Delete) ∷
     (codes "createitem", CreateItem) ∷
     (codes "createproperty", CreateProperty) ∷ []
 
@@ -34,6 +48,8 @@ done Warning dir view params written = messages.warning params
 done Error dir view params written = messages.error params
 done Copy dir view params written = copy dir view params written
 done WriteLinesToFile dir view params written = write_lines dir view params written
+done ReadLinesFromFile dir view params written = read_lines dir view params
+done Delete dir view params written = delete dir view params
 done CreateItem dir view params written = create_item dir view params
 done CreateProperty dir view params written = messages.create_property params
 

@@ -13,7 +13,7 @@ use crate::made::{Made, output, output_with, succeeded};
 use crate::paths::path_in;
 use msb_files::FileView;
 use msb_paths::{NoRoom, join, parts};
-use msb_values::{Copied, Item, List, NoMemory, Put, Text, Text8};
+use msb_values::{Copied, Item, List, NoMemory, Put, Shared, Text, Text8};
 use std::alloc::Global;
 use task_trait::{Failure, Param, TaskOutput, check_known, items_of, text_of, truth_at};
 
@@ -323,7 +323,7 @@ fn write_at(
     }
     let put = Put {
         path: destination.path.copy()?,
-        bytes: Text8::of(alloc, bytes)?,
+        bytes: Shared::new(alloc, Text8::of(alloc, bytes)?)?,
     };
     made.write(alloc, destination.text.as_str(), put)
 }

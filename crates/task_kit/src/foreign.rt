@@ -1,14 +1,14 @@
 ghost use Rattle.std.specs.Prelude.{◌≡◌, IfOk, option_copied};
 ghost use Rattle.msb_laws.specs.Results.{all_ok};
 ghost use Rattle.task_trait.specs.Answers.{Gives, GivesAs, UnlessMemory};
-ghost use Rattle.task_kit.specs.Foreign.{file_at, foreign_input, foreign_output, written_by_tool};
+ghost use Rattle.task_kit.specs.Foreign.{acted_by_tool, file_at, foreign_input, foreign_output};
 ghost use Rattle.task_kit.specs.Made.{Acts, Makes, made_by, output_with, started};
 
 use crate::made::{Made, output_with};
 use crate::paths::path_in;
 use msb_files::FileView;
 use msb_paths::is_normal;
-use msb_values::{Item, List, Name, NoMemory, Put, Text, Text8};
+use msb_values::{Act, Item, List, Name, NoMemory, Text, Text8};
 use std::alloc::Global;
 use task_trait::{Failure, FileIn, Param, TaskOutput, ToolAnswer, ToolInput, items_of};
 
@@ -60,7 +60,7 @@ fn copied(alloc: Global, bytes: Option<&[u8]>) -> Result<Option<Text8>, NoMemory
 }
 
 /// What is taken from a tool, in a run that has written this much before: an unknown task is a failure, and so are a
-/// file whose path is not normal and one that is too large, before which the files are kept.
+/// path that is not normal and a file that is too large, before which what was done is kept.
 pub fn foreign_output(
     alloc: Global,
     name: &Name,
@@ -81,44 +81,44 @@ fn checked(
     output: TaskOutput,
     written: u64,
 ) -> Result<TaskOutput, NoMemory>
-    ensures { IfOk result (λ whole. whole ≡ output_with name.now output (made_by written_by_tool (started written) output.files)) }
+    ensures { IfOk result (λ whole. whole ≡ output_with name.now output (made_by acted_by_tool (started written) output.acts)) }
 {
     let TaskOutput {
         ok,
         outputs,
-        files,
+        acts,
         notes,
     } = output;
     let mut made = Made::new(alloc, written);
-    let work = write_all(alloc, &mut made, files.into_vec());
-    let without_files = TaskOutput {
+    let work = act_all(alloc, &mut made, acts.into_vec());
+    let without_acts = TaskOutput {
         ok,
         outputs,
-        files: List::new(alloc),
+        acts: List::new(alloc),
         notes,
     };
-    output_with(alloc, name, without_files, made, work)
+    output_with(alloc, name, without_acts, made, work)
 }
 
-fn write_all(alloc: Global, made: &mut Made, files: Vec<Put>) -> Result<(), Failure>
-    ensures { Makes result made.new (made_by written_by_tool made.old files.items) }
+fn act_all(alloc: Global, made: &mut Made, acts: Vec<Act>) -> Result<(), Failure>
+    ensures { Makes result made.new (made_by acted_by_tool made.old acts.items) }
 {
-    for put in files {
-        write_one(alloc, made, put)?;
+    for act in acts {
+        act_once(alloc, made, act)?;
     }
     Ok(())
 }
 
-/// Writes a file, whose path is to be normal.
-fn write_one(alloc: Global, made: &mut Made, put: Put) -> Result<(), Failure>
-    ensures { Acts result made.old made.new (written_by_tool made.old put) }
+/// Writes or removes a file, whose path is to be normal.
+fn act_once(alloc: Global, made: &mut Made, act: Act) -> Result<(), Failure>
+    ensures { Acts result made.old made.new (acted_by_tool made.old act) }
 {
-    let told = match Text::of(alloc, put.path.as_str()) {
+    let told = match Text::of(alloc, act.path()) {
         Ok(told) => told,
         Err(NoMemory) => return Err(Failure::Memory),
     };
-    if !is_normal(put.path.as_str()) {
+    if !is_normal(act.path()) {
         return Err(Failure::BadPath(told));
     }
-    made.write(alloc, told.as_str(), put)
+    made.act(alloc, told.as_str(), act)
 }

@@ -7,7 +7,7 @@ ghost use Rattle.task_kit.specs.Made.{Acts};
 use crate::made::{Made, output_with, succeeded};
 use crate::paths::path_in;
 use msb_files::FileView;
-use msb_values::{Item, List, NoMemory, Put, Text, Text8};
+use msb_values::{Item, List, NoMemory, Put, Shared, Text, Text8};
 use std::alloc::Global;
 use task_trait::{Failure, Param, TaskOutput, check_known, items_of, needed_text, truth_at};
 
@@ -70,6 +70,7 @@ fn write_file(
     }
     let mut bytes = kept_text(alloc, view, writing.overwrite, path.as_str())?;
     push_lines(&mut bytes, writing.lines)?;
+    let bytes = Shared::new(alloc, bytes)?;
     made.write(alloc, writing.file, Put { path, bytes })
 }
 

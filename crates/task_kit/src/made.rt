@@ -1,12 +1,13 @@
 ghost use Rattle.std.specs.Prelude.{◌≡◌, ◌+◌, ◌<◌, ◌^◌, true, Some, Result, Err, IfOk};
 ghost use Rattle.msb_values.specs.Keys.{key_of};
 ghost use Rattle.task_trait.specs.Answers.{UnlessMemory};
+ghost use Rattle.task_trait.specs.Tools.{act_size};
 ghost use Rattle.task_trait.specs.declared.failures.Failure.TheVariants.{TooLarge, Memory};
 ghost use Rattle.task_trait.specs.declared.failures.Failure.{Failure};
 ghost use Rattle.task_kit.specs.declared.made.Made.{Made};
-ghost use Rattle.task_kit.specs.Made.{Acts, Makes, has_room, made_in, output_with, started, succeeded, with_file};
+ghost use Rattle.task_kit.specs.Made.{Acts, Makes, fits, has_room, made_in, output_with, started, succeeded, with_act, with_file};
 
-use msb_values::{Item, List, Name, NoMemory, Put, Text};
+use msb_values::{Act, Item, List, Name, NoMemory, Put, Text};
 use std::alloc::Global;
 use task_trait::{Failure, Param, TaskOutput};
 
@@ -16,11 +17,12 @@ const FILE_LIMIT: u64 = 16_777_216;
 /// The bytes that one run may write.
 const RUN_LIMIT: u64 = 67_108_864;
 
-/// What a task has made so far.
+/// What a task has done so far.
 pub(crate) struct Made {
     /// The bytes that the run has written, with what it wrote before this task.
     pub(crate) written: u64,
-    pub(crate) files: List<Put>,
+    /// The files that it has written and removed, in order.
+    pub(crate) acts: List<Act>,
     /// The items that the task gives.
     pub(crate) items: List<Item>,
 }
@@ -30,7 +32,7 @@ impl Drop for Made {
     fn drop(self) {
         let Made {
             written: _,
-            files: _,
+            acts: _,
             items: _,
         } = self;
     }
@@ -43,33 +45,61 @@ impl Made {
     {
         Made {
             written,
-            files: List::new(alloc),
+            acts: List::new(alloc),
             items: List::new(alloc),
         }
     }
 
-    fn into_files(self) -> List<Put>
-        ensures { result ≡ self.files }
+    fn into_acts(self) -> List<Act>
+        ensures { result ≡ self.acts }
     {
         let Made {
             written: _,
-            files,
+            acts,
             items: _,
         } = self;
-        files
+        acts
     }
 
     /// Writes a file, unless it is too large; `told` is its path as the task was handed it.
     pub(crate) fn write(&mut self, alloc: Global, told: &str, put: Put) -> Result<(), Failure>
         ensures { Acts result self.old self.new (with_file told.now put self.old) }
     {
-        let size = put.bytes.len() as u64;
-        if !has_room(self.written, size) {
+        self.act(alloc, told, Act::Write(put))
+    }
+
+    /// Writes a file, unless it is too large, or removes one; `told` is its path as the task was handed it.
+    pub(crate) fn act(&mut self, alloc: Global, told: &str, act: Act) -> Result<(), Failure>
+        ensures { Acts result self.old self.new (with_act told.now act self.old) }
+    {
+        if !fits(&act, self.written) {
             return Err(too_large(alloc, told));
         }
-        self.files.push(put)?;
+        let size = act_size(&act);
+        self.acts.push(act)?;
         self.written += size;
         Ok(())
+    }
+}
+
+/// Whether an act writes no more than it may; a removal always does.
+fn fits(act: &Act, written: u64) -> bool
+    ensures room { result ≡ fits act.now written }
+    ensures small { result ≡ true → written + act_size act.now < 2 ^ 64 }
+{
+    match act {
+        Act::Write(put) => has_room(written, put.bytes.get().len() as u64),
+        Act::Remove(_) => true,
+    }
+}
+
+/// The bytes that an act writes.
+fn act_size(act: &Act) -> u64
+    ensures { result ≡ act_size act.now }
+{
+    match act {
+        Act::Write(put) => put.bytes.get().len() as u64,
+        Act::Remove(_) => 0,
     }
 }
 
@@ -111,12 +141,12 @@ pub(crate) fn succeeded(alloc: Global, outputs: List<Param>) -> TaskOutput
     TaskOutput {
         ok: true,
         outputs,
-        files: List::new(alloc),
+        acts: List::new(alloc),
         notes: List::new(alloc),
     }
 }
 
-/// An output with the files that were made; where the work has failed the task fails, with its note behind the others.
+/// An output with what was done to files; where the work has failed the task fails, with its note behind the others.
 pub(crate) fn output_with(
     alloc: Global,
     task: &str,
@@ -131,7 +161,7 @@ pub(crate) fn output_with(
         Ok(()) => Ok(TaskOutput {
             ok: output.ok,
             outputs: output.outputs,
-            files: made.into_files(),
+            acts: made.into_acts(),
             notes: output.notes,
         }),
         Err(failure) => failed_with(alloc, task, output, made, &failure),
@@ -153,7 +183,7 @@ fn failed_with(
     Ok(TaskOutput {
         ok: false,
         outputs: output.outputs,
-        files: made.into_files(),
+        acts: made.into_acts(),
         notes,
     })
 }

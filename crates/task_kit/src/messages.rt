@@ -78,7 +78,7 @@ fn said(alloc: Global, note: Note) -> Result<TaskOutput, NoMemory>
     Ok(TaskOutput {
         ok: true,
         outputs: List::new(alloc),
-        files: List::new(alloc),
+        acts: List::new(alloc),
         notes,
     })
 }

@@ -9,6 +9,8 @@ use crate::copies::copy;
 use crate::included::create_item;
 use crate::lines::write_lines;
 use crate::messages::{create_property, error, message, warning};
+use crate::read::read_lines;
+use crate::removed::delete;
 use msb_files::FileView;
 use msb_values::{Name, NoMemory};
 use std::alloc::Global;
@@ -22,6 +24,8 @@ pub(crate) enum BuiltIn {
     Error,
     Copy,
     WriteLinesToFile,
+    ReadLinesFromFile,
+    Delete,
     CreateItem,
     CreateProperty,
 }
@@ -29,8 +33,8 @@ pub(crate) enum BuiltIn {
 /// What a built-in task does, or that it is none: the name MSBuild, and each name of a tool, is unknown.
 ///
 /// `dir` is the folder of the project, from which paths start, and `written` the bytes that the run has written before. The
-/// parameters come without escapes, and so do the outputs go. A task that fails answers so, with a note; what it wrote
-/// before it failed is among its files. (MSBuild tasks.)
+/// parameters come without escapes, and so do the outputs go. A task that fails answers so, with a note; what it did
+/// before it failed is among its acts. (MSBuild tasks.)
 pub fn call(
     alloc: Global,
     name: &Name,
@@ -61,6 +65,8 @@ impl BuiltIn {
             "error" => Some(BuiltIn::Error),
             "copy" => Some(BuiltIn::Copy),
             "writelinestofile" => Some(BuiltIn::WriteLinesToFile),
+            "readlinesfromfile" => Some(BuiltIn::ReadLinesFromFile),
+            "delete" => Some(BuiltIn::Delete),
             "createitem" => Some(BuiltIn::CreateItem),
             "createproperty" => Some(BuiltIn::CreateProperty),
             _ => None,
@@ -83,6 +89,8 @@ impl BuiltIn {
             BuiltIn::Error => error(alloc, params),
             BuiltIn::Copy => copy(alloc, dir, view, params, written),
             BuiltIn::WriteLinesToFile => write_lines(alloc, dir, view, params, written),
+            BuiltIn::ReadLinesFromFile => read_lines(alloc, dir, view, params),
+            BuiltIn::Delete => delete(alloc, dir, view, params),
             BuiltIn::CreateItem => create_item(alloc, dir, view, params),
             BuiltIn::CreateProperty => create_property(alloc, params),
         }

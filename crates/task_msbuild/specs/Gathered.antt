@@ -47,6 +47,6 @@ abbrev pub gathered : Plan → List RequestResult → TaskOutput
 gathered plan results = record {
   ok = plan.ok && list_all (λ result. result.ok) results;
   outputs = target_outputs (flat_map call_items (zip plan.calls results));
-  files = [];
+  acts = [];
   notes = plan.notes ++ flat_map call_notes (zip plan.calls results);
 }

@@ -31,7 +31,7 @@ pub fn gather(
     Ok(TaskOutput {
         ok: plan.ok && all_succeeded(results),
         outputs: target_outputs(alloc, items(alloc, calls, results)?)?,
-        files: List::new(alloc),
+        acts: List::new(alloc),
         notes,
     })
 }

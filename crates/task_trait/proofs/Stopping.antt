@@ -2,7 +2,7 @@
 use Rattle.std.proofs.Common.{◌≡◌, refl}
 use Rattle.task_trait.specs.Answers.{UnlessMemory}
 use Rattle.task_trait.specs.declared.failures.Failure.{Failure}
-use Rattle.task_trait.specs.declared.failures.Failure.TheVariants.{MissingSource, Counts, Destinations, MissingParameter, Raised, TooLarge, UnknownParameter, BadParameter, UnknownTask, BadPath, NoProject, Memory}
+use Rattle.task_trait.specs.declared.failures.Failure.TheVariants.{MissingSource, Counts, Destinations, MissingParameter, Raised, TooLarge, UnknownParameter, BadParameter, UnknownTask, BadPath, NotText, NoProject, Memory}
 
 pub unless : {P Q : Type 0} (failure : Failure) → (P → Q) → UnlessMemory failure P → UnlessMemory failure Q
 unless (MissingSource path) f p = f p
@@ -15,6 +15,7 @@ unless (UnknownParameter name) f p = f p
 unless (BadParameter name) f p = f p
 unless UnknownTask f p = f p
 unless (BadPath path) f p = f p
+unless (NotText path) f p = f p
 unless (NoProject path) f p = f p
 unless Memory f p = tt
 
@@ -30,5 +31,6 @@ told (UnknownParameter name) noted p = p
 told (BadParameter name) noted p = p
 told UnknownTask noted p = p
 told (BadPath path) noted p = p
+told (NotText path) noted p = p
 told (NoProject path) noted p = p
 told Memory noted p = absurd (noted refl)

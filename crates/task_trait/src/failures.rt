@@ -30,6 +30,8 @@ pub enum Failure {
     UnknownTask,
     /// A tool gives a file whose path is not normal.
     BadPath(Text),
+    /// The file at this path is no text in UTF-8.
+    NotText(Text),
     /// This project file is missing.
     NoProject(Text),
     /// Want of memory, which is not told.
@@ -50,7 +52,7 @@ impl Failure {
         Ok(TaskOutput {
             ok: false,
             outputs: List::new(alloc),
-            files: List::new(alloc),
+            acts: List::new(alloc),
             notes,
         })
     }
@@ -100,6 +102,7 @@ impl Failure {
             Failure::BadParameter(text) => words(alloc, "bad ", text.as_str()),
             Failure::UnknownTask => words(alloc, "unknown task", ""),
             Failure::BadPath(text) => words(alloc, "bad path ", text.as_str()),
+            Failure::NotText(text) => words(alloc, "not text ", text.as_str()),
             Failure::NoProject(text) => words(alloc, "no project ", text.as_str()),
             Failure::Memory => words(alloc, "memory", ""),
         }

@@ -4,7 +4,7 @@ ghost use Rattle.task_trait.specs.declared.tools.ToolAnswer.{ToolAnswer as Answe
 ghost use Rattle.task_trait.specs.declared.tools.ToolAnswer.TheVariants.{Unknown};
 ghost use Rattle.task_trait.specs.declared.tools.ToolInput.{ToolInput as Input};
 
-use msb_values::{Copied, Item, List, Name, NoMemory, Note, Put, Text, Text8};
+use msb_values::{Act, Copied, Item, List, Name, NoMemory, Note, Text, Text8};
 use std::alloc::Global;
 
 /// A task's parameter: its name, and its value as items. (Task element.)
@@ -43,12 +43,12 @@ pub struct ToolInput {
     pub files: List<FileIn>,
 }
 
-/// What a task gives: whether it succeeded, its outputs, the files that it writes, and its notes.
+/// What a task gives: whether it succeeded, its outputs, the files that it writes and removes, in order, and its notes.
 #[derive(Drop)]
 pub struct TaskOutput {
     pub ok: bool,
     pub outputs: List<Param>,
-    pub files: List<Put>,
+    pub acts: List<Act>,
     pub notes: List<Note>,
 }
 
