@@ -1,7 +1,7 @@
 -- How many runs have ended in a build. (This engine's own action)
 use Rattle.std.specs.Prelude.{◌≡◌, ℕ, List, Bool, true, false, Option, None, Some}
 use Rattle.std.specs.List.{count_by}
-use Rattle.result_cache.specs.Journal.{Entry, wrote, ended, Journal}
+use Rattle.result_cache.specs.Journal.{Entry, acted, ended, Journal}
 use Rattle.result_cache.specs.declared.request.RequestResult.{RequestResult}
 use Rattle.build_meaning.specs.declared.event.Event.{Event}
 use Rattle.build_meaning.specs.World.{World}
@@ -14,7 +14,7 @@ use Rattle.build_engine.specs.declared.tried.Tried.{Tried}
 
 -- the entry tells that a run has ended
 abbrev pub is_end : Entry → Bool
-is_end (wrote run place put) = false
+is_end (acted run place act) = false
 is_end (ended run made) = true
 
 -- how many runs have ended

@@ -102,6 +102,7 @@ fn is_end(entry: JView<'_>) -> bool
 {
     match entry {
         JView::Wrote(_, _, _, _) => false,
+        JView::Removed(_, _, _) => false,
         JView::Ended(_, _) => true,
     }
 }

@@ -17,8 +17,8 @@ use Rattle.build_meaning.specs.declared.event.ClaimKind.{ClaimKind}
 use Rattle.build_meaning.specs.declared.event.ClaimKind.TheVariants.{Go, Use, Wait}
 use Rattle.build_meaning.specs.Lists.{at, put, numbered_from}
 use Rattle.build_meaning.specs.World.{World}
-use Rattle.build_meaning.specs.Walk.{Walk, gives, wants, Body, makes, writes, uses, calls}
-use Rattle.build_meaning.specs.SoFar.{ToolUse, SoFar, nothing_yet, with_write, with_tool, with_calls, runs_of, recorded, result_of}
+use Rattle.build_meaning.specs.Walk.{Walk, gives, wants, Body, makes, does, uses, calls}
+use Rattle.build_meaning.specs.SoFar.{ToolUse, SoFar, nothing_yet, with_act, with_tool, with_calls, runs_of, recorded, result_of}
 use Rattle.build_meaning.specs.Stop.{Stop, ends, asks, run_on}
 use Rattle.build_meaning.specs.State.{Within, walking, within, Status, ready, assigned, waits, calling, done, Origin, RequestState, ToolsUsed, State, with_request, new_request}
 use Rattle.build_meaning.specs.Cycle.{is_in_cycle}
@@ -30,7 +30,7 @@ use Rattle.build_history.specs.Uses.{body_at}
 -- tools are only added to those that a body has used
 pub run_on-uses : {I A : Type 0} (tools : List ℕ → I → A) (r : RunId) (b : Body I A) (j : Journal) (so_far : SoFar I) → (more : List (ToolUse I)) × ((run_on tools r b j so_far).so_far.tools ≡ so_far.tools ++ more)
 run_on-uses tools r (makes outcome) j so_far = ([], sym (append-nil so_far.tools))
-run_on-uses tools r (writes p go) j so_far = run_on-uses tools r (go _) _ (with_write so_far p)
+run_on-uses tools r (does p go) j so_far = run_on-uses tools r (go _) _ (with_act so_far p)
 run_on-uses tools r (uses name input go) j so_far =
     let y = run_on-uses tools r (go (tools name input)) j (with_tool so_far name input) in
     (record { name = name; input = input } ∷ y.0, y.1 ∙ append_assoc so_far.tools (record { name = name; input = input } ∷ []) y.0)

@@ -1,21 +1,21 @@
 -- Building a run is replaying its record.
 use Rattle.std.proofs.Common.{◌≡◌, ℕ, suc, ◌+◌, List, [], ◌∷◌, ◌++◌, length, map, refl, ap, sym, ◌∙◌, subst, arith, append_assoc}
-use Rattle.msb_values.specs.declared.put.Put.{Put}
+use Rattle.msb_values.specs.declared.act.Act.{Act}
 use Rattle.result_cache.specs.declared.run.RunId.{RunId}
 use Rattle.result_cache.specs.declared.request.RequestKey.{RequestKey}
 use Rattle.result_cache.specs.declared.request.RequestResult.{RequestResult}
 use Rattle.result_cache.specs.declared.record.Record.{Record}
 use Rattle.result_cache.specs.declared.record.Segment.{Segment}
-use Rattle.result_cache.specs.declared.record.Segment.TheVariants.{Write, Call}
-use Rattle.result_cache.specs.Journal.{wrote, Journal, Mark, add, merge}
-use Rattle.result_cache.specs.Replay.{puts_file, replays_run, effects_from, effects_of}
+use Rattle.result_cache.specs.declared.record.Segment.TheVariants.{File, Call}
+use Rattle.result_cache.specs.Journal.{acted, Journal, Mark, add, merge}
+use Rattle.result_cache.specs.Replay.{puts_act, replays_run, effects_from, effects_of}
 use Rattle.build_meaning.specs.World.{World}
 use Rattle.build_meaning.specs.Walk.{Walk, Body}
-use Rattle.build_meaning.specs.SoFar.{ToolUse, SoFar, with_write, with_calls, called, runs_of}
+use Rattle.build_meaning.specs.SoFar.{ToolUse, SoFar, with_act, with_calls, called, runs_of}
 use Rattle.build_meaning.specs.Meaning.{Demanded}
 use Rattle.result_cache.proofs.JournalEntries.{had-in, Has, in-has, has-merge_left}
 use Rattle.result_cache.proofs.ReplayRelation.{Rep, old, new, puts, Reps, none, also, reps-append, Closed, reps-closed, reps-grow}
-use Rattle.build_meaning.specs.Derived.{OfWalk, over, used, made, OfBody, ended_so, wrote_one, used_tool, called_all, OfCalls, no_calls, one_call, Made}
+use Rattle.build_meaning.specs.Derived.{OfWalk, over, used, made, OfBody, ended_so, acted_one, used_tool, called_all, OfCalls, no_calls, one_call, Made}
 
 pub map-append : {X Y : Type 0} (f : X → Y) (xs ys : List X) → map f (xs ++ ys) ≡ map f xs ++ map f ys
 map-append f [] ys = refl
@@ -24,9 +24,9 @@ map-append f (x ∷ xs) ys = ap (λ zs. f x ∷ zs) (map-append f xs ys)
 -- the items of segments that stand before others
 pub items-append : (r : RunId) (n : ℕ) (xs ys : List Segment) → effects_from r n (xs ++ ys) ≡ effects_from r n xs ++ effects_from r (n + length xs) ys
 items-append r n [] ys = ap (λ k. effects_from r k ys) (let e : n ≡ n + 0 = omega arith in e)
-items-append r n (Write p ∷ xs) ys =
+items-append r n (File p ∷ xs) ys =
     let e : suc n + length xs ≡ n + suc (length xs) = omega arith in
-    ap (λ zs. puts_file r n p ∷ zs) (items-append r (suc n) xs ys ∙ ap (λ k. effects_from r (suc n) xs ++ effects_from r k ys) e)
+    ap (λ zs. puts_act r n p ∷ zs) (items-append r (suc n) xs ys ∙ ap (λ k. effects_from r (suc n) xs ++ effects_from r k ys) e)
 items-append r n (Call key runs ∷ xs) ys =
     let e : suc n + length xs ≡ n + suc (length xs) = omega arith in
     ap (λ zs. map replays_run runs ++ zs) (items-append r (suc n) xs ys ∙ ap (λ k. effects_from r (suc n) xs ++ effects_from r k ys) e)
@@ -46,8 +46,8 @@ items-called r n (key ∷ keys) (x ∷ results) h =
     ∙ sym (map-append replays_run x.runs (runs_of results))
 
 -- what a body has done so far, with more
-pub items-wrote : {I : Type 0} (r : RunId) (x : SoFar I) (p : Put) → effects_from r 0 (with_write x p).segments ≡ effects_from r 0 x.segments ++ puts_file r (length x.segments) p ∷ []
-items-wrote r x p = items-append r 0 x.segments (Write p ∷ []) ∙ ap (λ n. effects_from r 0 x.segments ++ puts_file r n p ∷ []) (zero_plus (length x.segments))
+pub items-acted : {I : Type 0} (r : RunId) (x : SoFar I) (p : Act) → effects_from r 0 (with_act x p).segments ≡ effects_from r 0 x.segments ++ puts_act r (length x.segments) p ∷ []
+items-acted r x p = items-append r 0 x.segments (File p ∷ []) ∙ ap (λ n. effects_from r 0 x.segments ++ puts_act r n p ∷ []) (zero_plus (length x.segments))
 
 pub items-calls : {I : Type 0} (r : RunId) (x : SoFar I) (keys : List RequestKey) (results : List RequestResult) → length keys ≡ length results →
     effects_from r 0 (with_calls x keys results).segments ≡ effects_from r 0 x.segments ++ map replays_run (runs_of results)
@@ -56,10 +56,10 @@ items-calls r x keys results h = items-append r 0 x.segments (called keys result
 pub reps-run : {P : RunId → Record → Type 0} (runs : List RunId) (r : RunId) {j k l : Journal} → Reps P (map replays_run runs) j k → Rep P (replays_run r) k l → Reps P (map replays_run (runs ++ r ∷ [])) j l
 reps-run {P} runs r {j} {k} {l} d e = subst (λ xs. Reps P xs j l) (sym (map-append replays_run runs (r ∷ []))) (reps-append d (also e none))
 
-pub reps-wrote : {I : Type 0} {P : RunId → Record → Type 0} (r : RunId) (x : SoFar I) (p : Put) {j k : Journal} → Reps P (effects_from r 0 x.segments) j k →
-    Reps P (effects_from r 0 (with_write x p).segments) j (add k (wrote r (length x.segments) p))
-reps-wrote {I} {P} r x p {j} {k} d =
-    subst (λ xs. Reps P xs j (add k (wrote r (length x.segments) p))) (sym (items-wrote r x p)) (reps-append d (also puts none))
+pub reps-acted : {I : Type 0} {P : RunId → Record → Type 0} (r : RunId) (x : SoFar I) (p : Act) {j k : Journal} → Reps P (effects_from r 0 x.segments) j k →
+    Reps P (effects_from r 0 (with_act x p).segments) j (add k (acted r (length x.segments) p))
+reps-acted {I} {P} r x p {j} {k} d =
+    subst (λ xs. Reps P xs j (add k (acted r (length x.segments) p))) (sym (items-acted r x p)) (reps-append d (also puts none))
 
 pub reps-calls : {I : Type 0} {P : RunId → Record → Type 0} (r : RunId) (x : SoFar I) (keys : List RequestKey) (results : List RequestResult) → length keys ≡ length results → {j k l : Journal} →
     Reps P (effects_from r 0 x.segments) j k → Reps P (map replays_run (runs_of results)) k l → Reps P (effects_from r 0 (with_calls x keys results).segments) j l
@@ -85,7 +85,7 @@ module _ {I A : Type 0} (w : World I A) (D : Demanded I → Type 0) (one : (r : 
     pub agree_body : {path : List RunId} {r : RunId} {i : Journal} {so_far : SoFar I} {b : Body I A} {m : Record} {tools : List (ToolUse I)} {k : Journal} → OfBody w D path r i so_far b m tools k →
         (j : Journal) → Closed (Made D) one j → Reps (Made D) (effects_from r 0 so_far.segments) j i → Reps (Made D) (effects_of r m) j k
     agree_body ended_so j c d = d
-    agree_body (wrote_one {r = r} {so_far = so_far} {p = p} rest) j c d = agree_body rest j c (reps-wrote r so_far p d)
+    agree_body (acted_one {r = r} {so_far = so_far} {p = p} rest) j c d = agree_body rest j c (reps-acted r so_far p d)
     agree_body (used_tool rest) j c d = agree_body rest j c d
     agree_body (called_all {r = r} {so_far = so_far} {key = key} {keys = keys} {results = results} asked rest) j c d =
         let i : Closed (Made D) one _ = (reps-closed (Made D) one d c).1 in

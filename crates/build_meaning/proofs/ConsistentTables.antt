@@ -12,12 +12,12 @@ use Rattle.build_meaning.specs.declared.event.Event.TheVariants.{Assign, Claim, 
 use Rattle.build_meaning.specs.declared.event.ClaimKind.{ClaimKind}
 use Rattle.build_meaning.specs.declared.event.ClaimKind.TheVariants.{Go, Use, Wait}
 use Rattle.build_meaning.specs.Lists.{at, put, numbered_from, Paired}
-use Rattle.result_cache.specs.Journal.{Journal, Mark, end_of, wrote, ended, has, add, merge}
+use Rattle.result_cache.specs.Journal.{Journal, Mark, end_of, acted, ended, has, add, merge}
 use Rattle.result_cache.specs.Replay.{Effect, replays_run, effects_from, effects_of, replay, replay_all}
 use Rattle.result_cache.specs.Table.{FinishedRun, Records, found, is_begun}
 use Rattle.build_meaning.specs.World.{World}
-use Rattle.build_meaning.specs.Walk.{Walk, gives, wants, Body, makes, writes, uses, calls, Outcome}
-use Rattle.build_meaning.specs.SoFar.{SoFar, nothing_yet, with_write, with_tool, with_calls, recorded, result_of, runs_of}
+use Rattle.build_meaning.specs.Walk.{Walk, gives, wants, Body, makes, does, uses, calls, Outcome}
+use Rattle.build_meaning.specs.SoFar.{SoFar, nothing_yet, with_act, with_tool, with_calls, recorded, result_of, runs_of}
 use Rattle.build_meaning.specs.Stop.{ends, asks, run_on}
 use Rattle.build_meaning.specs.State.{Within, Place, walking, within, Status, ready, assigned, waits, calling, done, Origin, RequestState, State, with_request, new_request, start}
 use Rattle.build_meaning.specs.Cycle.{is_in_cycle}
@@ -197,7 +197,7 @@ module _ {I A : Type 0} (w : World I A) where
   runs_by : (U : Records) (r : RunId) (b : Body I A) (j : Journal) (so_far : SoFar I) →
       body_by w U r b j so_far ≡ body_by w U r (body_of (run_on w.tools r b j so_far).stop) (run_on w.tools r b j so_far).journal (run_on w.tools r b j so_far).so_far
   runs_by U r (makes outcome) j so_far = refl
-  runs_by U r (writes p go) j so_far = let k : Journal = add j (wrote r (length so_far.segments) p) in runs_by U r (go k) k (with_write so_far p)
+  runs_by U r (does p go) j so_far = let k : Journal = add j (acted r (length so_far.segments) p) in runs_by U r (go k) k (with_act so_far p)
   runs_by U r (uses name input go) j so_far = runs_by U r (go (w.tools name input)) j (with_tool so_far name input)
   runs_by U r (calls key keys go) j so_far = refl
 

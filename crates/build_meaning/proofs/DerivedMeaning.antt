@@ -13,7 +13,7 @@ use Rattle.build_meaning.specs.Walk.{Walk, Body}
 use Rattle.build_meaning.specs.SoFar.{ToolUse, SoFar, nothing_yet, with_calls, recorded, result_of}
 use Rattle.build_meaning.specs.Meaning.{Demanded, requested, together, built, Given, after, followed, containing, deepest, at_once, body, made_then, wanted, walk, request, meaning}
 use Rattle.result_cache.specs.Same.{is_in}
-use Rattle.build_meaning.specs.Derived.{OfWalk, over, used, made, OfBody, ended_so, wrote_one, used_tool, called_all, OfCalls, no_calls, one_call}
+use Rattle.build_meaning.specs.Derived.{OfWalk, over, used, made, OfBody, ended_so, acted_one, used_tool, called_all, OfCalls, no_calls, one_call}
 use Rattle.build_meaning.specs.Stands.{Contained}
 use Rattle.build_meaning.proofs.MeaningDerived.{meaning-sound}
 use Rattle.result_cache.proofs.RunTests.{tells, in-is_in}
@@ -55,7 +55,7 @@ module _ {I A : Type 0} (w : World I A) (D : Demanded I → Type 0) where
     pub body-comes : {path : List RunId} {r : RunId} {j : Journal} {so_far : SoFar I} {b : Body I A} {m : Record} {tools : List (ToolUse I)} {k : Journal} → OfBody w D path r j so_far b m tools k → (d : ℕ) → d + length path ≡ deepest →
         Comes (body w (request w d path) r b j so_far) (m, tools) k
     body-comes (ended_so {j = j} {so_far = so_far} {outcome = outcome}) d h = just (recorded outcome so_far.segments, so_far.tools) j []
-    body-comes (wrote_one rest) d h = body-comes rest d h
+    body-comes (acted_one rest) d h = body-comes rest d h
     body-comes (used_tool rest) d h = body-comes rest d h
     body-comes (called_all {path = path} {r = r} {j = j} {i = i} {k = k} {so_far = so_far} {key = key} {keys = keys} {go = go} {results = results} {m = m} {tools = tools} asked rest) d h =
         then-comes (containing (together (key ∷ keys)) (at_once w (request w d path) j j (key ∷ keys))) (λ results next. body w (request w d path) r (go results next) next (with_calls so_far (key ∷ keys) results)) results i (m, tools) k

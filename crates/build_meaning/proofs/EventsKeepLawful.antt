@@ -12,13 +12,13 @@ use Rattle.build_meaning.specs.declared.event.Event.TheVariants.{Assign, Claim, 
 use Rattle.build_meaning.specs.declared.event.ClaimKind.{ClaimKind}
 use Rattle.build_meaning.specs.declared.event.ClaimKind.TheVariants.{Go, Use, Wait}
 use Rattle.build_meaning.specs.Lists.{at, put, numbered_from}
-use Rattle.result_cache.specs.Journal.{Journal, end_of, wrote, ended, has, add}
-use Rattle.result_cache.specs.Replay.{Effect, puts_file, replays_run, effects_from, effects_of, HasAll, replay, replay_all}
+use Rattle.result_cache.specs.Journal.{Journal, end_of, acted, ended, has, add}
+use Rattle.result_cache.specs.Replay.{Effect, puts_act, replays_run, effects_from, effects_of, HasAll, replay, replay_all}
 use Rattle.result_cache.specs.Table.{FinishedRun, Records, found, BegunRun, is_begun}
 use Rattle.result_cache.specs.Lists.{this_or}
 use Rattle.build_meaning.specs.World.{World}
-use Rattle.build_meaning.specs.Walk.{Walk, gives, wants, Body, makes, writes, uses, calls, Outcome}
-use Rattle.build_meaning.specs.SoFar.{SoFar, nothing_yet, with_write, with_tool, with_calls, recorded, result_of, runs_of}
+use Rattle.build_meaning.specs.Walk.{Walk, gives, wants, Body, makes, does, uses, calls, Outcome}
+use Rattle.build_meaning.specs.SoFar.{SoFar, nothing_yet, with_act, with_tool, with_calls, recorded, result_of, runs_of}
 use Rattle.build_meaning.specs.Stop.{ends, asks, run_on}
 use Rattle.build_meaning.specs.State.{Within, Place, walking, within, Status, ready, assigned, waits, calling, done, Origin, RequestState, State, with_request, new_request, start}
 use Rattle.build_meaning.specs.Cycle.{is_in_cycle}
@@ -26,7 +26,7 @@ use Rattle.build_meaning.specs.Step.{only_if, unless, assign_at, in_body, goes_o
 use Rattle.result_cache.proofs.RunTests.{clash, tells, or_right, or_neither, same_run-true, same_run-eq, and_then-some}
 use Rattle.result_cache.proofs.JournalEntries.{Has, has-in, has-add, has-added, HasAll-mono, HasAll-append, HasAll-in, in-add}
 use Rattle.result_cache.proofs.ReplayRelation.{Rep, puts, Reps, none, also, reps-map, rep_all, reps_all, rep-keeps, reps-keep, closed-empty, closed-add, rep-closed, reps-closed, Recorded}
-use Rattle.build_meaning.proofs.BuildingReplays.{map-append, reps-wrote, reps-calls}
+use Rattle.build_meaning.proofs.BuildingReplays.{map-append, reps-acted, reps-calls}
 use Rattle.build_meaning.proofs.ListPlaces.{at-put, at-append, at-map, at-traverse, traverse-length, numbered-length}
 use Rattle.build_meaning.proofs.LawfulStates.{one_record, ClosedBy, IsOnce, IsFinished, found-newest, found-grows, replay-rep, replay_all-reps, beginner, beginner-begun, beginner-grows, beginner-newest, LawfulJournal, LawfulBody, LawfulPlace, LawfulStatus, LawfulRequest, Lawful}
 
@@ -97,17 +97,17 @@ journal-ended table f n j runs v h =
 pub run_on-adds : {I A : Type 0} (P : RunId → Record → Type 0) (tools : List ℕ → I → A) (r : RunId) (b : Body I A) (j : Journal) (so_far : SoFar I) →
     (items : List Effect) × Reps P items j (run_on tools r b j so_far).journal
 run_on-adds P tools r (makes outcome) j so_far = ([], none)
-run_on-adds P tools r (writes p go) j so_far =
-    let k : Journal = add j (wrote r (length so_far.segments) p) in
-    let x = run_on-adds P tools r (go k) k (with_write so_far p) in (puts_file r (length so_far.segments) p ∷ x.0, also puts x.1)
+run_on-adds P tools r (does p go) j so_far =
+    let k : Journal = add j (acted r (length so_far.segments) p) in
+    let x = run_on-adds P tools r (go k) k (with_act so_far p) in (puts_act r (length so_far.segments) p ∷ x.0, also puts x.1)
 run_on-adds P tools r (uses name input go) j so_far = run_on-adds P tools r (go (tools name input)) j (with_tool so_far name input)
 run_on-adds P tools r (calls key keys go) j so_far = ([], none)
 
 pub run_on-reps : {I A : Type 0} (P : RunId → Record → Type 0) (tools : List ℕ → I → A) (r : RunId) (b : Body I A) (from j : Journal) (so_far : SoFar I) → Reps P (effects_from r 0 so_far.segments) from j →
     Reps P (effects_from r 0 (run_on tools r b j so_far).so_far.segments) from (run_on tools r b j so_far).journal
 run_on-reps P tools r (makes outcome) from j so_far d = d
-run_on-reps P tools r (writes p go) from j so_far d =
-    let k : Journal = add j (wrote r (length so_far.segments) p) in run_on-reps P tools r (go k) from k (with_write so_far p) (reps-wrote r so_far p d)
+run_on-reps P tools r (does p go) from j so_far d =
+    let k : Journal = add j (acted r (length so_far.segments) p) in run_on-reps P tools r (go k) from k (with_act so_far p) (reps-acted r so_far p d)
 run_on-reps P tools r (uses name input go) from j so_far d = run_on-reps P tools r (go (tools name input)) from j (with_tool so_far name input) d
 run_on-reps P tools r (calls key keys go) from j so_far d = d
 

@@ -13,8 +13,8 @@ use Rattle.build_meaning.specs.declared.event.ClaimKind.{ClaimKind}
 use Rattle.build_meaning.specs.declared.event.ClaimKind.TheVariants.{Go, Use, Wait}
 use Rattle.result_cache.specs.Lists.{In, this_or}
 use Rattle.build_meaning.specs.Lists.{at, put}
-use Rattle.result_cache.specs.Journal.{Journal, end_of, ended, wrote, has, add}
-use Rattle.result_cache.specs.Replay.{Effect, puts_file, replays_run, effects_of, HasAll, replays, replay_by, replay, replay_all}
+use Rattle.result_cache.specs.Journal.{Journal, end_of, ended, acted, has, add}
+use Rattle.result_cache.specs.Replay.{Effect, puts_act, replays_run, effects_of, HasAll, replays, replay_by, replay, replay_all}
 use Rattle.result_cache.specs.Table.{FinishedRun, Records, found, is_begun}
 use Rattle.build_meaning.specs.World.{World}
 use Rattle.build_meaning.specs.Walk.{Walk, gives, wants, Body, Outcome, Reply}
@@ -42,7 +42,7 @@ use Rattle.build_meaning.proofs.OpenRequests.{ids_in, told_in, inside_of, waits_
 replays-total : (one : RunId → Journal → Option Journal) (table : Records) → ((r : RunId) (j : Journal) → IsFinished table r → (k : Journal) × (one r j ≡ Some k)) →
     (items : List Effect) (j : Journal) → ((r : RunId) → In (replays_run r) items → IsFinished table r) → (k : Journal) × (replays one items j ≡ Some k)
 replays-total one table f [] j h = (j, refl)
-replays-total one table f (puts_file r n p ∷ items) j h = replays-total one table f items (add j (wrote r n p)) (λ s i. h s (inr i))
+replays-total one table f (puts_act r n p ∷ items) j h = replays-total one table f items (add j (acted r n p)) (λ s i. h s (inr i))
 replays-total one table f (replays_run r ∷ items) j h =
     let x = f r j (h r (inl refl)) in
     let y = replays-total one table f items x.0 (λ s i. h s (inr i)) in

@@ -8,15 +8,15 @@ use Rattle.result_cache.specs.declared.request.RequestKey.{RequestKey}
 use Rattle.result_cache.specs.declared.request.RequestResult.{RequestResult}
 use Rattle.result_cache.specs.declared.record.Record.{Record}
 use Rattle.result_cache.specs.Lists.{In}
-use Rattle.result_cache.specs.Journal.{Journal, wrote, ended, add, merge, record_of}
+use Rattle.result_cache.specs.Journal.{Journal, acted, ended, add, merge, record_of}
 use Rattle.build_meaning.specs.World.{World}
-use Rattle.build_meaning.specs.Walk.{Walk, gives, wants, Body, makes, writes, uses, calls}
-use Rattle.build_meaning.specs.SoFar.{SoFar, nothing_yet, with_write, with_tool, with_calls, recorded, result_of}
+use Rattle.build_meaning.specs.Walk.{Walk, gives, wants, Body, makes, does, uses, calls}
+use Rattle.build_meaning.specs.SoFar.{SoFar, nothing_yet, with_act, with_tool, with_calls, recorded, result_of}
 use Rattle.build_meaning.specs.Meaning.{Demanded, requested, together, built, Given, after, followed, containing, deepest, at_once, body, made_then, wanted, walk, request, meaning}
 use Rattle.result_cache.specs.Same.{is_in}
 use Rattle.result_cache.proofs.RunTests.{is_in-true, and_then-some}
 use Rattle.result_cache.proofs.JournalEntries.{had-none}
-use Rattle.build_meaning.specs.Derived.{OfWalk, over, used, made, OfBody, ended_so, wrote_one, used_tool, called_all, OfCalls, no_calls, one_call}
+use Rattle.build_meaning.specs.Derived.{OfWalk, over, used, made, OfBody, ended_so, acted_one, used_tool, called_all, OfCalls, no_calls, one_call}
 
 pub in-left : {X : Type 0} (a : X) (xs ys : List X) → In a xs → In a (xs ++ ys)
 in-left a [] ys i = absurd i
@@ -86,8 +86,8 @@ module _ {I A : Type 0} (w : World I A) (D : Demanded I → Type 0) where
       GivesAll (body w (ask path) r b j so_far) (λ m k. OfBody w D path r j so_far b m.0 m.1 k)
   body-sound ask path s r (makes outcome) j so_far =
       pure (recorded outcome so_far.segments, so_far.tools) j [] (λ m k. OfBody w D path r j so_far (makes outcome) m.0 m.1 k) (λ n. ended_so)
-  body-sound ask path s r (writes p go) j so_far = λ x h all.
-      wrote_one (body-sound ask path s r (go (add j (wrote r (length so_far.segments) p))) (add j (wrote r (length so_far.segments) p)) (with_write so_far p) x h all)
+  body-sound ask path s r (does p go) j so_far = λ x h all.
+      acted_one (body-sound ask path s r (go (add j (acted r (length so_far.segments) p))) (add j (acted r (length so_far.segments) p)) (with_act so_far p) x h all)
   body-sound ask path s r (uses name input go) j so_far = λ x h all. used_tool (body-sound ask path s r (go (w.tools name input)) j (with_tool so_far name input) x h all)
   body-sound ask path s r (calls key keys go) j so_far =
       follows (containing (together (key ∷ keys)) (at_once w (ask path) j j (key ∷ keys))) (λ results next. body w (ask path) r (go results next) next (with_calls so_far (key ∷ keys) results))

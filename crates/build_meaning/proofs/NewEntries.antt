@@ -1,4 +1,4 @@
--- What a body writes next, and its end, are new in its journal.
+-- What a body does next, and its end, are new in its journal.
 use Rattle.std.proofs.Common.{◌≡◌, ℕ, zero, suc, ◌+◌, ◌<◌, ◌≤◌, Bool, true, false, ◌&&◌, ◌⊎◌, inl, inr, List, [], ◌∷◌, ◌++◌, length, map, Option, None, Some, refl, ap, sym, ◌∙◌, subst, arith}
 use Rattle.msb_laws.specs.Asking.{and_then}
 use Rattle.msb_laws.specs.Traverse.{traverse}
@@ -7,7 +7,7 @@ use Rattle.result_cache.specs.declared.request.RequestKey.{RequestKey}
 use Rattle.result_cache.specs.declared.request.RequestResult.{RequestResult}
 use Rattle.result_cache.specs.declared.record.Record.{Record}
 use Rattle.result_cache.specs.declared.record.Segment.{Segment}
-use Rattle.result_cache.specs.declared.record.Segment.TheVariants.{Write, Call}
+use Rattle.result_cache.specs.declared.record.Segment.TheVariants.{File, Call}
 use Rattle.result_cache.specs.Same.{same_run, same_keys}
 use Rattle.build_meaning.specs.declared.event.Event.{Event}
 use Rattle.build_meaning.specs.declared.event.Event.TheVariants.{Assign, Claim, Request, Result, Done}
@@ -15,12 +15,12 @@ use Rattle.build_meaning.specs.declared.event.ClaimKind.{ClaimKind}
 use Rattle.build_meaning.specs.declared.event.ClaimKind.TheVariants.{Go, Use, Wait}
 use Rattle.result_cache.specs.Lists.{In}
 use Rattle.build_meaning.specs.Lists.{at, put, numbered_from}
-use Rattle.result_cache.specs.Journal.{Journal, Mark, write_of, end_of, wrote, ended, has, add}
-use Rattle.result_cache.specs.Replay.{Effect, puts_file, replays_run, effects_from, replay, replay_all}
+use Rattle.result_cache.specs.Journal.{Journal, Mark, act_of, end_of, acted, ended, has, add}
+use Rattle.result_cache.specs.Replay.{Effect, puts_act, replays_run, effects_from, replay, replay_all}
 use Rattle.result_cache.specs.Table.{FinishedRun, Records, found, BegunRun, is_begun}
 use Rattle.build_meaning.specs.World.{World}
-use Rattle.build_meaning.specs.Walk.{Walk, gives, wants, Body, makes, writes, uses, calls, Outcome}
-use Rattle.build_meaning.specs.SoFar.{SoFar, nothing_yet, with_write, with_tool, with_calls, called, recorded, result_of, runs_of}
+use Rattle.build_meaning.specs.Walk.{Walk, gives, wants, Body, makes, does, uses, calls, Outcome}
+use Rattle.build_meaning.specs.SoFar.{SoFar, nothing_yet, with_act, with_tool, with_calls, called, recorded, result_of, runs_of}
 use Rattle.build_meaning.specs.Stop.{Stop, ends, asks, run_on}
 use Rattle.build_meaning.specs.State.{Within, Place, walking, within, Status, ready, assigned, waits, calling, done, Origin, RequestState, State, with_request, new_request, start}
 use Rattle.build_meaning.specs.Cycle.{is_in_cycle}
@@ -37,15 +37,15 @@ length-append : {X : Type 0} (xs ys : List X) → length (xs ++ ys) ≡ length x
 length-append [] ys = omega arith
 length-append (x ∷ xs) ys = let ih : length (xs ++ ys) ≡ length xs + length ys = length-append xs ys in omega arith
 
--- a replay adds only writes of runs that end in it
+-- a replay adds only acts of runs that end in it
 module _ (P : RunId → Record → Type 0) where
-  abbrev pub Writes : Effect → RunId → Type 0
-  Writes (puts_file r n p) s = r ≡ s
-  Writes (replays_run r) s = ⊥
+  abbrev pub Acts : Effect → RunId → Type 0
+  Acts (puts_act r n p) s = r ≡ s
+  Acts (replays_run r) s = ⊥
 
   abbrev pub WritesOne : List Effect → RunId → Type 0
   WritesOne [] s = ⊥
-  WritesOne (x ∷ xs) s = Writes x s ⊎ WritesOne xs s
+  WritesOne (x ∷ xs) s = Acts x s ⊎ WritesOne xs s
 
   behind-runs : (runs : List RunId) (items : List Effect) (s : RunId) → WritesOne (map replays_run runs ++ items) s → WritesOne items s
   behind-runs [] items s h = h
@@ -54,16 +54,16 @@ module _ (P : RunId → Record → Type 0) where
 
   own-items : (r s : RunId) (n : ℕ) (segments : List Segment) → WritesOne (effects_from r n segments) s → r ≡ s
   own-items r s n [] h = absurd h
-  own-items r s n (Write p ∷ segments) (inl h) = h
-  own-items r s n (Write p ∷ segments) (inr h) = own-items r s (suc n) segments h
+  own-items r s n (File p ∷ segments) (inl h) = h
+  own-items r s n (File p ∷ segments) (inr h) = own-items r s (suc n) segments h
   own-items r s n (Call key runs ∷ segments) h = own-items r s (suc n) segments (behind-runs runs (effects_from r (suc n) segments) s h)
 
   mutual
-    rep-writes : {x : Effect} {j k : Journal} → Rep P x j k → (s : RunId) (n : ℕ) → Has (write_of s n) k → Has (write_of s n) j ⊎ (Has (end_of s) k ⊎ Writes x s)
-    rep-writes (old h) s n w = inl w
-    rep-writes (new {r} {j} {k} {m} h u d) s n w = elim (of-add (write_of s n) k (ended r m) w) [
+    rep-acts : {x : Effect} {j k : Journal} → Rep P x j k → (s : RunId) (n : ℕ) → Has (act_of s n) k → Has (act_of s n) j ⊎ (Has (end_of s) k ⊎ Acts x s)
+    rep-acts (old h) s n w = inl w
+    rep-acts (new {r} {j} {k} {m} h u d) s n w = elim (of-add (act_of s n) k (ended r m) w) [
       | inl e ↦ absurd (cc)
-      | inr v ↦ elim (reps-writes d s n v) [
+      | inr v ↦ elim (reps-acts d s n v) [
         | inl a ↦ inl a
         | inr a ↦ elim a [
           | inl b ↦ inr (inl (has-add (end_of s) k (ended r m) b))
@@ -71,31 +71,31 @@ module _ (P : RunId → Record → Type 0) where
         ]
       ]
     ]
-    rep-writes (puts {r} {n} {p} {j}) s i w = elim (of-add (write_of s i) j (wrote r n p) w) [
+    rep-acts (puts {r} {n} {p} {j}) s i w = elim (of-add (act_of s i) j (acted r n p) w) [
       | inl e ↦ inr (inr (let q : r ≡ s = cc in q))
       | inr v ↦ inl v
     ]
 
-    pub reps-writes : {xs : List Effect} {j k : Journal} → Reps P xs j k → (s : RunId) (n : ℕ) → Has (write_of s n) k → Has (write_of s n) j ⊎ (Has (end_of s) k ⊎ WritesOne xs s)
-    reps-writes none s n w = inl w
-    reps-writes (also d e) s n w = elim (reps-writes e s n w) [
+    pub reps-acts : {xs : List Effect} {j k : Journal} → Reps P xs j k → (s : RunId) (n : ℕ) → Has (act_of s n) k → Has (act_of s n) j ⊎ (Has (end_of s) k ⊎ WritesOne xs s)
+    reps-acts none s n w = inl w
+    reps-acts (also d e) s n w = elim (reps-acts e s n w) [
       | inr a ↦ elim a [ inl b ↦ inr (inl b) | inr b ↦ inr (inr (inr b)) ]
-      | inl a ↦ elim (rep-writes d s n a) [
+      | inl a ↦ elim (rep-acts d s n a) [
         | inl b ↦ inl b
         | inr b ↦ elim b [ inl c ↦ inr (inl (reps-keep P e (end_of s) c)) | inr c ↦ inr (inr (inl c)) ]
       ]
     ]
 
-  no-writes : (runs : List RunId) (s : RunId) → WritesOne (map replays_run runs) s → ⊥
-  no-writes [] s h = h
-  no-writes (r ∷ runs) s (inl e) = e
-  no-writes (r ∷ runs) s (inr e) = no-writes runs s e
+  no-acts : (runs : List RunId) (s : RunId) → WritesOne (map replays_run runs) s → ⊥
+  no-acts [] s h = h
+  no-acts (r ∷ runs) s (inl e) = e
+  no-acts (r ∷ runs) s (inr e) = no-acts runs s e
 
-  pub run-writes : {r : RunId} {j k : Journal} → Rep P (replays_run r) j k → (s : RunId) (n : ℕ) → Has (write_of s n) k → Has (write_of s n) j ⊎ Has (end_of s) k
-  run-writes d s n w = elim (rep-writes d s n w) [ inl a ↦ inl a | inr a ↦ elim a [ inl b ↦ inr b | inr b ↦ absurd b ] ]
+  pub run-acts : {r : RunId} {j k : Journal} → Rep P (replays_run r) j k → (s : RunId) (n : ℕ) → Has (act_of s n) k → Has (act_of s n) j ⊎ Has (end_of s) k
+  run-acts d s n w = elim (rep-acts d s n w) [ inl a ↦ inl a | inr a ↦ elim a [ inl b ↦ inr b | inr b ↦ absurd b ] ]
 
-  pub runs-writes : (runs : List RunId) {j k : Journal} → Reps P (map replays_run runs) j k → (s : RunId) (n : ℕ) → Has (write_of s n) k → Has (write_of s n) j ⊎ Has (end_of s) k
-  runs-writes runs d s n w = elim (reps-writes d s n w) [ inl a ↦ inl a | inr a ↦ elim a [ inl b ↦ inr b | inr b ↦ absurd (no-writes runs s b) ] ]
+  pub runs-acts : (runs : List RunId) {j k : Journal} → Reps P (map replays_run runs) j k → (s : RunId) (n : ℕ) → Has (act_of s n) k → Has (act_of s n) j ⊎ Has (end_of s) k
+  runs-acts runs d s n w = elim (reps-acts d s n w) [ inl a ↦ inl a | inr a ↦ elim a [ inl b ↦ inr b | inr b ↦ absurd (no-acts runs s b) ] ]
 
 -- a body that runs on has done no less
 pub run_on-least : {I A : Type 0} (tools : List ℕ → I → A) (r : RunId) (b : Body I A) (j : Journal) (so_far : SoFar I) → length so_far.segments ≤ length (run_on tools r b j so_far).so_far.segments
@@ -103,9 +103,9 @@ run_on-least tools r (makes outcome) j so_far = same (length so_far.segments)
   where
     same : (n : ℕ) → n ≤ n
     same n = omega arith
-run_on-least tools r (writes p go) j so_far =
-    let k : Journal = add j (wrote r (length so_far.segments) p) in
-    more (length so_far.segments) (length (with_write so_far p).segments) (length (run_on tools r (go k) k (with_write so_far p)).so_far.segments) (length-append so_far.segments (Write p ∷ [])) (run_on-least tools r (go k) k (with_write so_far p))
+run_on-least tools r (does p go) j so_far =
+    let k : Journal = add j (acted r (length so_far.segments) p) in
+    more (length so_far.segments) (length (with_act so_far p).segments) (length (run_on tools r (go k) k (with_act so_far p)).so_far.segments) (length-append so_far.segments (File p ∷ [])) (run_on-least tools r (go k) k (with_act so_far p))
   where
     more : (a b c : ℕ) → b ≡ a + 1 → b ≤ c → a ≤ c
     more a b c e h = omega arith
@@ -115,36 +115,36 @@ run_on-least tools r (calls key keys go) j so_far = same (length so_far.segments
     same : (n : ℕ) → n ≤ n
     same n = omega arith
 
-write-is : (r s : RunId) (m n : ℕ) → write_of r m ≡ write_of s n → (r ≡ s) × (m ≡ n)
-write-is r s m n e = (let p : r ≡ s = cc in p, let q : m ≡ n = cc in q)
+act-is : (r s : RunId) (m n : ℕ) → act_of r m ≡ act_of s n → (r ≡ s) × (m ≡ n)
+act-is r s m n e = (let p : r ≡ s = cc in p, let q : m ≡ n = cc in q)
 
--- and it writes at the places after what it had done
-pub run_on-writes : {I A : Type 0} (tools : List ℕ → I → A) (r : RunId) (b : Body I A) (j : Journal) (so_far : SoFar I) (s : RunId) (n : ℕ) → Has (write_of s n) (run_on tools r b j so_far).journal →
-    Has (write_of s n) j ⊎ ((r ≡ s) × (n < length (run_on tools r b j so_far).so_far.segments))
-run_on-writes tools r (makes outcome) j so_far s n w = inl w
-run_on-writes tools r (writes p go) j so_far s n w =
-    let k : Journal = add j (wrote r (length so_far.segments) p) in
-    elim (run_on-writes tools r (go k) k (with_write so_far p) s n w) [
+-- and it acts at the places after what it had done
+pub run_on-acts : {I A : Type 0} (tools : List ℕ → I → A) (r : RunId) (b : Body I A) (j : Journal) (so_far : SoFar I) (s : RunId) (n : ℕ) → Has (act_of s n) (run_on tools r b j so_far).journal →
+    Has (act_of s n) j ⊎ ((r ≡ s) × (n < length (run_on tools r b j so_far).so_far.segments))
+run_on-acts tools r (makes outcome) j so_far s n w = inl w
+run_on-acts tools r (does p go) j so_far s n w =
+    let k : Journal = add j (acted r (length so_far.segments) p) in
+    elim (run_on-acts tools r (go k) k (with_act so_far p) s n w) [
       | inr x ↦ inr x
-      | inl x ↦ elim (of-add (write_of s n) j (wrote r (length so_far.segments) p) x) [
+      | inl x ↦ elim (of-add (act_of s n) j (acted r (length so_far.segments) p) x) [
         | inr y ↦ inl y
         | inl e ↦
-            let q = write-is r s (length so_far.segments) n e in
+            let q = act-is r s (length so_far.segments) n e in
             inr (
               q.0,
-              low (length so_far.segments) (length (with_write so_far p).segments) (length (run_on tools r (go k) k (with_write so_far p)).so_far.segments) n
-                  (length-append so_far.segments (Write p ∷ [])) (run_on-least tools r (go k) k (with_write so_far p)) q.1,
+              low (length so_far.segments) (length (with_act so_far p).segments) (length (run_on tools r (go k) k (with_act so_far p)).so_far.segments) n
+                  (length-append so_far.segments (File p ∷ [])) (run_on-least tools r (go k) k (with_act so_far p)) q.1,
             )
       ]
     ]
   where
     low : (a b c n : ℕ) → b ≡ a + 1 → b ≤ c → a ≡ n → n < c
     low a b c n e h g = omega arith
-run_on-writes tools r (uses name input go) j so_far s n w = run_on-writes tools r (go (tools name input)) j (with_tool so_far name input) s n w
-run_on-writes tools r (calls key keys go) j so_far s n w = inl w
+run_on-acts tools r (uses name input go) j so_far s n w = run_on-acts tools r (go (tools name input)) j (with_tool so_far name input) s n w
+run_on-acts tools r (calls key keys go) j so_far s n w = inl w
 
 module _ {I A : Type 0} where
-  -- a write of the body that a request is in
+  -- an act of the body that a request is in
   abbrev pub OwnPlace : Place I A → RunId → ℕ → Type 0
   OwnPlace (walking walk) s n = ⊥
   OwnPlace (within x stop) s n = (x.run ≡ s) × (n < length x.so_far.segments)
@@ -156,16 +156,16 @@ module _ {I A : Type 0} where
   Own (calling keys ids x go) s n = (x.run ≡ s) × (n < length x.so_far.segments)
   Own (done result) s n = ⊥
 
-  -- each write is of a run that has ended there, or is in the path, or of the body that the request is in; and what is in the path was begun by requests before
+  -- each act is of a run that has ended there, or is in the path, or of the body that the request is in; and what is in the path was begun by requests before
   pub record Known (begun : List BegunRun) (id : ℕ) (q : RequestState I A) : Type 0 where
-    pub wrote_by : (s : RunId) (n : ℕ) → Has (write_of s n) q.journal → Has (end_of s) q.journal ⊎ (In s q.origin.path ⊎ Own q.status s n)
+    pub acted_by : (s : RunId) (n : ℕ) → Has (act_of s n) q.journal → Has (end_of s) q.journal ⊎ (In s q.origin.path ⊎ Own q.status s n)
     pub before : (r : RunId) → In r q.origin.path → (k : ℕ) × (beginner begun r ≡ Some k) × (k < id)
 
   abbrev pub AllKnown : State I A → Type 0
   AllKnown s = (id : ℕ) (q : RequestState I A) → at s.requests id ≡ Some q → Known s.begun id q
 
   known-begun : (begun : List BegunRun) (b : BegunRun) → is_begun b.run begun ≡ false → (id : ℕ) (q : RequestState I A) → Known begun id q → Known (b ∷ begun) id q
-  known-begun begun b n id q v = record { wrote_by = v.wrote_by; before = λ r i. let y = v.before r i in (y.0, beginner-grows begun b n r y.0 y.1, y.2) }
+  known-begun begun b n id q v = record { acted_by = v.acted_by; before = λ r i. let y = v.before r i in (y.0, beginner-grows begun b n r y.0 y.1, y.2) }
 
   put-known : (s : State I A) (begun : List BegunRun) (id : ℕ) (z : RequestState I A) → ((k : ℕ) (q : RequestState I A) → at s.requests k ≡ Some q → Known begun k q) → Known begun id z → (k : ℕ) (q : RequestState I A) → at (put s.requests id z) k ≡ Some q → Known begun k q
   put-known s begun id z v l k q h = elim (at-put s.requests id z k q h) [
@@ -175,11 +175,11 @@ module _ {I A : Type 0} where
 
   -- a journal that gains what ends in it
   gained : (begun : List BegunRun) (id : ℕ) (q z : RequestState I A) → Known begun id q → z.origin ≡ q.origin → ((s : RunId) (n : ℕ) → Own q.status s n → Has (end_of s) z.journal ⊎ Own z.status s n) → ((m : Mark) → Has m q.journal → Has m z.journal) →
-      ((s : RunId) (n : ℕ) → Has (write_of s n) z.journal → Has (write_of s n) q.journal ⊎ (Has (end_of s) z.journal ⊎ Own z.status s n)) → Known begun id z
+      ((s : RunId) (n : ℕ) → Has (act_of s n) z.journal → Has (act_of s n) q.journal ⊎ (Has (end_of s) z.journal ⊎ Own z.status s n)) → Known begun id z
   gained begun id q z v o own keep gains = record {
-    wrote_by = λ s n w. elim (gains s n w) [
+    acted_by = λ s n w. elim (gains s n w) [
       | inr a ↦ elim a [ inl b ↦ inl b | inr b ↦ inr (inr b) ]
-      | inl a ↦ elim (v.wrote_by s n a) [
+      | inl a ↦ elim (v.acted_by s n a) [
         | inl b ↦ inl (keep (end_of s) b)
         | inr b ↦ elim b [
           | inl c ↦ inr (inl (subst (λ (x : Origin). In s x.path) (sym o) c))
@@ -195,13 +195,13 @@ module _ {I A : Type 0} (w : World I A) where
   assign-known s id node o j runs (ready p) t v e h =
       let z : RequestState I A = request_of o j runs (assigned node p) in
       let k = v id (request_of o j runs (ready p)) e in
-      subst (λ (u : State I A). AllKnown u) (some-is (with_request s id z) t h) (put-known s s.begun id z v (record { wrote_by = k.wrote_by; before = k.before }))
+      subst (λ (u : State I A). AllKnown u) (some-is (with_request s id z) t h) (put-known s s.begun id z v (record { acted_by = k.acted_by; before = k.before }))
   assign-known s id node o j runs _ t v e h = absurd (cc)
 
   run_on-keeps : (r : RunId) (b : Body I A) (j : Journal) (so_far : SoFar I) (m : Mark) → Has m j → Has m (run_on w.tools r b j so_far).journal
   run_on-keeps r (makes outcome) j so_far m h = h
-  run_on-keeps r (writes p go) j so_far m h =
-      let k : Journal = add j (wrote r (length so_far.segments) p) in run_on-keeps r (go k) k (with_write so_far p) m (has-add m j (wrote r (length so_far.segments) p) h)
+  run_on-keeps r (does p go) j so_far m h =
+      let k : Journal = add j (acted r (length so_far.segments) p) in run_on-keeps r (go k) k (with_act so_far p) m (has-add m j (acted r (length so_far.segments) p) h)
   run_on-keeps r (uses name input go) j so_far m h = run_on-keeps r (go (w.tools name input)) j (with_tool so_far name input) m h
   run_on-keeps r (calls key keys go) j so_far m h = h
 
@@ -214,7 +214,7 @@ module _ {I A : Type 0} (w : World I A) where
       let x = unless-some (is_begun r s.begun) (record { requests = put s.requests id z; begun = one ∷ s.begun; table = s.table; tools_used = s.tools_used }) t h in
       let grown : (k : ℕ) (q : RequestState I A) → at s.requests k ≡ Some q → Known (one ∷ s.begun) k q = λ k q a. known-begun s.begun one x.0 k q (v k q a) in
       let mine : Known (one ∷ s.begun) id z = gained (one ∷ s.begun) id q z (grown id q e) refl (λ s n a. absurd a) (run_on-keeps r b j nothing_yet)
-      (λ s n a. elim (run_on-writes w.tools r b j nothing_yet s n a) [ inl c ↦ inl c | inr c ↦ inr (inr c) ]) in
+      (λ s n a. elim (run_on-acts w.tools r b j nothing_yet s n a) [ inl c ↦ inl c | inr c ↦ inr (inr c) ]) in
       subst (λ (u : State I A). AllKnown u) x.1 (put-known s (one ∷ s.begun) id z grown mine)
   claimed-known s id node o j runs r b go Use t l v e h =
       let x = and_then-some (found s.table r) (λ made. and_then (replay s.table r j) (λ next. Some (with_request s id (goes_on w (assigned node) o runs r go made next)))) t h in
@@ -223,12 +223,12 @@ module _ {I A : Type 0} (w : World I A) where
       let z : RequestState I A = goes_on w (assigned node) o runs r go x.0 y.0 in
       let d = replay-rep s.table l.once r j y.0 y.1 in
       subst (λ (u : State I A). AllKnown u) (some-is (with_request s id z) t y.2) (put-known s s.begun id z v
-      (gained s.begun id q z (v id q e) refl (λ s n a. absurd a) (rep-keeps (Recorded s.table) d) (λ a n c. elim (run-writes (Recorded s.table) d a n c) [ inl u ↦ inl u | inr u ↦ inr (inl u) ])))
+      (gained s.begun id q z (v id q e) refl (λ s n a. absurd a) (rep-keeps (Recorded s.table) d) (λ a n c. elim (run-acts (Recorded s.table) d a n c) [ inl u ↦ inl u | inr u ↦ inr (inl u) ])))
   claimed-known s id node o j runs r b go Wait t l v e h =
       let next : State I A = waiting w s id o j runs r b go in
       let x = only_if-some (may_wait w (is_begun r s.begun) (found s.table r) (is_in_cycle next r)) next t h in
       let k = v id (request_of o j runs (assigned node (walking (wants r b go)))) e in
-      subst (λ (u : State I A). AllKnown u) x.1 (put-known s s.begun id (request_of o j runs (waits r b go)) v (record { wrote_by = k.wrote_by; before = k.before }))
+      subst (λ (u : State I A). AllKnown u) x.1 (put-known s s.begun id (request_of o j runs (waits r b go)) v (record { acted_by = k.acted_by; before = k.before }))
 
   claim-known : (s : State I A) (id : ℕ) (run : RunId) (kind : ClaimKind) (o : Origin) (j : Journal) (runs : List RunId) (st : Status I A) (t : State I A) → Lawful s → AllKnown s →
       at s.requests id ≡ Some (request_of o j runs st) → claim_at w s id run kind o j runs st ≡ Some t → AllKnown t
@@ -246,14 +246,14 @@ module _ {I A : Type 0} (w : World I A) where
       let z : RequestState I A = request_of o j runs (calling (key ∷ more) (numbered_from (length s.requests) (key ∷ more)) x go) in
       let k = v id q e in
       let mine : beginner s.begun x.run ≡ Some id = (l.each id q e).status.1.mine in
-      let front = put-known s s.begun id z v (record { wrote_by = k.wrote_by; before = k.before }) in
+      let front = put-known s s.begun id z v (record { acted_by = k.acted_by; before = k.before }) in
       subst (λ (u : State I A). AllKnown u) y.1 (λ n c a. elim (at-append (put s.requests id z) (map (new_request w (Some id) (x.run ∷ o.path) j) (key ∷ more)) n c a) [
         | inl b ↦ front n c b
         | inr b ↦
             let d = at-map (new_request w (Some id) (x.run ∷ o.path) j) (key ∷ more) b.0 c b.1 in
             let far : id < n = above id (length s.requests) (length (put s.requests id z)) b.0 n (at-less s.requests id q e) (put-length s.requests id z) b.2 in
             subst (λ (u : RequestState I A). Known s.begun n u) d.2 (record {
-              wrote_by = λ s m f. elim (k.wrote_by s m f) [ inl g ↦ inl g | inr g ↦ inr (inl (elim g [ inl i ↦ inr i | inr i ↦ inl i.0 ])) ];
+              acted_by = λ s m f. elim (k.acted_by s m f) [ inl g ↦ inl g | inr g ↦ inr (inl (elim g [ inl i ↦ inr i | inr i ↦ inl i.0 ])) ];
               before = λ r i. elim i [
                 | inl p ↦ (id, subst (λ a. beginner s.begun a ≡ Some id) p mine, far)
                 | inr i ↦ let u = k.before r i in (u.0, u.1, through u.0 id n u.2 far)
@@ -278,7 +278,7 @@ module _ {I A : Type 0} (w : World I A) where
           let d = replay-rep table once r q.journal y.0 y.1 in
           let z : RequestState I A = goes_on w ready q.origin q.runs r go m y.0 in
           subst (λ (u : RequestState I A). Known begun id u) (some-is z t y.2)
-          (gained begun id q z v refl (λ s n a. absurd (subst (λ (x : Status I A). Own x s n) e a)) (rep-keeps (Recorded table) d) (λ a n c. elim (run-writes (Recorded table) d a n c) [ inl u ↦ inl u | inr u ↦ inr (inl u) ]))
+          (gained begun id q z v refl (λ s n a. absurd (subst (λ (x : Status I A). Own x s n) e a)) (rep-keeps (Recorded table) d) (λ a n c. elim (run-acts (Recorded table) d a n c) [ inl u ↦ inl u | inr u ↦ inr (inl u) ]))
   woken-known begun table once run m id q t _ e v h = subst (λ (u : RequestState I A). Known begun id u) (some-is q t h) v
 
   finished-known : (s : State I A) (id node : ℕ) (o : Origin) (j : Journal) (runs : List RunId) (x : Within I A) (outcome : Outcome) (t : State I A) → Lawful s → AllKnown s →
@@ -293,7 +293,7 @@ module _ {I A : Type 0} (w : World I A) where
       let last : State I A = record { requests = u.0; begun = s.begun; table = fin ∷ s.table; tools_used = record { run = x.run; tools = x.so_far.tools } ∷ s.tools_used } in
       let mine : Known s.begun id z = gained s.begun id q z (v id q e) refl
       (λ s k a. inl (subst (λ b. Has (end_of b) (add j (ended x.run m))) a.0 (has-added j (ended x.run m)))) (λ a. has-add a j (ended x.run m))
-      (λ s k a. elim (of-add (write_of s k) j (ended x.run m) a) [ inl c ↦ absurd (cc) | inr c ↦ inl c ]) in
+      (λ s k a. elim (of-add (act_of s k) j (ended x.run m) a) [ inl c ↦ absurd (cc) | inr c ↦ inl c ]) in
       let front = put-known s s.begun id z v mine in
       subst (λ (u : State I A). AllKnown u) (some-is last t u.2) (λ k c a.
       let y = at-traverse (woken w (fin ∷ s.table) x.run m) (put s.requests id z) u.0 u.1 k c a in
@@ -320,9 +320,9 @@ module _ {I A : Type 0} (w : World I A) where
       subst (λ (u : State I A). AllKnown u) (some-is (with_request s id z) t y.2) (put-known s s.begun id z v (gained s.begun id q z (v id q e) refl
       (λ s n a. inr (a.0, low (length x.so_far.segments) (length (called keys results)) (length so_far.segments) (length (run_on w.tools x.run (go results y.0) y.0 so_far).so_far.segments) n a.1 (length-append x.so_far.segments (called keys results)) longer))
       (λ m a. run_on-keeps x.run (go results y.0) y.0 so_far m (reps-keep (Recorded s.table) d m a))
-      (λ b n a. elim (run_on-writes w.tools x.run (go results y.0) y.0 so_far b n a) [
+      (λ b n a. elim (run_on-acts w.tools x.run (go results y.0) y.0 so_far b n a) [
         | inr c ↦ inr (inr c)
-        | inl c ↦ elim (runs-writes (Recorded s.table) (runs_of results) d b n c) [ inl f ↦ inl f | inr f ↦ inr (inl (run_on-keeps x.run (go results y.0) y.0 so_far (end_of b) f)) ]
+        | inl c ↦ elim (runs-acts (Recorded s.table) (runs_of results) d b n c) [ inl f ↦ inl f | inr f ↦ inr (inl (run_on-keeps x.run (go results y.0) y.0 so_far (end_of b) f)) ]
       ])))
     where
       low : (a b c d n : ℕ) → n < a → c ≡ a + b → c ≤ d → n < d
@@ -346,7 +346,7 @@ module _ {I A : Type 0} (w : World I A) where
       let q : RequestState I A = request_of o j runs (assigned node (walking (gives reply))) in
       let lq = l.each id q e in
       let k = v id q e in
-      back_to-known (with_request s id z) o.parent t (put-lawful s id z l (record { journal = lq.journal; status = lq.journal.runs_in })) (put-known s s.begun id z v (record { wrote_by = k.wrote_by; before = k.before })) h
+      back_to-known (with_request s id z) o.parent t (put-lawful s id z l (record { journal = lq.journal; status = lq.journal.runs_in })) (put-known s s.begun id z v (record { acted_by = k.acted_by; before = k.before })) h
   done-known s id o j runs _ t l v e h = absurd (cc)
 
   step_of-known : (s : State I A) (event : Event) (q : RequestState I A) (t : State I A) → Lawful s → AllKnown s → at s.requests (whose event) ≡ Some q → step_of w s event q ≡ Some t → AllKnown t
@@ -357,7 +357,7 @@ module _ {I A : Type 0} (w : World I A) where
   step_of-known s (Done id) q t l v e h = done-known s id q.origin q.journal q.runs q.status t l v e h
 
   start-known : AllKnown (start w)
-  start-known zero q h = subst (λ (u : RequestState I A). Known [] 0 u) (some-is (new_request w None [] [] w.root) q h) (record { wrote_by = λ s n a. absurd (cc); before = λ r i. absurd i })
+  start-known zero q h = subst (λ (u : RequestState I A). Known [] 0 u) (some-is (new_request w None [] [] w.root) q h) (record { acted_by = λ s n a. absurd (cc); before = λ r i. absurd i })
   start-known (suc id) q h = absurd (cc)
 
   all-known : (events : List Event) (s t : State I A) → Lawful s → AllKnown s → after_all w s events ≡ Some t → AllKnown t
@@ -369,7 +369,7 @@ module _ {I A : Type 0} (w : World I A) where
 
   -- what comes next of a body is new
   pub entries_are_new : (events : List Event) (s : State I A) → IsHistory w events s → (id node : ℕ) (q : RequestState I A) (x : Within I A) (stop : Stop I A) → at s.requests id ≡ Some q → q.status ≡ assigned node (within x stop) →
-      (has (end_of x.run) q.journal ≡ false) × ((n : ℕ) → length x.so_far.segments ≤ n → has (write_of x.run n) q.journal ≡ false)
+      (has (end_of x.run) q.journal ≡ false) × ((n : ℕ) → length x.so_far.segments ≤ n → has (act_of x.run n) q.journal ≡ false)
   entries_are_new events s h id node q x stop e st =
       let l = all-lawful w events (start w) s (start-lawful w) h in
       let v = all-known events (start w) s (start-lawful w) start-known h id q e in
@@ -377,9 +377,9 @@ module _ {I A : Type 0} (w : World I A) where
       let b = (subst (λ (a : Status I A). LawfulStatus s.begun s.table id q.journal a) st lq.status).1 in
       let fresh = unfinished-fresh w s.table q.journal q.runs x.run lq.journal b.unfinished in (
         fresh,
-        λ n g. elim (tells (has (write_of x.run n) q.journal)) [
+        λ n g. elim (tells (has (act_of x.run n) q.journal)) [
           | inr a ↦ a
-          | inl a ↦ elim (v.wrote_by x.run n a) [
+          | inl a ↦ elim (v.acted_by x.run n a) [
             | inl c ↦ absurd (clash (has (end_of x.run) q.journal) c fresh)
             | inr c ↦ elim c [
               | inl d ↦ let y = v.before x.run d in absurd (not_less y.0 id (some-is y.0 id (sym y.1 ∙ b.mine)) y.2)

@@ -4,16 +4,16 @@ use Rattle.result_cache.specs.declared.run.RunId.{RunId}
 use Rattle.result_cache.specs.declared.request.RequestResult.{RequestResult}
 use Rattle.result_cache.specs.declared.record.Record.{Record}
 use Rattle.result_cache.specs.Lists.{In}
-use Rattle.result_cache.specs.Journal.{Journal, end_of, wrote, ended}
-use Rattle.result_cache.specs.Replay.{Effect, puts_file, replays_run, effects_from, effects_of}
+use Rattle.result_cache.specs.Journal.{Journal, end_of, acted, ended}
+use Rattle.result_cache.specs.Replay.{Effect, puts_act, replays_run, effects_from, effects_of}
 use Rattle.build_meaning.specs.World.{World}
 use Rattle.build_meaning.specs.Walk.{Walk, wants, Body}
 use Rattle.build_meaning.specs.SoFar.{ToolUse, SoFar, runs_of}
 use Rattle.build_meaning.specs.Meaning.{Demanded}
 use Rattle.result_cache.proofs.JournalEntries.{Has, of-add, HasAll-in}
 use Rattle.result_cache.proofs.ReplayRelation.{Rep, old, new, puts, Reps, none, also, Closed, rep-closed, reps-closed}
-use Rattle.build_meaning.specs.Derived.{OfWalk, over, used, made, OfBody, ended_so, wrote_one, used_tool, called_all}
-use Rattle.build_meaning.proofs.BuildingReplays.{items-wrote, items-calls, calls-length}
+use Rattle.build_meaning.specs.Derived.{OfWalk, over, used, made, OfBody, ended_so, acted_one, used_tool, called_all}
+use Rattle.build_meaning.proofs.BuildingReplays.{items-acted, items-calls, calls-length}
 use Rattle.build_meaning.proofs.MeaningDerived.{in-left, in-right}
 
 module _ (P : RunId → Record → Type 0) where
@@ -53,7 +53,7 @@ module _ (P : RunId → Record → Type 0) where
             ]
         | inr t ↦ reps-circle d cl c x t
       ]
-      rep-circle (puts {r} {n} {p} {j}) cl c x h = elim (of-add (end_of c) j (wrote r n p) h) [
+      rep-circle (puts {r} {n} {p} {j}) cl c x h = elim (of-add (end_of c) j (acted r n p) h) [
         | inl e ↦ absurd (cc)
         | inr t ↦ t
       ]
@@ -87,8 +87,8 @@ module _ {I A : Type 0} {w : World I A} {D : Demanded I → Type 0} where
   pub body-lists : {path : List RunId} {r : RunId} {j : Journal} {so_far : SoFar I} {b : Body I A} {m : Record} {tools : List (ToolUse I)} {k : Journal} → OfBody w D path r j so_far b m tools k →
       (x : Effect) → In x (effects_from r 0 so_far.segments) → In x (effects_of r m)
   body-lists ended_so x i = i
-  body-lists (wrote_one {r = r} {so_far = so_far} {p = p} rest) x i =
-      body-lists rest x (subst (λ xs. In x xs) (sym (items-wrote r so_far p)) (in-left x (effects_from r 0 so_far.segments) (puts_file r (length so_far.segments) p ∷ []) i))
+  body-lists (acted_one {r = r} {so_far = so_far} {p = p} rest) x i =
+      body-lists rest x (subst (λ xs. In x xs) (sym (items-acted r so_far p)) (in-left x (effects_from r 0 so_far.segments) (puts_act r (length so_far.segments) p ∷ []) i))
   body-lists (used_tool rest) x i = body-lists rest x i
   body-lists (called_all {r = r} {so_far = so_far} {key = key} {keys = keys} {results = results} asked rest) x i =
       body-lists rest x (subst (λ xs. In x xs) (sym (items-calls r so_far (key ∷ keys) results (calls-length asked))) (in-left x (effects_from r 0 so_far.segments) (map replays_run (runs_of results)) i))

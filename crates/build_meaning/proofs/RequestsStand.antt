@@ -2,7 +2,7 @@
 use Rattle.std.proofs.Common.{◌≡◌, ℕ, suc, Bool, true, false, ◌&&◌, inl, inr, List, [], ◌∷◌, ◌++◌, length, map, Option, None, Some, refl, ap, sym, ◌∙◌, subst, append_assoc}
 use Rattle.msb_laws.specs.Asking.{and_then}
 use Rattle.msb_laws.specs.Traverse.{traverse}
-use Rattle.msb_values.specs.declared.put.Put.{Put}
+use Rattle.msb_values.specs.declared.act.Act.{Act}
 use Rattle.result_cache.specs.declared.run.RunId.{RunId}
 use Rattle.result_cache.specs.declared.request.RequestKey.{RequestKey}
 use Rattle.result_cache.specs.declared.request.RequestResult.{RequestResult}
@@ -14,12 +14,12 @@ use Rattle.build_meaning.specs.declared.event.ClaimKind.{ClaimKind}
 use Rattle.build_meaning.specs.declared.event.ClaimKind.TheVariants.{Go, Use, Wait}
 use Rattle.result_cache.specs.Lists.{In, this_or}
 use Rattle.build_meaning.specs.Lists.{at, put, numbered_from, Paired}
-use Rattle.result_cache.specs.Journal.{Journal, end_of, wrote, ended, has, add}
+use Rattle.result_cache.specs.Journal.{Journal, end_of, acted, ended, has, add}
 use Rattle.result_cache.specs.Replay.{replays_run, effects_of, HasAll, replay, replay_all}
 use Rattle.result_cache.specs.Table.{FinishedRun, Records, found, is_begun}
 use Rattle.build_meaning.specs.World.{World}
-use Rattle.build_meaning.specs.Walk.{Walk, gives, wants, Body, makes, writes, uses, calls, Outcome, Reply}
-use Rattle.build_meaning.specs.SoFar.{ToolUse, SoFar, nothing_yet, with_write, with_tool, with_calls, recorded, result_of, runs_of}
+use Rattle.build_meaning.specs.Walk.{Walk, gives, wants, Body, makes, does, uses, calls, Outcome, Reply}
+use Rattle.build_meaning.specs.SoFar.{ToolUse, SoFar, nothing_yet, with_act, with_tool, with_calls, recorded, result_of, runs_of}
 use Rattle.build_meaning.specs.Meaning.{Demanded, requested, built}
 use Rattle.build_meaning.specs.Stop.{ends, asks, run_on}
 use Rattle.build_meaning.specs.State.{Within, walking, within, Status, ready, assigned, waits, calling, done, Origin, RequestState, ToolsUsed, State, with_request, new_request, start}
@@ -28,7 +28,7 @@ use Rattle.build_meaning.specs.Step.{only_if, assign_at, in_body, goes_on, waiti
 use Rattle.result_cache.proofs.RunTests.{clash, same_run-true, and_then-some}
 use Rattle.result_cache.proofs.JournalEntries.{had-in, in-has, has-in}
 use Rattle.result_cache.proofs.ReplayRelation.{Rep, old, new, Reps, none, rep-map, reps-map, rep-one, reps-one, Closed, reps-closed, Recorded}
-use Rattle.build_meaning.specs.Derived.{OfWalk, over, used, made, OfBody, ended_so, wrote_one, used_tool, called_all, OfCalls, no_calls, one_call, Made}
+use Rattle.build_meaning.specs.Derived.{OfWalk, over, used, made, OfBody, ended_so, acted_one, used_tool, called_all, OfCalls, no_calls, one_call, Made}
 use Rattle.build_meaning.proofs.BuildingReplays.{agree_body, agree_calls}
 use Rattle.build_meaning.proofs.ListPlaces.{at-put, at-front, at-length, traverse-some}
 use Rattle.build_meaning.specs.Stands.{Goal, Match, body_of, InSome, Calling, StandsAt, Stands}
@@ -96,9 +96,9 @@ module _ {I A : Type 0} (w : World I A) (D : Demanded I → Type 0) (one : (r : 
       subst (λ n. OfWalk w D path k (runs ++ r ∷ []) (go n k) g.res g.journal) mm (subst (λ i. OfWalk w D path i (runs ++ r ∷ []) (go y.0 i) g.res g.journal) ik y.4)
 
   -- a body that runs on
-  wrote_so : (path : List RunId) (r : RunId) (j : Journal) (so_far : SoFar I) (p : Put) (go : Journal → Body I A) (m : Record) (tools : List (ToolUse I)) (i : Journal) → OfBody w D path r j so_far (writes p go) m tools i →
-      OfBody w D path r (add j (wrote r (length so_far.segments) p)) (with_write so_far p) (go (add j (wrote r (length so_far.segments) p))) m tools i
-  wrote_so path r j so_far p go m tools i (wrote_one d) = d
+  acted_so : (path : List RunId) (r : RunId) (j : Journal) (so_far : SoFar I) (p : Act) (go : Journal → Body I A) (m : Record) (tools : List (ToolUse I)) (i : Journal) → OfBody w D path r j so_far (does p go) m tools i →
+      OfBody w D path r (add j (acted r (length so_far.segments) p)) (with_act so_far p) (go (add j (acted r (length so_far.segments) p))) m tools i
+  acted_so path r j so_far p go m tools i (acted_one d) = d
 
   used_so : (path : List RunId) (r : RunId) (j : Journal) (so_far : SoFar I) (name : List ℕ) (input : I) (go : A → Body I A) (m : Record) (tools : List (ToolUse I)) (i : Journal) → OfBody w D path r j so_far (uses name input go) m tools i →
       OfBody w D path r j (with_tool so_far name input) (go (w.tools name input)) m tools i
@@ -107,8 +107,8 @@ module _ {I A : Type 0} (w : World I A) (D : Demanded I → Type 0) (one : (r : 
   runs_so : (path : List RunId) (r : RunId) (b : Body I A) (j : Journal) (so_far : SoFar I) (m : Record) (tools : List (ToolUse I)) (i : Journal) → OfBody w D path r j so_far b m tools i →
       OfBody w D path r (run_on w.tools r b j so_far).journal (run_on w.tools r b j so_far).so_far (body_of (run_on w.tools r b j so_far).stop) m tools i
   runs_so path r (makes outcome) j so_far m tools i d = d
-  runs_so path r (writes p go) j so_far m tools i d =
-      let k : Journal = add j (wrote r (length so_far.segments) p) in runs_so path r (go k) k (with_write so_far p) m tools i (wrote_so path r j so_far p go m tools i d)
+  runs_so path r (does p go) j so_far m tools i d =
+      let k : Journal = add j (acted r (length so_far.segments) p) in runs_so path r (go k) k (with_act so_far p) m tools i (acted_so path r j so_far p go m tools i d)
   runs_so path r (uses name input go) j so_far m tools i d = runs_so path r (go (w.tools name input)) j (with_tool so_far name input) m tools i (used_so path r j so_far name input go m tools i d)
   runs_so path r (calls key keys go) j so_far m tools i d = d
 

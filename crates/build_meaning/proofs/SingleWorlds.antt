@@ -5,10 +5,10 @@ use Rattle.result_cache.specs.declared.request.RequestKey.{RequestKey}
 use Rattle.result_cache.specs.declared.request.RequestResult.{RequestResult}
 use Rattle.result_cache.specs.declared.record.Record.{Record}
 use Rattle.result_cache.specs.Lists.{In}
-use Rattle.result_cache.specs.Journal.{Entry, Journal, Mark, end_of, wrote, ended, has, add, merge, record_of}
+use Rattle.result_cache.specs.Journal.{Entry, Journal, Mark, end_of, acted, ended, has, add, merge, record_of}
 use Rattle.build_meaning.specs.World.{World}
-use Rattle.build_meaning.specs.Walk.{Walk, gives, wants, Body, makes, writes, uses, calls}
-use Rattle.build_meaning.specs.SoFar.{ToolUse, SoFar, nothing_yet, with_write, with_tool, with_calls, recorded, result_of}
+use Rattle.build_meaning.specs.Walk.{Walk, gives, wants, Body, makes, does, uses, calls}
+use Rattle.build_meaning.specs.SoFar.{ToolUse, SoFar, nothing_yet, with_act, with_tool, with_calls, recorded, result_of}
 use Rattle.build_meaning.specs.Meaning.{Demanded, requested, together, built, Given, after, followed, containing, deepest, at_once, body, made_then, wanted, walk, request, meaning}
 use Rattle.result_cache.specs.Same.{is_in}
 use Rattle.build_meaning.specs.Demand.{built_runs, IsSingle, IsSteady}
@@ -113,8 +113,8 @@ module _ {I : Type 0} where
     once = λ s. a.once (λ keys i. s keys (inr i));
   }
 
-  written : (path : List RunId) (j : Journal) (e : Entry) → Extends path j (add j e) []
-  written path j e = record { grows = λ s h. has-add s j e h; fresh = λ r m t i. absurd i; once = λ s. tt }
+  has-acted : (path : List RunId) (j : Journal) (e : Entry) → Extends path j (add j e) []
+  has-acted path j e = record { grows = λ s h. has-add s j e h; fresh = λ r m t i. absurd i; once = λ s. tt }
 
   -- a body in the path of its run, and the run's end
   body-then : (path : List RunId) (j k : Journal) (r : RunId) (m : Record) (tools : List (ToolUse I)) (xs : List (Demanded I)) → Extends (r ∷ path) j k xs → has (end_of r) j ≡ false → (In r path → ⊥) →
@@ -198,9 +198,9 @@ module _ {I A : Type 0} (w : World I A) where
 
   body-extends : (ask : Ask) (path : List RunId) → Fine ask path → (r : RunId) (b : Body I A) (j : Journal) (so_far : SoFar I) → GivesSo (body w (ask path) r b j so_far) (Extends path j)
   body-extends ask path f r (makes outcome) j so_far = so (recorded outcome so_far.segments, so_far.tools) j [] (Extends path j) (nothing-new path j)
-  body-extends ask path f r (writes p go) j so_far = λ x h.
-      one-after path j (add j (wrote r (length so_far.segments) p)) x.journal [] x.demand (written path j (wrote r (length so_far.segments) p))
-      (body-extends ask path f r (go (add j (wrote r (length so_far.segments) p))) (add j (wrote r (length so_far.segments) p)) (with_write so_far p) x h)
+  body-extends ask path f r (does p go) j so_far = λ x h.
+      one-after path j (add j (acted r (length so_far.segments) p)) x.journal [] x.demand (has-acted path j (acted r (length so_far.segments) p))
+      (body-extends ask path f r (go (add j (acted r (length so_far.segments) p))) (add j (acted r (length so_far.segments) p)) (with_act so_far p) x h)
   body-extends ask path f r (uses name input go) j so_far = body-extends ask path f r (go (w.tools name input)) j (with_tool so_far name input)
   body-extends ask path f r (calls key keys go) j so_far =
       follows (containing (together (key ∷ keys)) (at_once w (ask path) j j (key ∷ keys))) (λ results next. body w (ask path) r (go results next) next (with_calls so_far (key ∷ keys) results))

@@ -1,8 +1,10 @@
 -- The world that is whole but not steady: its meaning makes one run with two records, and two histories leave different files.
 use Rattle.std.proofs.Common.{◌≡◌, ◌≤◌, ℕ, inl, inr, List, [], ◌∷◌, length, Some, refl, ap, arith}
+use Rattle.std.specs.Prelude.{unwrap_or}
+use Rattle.msb_values.specs.Acts.{act_bytes}
 use Rattle.result_cache.specs.declared.record.Record.{Record}
 use Rattle.result_cache.specs.declared.record.Segment.{Segment}
-use Rattle.result_cache.specs.declared.record.Segment.TheVariants.{Write, Call}
+use Rattle.result_cache.specs.declared.record.Segment.TheVariants.{File, Call}
 use Rattle.result_cache.specs.Same.{same_run, same_instance, same_key}
 use Rattle.build_meaning.specs.Meaning.{deepest, most_instances, meaning}
 use Rattle.build_meaning.specs.Demand.{IsWhole, IsSteady, distinct, instances}
@@ -22,7 +24,7 @@ whole = record { means = means; few = few }
 
 abbrev byte_of : List Segment → List ℕ
 byte_of [] = []
-byte_of (Write put ∷ segments) = put.bytes
+byte_of (File act ∷ segments) = unwrap_or (act_bytes act) []
 byte_of (Call key runs ∷ segments) = []
 
 pub not_steady : IsSteady given.demand → ⊥
@@ -35,10 +37,10 @@ not_steady steady =
     zero_one : ◌≡◌ {A = ℕ} 1 0 → ⊥
     zero_one h = omega arith
 
-pub writer : left_by writer_first (7 ∷ []) ≡ Some (1 ∷ [])
+pub writer : left_by writer_first (7 ∷ []) ≡ Some (Some (1 ∷ []))
 unfolding same_run same_instance same_key deepest most_instances
 writer = refl
 
-pub looker : left_by looker_first (7 ∷ []) ≡ Some (0 ∷ [])
+pub looker : left_by looker_first (7 ∷ []) ≡ Some (Some (0 ∷ []))
 unfolding same_run same_instance same_key deepest most_instances
 looker = refl

@@ -9,12 +9,12 @@ use Rattle.build_meaning.specs.declared.event.Event.{Event}
 use Rattle.build_meaning.specs.declared.event.Event.TheVariants.{Claim}
 use Rattle.build_meaning.specs.declared.event.ClaimKind.TheVariants.{Go}
 use Rattle.build_meaning.specs.Lists.{at}
-use Rattle.result_cache.specs.Journal.{Journal, wrote, add, merge}
+use Rattle.result_cache.specs.Journal.{Journal, acted, add, merge}
 use Rattle.result_cache.specs.Table.{Records, found}
 use Rattle.result_cache.specs.Replay.{replay}
 use Rattle.build_meaning.specs.World.{World}
-use Rattle.build_meaning.specs.Walk.{Walk, gives, wants, Body, makes, writes, uses, calls}
-use Rattle.build_meaning.specs.SoFar.{SoFar, nothing_yet, with_write, with_tool, with_calls, recorded, result_of}
+use Rattle.build_meaning.specs.Walk.{Walk, gives, wants, Body, makes, does, uses, calls}
+use Rattle.build_meaning.specs.SoFar.{SoFar, nothing_yet, with_act, with_tool, with_calls, recorded, result_of}
 use Rattle.build_meaning.specs.State.{walking, assigned, RequestState, State}
 use Rattle.build_meaning.specs.History.{IsHistory}
 
@@ -38,8 +38,8 @@ module _ {I A : Type 0} (w : World I A) (table : Records) where
   -- the body of a run, which has done so far: its record, and the journal then
   abbrev pub body_by : RunId → Body I A → Journal → SoFar I → Option (Record × Journal)
   body_by run (makes outcome) journal so_far = Some (recorded outcome so_far.segments, journal)
-  body_by run (writes put go) journal so_far =
-      let next : Journal = add journal (wrote run (length so_far.segments) put) in body_by run (go next) next (with_write so_far put)
+  body_by run (does act go) journal so_far =
+      let next : Journal = add journal (acted run (length so_far.segments) act) in body_by run (go next) next (with_act so_far act)
   body_by run (uses name input go) journal so_far = body_by run (go (w.tools name input)) journal (with_tool so_far name input)
   body_by run (calls key keys go) journal so_far =
       and_then (calls_by journal journal (key ∷ keys)) (λ y. body_by run (go y.0 y.1) y.1 (with_calls so_far (key ∷ keys) y.0))

@@ -1,15 +1,15 @@
 -- The meaning as a derivation, where D holds of each request and each body that it contains.
 use Rattle.std.specs.Prelude.{ℕ, ◌≡◌, true, false, List, [], ◌∷◌, ◌++◌, length, Some, nat_lt}
-use Rattle.msb_values.specs.declared.put.Put.{Put}
+use Rattle.msb_values.specs.declared.act.Act.{Act}
 use Rattle.result_cache.specs.declared.run.RunId.{RunId}
 use Rattle.result_cache.specs.declared.request.RequestKey.{RequestKey}
 use Rattle.result_cache.specs.declared.request.RequestResult.{RequestResult}
 use Rattle.result_cache.specs.declared.record.Record.{Record}
 use Rattle.result_cache.specs.Lists.{In}
-use Rattle.result_cache.specs.Journal.{Journal, end_of, wrote, ended, has, add, merge, record_of}
+use Rattle.result_cache.specs.Journal.{Journal, end_of, acted, ended, has, add, merge, record_of}
 use Rattle.build_meaning.specs.World.{World}
-use Rattle.build_meaning.specs.Walk.{Walk, gives, wants, Body, makes, writes, uses, calls, Outcome, Reply}
-use Rattle.build_meaning.specs.SoFar.{ToolUse, SoFar, nothing_yet, with_write, with_tool, with_calls, recorded, result_of}
+use Rattle.build_meaning.specs.Walk.{Walk, gives, wants, Body, makes, does, uses, calls, Outcome, Reply}
+use Rattle.build_meaning.specs.SoFar.{ToolUse, SoFar, nothing_yet, with_act, with_tool, with_calls, recorded, result_of}
 use Rattle.build_meaning.specs.Meaning.{Demanded, requested, built, deepest}
 
 mutual
@@ -25,9 +25,9 @@ mutual
   -- the body of a run, which has done so far, makes a record, uses tools and leaves a journal
   pub data OfBody {I A : Type 0} (w : World I A) (D : Demanded I → Type 0) : List RunId → RunId → Journal → SoFar I → Body I A → Record → List (ToolUse I) → Journal → Type 0 where
     ended_so : {path : List RunId} {r : RunId} {j : Journal} {so_far : SoFar I} {outcome : Outcome} → OfBody w D path r j so_far (makes outcome) (recorded outcome so_far.segments) so_far.tools j
-    wrote_one : {path : List RunId} {r : RunId} {j k : Journal} {so_far : SoFar I} {p : Put} {go : Journal → Body I A} {m : Record} {tools : List (ToolUse I)} →
-        OfBody w D path r (add j (wrote r (length so_far.segments) p)) (with_write so_far p) (go (add j (wrote r (length so_far.segments) p))) m tools k →
-        OfBody w D path r j so_far (writes p go) m tools k
+    acted_one : {path : List RunId} {r : RunId} {j k : Journal} {so_far : SoFar I} {p : Act} {go : Journal → Body I A} {m : Record} {tools : List (ToolUse I)} →
+        OfBody w D path r (add j (acted r (length so_far.segments) p)) (with_act so_far p) (go (add j (acted r (length so_far.segments) p))) m tools k →
+        OfBody w D path r j so_far (does p go) m tools k
     used_tool : {path : List RunId} {r : RunId} {j k : Journal} {so_far : SoFar I} {name : List ℕ} {input : I} {go : A → Body I A} {m : Record} {tools : List (ToolUse I)} →
         OfBody w D path r j (with_tool so_far name input) (go (w.tools name input)) m tools k → OfBody w D path r j so_far (uses name input go) m tools k
     called_all : {path : List RunId} {r : RunId} {j i k : Journal} {so_far : SoFar I} {key : RequestKey} {keys : List RequestKey} {go : List RequestResult → Journal → Body I A} {results : List RequestResult} {m : Record} {tools : List (ToolUse I)} →

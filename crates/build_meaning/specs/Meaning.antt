@@ -6,10 +6,10 @@ use Rattle.result_cache.specs.declared.run.RunId.{RunId}
 use Rattle.result_cache.specs.declared.request.RequestKey.{RequestKey}
 use Rattle.result_cache.specs.declared.request.RequestResult.{RequestResult}
 use Rattle.result_cache.specs.declared.record.Record.{Record}
-use Rattle.result_cache.specs.Journal.{Journal, wrote, ended, add, merge, record_of}
+use Rattle.result_cache.specs.Journal.{Journal, acted, ended, add, merge, record_of}
 use Rattle.build_meaning.specs.World.{World}
-use Rattle.build_meaning.specs.Walk.{Walk, gives, wants, Body, makes, writes, uses, calls}
-use Rattle.build_meaning.specs.SoFar.{ToolUse, SoFar, nothing_yet, with_write, with_tool, with_calls, recorded, result_of}
+use Rattle.build_meaning.specs.Walk.{Walk, gives, wants, Body, makes, does, uses, calls}
+use Rattle.build_meaning.specs.SoFar.{ToolUse, SoFar, nothing_yet, with_act, with_tool, with_calls, recorded, result_of}
 use Rattle.result_cache.specs.Same.{is_in}
 
 -- what the meaning contains: a request; calls made at once; the body of a run, with the record that it made and the tools that it used
@@ -57,8 +57,8 @@ module _ {I A : Type 0} (w : World I A) where
   -- the body of a run, which has done so far: its record, and the tools that it uses
   abbrev pub body : (Journal → RequestKey → Option (Given I RequestResult)) → RunId → Body I A → Journal → SoFar I → Option (Given I (Record × List (ToolUse I)))
   body request run (makes outcome) journal so_far = Some (record { value = (recorded outcome so_far.segments, so_far.tools); journal = journal; demand = [] })
-  body request run (writes put go) journal so_far =
-      let next : Journal = add journal (wrote run (length so_far.segments) put) in body request run (go next) next (with_write so_far put)
+  body request run (does act go) journal so_far =
+      let next : Journal = add journal (acted run (length so_far.segments) act) in body request run (go next) next (with_act so_far act)
   body request run (uses name input go) journal so_far = body request run (go (w.tools name input)) journal (with_tool so_far name input)
   body request run (calls key keys go) journal so_far =
       followed (containing (together (key ∷ keys)) (at_once request journal journal (key ∷ keys))) (λ results next. body request run (go results next) next (with_calls so_far (key ∷ keys) results))

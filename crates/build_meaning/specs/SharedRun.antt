@@ -2,18 +2,19 @@
 use Rattle.std.specs.Prelude.{ℕ, suc, true, false, List, [], ◌∷◌, map, Option, None, Some}
 use Rattle.msb_laws.specs.Asking.{and_then}
 use Rattle.msb_values.specs.declared.key.InstanceKey.{InstanceKey}
-use Rattle.msb_values.specs.declared.put.Put.{Put}
+use Rattle.msb_values.specs.declared.act.Act.{Act}
+use Rattle.msb_values.specs.declared.act.Act.TheVariants.{Write}
 use Rattle.result_cache.specs.declared.run.RunId.{RunId}
 use Rattle.result_cache.specs.declared.request.RequestKey.{RequestKey}
 use Rattle.result_cache.specs.declared.request.RequestResult.{RequestResult}
 use Rattle.result_cache.specs.declared.record.Record.{Record}
-use Rattle.result_cache.specs.declared.record.Segment.TheVariants.{Write, Call}
-use Rattle.result_cache.specs.Journal.{Journal, wrote, ended}
+use Rattle.result_cache.specs.declared.record.Segment.TheVariants.{File, Call}
+use Rattle.result_cache.specs.Journal.{Journal, acted, ended}
 use Rattle.result_cache.specs.Table.{FinishedRun}
 use Rattle.build_meaning.specs.declared.event.Event.{Event}
 use Rattle.build_meaning.specs.declared.event.Event.TheVariants.{Assign, Claim, Request, Result, Done}
 use Rattle.build_meaning.specs.declared.event.ClaimKind.TheVariants.{Go, Wait}
-use Rattle.build_meaning.specs.Walk.{Outcome, Reply, Walk, gives, wants, makes, writes, uses, calls}
+use Rattle.build_meaning.specs.Walk.{Outcome, Reply, Walk, gives, wants, makes, does, uses, calls}
 use Rattle.build_meaning.specs.World.{World}
 use Rattle.build_meaning.specs.SoFar.{ToolUse, recorded, result_of}
 use Rattle.build_meaning.specs.Meaning.{requested, together, built, Given}
@@ -42,17 +43,17 @@ good = record { ok = true; decisions = []; items = []; changes = []; notes = [] 
 abbrev pub good_reply : Reply
 good_reply = record { ok = true; evaluated = true; returned = []; error = None }
 
--- a file with one byte, which is also its name
-abbrev pub file_of : ℕ → Put
-file_of n = record { path = n ∷ []; bytes = n ∷ [] }
+-- the write of a file with one byte, which is also its name
+abbrev pub file_of : ℕ → Act
+file_of n = Write (record { path = n ∷ []; bytes = n ∷ [] })
 
 -- the root's run writes the file 5 and calls two requests at once
 abbrev pub root_walk : Walk ℕ ℕ
-root_walk = wants (run_of 0) (writes (file_of 5) (λ j. calls (key_of 1 1) (key_of 1 2 ∷ []) (λ results k. makes good))) (λ made k. gives good_reply)
+root_walk = wants (run_of 0) (does (file_of 5) (λ j. calls (key_of 1 1) (key_of 1 2 ∷ []) (λ results k. makes good))) (λ made k. gives good_reply)
 
 -- both want the run of project 1, which gives 3 to the tool 7 and writes the file that it answers
 abbrev pub child_walk : Walk ℕ ℕ
-child_walk = wants (run_of 1) (uses (7 ∷ []) 3 (λ answer. writes (file_of answer) (λ k. makes good))) (λ made k. gives good_reply)
+child_walk = wants (run_of 1) (uses (7 ∷ []) 3 (λ answer. does (file_of answer) (λ k. makes good))) (λ made k. gives good_reply)
 
 abbrev pub walk_for : List (List ℕ) → Walk ℕ ℕ
 walk_for [] = root_walk
@@ -64,14 +65,14 @@ shared_run = record { root = default_key 0; tools = λ name input. suc input; wa
 
 -- the records of its two runs
 abbrev pub child_record : Record
-child_record = recorded good (Write (file_of 4) ∷ [])
+child_record = recorded good (File (file_of 4) ∷ [])
 
 abbrev pub root_record : Record
-root_record = recorded good (Write (file_of 5) ∷ Call (key_of 1 1) (run_of 1 ∷ []) ∷ Call (key_of 1 2) (run_of 1 ∷ []) ∷ [])
+root_record = recorded good (File (file_of 5) ∷ Call (key_of 1 1) (run_of 1 ∷ []) ∷ Call (key_of 1 2) (run_of 1 ∷ []) ∷ [])
 
 -- a child's journal in the end, and the root's
 abbrev pub child_journal : Journal
-child_journal = ended (run_of 1) child_record ∷ wrote (run_of 1) 0 (file_of 4) ∷ wrote (run_of 0) 0 (file_of 5) ∷ []
+child_journal = ended (run_of 1) child_record ∷ acted (run_of 1) 0 (file_of 4) ∷ acted (run_of 0) 0 (file_of 5) ∷ []
 
 abbrev pub root_journal : Journal
 root_journal = ended (run_of 0) root_record ∷ child_journal

@@ -1,12 +1,12 @@
 -- What a run has done so far, and how it becomes the run's record and the request's result.
 use Rattle.std.specs.Prelude.{ℕ, List, [], ◌∷◌, ◌++◌}
-use Rattle.msb_values.specs.declared.put.Put.{Put}
+use Rattle.msb_values.specs.declared.act.Act.{Act}
 use Rattle.result_cache.specs.declared.run.RunId.{RunId}
 use Rattle.result_cache.specs.declared.request.RequestKey.{RequestKey}
 use Rattle.result_cache.specs.declared.request.RequestResult.{RequestResult}
 use Rattle.result_cache.specs.declared.record.Record.{Record}
 use Rattle.result_cache.specs.declared.record.Segment.{Segment}
-use Rattle.result_cache.specs.declared.record.Segment.TheVariants.{Write, Call}
+use Rattle.result_cache.specs.declared.record.Segment.TheVariants.{File, Call}
 use Rattle.build_meaning.specs.Walk.{Outcome, Reply}
 
 -- a use of a tool: its name, and what it is given
@@ -14,7 +14,7 @@ pub record ToolUse (I : Type 0) : Type 0 where
   pub name : List ℕ
   pub input : I
 
--- the writes and calls of a body so far, and the tools that it has used, each in order
+-- the acts and calls of a body so far, and the tools that it has used, each in order
 pub record SoFar (I : Type 0) : Type 0 where
   pub segments : List Segment
   pub tools : List (ToolUse I)
@@ -23,9 +23,9 @@ pub record SoFar (I : Type 0) : Type 0 where
 abbrev pub nothing_yet : {I : Type 0} → SoFar I
 nothing_yet = record { segments = []; tools = [] }
 
--- after it has written a file
-abbrev pub with_write : {I : Type 0} → SoFar I → Put → SoFar I
-with_write so_far put = record { segments = so_far.segments ++ Write put ∷ []; tools = so_far.tools }
+-- after it has written or removed a file
+abbrev pub with_act : {I : Type 0} → SoFar I → Act → SoFar I
+with_act so_far act = record { segments = so_far.segments ++ File act ∷ []; tools = so_far.tools }
 
 -- after it has used a tool
 abbrev pub with_tool : {I : Type 0} → SoFar I → List ℕ → I → SoFar I

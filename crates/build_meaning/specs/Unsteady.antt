@@ -1,16 +1,17 @@
 -- A worked world, whole but not steady: of two requests made at once one writes a file first, and both want a run that tells whether it is there.
 use Rattle.std.specs.Prelude.{ℕ, zero, suc, List, [], ◌∷◌, Option, None, Some}
 use Rattle.msb_laws.specs.Asking.{and_then}
-use Rattle.msb_values.specs.declared.put.Put.{Put}
+use Rattle.msb_values.specs.declared.act.Act.{Act}
+use Rattle.msb_values.specs.declared.act.Act.TheVariants.{Write}
 use Rattle.result_cache.specs.declared.request.RequestResult.{RequestResult}
 use Rattle.result_cache.specs.declared.record.Record.{Record}
-use Rattle.result_cache.specs.declared.record.Segment.TheVariants.{Write, Call}
-use Rattle.result_cache.specs.Journal.{Journal, wrote, ended, content}
+use Rattle.result_cache.specs.declared.record.Segment.TheVariants.{File, Call}
+use Rattle.result_cache.specs.Journal.{Journal, acted, ended, content}
 use Rattle.build_meaning.specs.declared.event.Event.{Event}
 use Rattle.build_meaning.specs.declared.event.Event.TheVariants.{Assign, Claim, Request, Result, Done}
 use Rattle.build_meaning.specs.declared.event.ClaimKind.TheVariants.{Go, Use}
 use Rattle.build_meaning.specs.Lists.{at}
-use Rattle.build_meaning.specs.Walk.{Walk, gives, wants, makes, writes, calls}
+use Rattle.build_meaning.specs.Walk.{Walk, gives, wants, makes, does, calls}
 use Rattle.build_meaning.specs.World.{World}
 use Rattle.build_meaning.specs.SoFar.{recorded, result_of}
 use Rattle.build_meaning.specs.Meaning.{requested, together, built, Given}
@@ -18,18 +19,23 @@ use Rattle.build_meaning.specs.State.{start}
 use Rattle.build_meaning.specs.Step.{after_all}
 use Rattle.build_meaning.specs.SharedRun.{run_of, key_of, default_key, good, good_reply, file_of}
 
--- the file 7 with the byte 1 or 0
-abbrev pub told_by : Option (List ℕ) → Put
-told_by None = record { path = 7 ∷ []; bytes = 0 ∷ [] }
-told_by (Some bytes) = record { path = 7 ∷ []; bytes = 1 ∷ [] }
+-- the file 7 with a byte
+abbrev pub tells : ℕ → Act
+tells byte = Write (record { path = 7 ∷ []; bytes = byte ∷ [] })
+
+-- with the byte 1 where a file is there, and else 0
+abbrev pub told_by : Option (Option (List ℕ)) → Act
+told_by None = tells 0
+told_by (Some None) = tells 0
+told_by (Some (Some bytes)) = tells 1
 
 -- it wants the run of project 1, which writes whether the file 5 is there
 abbrev pub looks : Journal → Walk ℕ ℕ
-looks journal = wants (run_of 1) (writes (told_by (content journal (5 ∷ []))) (λ k. makes good)) (λ made k. gives good_reply)
+looks journal = wants (run_of 1) (does (told_by (content journal (5 ∷ []))) (λ k. makes good)) (λ made k. gives good_reply)
 
 -- it wants the run of project 2, which writes the file 5, and then looks
 abbrev pub writes_and_looks : Walk ℕ ℕ
-writes_and_looks = wants (run_of 2) (writes (file_of 5) (λ k. makes good)) (λ made k. looks k)
+writes_and_looks = wants (run_of 2) (does (file_of 5) (λ k. makes good)) (λ made k. looks k)
 
 -- the root's run calls the one and the other at once
 abbrev pub root_walk : Walk ℕ ℕ
@@ -49,10 +55,10 @@ unsteady = record { root = default_key 0; tools = λ name input. input; walks = 
 
 -- the record of the run that looks, by the byte that it writes
 abbrev pub looked : ℕ → Record
-looked byte = recorded good (Write (record { path = 7 ∷ []; bytes = byte ∷ [] }) ∷ [])
+looked byte = recorded good (File (tells byte) ∷ [])
 
 abbrev pub writer_record : Record
-writer_record = recorded good (Write (file_of 5) ∷ [])
+writer_record = recorded good (File (file_of 5) ∷ [])
 
 abbrev pub root_record : Record
 root_record = recorded good (Call (key_of 2 1) (run_of 2 ∷ run_of 1 ∷ []) ∷ Call (key_of 1 1) (run_of 1 ∷ []) ∷ [])
@@ -61,7 +67,7 @@ root_record = recorded good (Call (key_of 2 1) (run_of 2 ∷ run_of 1 ∷ []) �
 abbrev pub given : Given ℕ RequestResult
 given = record {
   value = result_of good_reply (run_of 0 ∷ []);
-  journal = ended (run_of 0) root_record ∷ ended (run_of 1) (looked 1) ∷ wrote (run_of 1) 0 (told_by (Some (5 ∷ []))) ∷ ended (run_of 2) writer_record ∷ wrote (run_of 2) 0 (file_of 5) ∷ [];
+  journal = ended (run_of 0) root_record ∷ ended (run_of 1) (looked 1) ∷ acted (run_of 1) 0 (tells 1) ∷ ended (run_of 2) writer_record ∷ acted (run_of 2) 0 (file_of 5) ∷ [];
   demand = requested (default_key 0) ∷ together (key_of 2 1 ∷ key_of 1 1 ∷ []) ∷ requested (key_of 2 1) ∷ built (run_of 2) writer_record [] ∷ built (run_of 1) (looked 1) []
       ∷ requested (key_of 1 1) ∷ built (run_of 1) (looked 0) [] ∷ built (run_of 0) root_record [] ∷ [];
 }
@@ -79,6 +85,6 @@ looker_first =
     ∷ Assign 2 0 ∷ Claim 2 (run_of 1) Go ∷ Result 2 (run_of 1) ∷ Done 2
     ∷ Assign 1 0 ∷ Claim 1 (run_of 2) Go ∷ Result 1 (run_of 2) ∷ Claim 1 (run_of 1) Use ∷ Done 1 ∷ Assign 0 0 ∷ Result 0 (run_of 0) ∷ Done 0 ∷ []
 
--- the bytes of a file by the root's journal after these events
-abbrev pub left_by : List Event → List ℕ → Option (List ℕ)
+-- what the last act on a path left, by the root's journal after these events
+abbrev pub left_by : List Event → List ℕ → Option (Option (List ℕ))
 left_by events path = and_then (after_all unsteady (start unsteady) events) (λ s. and_then (at s.requests 0) (λ q. content q.journal path))

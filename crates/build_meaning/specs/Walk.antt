@@ -3,7 +3,7 @@ use Rattle.std.specs.Prelude.{ℕ, Bool, List, Option}
 use Rattle.msb_values.specs.declared.item.Item.{Item}
 use Rattle.msb_values.specs.declared.change.Change.{Change}
 use Rattle.msb_values.specs.declared.note.Note.{Note}
-use Rattle.msb_values.specs.declared.put.Put.{Put}
+use Rattle.msb_values.specs.declared.act.Act.{Act}
 use Rattle.result_cache.specs.declared.run.RunId.{RunId}
 use Rattle.result_cache.specs.declared.request.RequestKey.{RequestKey}
 use Rattle.result_cache.specs.declared.request.RequestResult.{RequestResult}
@@ -28,12 +28,12 @@ pub record Reply : Type 0 where
   pub returned : List Returned
   pub error : Option (List ℕ)
 
--- the body of a run, by what it does next. It is over; it writes a file, and goes on by the journal then; it uses a tool by name, and goes on
+-- the body of a run, by what it does next. It is over; it writes or removes a file, and goes on by the journal then; it uses a tool by name, and goes on
 -- by the answer; it calls requests at once, a first one and perhaps more, and goes on by their results and the journal then. A call that is
 -- not made at once with others is a list of its own. (Target element; MSBuild task, BuildInParallel)
 pub data Body (I A : Type 0) : Type 0 where
   makes : Outcome → Body I A
-  writes : Put → (Journal → Body I A) → Body I A
+  does : Act → (Journal → Body I A) → Body I A
   uses : List ℕ → I → (A → Body I A) → Body I A
   calls : RequestKey → List RequestKey → (List RequestResult → Journal → Body I A) → Body I A
 

@@ -6,7 +6,7 @@ ghost use Rattle.result_cache.specs.declared.run.RunId.{RunId};
 ghost use Rattle.result_cache.specs.declared.record.Record.{Record};
 ghost use Rattle.build_meaning.specs.declared.event.Event.{Event};
 ghost use Rattle.build_meaning.specs.Lists.{at};
-ghost use Rattle.result_cache.specs.Journal.{Journal, end_of, write_of, has};
+ghost use Rattle.result_cache.specs.Journal.{Journal, end_of, act_of, has};
 ghost use Rattle.result_cache.specs.Table.{found, is_begun};
 ghost use Rattle.build_meaning.specs.World.{World};
 ghost use Rattle.build_meaning.specs.Walk.{Walk, wants, Body};
@@ -35,13 +35,13 @@ pub fn every_table_is_consistent<I, A>()
     ensures { (w : World I A) (events : List Event) (s : State I A) → IsHistory w events s → IsConsistent w events s.table }
 {}
 
-/// In every legal history the end of a body, and each write that may follow, are new in the journal of its request: so
+/// In every legal history the end of a body, and each act that may follow, are new in the journal of its request: so
 /// each of them is appended.
 pub fn entries_are_new<I, A>()
     ensures { (w : World I A) (events : List Event) (s : State I A) → IsHistory w events s → (id node : ℕ) (q : RequestState I A) →
         (x : Within I A) (stop : Stop I A) → at s.requests id ≡ Some q → q.status ≡ assigned node (within x stop) →
         (has (end_of x.run) q.journal ≡ false) ×
-        ((n : ℕ) → length x.so_far.segments ≤ n → has (write_of x.run n) q.journal ≡ false) }
+        ((n : ℕ) → length x.so_far.segments ≤ n → has (act_of x.run n) q.journal ≡ false) }
 {}
 
 /// In every legal history what a request asks for is possible, or it is refused for its cause.

@@ -29,6 +29,6 @@ pub fn three_projects_in_a_circle()
 pub fn order_tells_in_an_unsteady_world()
     ensures whole { IsWhole unsteady.unsteady unsteady.given }
     ensures not_steady { IsSteady unsteady.given.demand → ⊥ }
-    ensures writer_first { unsteady.left_by unsteady.writer_first (7 ∷ []) ≡ Some (1 ∷ []) }
-    ensures looker_first { unsteady.left_by unsteady.looker_first (7 ∷ []) ≡ Some (0 ∷ []) }
+    ensures writer_first { unsteady.left_by unsteady.writer_first (7 ∷ []) ≡ Some (Some (1 ∷ [])) }
+    ensures looker_first { unsteady.left_by unsteady.looker_first (7 ∷ []) ≡ Some (Some (0 ∷ [])) }
 {}

@@ -5,6 +5,7 @@ use denote.Enum.Declared as Enum
 use denote.Param.Send.{IsSend, IsSync, sendable, recorded_send, recorded_sync, struct_send, struct_sync, enum_send, enum_sync}
 use Rattle.std.proofs.Crossing.{crosses as owned}
 use Rattle.std.proofs.MapsCrossing.{crosses as maps}
+use Rattle.msb_values.specs.contracts.act.Act as Act
 use Rattle.msb_values.specs.contracts.change.Change as Change
 use Rattle.msb_values.specs.contracts.item.Item as Item
 use Rattle.msb_values.specs.contracts.key.InstanceKey as InstanceKey
@@ -13,16 +14,19 @@ use Rattle.msb_values.specs.contracts.name.Name as Name
 use Rattle.msb_values.specs.contracts.named.Named as Named
 use Rattle.msb_values.specs.contracts.note.Note as Note
 use Rattle.msb_values.specs.contracts.put.Put as Put
+use Rattle.msb_values.specs.contracts.shared.Shared as Shared
 use Rattle.msb_values.specs.contracts.text.Text as Text
 use Rattle.msb_values.specs.contracts.text8.Text8 as Bytes
 use Rattle.result_cache.specs.contracts.record.Decision as Decision
 use Rattle.result_cache.specs.contracts.record.Record as Record
 use Rattle.result_cache.specs.contracts.record.Segment as Segment
+use Rattle.result_cache.specs.contracts.record_ref.Kept as Kept
 use Rattle.result_cache.specs.contracts.record_ref.RecordRef as RecordRef
 use Rattle.result_cache.specs.contracts.request.RequestKey as RequestKey
 use Rattle.result_cache.specs.contracts.request.RequestResult as RequestResult
 use Rattle.result_cache.specs.contracts.request.Returned as Returned
 use Rattle.result_cache.specs.contracts.run.RunId as RunId
+use Rattle.result_cache.specs.contracts.run_ref.RunRef as RunRef
 use Rattle.result_cache.specs.contracts.table.Slot as TableSlot
 use Rattle.result_cache.specs.contracts.table.Table as Table
 
@@ -99,11 +103,23 @@ Item-send = recorded_send _ _ _ Item.the_type.to_one item-send
 Item-sync : IsSync Item.the_row
 Item-sync = recorded_sync _ _ _ Item.the_type.to_one item-sync
 
+Shared-send : (T : RattleType) → IsSend T → IsSync T → IsSend (Shared.the_row T)
+Shared-send T s y = search (owned, sendable) depth 20
+
+Shared-sync : (T : RattleType) → IsSend T → IsSync T → IsSync (Shared.the_row T)
+Shared-sync T s y = search (owned, sendable) depth 20
+
 put-send : IsSend Put.the_field.row
-put-send = struct_send (Struct.shape Put.the_type) (Text-send, (Bytes-send, tt))
+put-send = struct_send (Struct.shape Put.the_type) (Text-send, (Shared-send Bytes.the_row Bytes-send Bytes-sync, tt))
 
 put-sync : IsSync Put.the_field.row
-put-sync = struct_sync (Struct.shape Put.the_type) (Text-sync, (Bytes-sync, tt))
+put-sync = struct_sync (Struct.shape Put.the_type) (Text-sync, (Shared-sync Bytes.the_row Bytes-send Bytes-sync, tt))
+
+act-send : IsSend Act.the_field.row
+act-send = enum_send (Enum.shape Act.the_type) ((put-send, tt), ((Text-send, tt), tt))
+
+act-sync : IsSync Act.the_field.row
+act-sync = enum_sync (Enum.shape Act.the_type) ((put-sync, tt), ((Text-sync, tt), tt))
 
 Note-send : IsSend Note.the_row
 Note-send = recorded_send _ _ _ Note.the_type.to_one (enum_send (Enum.shape Note.the_type) ((Text-send, tt), ((Text-send, tt), ((Text-send, tt), ((Text-send, tt), tt)))))
@@ -136,31 +152,43 @@ Decision-sync : IsSync Decision.the_row
 Decision-sync = search sendable depth 20
 
 Segment-send : IsSend Segment.the_row
-Segment-send = recorded_send _ _ _ Segment.the_type.to_one (enum_send (Enum.shape Segment.the_type) ((put-send, tt), ((request-send, (Entries-send RunId.the_row RunId-send, tt)), tt)))
+Segment-send = recorded_send _ _ _ Segment.the_type.to_one (enum_send (Enum.shape Segment.the_type) ((act-send, tt), ((request-send, (Entries-send RunId.the_row RunId-send, tt)), tt)))
 
 Segment-sync : IsSync Segment.the_row
-Segment-sync = recorded_sync _ _ _ Segment.the_type.to_one (enum_sync (Enum.shape Segment.the_type) ((put-sync, tt), ((request-sync, (Entries-sync RunId.the_row RunId-sync, tt)), tt)))
+Segment-sync = recorded_sync _ _ _ Segment.the_type.to_one (enum_sync (Enum.shape Segment.the_type) ((act-sync, tt), ((request-sync, (Entries-sync RunId.the_row RunId-sync, tt)), tt)))
 
-Record-send : IsSend Record.the_row
-Record-send = recorded_send _ _ _ Record.the_type.to_one (struct_send (Struct.shape Record.the_type) (
+record-send : IsSend Record.the_field.row
+record-send = struct_send (Struct.shape Record.the_type) (
   search sendable,
   (
     Entries-send Decision.the_row Decision-send,
     (Entries-send Item.the_row Item-send, (Entries-send Change.the_row Change-send, (Entries-send Note.the_row Note-send, (Entries-send Segment.the_row Segment-send, tt)))),
   ),
-))
+)
 
-Record-sync : IsSync Record.the_row
-Record-sync = recorded_sync _ _ _ Record.the_type.to_one (struct_sync (Struct.shape Record.the_type) (
+record-sync : IsSync Record.the_field.row
+record-sync = struct_sync (Struct.shape Record.the_type) (
   search sendable,
   (
     Entries-sync Decision.the_row Decision-sync,
     (Entries-sync Item.the_row Item-sync, (Entries-sync Change.the_row Change-sync, (Entries-sync Note.the_row Note-sync, (Entries-sync Segment.the_row Segment-sync, tt)))),
   ),
-))
+)
+
+RunRef-send : IsSend RunRef.the_row
+RunRef-send = search (RunId-send, RunId-sync, owned, sendable) depth 20
+
+RunRef-sync : IsSync RunRef.the_row
+RunRef-sync = search (RunId-send, RunId-sync, owned, sendable) depth 20
+
+Kept-send : IsSend Kept.the_row
+Kept-send = recorded_send _ _ _ Kept.the_type.to_one (struct_send (Struct.shape Kept.the_type) (record-send, (search (RunRef-send, owned, sendable) depth 20, tt)))
+
+Kept-sync : IsSync Kept.the_row
+Kept-sync = recorded_sync _ _ _ Kept.the_type.to_one (struct_sync (Struct.shape Kept.the_type) (record-sync, (search (RunRef-sync, owned, sendable) depth 20, tt)))
 
 pub RecordRef-send : IsSend RecordRef.the_row
-RecordRef-send = search (Record-send, Record-sync, owned, sendable) depth 20
+RecordRef-send = search (Kept-send, Kept-sync, owned, sendable) depth 20
 
 Returned-send : IsSend Returned.the_row
 Returned-send = recorded_send _ _ _ Returned.the_type.to_one (struct_send (Struct.shape Returned.the_type) (Name-send, (Entries-send Item.the_row Item-send, tt)))

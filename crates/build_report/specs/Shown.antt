@@ -12,7 +12,7 @@ use Rattle.result_cache.specs.declared.record.Decision.TheVariants.{Ran, UpToDat
 use Rattle.result_cache.specs.declared.record.Record.{Record}
 use Rattle.result_cache.specs.declared.request.Returned.{Returned}
 use Rattle.result_cache.specs.declared.request.RequestResult.{RequestResult}
-use Rattle.result_cache.specs.Journal.{Entry, wrote, ended, Journal}
+use Rattle.result_cache.specs.Journal.{Entry, acted, ended, Journal}
 use Rattle.build_report.specs.Line.{line}
 use Rattle.build_report.specs.Runs.{run_text}
 
@@ -48,9 +48,9 @@ note_line low (Fail text) = line (codes "  error: " ++ text)
 abbrev pub run_lines : Bool → RunId → Record → List ℕ
 run_lines low run made = run_line run made.decisions ++ flat_map (note_line low) made.notes
 
--- nothing is printed of a file that was written
+-- nothing is printed of a file that was written or removed
 abbrev pub entry_lines : Bool → Entry → List ℕ
-entry_lines low (wrote run place put) = []
+entry_lines low (acted run place act) = []
 entry_lines low (ended run made) = run_lines low run made
 
 -- the runs that have ended, from the first on; a journal has its newest entry first

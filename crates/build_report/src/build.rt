@@ -52,6 +52,7 @@ fn push_entry(
 {
     match entry {
         JView::Wrote(_, _, _, _) => Ok(()),
+        JView::Removed(_, _, _) => Ok(()),
         JView::Ended(run, made) => push_run(alloc, shown, run, made, low),
     }
 }

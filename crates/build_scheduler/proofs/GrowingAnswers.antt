@@ -4,9 +4,9 @@ use Rattle.msb_laws.specs.Asking.{and_then}
 use Rattle.result_cache.specs.declared.run.RunId.{RunId}
 use Rattle.result_cache.specs.declared.request.RequestResult.{RequestResult}
 use Rattle.result_cache.specs.declared.record.Record.{Record}
-use Rattle.result_cache.specs.Journal.{Journal, end_of, wrote, has, add}
+use Rattle.result_cache.specs.Journal.{Journal, end_of, acted, has, add}
 use Rattle.result_cache.specs.Lists.{this_or}
-use Rattle.result_cache.specs.Replay.{Effect, puts_file, replays_run, replays, replay_by, unless_there, replay, replay_all}
+use Rattle.result_cache.specs.Replay.{Effect, puts_act, replays_run, replays, replay_by, unless_there, replay, replay_all}
 use Rattle.result_cache.specs.Same.{same_run}
 use Rattle.result_cache.specs.Table.{FinishedRun, Records, BegunRun, found, request_of, begun_unless, without}
 use Rattle.result_cache.proofs.Closed.{replay-has}
@@ -44,7 +44,7 @@ replay-more table f n r j k e = go (has (end_of r) j) refl
 
 replays-more : (one two : RunId → Journal → Option Journal) → ((r : RunId) (j k : Journal) → one r j ≡ Some k → two r j ≡ Some k) → (effects : List Effect) (j k : Journal) → replays one effects j ≡ Some k → replays two effects j ≡ Some k
 replays-more one two f [] j k e = e
-replays-more one two f (puts_file r n p ∷ effects) j k e = replays-more one two f effects (add j (wrote r n p)) k e
+replays-more one two f (puts_act r n p ∷ effects) j k e = replays-more one two f effects (add j (acted r n p)) k e
 replays-more one two f (replays_run r ∷ effects) j k e =
     let y = and_then-some (one r j) (replays one effects) k e in
     ap (λ o. and_then o (replays two effects)) (f r j y.0 y.1) ∙ replays-more one two f effects y.0 k y.2
