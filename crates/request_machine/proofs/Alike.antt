@@ -3,9 +3,9 @@ use Rattle.std.proofs.Common.{◌≡◌, ℕ, zero, suc, ◌+◌, ◌<◌, List,
 use Rattle.msb_laws.specs.Asking.{and_then}
 use Rattle.result_cache.specs.declared.run.RunId.{RunId}
 use Rattle.result_cache.specs.declared.record.Record.{Record}
-use Rattle.result_cache.specs.Journal.{Journal, wrote, ended, end_of, has, add}
+use Rattle.result_cache.specs.Journal.{Journal, acted, ended, end_of, has, add}
 use Rattle.result_cache.specs.Lists.{In, this_or}
-use Rattle.result_cache.specs.Replay.{Effect, puts_file, replays_run, effects_of, replays, replay, replay_all}
+use Rattle.result_cache.specs.Replay.{Effect, puts_act, replays_run, effects_of, replays, replay, replay_all}
 use Rattle.result_cache.specs.Same.{same_run, is_in, AreDistinct}
 use Rattle.result_cache.specs.Table.{FinishedRun, Records, found}
 use Rattle.result_cache.proofs.Closed.{replay-has}
@@ -93,7 +93,7 @@ module _ (part table : Records) (is : ArePartOf part table) (order : AreInOrder 
   effects_alike : (one other : RunId → Journal → Option Journal) (effects : List Effect) → ((run : RunId) → In (replays_run run) effects → (journal : Journal) → one run journal ≡ other run journal) → (journal : Journal) →
       replays one effects journal ≡ replays other effects journal
   effects_alike one other [] same journal = refl
-  effects_alike one other (puts_file run place put ∷ effects) same journal = effects_alike one other effects (λ r there. same r (inr there)) (add journal (wrote run place put))
+  effects_alike one other (puts_act run place act ∷ effects) same journal = effects_alike one other effects (λ r there. same r (inr there)) (add journal (acted run place act))
   effects_alike one other (replays_run run ∷ effects) same journal = ap (λ o. and_then o (replays one effects)) (same run (inl refl) journal) ∙ by (other run journal) (effects_alike one other effects (λ r there. same r (inr there)))
     where
       by : (o : Option Journal) → ((after : Journal) → replays one effects after ≡ replays other effects after) → and_then o (replays one effects) ≡ and_then o (replays other effects)

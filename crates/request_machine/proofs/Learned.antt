@@ -4,12 +4,12 @@ use Rattle.std.proofs.Math.Seq.{take-suc}
 use Rattle.result_cache.specs.declared.run.RunId.{RunId}
 use Rattle.result_cache.specs.declared.record.Record.{Record}
 use Rattle.result_cache.specs.declared.record.Segment.{Segment}
-use Rattle.result_cache.specs.declared.record.Segment.TheVariants.{Write, Call}
+use Rattle.result_cache.specs.declared.record.Segment.TheVariants.{File, Call}
 use Rattle.result_cache.specs.declared.table.Found.{Found}
 use Rattle.result_cache.specs.declared.table.Found.TheVariants.{Absent, Begun}
 use Rattle.result_cache.specs.Found.{FoundIn}
 use Rattle.result_cache.specs.Lists.{In, this_or}
-use Rattle.result_cache.specs.Replay.{Effect, puts_file, replays_run, effects_from, effects_of}
+use Rattle.result_cache.specs.Replay.{Effect, puts_act, replays_run, effects_from, effects_of}
 use Rattle.result_cache.specs.Same.{same_run}
 use Rattle.result_cache.specs.Table.{FinishedRun, Records, TableRuns, found}
 use Rattle.result_cache.proofs.RunTests.{same_run-true, same_run-refl}
@@ -89,8 +89,8 @@ run_there (y ∷ ys) (suc i) x h is = inr (run_there ys i x (omega arith) is)
 -- the runs that segments call for are the same wherever the segments stand
 anywhere : (outer : RunId) (p q : ℕ) (segments : List Segment) (run : RunId) → In (replays_run run) (effects_from outer p segments) → In (replays_run run) (effects_from outer q segments)
 anywhere outer p q [] run there = there
-anywhere outer p q (Write put ∷ segments) run (inl same) = absurd (cc)
-anywhere outer p q (Write put ∷ segments) run (inr there) = inr (anywhere outer (suc p) (suc q) segments run there)
+anywhere outer p q (File act ∷ segments) run (inl same) = absurd (cc)
+anywhere outer p q (File act ∷ segments) run (inr there) = inr (anywhere outer (suc p) (suc q) segments run there)
 anywhere outer p q (Call key runs ∷ segments) run there = by (in-append (replays_run run) (map replays_run runs) (effects_from outer (suc p) segments) there) (anywhere outer (suc p) (suc q) segments run)
   where
     by : In (replays_run run) (map replays_run runs) ⊎ In (replays_run run) (effects_from outer (suc p) segments) → (In (replays_run run) (effects_from outer (suc p) segments) → In (replays_run run) (effects_from outer (suc q) segments)) →
@@ -102,10 +102,10 @@ segment_more : (outer : RunId) (p : ℕ) (segments : List Segment) (i : ℕ) (x 
     In (replays_run run) (effects_from outer p (take (suc i) segments)) → In (replays_run run) (effects_from outer p (take i segments)) ⊎ In (replays_run run) (effects_in outer x)
 segment_more outer p [] i x h is run there = absurd (omega arith)
 segment_more outer p (s ∷ ss) zero x h is run there = inr (subst (λ y. In (replays_run run) (effects_in outer y)) (sym is) (anywhere outer p 0 (s ∷ []) run there))
-segment_more outer p (Write put ∷ ss) (suc i) x h is run (inl same) = inl (inl same)
-segment_more outer p (Write put ∷ ss) (suc i) x h is run (inr there) = by (segment_more outer (suc p) ss i x (omega arith) is run there)
+segment_more outer p (File act ∷ ss) (suc i) x h is run (inl same) = inl (inl same)
+segment_more outer p (File act ∷ ss) (suc i) x h is run (inr there) = by (segment_more outer (suc p) ss i x (omega arith) is run there)
   where
-    by : In (replays_run run) (effects_from outer (suc p) (take i ss)) ⊎ In (replays_run run) (effects_in outer x) → In (replays_run run) (effects_from outer p (Write put ∷ take i ss)) ⊎ In (replays_run run) (effects_in outer x)
+    by : In (replays_run run) (effects_from outer (suc p) (take i ss)) ⊎ In (replays_run run) (effects_in outer x) → In (replays_run run) (effects_from outer p (File act ∷ take i ss)) ⊎ In (replays_run run) (effects_in outer x)
     by (inl earlier) = inl (inr earlier)
     by (inr last) = inr last
 segment_more outer p (Call key runs ∷ ss) (suc i) x h is run there = by (in-append (replays_run run) (map replays_run runs) (effects_from outer (suc p) (take (suc i) ss)) there) (segment_more outer (suc p) ss i x (omega arith) is run)
@@ -126,9 +126,9 @@ segment_parts outer segments i x h is run there = segment_more outer 0 segments 
 
 in_segment : (outer : RunId) (p : ℕ) (segments : List Segment) (i : ℕ) (x : Segment) → i < length segments → x ≡ get_or segments i x → (run : RunId) → In (replays_run run) (effects_in outer x) → In (replays_run run) (effects_from outer p segments)
 in_segment outer p [] i x h is run there = absurd (omega arith)
-in_segment outer p (Write put ∷ ss) zero x h is run there = absurd (by (subst (λ y. In (replays_run run) (effects_in outer y)) is there))
+in_segment outer p (File act ∷ ss) zero x h is run there = absurd (by (subst (λ y. In (replays_run run) (effects_in outer y)) is there))
   where
-    by : In (replays_run run) (effects_in outer (Write put)) → ⊥
+    by : In (replays_run run) (effects_in outer (File act)) → ⊥
     by (inl same) = cc
     by (inr none) = none
 in_segment outer p (Call key runs ∷ ss) zero x h is run there = by (in-append (replays_run run) (map replays_run runs) [] (subst (λ y. In (replays_run run) (effects_in outer y)) is there))
@@ -136,7 +136,7 @@ in_segment outer p (Call key runs ∷ ss) zero x h is run there = by (in-append 
     by : In (replays_run run) (map replays_run runs) ⊎ ⊥ → In (replays_run run) (map replays_run runs ++ effects_from outer (suc p) ss)
     by (inl called) = in-left (replays_run run) (map replays_run runs) (effects_from outer (suc p) ss) called
     by (inr none) = absurd none
-in_segment outer p (Write put ∷ ss) (suc i) x h is run there = inr (in_segment outer (suc p) ss i x (omega arith) is run there)
+in_segment outer p (File act ∷ ss) (suc i) x h is run there = inr (in_segment outer (suc p) ss i x (omega arith) is run there)
 in_segment outer p (Call key runs ∷ ss) (suc i) x h is run there = in-right (replays_run run) (map replays_run runs) (effects_from outer (suc p) ss) (in_segment outer (suc p) ss i x (omega arith) is run there)
 
 -- the runs that a segment of a record calls for stand before the run of the record

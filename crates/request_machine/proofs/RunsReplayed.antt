@@ -4,8 +4,8 @@ use Rattle.std.proofs.lemmas.List.{drop_more, map-append}
 use Rattle.msb_laws.specs.Asking.{and_then}
 use Rattle.result_cache.specs.declared.request.RequestResult.{RequestResult}
 use Rattle.result_cache.specs.declared.run.RunId.{RunId}
-use Rattle.result_cache.specs.Journal.{Journal, wrote, add}
-use Rattle.result_cache.specs.Replay.{Effect, puts_file, replays_run, replay, replay_all, replays}
+use Rattle.result_cache.specs.Journal.{Journal, acted, add}
+use Rattle.result_cache.specs.Replay.{Effect, puts_act, replays_run, replay, replay_all, replays}
 use Rattle.result_cache.specs.Table.{Records}
 use Rattle.build_meaning.specs.SoFar.{runs_of}
 
@@ -17,7 +17,7 @@ module _ (one : RunId → Journal → Option Journal) where
 
   replays-append : (first rest : List Effect) (journal : Journal) → replays one (first ++ rest) journal ≡ and_then (replays one first journal) (replays one rest)
   replays-append [] rest journal = refl
-  replays-append (puts_file run place put ∷ first) rest journal = replays-append first rest (add journal (wrote run place put))
+  replays-append (puts_act run place act ∷ first) rest journal = replays-append first rest (add journal (acted run place act))
   replays-append (replays_run run ∷ first) rest journal = from_run (one run journal) first rest (replays-append first rest)
 
 module _ (table : Records) (results : List RequestResult) (i : ℕ) (r : RequestResult) (within : i < length results) (at : r ≡ get_or results i r) where

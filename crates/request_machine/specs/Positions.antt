@@ -33,7 +33,7 @@ use Rattle.request_machine.specs.declared.stage.Stage.TheVariants.{Begins, Visit
 abbrev pub outcome_in : Record → Outcome
 outcome_in made = record { ok = made.ok; decisions = made.decisions; items = made.items; changes = made.changes; notes = made.notes }
 
--- what a run has written and called so far, and where it has stopped
+-- what a run has done to files and called so far, and where it has stopped
 abbrev pub Halt : Type 0
 Halt = SoFar ToolInput × Stop ToolInput ToolAnswer
 

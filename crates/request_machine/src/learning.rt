@@ -81,7 +81,7 @@ fn learn_segment(
     ensures unbegun { OnOk result (learnt.new.begun ≡ []) }
 {
     match segment {
-        Segment::Write(_) => Ok(()),
+        Segment::File(_) => Ok(()),
         Segment::Call(_, runs) => learn_called(learnt, table, outer, runs.as_slice()),
     }
 }

@@ -98,7 +98,7 @@ impl<'a> Making<'a> {
     fn finished<T>(&self, alloc: Global, uses: Uses<T>, made: Record) -> Result<Step<T>, NoMemory>
         ensures { IfOk result (IsFinished self.now.run.now uses made) }
     {
-        let made = RecordRef::new(alloc, made)?;
+        let made = RecordRef::of_run(alloc, self.run, made)?;
         Ok(Step {
             ask: Ask::Finished(self.run.copy()?, made.copy()?),
             at: At::Made(made, uses),

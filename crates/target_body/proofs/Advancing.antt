@@ -9,8 +9,8 @@ use Rattle.build_meaning.specs.Stop.{Stop, Stopped, ends, asks, run_on}
 use Rattle.build_meaning.specs.Walk.{Outcome}
 use Rattle.task_trait.specs.declared.tools.ToolAnswer.{ToolAnswer}
 use Rattle.task_trait.specs.declared.tools.ToolInput.{ToolInput}
-use Rattle.target_body.specs.Work.{Work, done, writes, uses, calls, body_of}
-use Rattle.target_body.specs.Played.{Player, Done, Reached, over, waits, with_write, with_tool, played}
+use Rattle.target_body.specs.Work.{Work, done, does, uses, calls, body_of}
+use Rattle.target_body.specs.Played.{Player, Done, Reached, over, waits, with_act, with_tool, played}
 use Rattle.target_body.specs.Moments.{player}
 use Rattle.target_body.specs.Standings.{Advances, Standing, over as is_over, waits_if, tool_use}
 use Rattle.target_body.specs.declared.body.BodyAsk.{BodyAsk}
@@ -39,7 +39,7 @@ with_tools d tools = record { segments = d.segments; tools = tools; journal = d.
 
 played_behind : {R : Type 0} (p : Player) (w : Work R) (tools : Calls) (d : Done) → played p w (front tools d) ≡ fronted tools (played p w d)
 played_behind p (done end) tools d = refl
-played_behind p (writes put go) tools d = let next : Done = with_write p.run put d in played_behind p (go next.journal) tools next
+played_behind p (does act go) tools d = let next : Done = with_act p.run act d in played_behind p (go next.journal) tools next
 played_behind p (uses name input go) tools d =
     let next : Done = with_tool name input d in
     let same : (tools ++ d.tools) ++ (name, input) ∷ [] ≡ tools ++ (d.tools ++ (name, input) ∷ []) = append_assoc tools d.tools ((name, input) ∷ []) in
@@ -61,7 +61,7 @@ StopsBy used more (waits (key ∷ keys) go d) s =
 stops_at : (answer : Tools) (run : RunId) (used : List (ToolUse ToolInput)) (w : Work Outcome) (d : Done)
     → StopsBy used (done_of (played (player run answer) w d)).tools (played (player run answer) w d) (run_on answer run (body_of w) d.journal (so_far_at used d))
 stops_at answer run used (done outcome) d = refl
-stops_at answer run used (writes put go) d = let next : Done = with_write run put d in stops_at answer run used (go next.journal) next
+stops_at answer run used (does act go) d = let next : Done = with_act run act d in stops_at answer run used (go next.journal) next
 stops_at answer run used (uses name input go) d =
     let next : Done = with_tool name input d in
     let reached : Reached Outcome = played (player run answer) (go (answer name input)) next in

@@ -19,7 +19,7 @@ use Rattle.task_trait.specs.declared.tools.ToolInput.{ToolInput}
 use Rattle.task_trait.specs.declared.tools.TaskOutput.{TaskOutput}
 use Rattle.target_texts.specs.OnErrors.{notes_by}
 use Rattle.target_texts.specs.declared.on_error.OnError.{OnError}
-use Rattle.target_body.specs.Answers.{all_written, given, made, msbuild, tool}
+use Rattle.target_body.specs.Answers.{all_acted, given, made, msbuild, tool}
 use Rattle.target_body.specs.Left.{call_frames, call_left, made_from, waiting}
 use Rattle.target_body.specs.Moments.{EndsAs, Moment, Plays, done_at, moment, reached_by, state_at}
 use Rattle.target_body.specs.Played.{Player, Done, Reached, over, played}
@@ -58,13 +58,13 @@ module _ (run : Run) (e : At) (gives : Bool) (bucket : Bucket) (on_error : OnErr
       sym (ap (λ r. results.and_then r (ended_by on_error output.ok)) (subst P is taken_so))
 
   pub given_ends : (p : Player) (output : TaskOutput) (before after : Moment) (held : Held) (ending : Ending)
-      → played p (all_written output.files (state_at before)) (done_at before) ≡ over (seen_state held after.journal) (seen_done held after.journal after.tools)
+      → played p (all_acted output.acts (state_at before)) (done_at before) ≡ over (seen_state held after.journal) (seen_done held after.journal after.tools)
       → held.segments ≡ after.held.segments
       → answered_to run e gives bucket on_error (seen_state held after.journal, output) ≡ ended ending (state_at after)
       → EndsAs p (λ s. followed_by (given s output) (λ x. done (answered_to run e gives bucket on_error x))) before ending after
-  given_ends p output before after held ending writes same answered =
-      regrouped p (all_written output.files (state_at before)) (λ s. done (s, output)) (λ x. done (answered_to run e gives bucket on_error x)) (done_at before)
-      ∙ plays_then p (all_written output.files (state_at before)) (λ s. done (answered_to run e gives bucket on_error (s, output))) (done_at before) _ writes
+  given_ends p output before after held ending acted same answered =
+      regrouped p (all_acted output.acts (state_at before)) (λ s. done (s, output)) (λ x. done (answered_to run e gives bucket on_error x)) (done_at before)
+      ∙ plays_then p (all_acted output.acts (state_at before)) (λ s. done (answered_to run e gives bucket on_error (s, output))) (done_at before) _ acted
       ∙ ap (λ r. over r (seen_done held after.journal after.tools)) answered
       ∙ ap (λ (segments : List Segment). over (ended ending (state_at after)) (record { segments = segments; tools = after.tools; journal = after.journal })) same
 

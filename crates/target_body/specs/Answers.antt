@@ -1,7 +1,7 @@
 -- How a task is answered: by the tasks that are built in, by the requests that it calls, or by a tool. (Task element; MSBuild tasks; MSBuild task)
 use Rattle.std.specs.Prelude.{ℕ, List, [], ◌∷◌, ◌++◌, Bool, true, false, Result, Ok, Err, codes}
 use Rattle.std.specs.Str.{bytes_eq}
-use Rattle.msb_values.specs.declared.put.Put.{Put}
+use Rattle.msb_values.specs.declared.act.Act.{Act}
 use Rattle.msb_expand.specs.Reserved.{folder_of}
 use Rattle.result_cache.specs.declared.request.RequestKey.{RequestKey}
 use Rattle.result_cache.specs.declared.request.RequestResult.{RequestResult}
@@ -17,16 +17,16 @@ use Rattle.task_kit.specs.Tasks.{answer}
 use Rattle.task_msbuild.specs.Plans.{plan_of, has_stopped}
 use Rattle.task_msbuild.specs.Gathered.{gathered}
 use Rattle.task_msbuild.specs.declared.plans.Plan.{Plan}
-use Rattle.target_body.specs.Work.{Work, done, writes, uses, calls, followed_by}
-use Rattle.target_body.specs.States.{Run, State, with_journal, with_write, view_of}
+use Rattle.target_body.specs.Work.{Work, done, does, uses, calls, followed_by}
+use Rattle.target_body.specs.States.{Run, State, with_journal, with_act, view_of}
 
--- the files that a task gives are written in order
-abbrev pub all_written : List Put → State → Work State
-all_written [] s = done s
-all_written (put ∷ puts) s = writes put (λ journal. all_written puts (with_write put journal s))
+-- the acts that a task gives are done in order
+abbrev pub all_acted : List Act → State → Work State
+all_acted [] s = done s
+all_acted (act ∷ rest) s = does act (λ journal. all_acted rest (with_act act journal s))
 
 abbrev pub given : State → TaskOutput → Work (State × TaskOutput)
-given s output = followed_by (all_written output.files s) (λ after. done (after, output))
+given s output = followed_by (all_acted output.acts s) (λ after. done (after, output))
 
 -- the calls of an MSBuild task are made at once
 abbrev pub at_once : List RequestKey → State → Work (State × List RequestResult)
@@ -63,6 +63,6 @@ abbrev pub answered_by : ToolAnswer → Run → State → (task : List ℕ) → 
 answered_by (Made output) run s task params = given s output
 answered_by Unknown run s task params = not_built_in (bytes_eq task (codes "msbuild")) run s task params
 
--- the answer to a task, when its files are written and its requests have come back
+-- the answer to a task, when its acts are done and its requests have come back
 abbrev pub answered : Run → State → (task : List ℕ) → List Param → Work (State × TaskOutput)
 answered run s task params = answered_by (answer task (folder_of run.instance.path) (view_of run s) params s.written) run s task params

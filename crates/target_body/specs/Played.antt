@@ -1,31 +1,33 @@
--- How far the run of a target gets by itself: what it writes goes into the journal and tools answer, until requests have to be called or it is over.
+-- How far the run of a target gets by itself: what it does to files goes into the journal and tools answer, until requests
+-- have to be called or it is over.
 -- (Target element; MSBuild task)
 use Rattle.std.specs.Prelude.{ℕ, List, [], ◌∷◌, ◌++◌, length}
-use Rattle.msb_values.specs.declared.put.Put.{Put}
-use Rattle.result_cache.specs.Journal.{Journal, wrote, add}
+use Rattle.msb_values.specs.declared.act.Act.{Act}
+use Rattle.result_cache.specs.Journal.{Journal, acted, add}
 use Rattle.result_cache.specs.declared.record.Segment.{Segment}
-use Rattle.result_cache.specs.declared.record.Segment.TheVariants.{Write}
+use Rattle.result_cache.specs.declared.record.Segment.TheVariants.{File}
 use Rattle.result_cache.specs.declared.request.RequestKey.{RequestKey}
 use Rattle.result_cache.specs.declared.request.RequestResult.{RequestResult}
 use Rattle.result_cache.specs.declared.run.RunId.{RunId}
 use Rattle.task_trait.specs.declared.tools.ToolAnswer.{ToolAnswer}
 use Rattle.task_trait.specs.declared.tools.ToolInput.{ToolInput}
-use Rattle.target_body.specs.Work.{Work, done, writes, uses, calls, followed_by}
+use Rattle.target_body.specs.Work.{Work, done, does, uses, calls, followed_by}
 
 -- a run, and the function of the tools
 pub record Player : Type 0 where
   pub run : RunId
   pub tools : List ℕ → ToolInput → ToolAnswer
 
--- the writes and calls of the run so far, the calls of tools, and the journal of its request
+-- the acts and calls of the run so far, the calls of tools, and the journal of its request
 pub record Done : Type 0 where
   pub segments : List Segment
   pub tools : List (List ℕ × ToolInput)
   pub journal : Journal
 
-abbrev pub with_write : RunId → Put → Done → Done
-with_write run put d =
-    record { segments = d.segments ++ Write put ∷ []; tools = d.tools; journal = add d.journal (wrote run (length d.segments) put) }
+abbrev pub with_act : RunId → Act → Done → Done
+with_act run act d =
+    let journal : Journal = add d.journal (acted run (length d.segments) act) in
+    record { segments = d.segments ++ File act ∷ []; tools = d.tools; journal = journal }
 
 abbrev pub with_tool : List ℕ → ToolInput → Done → Done
 with_tool name input d = record { segments = d.segments; tools = d.tools ++ (name, input) ∷ []; journal = d.journal }
@@ -37,7 +39,7 @@ pub data Reached (R : Type 0) : Type 0 where
 
 abbrev pub played : {R : Type 0} → Player → Work R → Done → Reached R
 played p (done end) d = over end d
-played p (writes put go) d = let next : Done = with_write p.run put d in played p (go next.journal) next
+played p (does act go) d = let next : Done = with_act p.run act d in played p (go next.journal) next
 played p (uses name input go) d = played p (go (p.tools name input)) (with_tool name input d)
 played p (calls key keys go) d = waits (key ∷ keys) go d
 

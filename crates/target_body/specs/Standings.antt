@@ -37,8 +37,8 @@ target_named targets name = find (λ target. bytes_eq target.name name) targets
 abbrev pub run_with : World → RunId → UsedTarget → Run
 run_with world run target = record { files = world.tree.files; mode = world.mode; instance = run.instance; target = target }
 
--- It has not begun, and will begin in this scope. Or it has written and called this, and waits for the results of these requests, by which and by
--- the journal then it goes on. Or it is over.
+-- It has not begun, and will begin in this scope. Or it has done this to files and called this, and waits for the results
+-- of these requests, by which and by the journal then it goes on. Or it is over.
 pub data Standing : Type 0 where
   begins : Scope → Standing
   waits : List Segment → RequestKey → List RequestKey → (List RequestResult → Journal → Body ToolInput ToolAnswer) → Standing
@@ -72,8 +72,8 @@ abbrev pub IsTold : Stop ToolInput ToolAnswer → List Segment → BodyAsk → S
 IsTold (ends outcome) segments ask now = (ask ≡ Finished (recorded outcome segments)) × (now ≡ over)
 IsTold (asks key keys go) segments ask now = (ask ≡ Call (key ∷ keys)) × (now ≡ waits segments key keys go)
 
--- A body goes on from here, with what it has written and called: files are written and tools are used until it stops. The second list of calls of
--- tools is the first with those that it makes behind it, and so it is whatever tools it used before.
+-- A body goes on from here, with what it has done to files and called: files are written and removed and tools are used
+-- until it stops. The second list of calls of tools is the first with those that it makes behind it, and so it is whatever tools it used before.
 pub record Advances (answer : List ℕ → ToolInput → ToolAnswer) (run : RunId) (b : Body ToolInput ToolAnswer) (segments : List Segment)
     (before after : Journal) (called called_then : List (List ℕ × ToolInput)) (ask : BodyAsk) (now : Standing) : Type 0 where
   pub uses : List (List ℕ × ToolInput)

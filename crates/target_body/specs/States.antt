@@ -1,5 +1,5 @@
 -- What the run of a target has come to, and where it stops. (Target element)
-use Rattle.std.specs.Prelude.{ℕ, ◌+◌, true, false, List, [], ◌∷◌, ◌++◌, length, fold, Option, Some, None, Result, Ok, Err}
+use Rattle.std.specs.Prelude.{ℕ, ◌+◌, true, false, List, [], ◌∷◌, ◌++◌, fold, Option, Some, None, Result, Ok, Err}
 use Rattle.file_store.specs.declared.tree.File.{File}
 use Rattle.msb_values.specs.Changes.{applied}
 use Rattle.msb_values.specs.Pairs.{all_put}
@@ -9,7 +9,7 @@ use Rattle.msb_values.specs.declared.key.InstanceKey.{InstanceKey}
 use Rattle.msb_values.specs.declared.mode.Mode.{Mode}
 use Rattle.msb_values.specs.declared.note.Note.{Note}
 use Rattle.msb_values.specs.declared.note.Note.TheVariants.{Fail}
-use Rattle.msb_values.specs.declared.put.Put.{Put}
+use Rattle.msb_values.specs.declared.act.Act.{Act}
 use Rattle.msb_values.specs.declared.scope.Scope.{Scope}
 use Rattle.result_cache.specs.Journal.{Journal}
 use Rattle.result_cache.specs.declared.record.Decision.{Decision}
@@ -22,6 +22,7 @@ use Rattle.msb_expand.specs.declared.lens.Bucket.{Bucket}
 use Rattle.msb_items.specs.Items.{list_of, with_list}
 use Rattle.msb_items.specs.Places.{Place, item_place}
 use Rattle.msb_items.specs.TargetGroups.{all_applied}
+use Rattle.task_trait.specs.Tools.{act_size}
 use Rattle.target_texts.specs.Made.{Made}
 
 -- a run: the files as they stood at the start, the mode of the build, the project with its global properties, and the target
@@ -109,9 +110,9 @@ with_decision decision s = record s { decisions = s.decisions ++ decision ∷ []
 abbrev pub with_journal : Journal → State → State
 with_journal journal s = record s { journal = journal }
 
--- a file was written
-abbrev pub with_write : Put → Journal → State → State
-with_write put journal s = record s { journal = journal; written = s.written + length put.bytes }
+-- a file was written or removed
+abbrev pub with_act : Act → Journal → State → State
+with_act act journal s = record s { journal = journal; written = s.written + act_size act }
 
 -- why a run stops: a text has a fault, or a task has failed
 pub data Stopped : Type 0 where

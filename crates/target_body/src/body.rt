@@ -31,8 +31,8 @@ pub enum BodyAsk {
     Finished(Record),
 }
 
-/// The body of a run: it goes on by itself, writes files into the journal and uses tools, until it calls requests or is over.
-/// (Target element; MSBuild task.)
+/// The body of a run: it goes on by itself, adds what it does to files to the journal and uses tools, until it calls
+/// requests or is over. (Target element; MSBuild task.)
 pub struct Body {
     pub(crate) run: RunId,
     pub(crate) stand: Stand,

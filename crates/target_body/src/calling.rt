@@ -255,7 +255,7 @@ impl State {
         self.make_calls(alloc, call, at, journal)
     }
 
-    // What a task gives: its files are written, and then its notes and its Outputs are taken.
+    // What a task gives: its acts are done, and then its notes and its Outputs are taken.
     fn give(
         &mut self,
         alloc: Global,
@@ -270,10 +270,10 @@ impl State {
         let TaskOutput {
             ok,
             outputs,
-            files,
+            acts,
             notes,
         } = output;
-        self.write_all(alloc, call.site.id, files.into_vec(), journal)?;
+        self.act_all(alloc, call.site.id, acts.into_vec(), journal)?;
         self.add_notes(on_error.notes(alloc, notes)?)?;
         match self.take_outputs(alloc, call, &outputs, journal)? {
             Ending::Fine => Ok(ending_of(on_error, ok)),

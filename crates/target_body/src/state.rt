@@ -37,7 +37,7 @@ pub(crate) struct State {
     pub(crate) items: KeyedItems,
     pub(crate) changes: List<Change>,
     pub(crate) notes: List<Note>,
-    /// The run's own writes and its calls, in order.
+    /// The run's own acts on files and its calls, in order.
     pub(crate) segments: List<Segment>,
 }
 

@@ -1,9 +1,9 @@
 use Rattle.std.proofs.Common.{◌≡◌, ◌∙◌, ◌++◌, List, ap, subst, sym}
 use Rattle.msb_laws.specs.Results as results
 use Rattle.msb_values.specs.declared.note.Note.{Note}
-use Rattle.msb_values.specs.declared.put.Put.{Put}
+use Rattle.msb_values.specs.declared.act.Act.{Act}
 use Rattle.build_world.specs.Elements.{seen_element}
-use Rattle.target_body.specs.Answers.{all_written}
+use Rattle.target_body.specs.Answers.{all_acted}
 use Rattle.target_body.specs.Moments.{done_at, moment, player, state_at}
 use Rattle.target_body.specs.Played.{over, played}
 use Rattle.target_body.specs.Seen.{ended, seen_done, seen_run, seen_state}
@@ -20,14 +20,15 @@ returns-in-Fine c = λ answer tools.
     let e = seen_element c.args.call.now.element in
     let bucket = c.args.call.now.bucket.now in
     let p = player c.args.call.now.site.id.now answer in
-    let held = c.write_all.new.self in
+    let held = c.act_all.new.self in
     let after = c.take_outputs.new.self in
-    let journal = c.write_all.new.journal in
+    let journal = c.act_all.new.journal in
     let before = moment c.args.self.now c.args.journal.now tools in
-    let P : List Put → Type 0 = λ files. played p (all_written files (state_at before)) (done_at before) ≡ over (seen_state held journal) (seen_done held journal tools) in
+    let P : List Act → Type 0 = λ acts. played p (all_acted acts (state_at before)) (done_at before)
+    ≡ over (seen_state held journal) (seen_done held journal tools) in
     given_ends run e c.args.call.now.gives bucket c.args.on_error p c.args.output
     before (moment after journal tools) held c.ending_of.result
-    (subst P c.into_vec.ensures (c.in_ok-write_all.ensures answer tools))
+    (subst P c.into_vec.ensures (c.in_ok-act_all.ensures answer tools))
     (sym (c.in_ok-take_outputs.ensures.kept ∙ ap (λ (h : Held). h.segments) c.in_ok-add_notes.ensures))
     (answered_so run e c.args.call.now.gives bucket c.args.on_error c.args.output held c.add_notes.new.self after journal c.in_ok-take_outputs.field-0
     (c.in_ok-add_notes.ensures ∙ ap (λ (notes : List Note). record held { notes = held.notes ++ notes }) c.in_ok-notes.ensures) c.in_ok-take_outputs.ensures.taken
@@ -40,14 +41,15 @@ returns-in-Faulted c = λ answer tools.
     let e = seen_element c.args.call.now.element in
     let bucket = c.args.call.now.bucket.now in
     let p = player c.args.call.now.site.id.now answer in
-    let held = c.write_all.new.self in
+    let held = c.act_all.new.self in
     let after = c.take_outputs.new.self in
-    let journal = c.write_all.new.journal in
+    let journal = c.act_all.new.journal in
     let before = moment c.args.self.now c.args.journal.now tools in
-    let P : List Put → Type 0 = λ files. played p (all_written files (state_at before)) (done_at before) ≡ over (seen_state held journal) (seen_done held journal tools) in
+    let P : List Act → Type 0 = λ acts. played p (all_acted acts (state_at before)) (done_at before)
+    ≡ over (seen_state held journal) (seen_done held journal tools) in
     given_ends run e c.args.call.now.gives bucket c.args.on_error p c.args.output
     before (moment after journal tools) held Faulted
-    (subst P c.into_vec.ensures (c.in_ok-write_all.ensures answer tools))
+    (subst P c.into_vec.ensures (c.in_ok-act_all.ensures answer tools))
     (sym (c.in_ok-take_outputs.ensures.kept ∙ ap (λ (h : Held). h.segments) c.in_ok-add_notes.ensures))
     (answered_so run e c.args.call.now.gives bucket c.args.on_error c.args.output held c.add_notes.new.self after journal c.in_ok-take_outputs.field-0
     (c.in_ok-add_notes.ensures ∙ ap (λ (notes : List Note). record held { notes = held.notes ++ notes }) c.in_ok-notes.ensures) c.in_ok-take_outputs.ensures.taken
