@@ -21,7 +21,7 @@ use Rattle.build_incremental.specs.Demand.{IsAny}
 use Rattle.build_incremental.specs.Placed.{PlacedWorld, plain_world}
 use Rattle.build_incremental.specs.Each.{EachOfMeaning}
 use Rattle.build_incremental.specs.Joins.{IsOfOneRun, Anyhow}
-use Rattle.build_incremental.specs.SideBySide.{AlikeRuns, HasNotWritten, HasOneRecord}
+use Rattle.build_incremental.specs.SideBySide.{AlikeRuns, HasNotActed, HasOneRecord}
 use Rattle.build_incremental.proofs.GoAlike.{meanings-go}
 use Rattle.build_incremental.proofs.Demands.{each-meaning}
 use Rattle.build_incremental.proofs.Meanings.{meaning-each, both-meaning, weaker-meaning}
@@ -45,7 +45,7 @@ module _ (tools : List ℕ → ToolInput → ToolAnswer) (files : List File) whe
       AlikeJournals (bytes_in files) AnyPath j k →
       DeclaredAt tools files (Some target) scope id k →
       FreshAt tools files (Some target) scope id k →
-      TakesLists target → HasNotWritten id j → HasNotWritten id k →
+      TakesLists target → HasNotActed id j → HasNotActed id k →
       AlikeRuns (bytes_in files) AnyPath tools id j k
       (body (run_at files Incremental id target) scope j)
       (body (run_at files Clean id target) scope k) made (λ first. Unit {0})
@@ -103,7 +103,7 @@ module _ (tools : List ℕ → ToolInput → ToolAnswer) (files : List File) whe
     incremental-is-clean declared fresh =
         let one : HasOneRecord Known = λ p q run j k made other h g.
         declared.steady run made other h.0.0 g.0.0 h.0.1 g.0.1 in
-        let side = sides tools files AnyPath IsAny Known (λ site id k made q n put i. tt)
+        let side = sides tools files AnyPath IsAny Known (λ site id k made q n act i. tt)
         (λ site id j k made x q n. tt)
         (λ target scope id j k made x q lists fw fc.
         go target scope id j k made x q.1 q.2 lists fw fc) root instances in

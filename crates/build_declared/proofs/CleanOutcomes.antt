@@ -14,7 +14,7 @@ use Rattle.build_meaning.specs.Demand.{IsWhole}
 use Rattle.build_meaning.specs.Meaning.{Given}
 use Rattle.build_incremental.specs.Alike.{AlikeJournals}
 use Rattle.build_incremental.specs.Placed.{plain_world}
-use Rattle.build_incremental.specs.SideBySide.{HasNotWritten}
+use Rattle.build_incremental.specs.SideBySide.{HasNotActed}
 use Rattle.task_trait.specs.declared.tools.ToolAnswer.{ToolAnswer}
 use Rattle.task_trait.specs.declared.tools.ToolInput.{ToolInput}
 use Rattle.target_incremental.specs.declared.decision.Choice.TheVariants.{
@@ -39,8 +39,8 @@ use Rattle.build_declared.proofs.RunLists.{PieceGoes, runs-go}
 
 module _ (tools : List ℕ → ToolInput → ToolAnswer) (files : List File) where
   nothings : (target : UsedTarget) (scope : Scope) (id : RunId) (j k : Journal)
-      (a : AlikeJournals (bytes_in files) AnyPath j k) (fw : HasNotWritten id j)
-      (fc : HasNotWritten id k) →
+      (a : AlikeJournals (bytes_in files) AnyPath j k) (fw : HasNotActed id j)
+      (fc : HasNotActed id k) →
       GoesBy tools id (run_at files Incremental id target) scope j k a fw fc
       (IsNothing tools id (run_at files Incremental id target) scope j k a fw fc)
   nothings target scope id j k a fw fc bucket lists s t ps pt c lw lc all Nothing e w E F he hf fe
@@ -62,7 +62,7 @@ module _ (tools : List ℕ → ToolInput → ToolAnswer) (files : List File) whe
 
   -- each piece of a run goes alike
   pub pieces-go : (target : UsedTarget) (scope : Scope) (id : RunId) (j k : Journal)
-      (a : AlikeJournals (bytes_in files) AnyPath j k) → HasNotWritten id j → HasNotWritten id k →
+      (a : AlikeJournals (bytes_in files) AnyPath j k) → HasNotActed id j → HasNotActed id k →
       PieceGoes tools id (run_at files Incremental id target) scope j k a
   pieces-go target scope id j k a fw fc =
       piece-goes tools id (run_at files Incremental id target) scope j k a fw fc

@@ -27,13 +27,13 @@ use Rattle.std.specs.Prelude.{Result, Ok, Err, codes}
 use Rattle.msb_values.specs.declared.mode.Mode.{Mode}
 use Rattle.msb_values.specs.declared.mode.Mode.TheVariants.{Incremental, Clean}
 use Rattle.msb_values.specs.declared.note.Note.{Note}
-use Rattle.msb_values.specs.declared.put.Put.{Put}
+use Rattle.msb_values.specs.declared.act.Act.{Act}
 use Rattle.msb_values.specs.declared.scope.Scope.{Scope}
 use Rattle.msb_expand.specs.declared.lens.Bucket.{Bucket}
 use Rattle.file_store.specs.declared.tree.File.{File}
 use Rattle.result_cache.specs.declared.run.RunId.{RunId}
 use Rattle.result_cache.specs.Lists.{In}
-use Rattle.result_cache.specs.Journal.{Journal, wrote, add}
+use Rattle.result_cache.specs.Journal.{Journal, acted, add}
 use Rattle.build_world.specs.Elements.{attribute_of}
 use Rattle.build_world.specs.Instances.{UsedTarget}
 use Rattle.build_world.specs.declared.fault.EvalFault.{EvalFault}
@@ -41,7 +41,7 @@ use Rattle.build_meaning.proofs.MeaningDerived.{in-left, in-right}
 use Rattle.build_meaning.specs.Walk.{Outcome}
 use Rattle.build_incremental.specs.Alike.{AlikeJournals}
 use Rattle.build_incremental.specs.Alone.{alone}
-use Rattle.build_incremental.specs.SideBySide.{HasNotWritten}
+use Rattle.build_incremental.specs.SideBySide.{HasNotActed}
 use Rattle.build_incremental.proofs.Entries.{in-parts}
 use Rattle.build_incremental.proofs.Numbered.{numbered}
 use Rattle.msb_items.specs.Places.{item_place}
@@ -55,7 +55,7 @@ use Rattle.target_texts.specs.Returned.{in_target}
 use Rattle.target_body.specs.Work.{
   Work,
   done,
-  writes,
+  does,
   uses,
   calls,
   followed_by,
@@ -142,19 +142,19 @@ use Rattle.build_declared.proofs.RunLists.{
 }
 use Rattle.build_declared.proofs.Sides.{no-lists, takes}
 
--- ---- what a part of a run has written
+-- ---- what a part of a run has done
 
-end-grows : {R : Type 0} (tools : List ℕ → ToolInput → ToolAnswer) (id : RunId) (v : Work R)
-    (j : Journal) (ps : List Put) (E : End R) → end_of tools id v j ps ≡ Some E →
-    (more : List Put) × (E.puts ≡ more ++ ps)
+pub end-grows : {R : Type 0} (tools : List ℕ → ToolInput → ToolAnswer) (id : RunId) (v : Work R)
+    (j : Journal) (ps : List Act) (E : End R) → end_of tools id v j ps ≡ Some E →
+    (more : List Act) × (E.acts ≡ more ++ ps)
 end-grows {R} tools id (done x) j ps E h =
-    let e : record { value = x; journal = j; puts = ps } ≡ E =
-    some-same (record { value = x; journal = j; puts = ps }) E h in
-    ([], sym (ap (λ (z : End R). z.puts) e))
-end-grows tools id (writes put go) j ps E h =
-    let n : Journal = add j (wrote id (length ps) put) in
-    let x = end-grows tools id (go n) n (put ∷ ps) E h in
-    (x.0 ++ put ∷ [], x.1 ∙ sym (append_assoc x.0 (put ∷ []) ps))
+    let e : record { value = x; journal = j; acts = ps } ≡ E =
+    some-same (record { value = x; journal = j; acts = ps }) E h in
+    ([], sym (ap (λ (z : End R). z.acts) e))
+end-grows tools id (does act go) j ps E h =
+    let n : Journal = add j (acted id (length ps) act) in
+    let x = end-grows tools id (go n) n (act ∷ ps) E h in
+    (x.0 ++ act ∷ [], x.1 ∙ sym (append_assoc x.0 (act ∷ []) ps))
 end-grows tools id (uses name input go) j ps E h =
     end-grows tools id (go (tools name input)) j ps E h
 end-grows tools id (calls key keys go) j ps E h = absurd (cc)
@@ -169,40 +169,40 @@ the-one p q (input ∷ inputs) (output ∷ outputs) (inr i) = absurd i
 -- a build's mode, and the clean build's run; the journals with which they begin
 module _ (tools : List ℕ → ToolInput → ToolAnswer) (id : RunId) (run : Run) (scope : Scope)
     (j k : Journal) (a : AlikeJournals (bytes_in run.files) AnyPath j k)
-    (fw : HasNotWritten id j) (fc : HasNotWritten id k) where
+    (fw : HasNotActed id j) (fc : HasNotActed id k) where
   abbrev clean : Run
   clean = record run { mode = Clean }
 
-  -- as it is decided, the piece succeeds, and the run has written these files then
-  abbrev pub Ends : Piece → List Put → Type 0
-  Ends p puts = (t : State)
+  -- as it is decided, the piece succeeds, and these are the acts of the run then
+  abbrev pub Ends : Piece → List Act → Type 0
+  Ends p acts = (t : State)
       × (end_of_piece tools id run p (choice_of run p.lists p.from)
-      ≡ Some (record { value = Ok t; journal = t.journal; puts = puts }))
+      ≡ Some (record { value = Ok t; journal = t.journal; acts = acts }))
 
-  -- p is the piece in the build, q in the clean one, where it succeeds too; total is what the run
-  -- writes
-  pub record Fares (total : List Put) (p q : Piece) (puts : List Put) : Type 0 where
+  -- p is the piece in the build, q in the clean one, where it succeeds too; total are the acts of
+  -- the run
+  pub record Fares (total : List Act) (p q : Piece) (acts : List Act) : Type 0 where
     pub after : State
-    pub more : List Put
+    pub more : List Act
     pub succeeds : SucceedsWith tools id clean q after more
-    pub new : List Put
-    pub own : puts ≡ new ++ p.before
-    pub rest : List Put
-    pub within : total ≡ rest ++ puts
+    pub new : List Act
+    pub own : acts ≡ new ++ p.before
+    pub rest : List Act
+    pub within : total ≡ rest ++ acts
     pub each : (pair : Pairing) → IsPaired q pair →
         Fate (view_of run p.from) new (since q.before more) pair
 
-  pub record Counterpart (total : List Put) (p q : Piece) : Type 0 where
+  pub record Counterpart (total : List Act) (p q : Piece) : Type 0 where
     pub lists : p.lists ≡ q.lists
     pub begins : p.from.journal ≡ numbered id p.before ++ j
-    pub fares : (puts : List Put) → Ends p puts → Fares total p q puts
+    pub fares : (acts : List Act) → Ends p acts → Fares total p q acts
 
   -- the piece has one in the build
-  abbrev pub HasCounterpart : List Put → List Piece → Piece → Type 0
+  abbrev pub HasCounterpart : List Act → List Piece → Piece → Type 0
   HasCounterpart total ps q = (p : Piece) × In p ps × Counterpart total p q
 
   -- both come to an end
-  ok-both : (r q : Result State Stopped) (l : Journal) (ps pt : List Put) →
+  ok-both : (r q : Result State Stopped) (l : Journal) (ps pt : List Act) →
       EndsAlike tools id run scope j k r q ps pt → InStep tools id run scope j k q l → (t : State) →
       r ≡ Ok t → (u : State) × (q ≡ Ok u) × (u.journal ≡ l)
   ok-both (Ok s) (Ok u) l ps pt c step t e = (u, refl, step)
@@ -210,10 +210,10 @@ module _ (tools : List ℕ → ToolInput → ToolAnswer) (id : RunId) (run : Run
   ok-both (Err d) q l ps pt c step t e = absurd (cc)
 
   whole-end : (F : End (Result State Stopped)) (u : State) → F.value ≡ Ok u →
-      u.journal ≡ F.journal → F ≡ record { value = Ok u; journal = u.journal; puts = F.puts }
+      u.journal ≡ F.journal → F ≡ record { value = Ok u; journal = u.journal; acts = F.acts }
   whole-end F u v l =
-      ap (λ r. record { value = r; journal = F.journal; puts = F.puts }) v
-      ∙ ap (λ m. record { value = Ok u; journal = m; puts = F.puts }) (sym l)
+      ap (λ r. record { value = r; journal = F.journal; acts = F.acts }) v
+      ∙ ap (λ m. record { value = Ok u; journal = m; acts = F.acts }) (sym l)
 
   module _ (mode : Mode) (in_mode : run.mode ≡ mode) (goes : PieceGoes tools id run scope j k a)
       (takes : (bucket : Bucket) (y : State) → lists_at clean bucket y ≡ Ok None → ⊥) where
@@ -223,23 +223,23 @@ module _ (tools : List ℕ → ToolInput → ToolAnswer) (id : RunId) (run : Run
     abbrev Known : Piece → Type 0
     Known = Said tools id run scope j k a
 
-    abbrev here_w : Bucket → State → List Put → List Piece
+    abbrev here_w : Bucket → State → List Act → List Piece
     here_w bucket s ps =
         piece_if bucket (entered scope bucket s) ps (lists_at run bucket (entered scope bucket s))
 
-    abbrev here_c : Bucket → State → List Put → List Piece
+    abbrev here_c : Bucket → State → List Act → List Piece
     here_c bucket t pt =
         piece_if bucket (entered scope bucket t) pt (lists_at clean bucket (entered scope bucket t))
 
     -- ---- one bucket
 
-    module _ (bucket : Bucket) (s t : State) (ps pt : List Put)
+    module _ (bucket : Bucket) (s t : State) (ps pt : List Act)
         (c : Carry tools id run scope j k s t ps pt) (E F : End (Result State Stopped))
         (he : end_of tools id (first_of tools id run scope j k bucket s) s.journal ps ≡ Some E)
         (hf : end_of tools id (second_of tools id run scope j k bucket t) t.journal pt ≡ Some F)
         (fe : IsFine tools id run scope j k Good E.value)
         (ff : IsFine tools id run scope j k Good F.value)
-        (total rest : List Put) (within : total ≡ rest ++ E.puts)
+        (total rest : List Act) (within : total ≡ rest ++ E.acts)
         (so : AreSo tools id run scope j k Known (here_c bucket t pt)) where
       abbrev x : State
       x = entered scope bucket s
@@ -257,7 +257,7 @@ module _ (tools : List ℕ → ToolInput → ToolAnswer) (id : RunId) (run : Run
             ≡ Some V
         pub first_fine : IsFine tools id run scope j k Good U.value
         pub second_fine : IsFine tools id run scope j k Good V.value
-        pub puts_so : U.puts ≡ E.puts
+        pub acts_so : U.acts ≡ E.acts
 
       piece-ends : (lists : Lists) → lists_at clean bucket y ≡ Ok (Some lists) →
           lists_at run bucket x ≡ Ok (Some lists) →
@@ -286,20 +286,20 @@ module _ (tools : List ℕ → ToolInput → ToolAnswer) (id : RunId) (run : Run
           let ew : record {
             value = or_failed u.0.value;
             journal = u.0.journal;
-            puts = u.0.puts;
+            acts = u.0.acts;
           } ≡ E = some-same (record {
             value = or_failed u.0.value;
             journal = u.0.journal;
-            puts = u.0.puts;
+            acts = u.0.acts;
           }) E u.2 in
           let ec : record {
             value = or_failed v.0.value;
             journal = v.0.journal;
-            puts = v.0.puts;
+            acts = v.0.acts;
           } ≡ F = some-same (record {
             value = or_failed v.0.value;
             journal = v.0.journal;
-            puts = v.0.puts;
+            acts = v.0.acts;
           }) F v.2 in
           record {
             U = u.0;
@@ -312,7 +312,7 @@ module _ (tools : List ℕ → ToolInput → ToolAnswer) (id : RunId) (run : Run
             second_fine = fine-failed tools id run scope j k a v.0.value
                 (subst (λ (z : End (Result State Stopped)). IsFine tools id run scope j k Good
                 z.value) (sym ec) ff);
-            puts_so = ap (λ (z : End (Result State Stopped)). z.puts) ew;
+            acts_so = ap (λ (z : End (Result State Stopped)). z.acts) ew;
           }
 
       abbrev as_decided : Lists → Piece
@@ -324,36 +324,36 @@ module _ (tools : List ℕ → ToolInput → ToolAnswer) (id : RunId) (run : Run
       how-fares : (lists : Lists) → lists_at clean bucket y ≡ Ok (Some lists) →
           lists_at run bucket x ≡ Ok (Some lists) →
           all_or_nothing lists.inputs lists.outputs ≡ RunAll → Known (as_clean lists) →
-          PieceEnds lists → (puts : List Put) → Ends (as_decided lists) puts →
-          Fares total (as_decided lists) (as_clean lists) puts
-      how-fares lists e same all known p puts ended =
-          let ours : p.U ≡ record { value = Ok ended.0; journal = ended.0.journal; puts = puts } =
-          some-same p.U (record { value = Ok ended.0; journal = ended.0.journal; puts = puts })
+          PieceEnds lists → (acts : List Act) → Ends (as_decided lists) acts →
+          Fares total (as_decided lists) (as_clean lists) acts
+      how-fares lists e same all known p acts ended =
+          let ours : p.U ≡ record { value = Ok ended.0; journal = ended.0.journal; acts = acts } =
+          some-same p.U (record { value = Ok ended.0; journal = ended.0.journal; acts = acts })
           (sym p.first ∙ ended.1) in
-          let puts_are : p.U.puts ≡ puts =
-          ap (λ (z : End (Result State Stopped)). z.puts) ours in
+          let acts_are : p.U.acts ≡ acts =
+          ap (λ (z : End (Result State Stopped)). z.acts) ours in
           let g = goes bucket lists s t ps pt c same e all p.U p.V p.first p.second p.first_fine
           p.second_fine known in
-          let theirs = ok-both p.U.value p.V.value p.V.journal p.U.puts p.V.puts g.ends g.c_step
+          let theirs = ok-both p.U.value p.V.value p.V.journal p.U.acts p.V.acts g.ends g.c_step
           ended.0 (ap (λ (z : End (Result State Stopped)). z.value) ours) in
           let second : end_of tools id (decided clean bucket RunAll lists.items y) t.journal pt
           ≡ Some (record {
             value = Ok theirs.0;
             journal = theirs.0.journal;
-            puts = p.V.puts;
+            acts = p.V.acts;
           }) = p.second ∙ ap Some (whole-end p.V theirs.0 theirs.1 theirs.2) in
           let fine : IsFine tools id run scope j k Good (Ok theirs.0) =
           subst (IsFine tools id run scope j k Good) theirs.1 p.second_fine in
           let f = fates tools id run scope j k a fw fc bucket lists s t ps pt c all p.U theirs.0
-          p.V.puts second p.first_fine fine known mode in_mode p.first in
+          p.V.acts second p.first_fine fine known mode in_mode p.first in
           record {
             after = theirs.0;
-            more = p.V.puts;
+            more = p.V.acts;
             succeeds = second;
             new = f.0;
-            own = sym puts_are ∙ f.1;
+            own = sym acts_are ∙ f.1;
             rest = rest;
-            within = within ∙ ap (λ l. rest ++ l) (sym p.puts_so ∙ puts_are);
+            within = within ∙ ap (λ l. rest ++ l) (sym p.acts_so ∙ acts_are);
             each = f.2;
           }
 
@@ -394,53 +394,53 @@ module _ (tools : List ℕ → ToolInput → ToolAnswer) (id : RunId) (run : Run
     abbrev second : Bucket → State → Work (Result State Stopped)
     second = second_of tools id run scope j k
 
-    abbrev all_w : List Bucket → State → List Put → List Piece
+    abbrev all_w : List Bucket → State → List Act → List Piece
     all_w = pieces_among tools id (choice_of run) run scope
 
-    abbrev all_c : List Bucket → State → List Put → List Piece
+    abbrev all_c : List Bucket → State → List Act → List Piece
     all_c = pieces_among tools id all_of clean scope
 
-    wider : (total : List Put) (ps qs rs : List Piece) (q : Piece) →
+    wider : (total : List Act) (ps qs rs : List Piece) (q : Piece) →
         ((p : Piece) → In p ps → In p (qs ++ rs)) → HasCounterpart total ps q →
         HasCounterpart total (qs ++ rs) q
     wider total ps qs rs q f x = (x.0, f x.0 x.1, x.2)
 
     abbrev Counters : List Bucket → Type 0
-    Counters buckets = (s t : State) (ps pt : List Put) → Carry tools id run scope j k s t ps pt →
+    Counters buckets = (s t : State) (ps pt : List Act) → Carry tools id run scope j k s t ps pt →
         (E F : End (Result State Stopped)) →
         end_of tools id (each_in_turn first buckets s) s.journal ps ≡ Some E →
         end_of tools id (each_in_turn second buckets t) t.journal pt ≡ Some F →
         IsFine tools id run scope j k Good E.value → IsFine tools id run scope j k Good F.value →
         AreSo tools id run scope j k Known (all_c buckets t pt) → (q : Piece) →
-        In q (all_c buckets t pt) → HasCounterpart E.puts (all_w buckets s ps) q
+        In q (all_c buckets t pt) → HasCounterpart E.acts (all_w buckets s ps) q
 
     -- the pieces of the later buckets, by how the first one ends
     later-counters : (buckets : List Bucket) → Counters buckets → (E F : End (Result State Stopped))
         → (X Y : End (Result State Stopped)) → GoAlike tools id run scope j k X Y →
-        end_of tools id (unless_stopped X.value (each_in_turn first buckets)) X.journal X.puts
+        end_of tools id (unless_stopped X.value (each_in_turn first buckets)) X.journal X.acts
         ≡ Some E →
-        end_of tools id (unless_stopped Y.value (each_in_turn second buckets)) Y.journal Y.puts
+        end_of tools id (unless_stopped Y.value (each_in_turn second buckets)) Y.journal Y.acts
         ≡ Some F →
         IsFine tools id run scope j k Good E.value → IsFine tools id run scope j k Good F.value →
         AreSo tools id run scope j k Known (then_pieces (Some Y) (all_c buckets)) → (q : Piece) →
         In q (then_pieces (Some Y) (all_c buckets)) →
-        HasCounterpart E.puts (then_pieces (Some X) (all_w buckets)) q
+        HasCounterpart E.acts (then_pieces (Some X) (all_w buckets)) q
     later-counters buckets ih E F X Y g he hf fe ff so q i =
         go X.value Y.value g.ends g.w_step g.c_step he hf so i
       where
-        go : (r v : Result State Stopped) → EndsAlike tools id run scope j k r v X.puts Y.puts →
+        go : (r v : Result State Stopped) → EndsAlike tools id run scope j k r v X.acts Y.acts →
             InStep tools id run scope j k r X.journal → InStep tools id run scope j k v Y.journal →
-            end_of tools id (unless_stopped r (each_in_turn first buckets)) X.journal X.puts
+            end_of tools id (unless_stopped r (each_in_turn first buckets)) X.journal X.acts
             ≡ Some E →
-            end_of tools id (unless_stopped v (each_in_turn second buckets)) Y.journal Y.puts
+            end_of tools id (unless_stopped v (each_in_turn second buckets)) Y.journal Y.acts
             ≡ Some F →
-            AreSo tools id run scope j k Known (next_by v Y.puts (all_c buckets)) →
-            In q (next_by v Y.puts (all_c buckets)) →
-            HasCounterpart E.puts (next_by r X.puts (all_w buckets)) q
-        go (Ok s) (Ok t) c sw sc he hf so i = ih s t X.puts Y.puts c E F
-            (subst (λ z. end_of tools id (each_in_turn first buckets s) z X.puts ≡ Some E)
+            AreSo tools id run scope j k Known (next_by v Y.acts (all_c buckets)) →
+            In q (next_by v Y.acts (all_c buckets)) →
+            HasCounterpart E.acts (next_by r X.acts (all_w buckets)) q
+        go (Ok s) (Ok t) c sw sc he hf so i = ih s t X.acts Y.acts c E F
+            (subst (λ z. end_of tools id (each_in_turn first buckets s) z X.acts ≡ Some E)
             (sym sw) he)
-            (subst (λ z. end_of tools id (each_in_turn second buckets t) z Y.puts ≡ Some F)
+            (subst (λ z. end_of tools id (each_in_turn second buckets t) z Y.acts ≡ Some F)
             (sym sc) hf) fe ff so q i
         go (Ok s) (Err d) c sw sc he hf so i = absurd c
         go (Err d) (Ok t) c sw sc he hf so i = absurd c
@@ -456,11 +456,11 @@ module _ (tools : List ℕ → ToolInput → ToolAnswer) (id : RunId) (run : Run
         let fx : IsFine tools id run scope j k Good X.0.value = λ note u.
         fe note (rest-keeps tools id run scope j k first
         (bucket-keeps tools id run (choice_of run) scope) buckets
-        X.0.value X.0.journal X.0.puts E X.2 note u) in
+        X.0.value X.0.journal X.0.acts E X.2 note u) in
         let fy : IsFine tools id run scope j k Good Y.0.value = λ note u.
         ff note (rest-keeps tools id run scope j k second
         (bucket-keeps tools id clean all_of scope) buckets
-        Y.0.value Y.0.journal Y.0.puts F Y.2 note u) in
+        Y.0.value Y.0.journal Y.0.acts F Y.2 note u) in
         let here = here_c bucket t pt in
         let later = then_pieces (end_of tools id (second bucket t) t.journal pt)
         (all_c buckets) in
@@ -469,13 +469,13 @@ module _ (tools : List ℕ → ToolInput → ToolAnswer) (id : RunId) (run : Run
         let so_here : AreSo tools id run scope j k Known here =
         λ p u. so p (in-left p here later u) in
         let grown = end-grows tools id (unless_stopped X.0.value (each_in_turn first buckets))
-        X.0.journal X.0.puts E X.2 in
+        X.0.journal X.0.acts E X.2 in
         let g = bucket-goes tools id run scope j k a goes takes bucket s t ps pt c X.0 Y.0 X.1 Y.1
         fx fy so_here in
         elim (in-parts q here later i) [
-          | inl u ↦ wider E.puts (here_w bucket s ps) (here_w bucket s ps) later_w q
+          | inl u ↦ wider E.acts (here_w bucket s ps) (here_w bucket s ps) later_w q
               (λ p v. in-left p (here_w bucket s ps) later_w v)
-              (one-counter bucket s t ps pt c X.0 Y.0 X.1 Y.1 fx fy E.puts grown.0 grown.1 so_here
+              (one-counter bucket s t ps pt c X.0 Y.0 X.1 Y.1 fx fy E.acts grown.0 grown.1 so_here
               q u)
           | inr u ↦
               let told : In q (then_pieces (Some Y.0) (all_c buckets)) =
@@ -484,7 +484,7 @@ module _ (tools : List ℕ → ToolInput → ToolAnswer) (id : RunId) (run : Run
               (then_pieces (Some Y.0) (all_c buckets)) =
               λ p v. so p (in-right p here later
               (subst (λ z. In p (then_pieces z (all_c buckets))) (sym Y.1) v)) in
-              wider E.puts (then_pieces (Some X.0) (all_w buckets)) (here_w bucket s ps) later_w q
+              wider E.acts (then_pieces (Some X.0) (all_w buckets)) (here_w bucket s ps) later_w q
               (λ p v. in-right p (here_w bucket s ps) later_w
               (subst (λ z. In p (then_pieces z (all_w buckets))) (sym X.1) v))
               (later-counters buckets (counters buckets) E F X.0 Y.0 g X.2 Y.2 fe ff so_later q
@@ -494,13 +494,13 @@ module _ (tools : List ℕ → ToolInput → ToolAnswer) (id : RunId) (run : Run
 -- ---- a run that takes lists, or takes none
 
 module _ (run : Run) where
-  abbrev TakesNone : Type 0
+  abbrev pub TakesNone : Type 0
   TakesNone = (bucket : Bucket) (y : State) → lists_at run bucket y ≡ Ok None
 
-  abbrev NeverNone : Type 0
+  abbrev pub NeverNone : Type 0
   NeverNone = (bucket : Bucket) (y : State) → lists_at run bucket y ≡ Ok None → ⊥
 
-  takes-or-none : NeverNone ⊎ TakesNone
+  pub takes-or-none : NeverNone ⊎ TakesNone
   takes-or-none =
       let t = takes run.target (attribute_of (codes "Inputs") run.target.element)
       (attribute_of (codes "Outputs") run.target.element) refl refl in go t.0 t.1 t.2
@@ -515,42 +515,42 @@ module _ (run : Run) where
           (attribute_of (codes "Outputs") run.target.element) refl refl (n refl))
 
 -- a run that takes no lists has no piece
-none-then : (next : State → List Put → List Piece) → ((s : State) (puts : List Put) (q : Piece) →
-    In q (next s puts) → ⊥) → (o : Option (End (Result State Stopped))) (q : Piece) →
+none-then : (next : State → List Act → List Piece) → ((s : State) (acts : List Act) (q : Piece) →
+    In q (next s acts) → ⊥) → (o : Option (End (Result State Stopped))) (q : Piece) →
     In q (then_pieces o next) → ⊥
 none-then next none None q i = i
 none-then next none (Some end) q i = go end.value i
   where
-    go : (r : Result State Stopped) → In q (next_by r end.puts next) → ⊥
-    go (Ok s) i = none s end.puts q i
+    go : (r : Result State Stopped) → In q (next_by r end.acts next) → ⊥
+    go (Ok s) i = none s end.acts q i
     go (Err stop) i = i
 
 no-pieces : (tools : List ℕ → ToolInput → ToolAnswer) (id : RunId) (run : Run) (scope : Scope) →
-    TakesNone run → (buckets : List Bucket) (s : State) (puts : List Put) (q : Piece) →
-    In q (pieces_among tools id all_of run scope buckets s puts) → ⊥
-no-pieces tools id run scope takes [] s puts q i = i
-no-pieces tools id run scope takes (bucket ∷ buckets) s puts q i =
-    let here = piece_if bucket (entered scope bucket s) puts
+    TakesNone run → (buckets : List Bucket) (s : State) (acts : List Act) (q : Piece) →
+    In q (pieces_among tools id all_of run scope buckets s acts) → ⊥
+no-pieces tools id run scope takes [] s acts q i = i
+no-pieces tools id run scope takes (bucket ∷ buckets) s acts q i =
+    let here = piece_if bucket (entered scope bucket s) acts
     (lists_at run bucket (entered scope bucket s)) in
-    let later = then_pieces (end_of tools id (bucket_by all_of run scope bucket s) s.journal puts)
+    let later = then_pieces (end_of tools id (bucket_by all_of run scope bucket s) s.journal acts)
     (pieces_among tools id all_of run scope buckets) in
     elim (in-parts q here later i) [
-      | inl u ↦ subst (λ z. In q (piece_if bucket (entered scope bucket s) puts z))
+      | inl u ↦ subst (λ z. In q (piece_if bucket (entered scope bucket s) acts z))
           (takes bucket (entered scope bucket s)) u
       | inr u ↦ none-then (pieces_among tools id all_of run scope buckets)
           (no-pieces tools id run scope takes buckets)
-          (end_of tools id (bucket_by all_of run scope bucket s) s.journal puts) q u
+          (end_of tools id (bucket_by all_of run scope bucket s) s.journal acts) q u
     ]
 
 -- ---- the run of a target
 
 module _ (tools : List ℕ → ToolInput → ToolAnswer) (files : List File) (target : UsedTarget)
     (scope : Scope) (id : RunId) (j k : Journal) (a : AlikeJournals (bytes_in files) AnyPath j k)
-    (fw : HasNotWritten id j) (fc : HasNotWritten id k) where
-  abbrev clean_run : Run
+    (fw : HasNotActed id j) (fc : HasNotActed id k) where
+  abbrev pub clean_run : Run
   clean_run = run_at files Clean id target
 
-  abbrev t0 : State
+  abbrev pub t0 : State
   t0 = begun scope k
 
   -- a clean build chooses nothing else
@@ -562,7 +562,7 @@ module _ (tools : List ℕ → ToolInput → ToolAnswer) (files : List File) (ta
       ∙ all) in
       absurd (not_all (subst C is w))
 
-  piece-goes-in : (mode : Mode) → PieceGoes tools id (run_at files mode id target) scope j k a
+  pub piece-goes-in : (mode : Mode) → PieceGoes tools id (run_at files mode id target) scope j k a
   piece-goes-in Incremental = pieces-go tools files target scope id j k a fw fc
   piece-goes-in Clean = piece-goes tools id clean_run scope j k a fw fc
       (never-chosen (IsSkip tools id clean_run scope j k a fw fc) (λ h. h))
@@ -570,12 +570,12 @@ module _ (tools : List ℕ → ToolInput → ToolAnswer) (files : List File) (ta
       (never-chosen (IsNothing tools id clean_run scope j k a fw fc) (λ h. h))
 
   -- all buckets of the run come to an end
-  abbrev RunEnds : Mode → Chooser → Type 0
+  abbrev pub RunEnds : Mode → Chooser → Type 0
   RunEnds mode choose = (end : End Outcome)
       × (end_of tools id (work_by choose (run_at files mode id target) scope j) j [] ≡ Some end)
       × ((note : Note) → In note end.value.notes → IsNotTooLarge tools id clean_run note)
 
-  run-ends : (mode : Mode) (ps : List Piece) → RunIsDeclared tools id clean_run scope k ps →
+  pub run-ends : (mode : Mode) (ps : List Piece) → RunIsDeclared tools id clean_run scope k ps →
       RunEnds mode (choice_of (run_at files mode id target))
   run-ends Incremental ps r = r.never_large Incremental j a
       (choice_of (run_at files Incremental id target))
@@ -585,38 +585,38 @@ module _ (tools : List ℕ → ToolInput → ToolAnswer) (files : List File) (ta
       (all_or_nothing lists.inputs lists.outputs) refl))
 
   module _ (mode : Mode) where
-    abbrev run : Run
+    abbrev pub run : Run
     run = run_at files mode id target
 
-    abbrev s0 : State
+    abbrev pub s0 : State
     s0 = begun scope j
 
     -- what the run comes to in the build, and the counterpart of its piece
     pub record RunFares (q : Piece) : Type 0 where
       pub outcome : Outcome
-      pub total : List Put
+      pub total : List Act
       pub ends : alone tools id (body_if files mode id (Some target) scope j) j []
           ≡ Some (outcome, total)
       pub counter : HasCounterpart tools id run scope j k a fw fc total
           (pieces_of tools id (choice_of run) run scope j) q
 
-    abbrev found_w : Result (List Bucket) EvalFault
+    abbrev pub found_w : Result (List Bucket) EvalFault
     found_w = target_buckets (place_in run s0 scope) target.element
 
-    abbrev found_c : Result (List Bucket) EvalFault
+    abbrev pub found_c : Result (List Bucket) EvalFault
     found_c = target_buckets (place_in clean_run t0 scope) target.element
 
-    buckets-same : found_w ≡ found_c
+    pub buckets-same : found_w ≡ found_c
     buckets-same = ap (λ l. target_buckets (item_place l id.instance.path scope) target.element)
         ((looks-same files AnyPath).paths j k a)
 
-    at-start : Carry tools id run scope j k s0 t0 [] []
+    pub at-start : Carry tools id run scope j k s0 t0 [] []
     at-start = record {
       items = refl;
       changes = refl;
       w_is = refl;
       c_is = refl;
-      lacks = record { written = λ p. inl refl; unwritten = λ p b n e. absurd (cc) };
+      lacks = record { acted = λ p. inl refl; left_out = λ p b n e. absurd (cc) };
     }
 
     abbrev all_clean : List Bucket → List Piece
@@ -639,13 +639,13 @@ module _ (tools : List ℕ → ToolInput → ToolAnswer) (files : List File) (ta
         ap (λ (z : End Outcome). z.value) (some-same (record {
           value = outcome_of x.0.value;
           journal = x.0.journal;
-          puts = x.0.puts;
+          acts = x.0.acts;
         }) w.0 x.2) in
         let oy : outcome_of y.0.value ≡ c.0.value =
         ap (λ (z : End Outcome). z.value) (some-same (record {
           value = outcome_of y.0.value;
           journal = y.0.journal;
-          puts = y.0.puts;
+          acts = y.0.acts;
         }) c.0 y.2) in
         let hx : end_of tools id (each_in_turn (bucket_by (choice_of run) run scope) found s0) j []
         ≡ Some x.0 =
@@ -656,7 +656,7 @@ module _ (tools : List ℕ → ToolInput → ToolAnswer) (files : List File) (ta
         sym (ap (λ z. end_of tools id (unless_stopped (or_failed (or_stop t0 z))
         (λ found. each_in_turn (bucket_by all_of clean_run scope) found t0)) k []) ec) ∙ y.1 in
         let work : end_of tools id (work_by (choice_of run) run scope j) j []
-        ≡ Some (record { value = outcome_of x.0.value; journal = x.0.journal; puts = x.0.puts }) =
+        ≡ Some (record { value = outcome_of x.0.value; journal = x.0.journal; acts = x.0.acts }) =
         bound-end tools id (buckets_by (choice_of run) run scope s0)
         (λ end. done (outcome_of end)) j [] x.0 x.1 in
         let counted = counters tools id run scope j k a fw fc mode refl (piece-goes-in mode) takes
@@ -671,13 +671,13 @@ module _ (tools : List ℕ → ToolInput → ToolAnswer) (files : List File) (ta
         sym (ap (λ z. pieces_in tools id (choice_of run) run scope (or_stop s0 z) s0) ew) in
         record {
           outcome = outcome_of x.0.value;
-          total = x.0.puts;
+          total = x.0.acts;
           ends = alone-end tools id (work_by (choice_of run) run scope j) j [] (record {
             value = outcome_of x.0.value;
             journal = x.0.journal;
-            puts = x.0.puts;
+            acts = x.0.acts;
           }) work;
-          counter = subst (λ l. HasCounterpart tools id run scope j k a fw fc x.0.puts l q) listed
+          counter = subst (λ l. HasCounterpart tools id run scope j k a fw fc x.0.acts l q) listed
               counted;
         }
 

@@ -28,22 +28,23 @@ use Rattle.std.proofs.Common.{
   ◌∙◌,
   subst,
 }
-use Rattle.std.specs.Prelude.{Result, Ok, Err, codes}
+use Rattle.std.specs.Prelude.{Result, Ok, Err, codes, unwrap_or}
 use Rattle.std.specs.Str.{bytes_eq}
 use Rattle.msb_laws.specs.Results as results
 use Rattle.msb_laws.specs.Results.{map_ok}
+use Rattle.msb_values.specs.Acts.{act_path, act_bytes}
 use Rattle.msb_values.specs.Keys.{key_of}
 use Rattle.msb_values.specs.declared.change.Change.{Change}
 use Rattle.msb_values.specs.declared.item.Item.{Item}
 use Rattle.msb_values.specs.declared.mode.Mode.TheVariants.{Clean}
-use Rattle.msb_values.specs.declared.put.Put.{Put}
+use Rattle.msb_values.specs.declared.act.Act.{Act}
 use Rattle.msb_elements.specs.Nodes.{name_of}
 use Rattle.msb_expand.specs.declared.lens.Bucket.{Bucket}
 use Rattle.msb_expand.specs.Reserved.{folder_of}
 use Rattle.result_cache.specs.declared.request.RequestKey.{RequestKey}
 use Rattle.result_cache.specs.declared.request.RequestResult.{RequestResult}
 use Rattle.result_cache.specs.declared.record.Decision.{Decision}
-use Rattle.result_cache.specs.Journal.{Journal, add, wrote, write_of, has, content}
+use Rattle.result_cache.specs.Journal.{Journal, add, acted, act_of, has, content}
 use Rattle.build_world.specs.Elements.{At, children_of}
 use Rattle.build_world.specs.Faults.{fault_text}
 use Rattle.msb_values.specs.declared.note.Note.TheVariants.{Low, Message, Warning, Fail}
@@ -98,7 +99,7 @@ use Rattle.target_body.specs.States.{
   faulted,
   failed,
   with_journal,
-  with_write,
+  with_act,
   with_notes,
   with_items,
   with_decision,
@@ -115,7 +116,7 @@ use Rattle.target_body.specs.States.{
   state_of,
 }
 use Rattle.target_body.specs.Answers.{
-  all_written,
+  all_acted,
   given,
   at_once,
   in_order,
@@ -172,7 +173,7 @@ use Rattle.build_declared.proofs.NotesStay.{
 }
 use Rattle.build_incremental.proofs.Numbered.{numbered, has-above}
 use Rattle.build_incremental.proofs.Entries.{has-append}
-use Rattle.build_incremental.specs.SideBySide.{HasNotWritten}
+use Rattle.build_incremental.specs.SideBySide.{HasNotActed}
 use Rattle.build_meaning.proofs.MeaningDerived.{in-right}
 use Rattle.result_cache.specs.Lists.{In, this_or}
 use Rattle.result_cache.specs.declared.run.RunId.{RunId}
@@ -190,11 +191,10 @@ use Rattle.task_kit.proofs.OtherWritten.{
 use Rattle.msb_values.specs.declared.note.Note.{Note}
 use Rattle.task_trait.specs.Failures.{failure_text}
 use Rattle.task_trait.specs.declared.failures.Failure.TheVariants.{TooLarge}
-use Rattle.std.specs.Option.{option_or}
 use Rattle.msb_values.specs.Changes.{applied}
 
 module _ (tools : List ℕ → ToolInput → ToolAnswer) (id : RunId) (run : Run) (j k : Journal)
-    (fw : HasNotWritten id j) (fc : HasNotWritten id k) where
+    (fw : HasNotActed id j) (fc : HasNotActed id k) where
   abbrev clean : Run
   clean = record run { mode = Clean }
 
@@ -202,7 +202,7 @@ module _ (tools : List ℕ → ToolInput → ToolAnswer) (id : RunId) (run : Run
   T = bytes_in run.files
 
   -- the same, but for what was written, noted and decided before
-  pub record Cousin (s t : State) (ps pt : List Put) : Type 0 where
+  pub record Cousin (s t : State) (ps pt : List Act) : Type 0 where
     pub scope : s.scope ≡ t.scope
     pub part : s.part ≡ t.part
     pub unseen : s.unseen ≡ t.unseen
@@ -212,7 +212,7 @@ module _ (tools : List ℕ → ToolInput → ToolAnswer) (id : RunId) (run : Run
     pub c_is : t.journal ≡ numbered id pt ++ k
     pub alike : AlikeJournals T AnyPath s.journal t.journal
 
-  abbrev pub CousinEnd : Result State Stopped → Result State Stopped → List Put → List Put → Type 0
+  abbrev pub CousinEnd : Result State Stopped → Result State Stopped → List Act → List Act → Type 0
   CousinEnd (Ok s) (Ok t) ps pt = Cousin s t ps pt
   CousinEnd (Err (faulted s)) (Err (faulted t)) ps pt = Cousin s t ps pt
   CousinEnd (Err (failed s)) (Err (failed t)) ps pt = Cousin s t ps pt
@@ -224,33 +224,33 @@ module _ (tools : List ℕ → ToolInput → ToolAnswer) (id : RunId) (run : Run
   abbrev pub journal_of : Result State Stopped → Journal
   journal_of r = (state_of r).journal
 
-  -- both are at an end, and have written the same since
-  pub record BothEnd (ps pt : List Put) (E F : End (Result State Stopped)) : Type 0 where
-    pub cousins : CousinEnd E.value F.value E.puts F.puts
+  -- both are at an end, and have done the same since
+  pub record BothEnd (ps pt : List Act) (E F : End (Result State Stopped)) : Type 0 where
+    pub cousins : CousinEnd E.value F.value E.acts F.acts
     pub w_step : journal_of E.value ≡ E.journal
     pub c_step : journal_of F.value ≡ F.journal
-    pub new : List Put
-    pub w_puts : E.puts ≡ new ++ ps
-    pub c_puts : F.puts ≡ new ++ pt
+    pub new : List Act
+    pub w_acts : E.acts ≡ new ++ ps
+    pub c_acts : F.acts ≡ new ++ pt
 
   abbrev pub Both : State → State → Work (Result State Stopped) → Work (Result State Stopped) →
       Type 0
-  Both s t v u = (ps pt : List Put) → Cousin s t ps pt → (E F : End (Result State Stopped)) →
+  Both s t v u = (ps pt : List Act) → Cousin s t ps pt → (E F : End (Result State Stopped)) →
       end_of tools id v s.journal ps ≡ Some E → end_of tools id u t.journal pt ≡ Some F →
       Fine (state_of E.value).notes → Fine (state_of F.value).notes → BothEnd ps pt E F
 
   -- ---- places
 
-  place-same : (s t : State) (ps pt : List Put) → Cousin s t ps pt →
+  place-same : (s t : State) (ps pt : List Act) → Cousin s t ps pt →
       place_in run s s.scope ≡ place_in clean t t.scope
   place-same s t ps pt h = ap (λ l. item_place l run.instance.path s.scope)
       ((looks-same run.files AnyPath).paths s.journal t.journal h.alike)
       ∙ ap (place_in clean t) h.scope
 
-  scopes-same : (s t : State) (ps pt : List Put) → Cousin s t ps pt → task_scope s ≡ task_scope t
+  scopes-same : (s t : State) (ps pt : List Act) → Cousin s t ps pt → task_scope s ≡ task_scope t
   scopes-same s t ps pt h = ap (λ p. with_part p s.scope) h.part ∙ ap (with_part t.part) h.scope
 
-  tasks-same : (s t : State) (ps pt : List Put) → Cousin s t ps pt →
+  tasks-same : (s t : State) (ps pt : List Act) → Cousin s t ps pt →
       place_in run s (task_scope s) ≡ place_in clean t (task_scope t)
   tasks-same s t ps pt h = ap (λ l. item_place l run.instance.path (task_scope s))
       ((looks-same run.files AnyPath).paths s.journal t.journal h.alike)
@@ -259,26 +259,26 @@ module _ (tools : List ℕ → ToolInput → ToolAnswer) (id : RunId) (run : Run
   -- ---- parts that are over, and parts in turn
 
   over-both : (s t : State) (r q : Result State Stopped) →
-      ((ps pt : List Put) → Cousin s t ps pt → CousinEnd r q ps pt) → journal_of r ≡ s.journal →
+      ((ps pt : List Act) → Cousin s t ps pt → CousinEnd r q ps pt) → journal_of r ≡ s.journal →
       journal_of q ≡ t.journal → Both s t (done r) (done q)
   over-both s t r q f hw hc ps pt c E F he hf fe ff =
-      let e : record { value = r; journal = s.journal; puts = ps } ≡ E =
-      some-same (record { value = r; journal = s.journal; puts = ps }) E he in
-      let g : record { value = q; journal = t.journal; puts = pt } ≡ F =
-      some-same (record { value = q; journal = t.journal; puts = pt }) F hf in
+      let e : record { value = r; journal = s.journal; acts = ps } ≡ E =
+      some-same (record { value = r; journal = s.journal; acts = ps }) E he in
+      let g : record { value = q; journal = t.journal; acts = pt } ≡ F =
+      some-same (record { value = q; journal = t.journal; acts = pt }) F hf in
       subst (λ z. BothEnd ps pt z F) e (subst (BothEnd ps pt (record {
         value = r;
         journal =
             s.journal;
-        puts = ps;
+        acts = ps;
       })) g
       (record {
         cousins = f ps pt c;
         w_step = hw;
         c_step = hc;
         new = [];
-        w_puts = refl;
-        c_puts =
+        w_acts = refl;
+        c_acts =
             refl;
       }))
 
@@ -290,49 +290,49 @@ module _ (tools : List ℕ → ToolInput → ToolAnswer) (id : RunId) (run : Run
       let x = end-bound tools id v (λ end. unless_stopped end next) s.journal ps E he in
       let y = end-bound tools id u (λ end. unless_stopped end then) t.journal pt F hf in
       let b = f ps pt c x.0 y.0 x.1 y.1 (λ note i.
-      fe note (rest next kn x.0.value x.0.journal x.0.puts E x.2 note i))
-      (λ note i. ff note (rest then kt y.0.value y.0.journal y.0.puts F y.2 note i)) in
-      go x.0.value y.0.value x.0.journal y.0.journal x.0.puts y.0.puts b.cousins b.w_step b.c_step
-      b.new b.w_puts b.c_puts x.2 y.2
+      fe note (rest next kn x.0.value x.0.journal x.0.acts E x.2 note i))
+      (λ note i. ff note (rest then kt y.0.value y.0.journal y.0.acts F y.2 note i)) in
+      go x.0.value y.0.value x.0.journal y.0.journal x.0.acts y.0.acts b.cousins b.w_step b.c_step
+      b.new b.w_acts b.c_acts x.2 y.2
     where
       rest : (part : State → Work (Result State Stopped)) →
           ((x : State) → KeepsNotes tools id x (part x)) →
-          (r : Result State Stopped) (l : Journal) (qs : List Put)
+          (r : Result State Stopped) (l : Journal) (qs : List Act)
           (E : End (Result State Stopped)) →
           end_of tools id (unless_stopped r part) l qs ≡ Some E → (note : Note) →
           In note (state_of r).notes → In note (state_of E.value).notes
       rest part h (Ok x) l qs E e note i = h x l qs E e note i
       rest part h (Err d) l qs E e note i =
-          let same : record { value = Err d; journal = l; puts = qs } ≡ E =
-          some-same (record { value = Err d; journal = l; puts = qs }) E e in
+          let same : record { value = Err d; journal = l; acts = qs } ≡ E =
+          some-same (record { value = Err d; journal = l; acts = qs }) E e in
           subst (λ (z : End (Result State Stopped)). In note (state_of z.value).notes) same i
 
-      stop : (d e : Stopped) (l m : Journal) (qs qt : List Put) → CousinEnd (Err d) (Err e) qs qt →
-          journal_of (Err d) ≡ l → journal_of (Err e) ≡ m → (new : List Put) → qs ≡ new ++ ps →
-          qt ≡ new ++ pt → Some (record { value = Err d; journal = l; puts = qs }) ≡ Some E →
-          Some (record { value = Err e; journal = m; puts = qt }) ≡ Some F → BothEnd ps pt E F
+      stop : (d e : Stopped) (l m : Journal) (qs qt : List Act) → CousinEnd (Err d) (Err e) qs qt →
+          journal_of (Err d) ≡ l → journal_of (Err e) ≡ m → (new : List Act) → qs ≡ new ++ ps →
+          qt ≡ new ++ pt → Some (record { value = Err d; journal = l; acts = qs }) ≡ Some E →
+          Some (record { value = Err e; journal = m; acts = qt }) ≡ Some F → BothEnd ps pt E F
       stop d e l m qs qt c a b new wp cp he hf =
-          let x : record { value = Err d; journal = l; puts = qs } ≡ E =
-          some-same (record { value = Err d; journal = l; puts = qs }) E he in
-          let y : record { value = Err e; journal = m; puts = qt } ≡ F =
-          some-same (record { value = Err e; journal = m; puts = qt }) F hf in
+          let x : record { value = Err d; journal = l; acts = qs } ≡ E =
+          some-same (record { value = Err d; journal = l; acts = qs }) E he in
+          let y : record { value = Err e; journal = m; acts = qt } ≡ F =
+          some-same (record { value = Err e; journal = m; acts = qt }) F hf in
           subst (λ z. BothEnd ps pt z F) x (subst (BothEnd ps pt (record {
             value = Err d;
             journal =
                 l;
-            puts = qs;
+            acts = qs;
           })) y (record {
             cousins = c;
             w_step = a;
             c_step = b;
             new = new;
-            w_puts =
+            w_acts =
                 wp;
-            c_puts = cp;
+            c_acts = cp;
           }))
 
-      go : (r q : Result State Stopped) (l m : Journal) (qs qt : List Put) → CousinEnd r q qs qt →
-          journal_of r ≡ l → journal_of q ≡ m → (new : List Put) → qs ≡ new ++ ps → qt ≡ new ++ pt →
+      go : (r q : Result State Stopped) (l m : Journal) (qs qt : List Act) → CousinEnd r q qs qt →
+          journal_of r ≡ l → journal_of q ≡ m → (new : List Act) → qs ≡ new ++ ps → qt ≡ new ++ pt →
           end_of tools id (unless_stopped r next) l qs ≡ Some E →
           end_of tools id (unless_stopped q then) m qt ≡ Some F → BothEnd ps pt E F
       go (Ok x) (Ok y) l m qs qt c a b new wp cp he hf =
@@ -344,10 +344,10 @@ module _ (tools : List ℕ → ToolInput → ToolAnswer) (id : RunId) (run : Run
             c_step = z.c_step;
             new =
                 z.new ++ new;
-            w_puts = z.w_puts ∙ (ap (λ o. z.new ++ o) wp
+            w_acts = z.w_acts ∙ (ap (λ o. z.new ++ o) wp
                 ∙ sym (append_assoc z.new new ps));
-            c_puts =
-                z.c_puts ∙ (ap (λ o. z.new ++ o) cp ∙ sym (append_assoc z.new new pt));
+            c_acts =
+                z.c_acts ∙ (ap (λ o. z.new ++ o) cp ∙ sym (append_assoc z.new new pt));
           }
       go (Ok x) (Err (faulted e)) l m qs qt c a b new wp cp he hf = absurd c
       go (Ok x) (Err (failed e)) l m qs qt c a b new wp cp he hf = absurd c
@@ -372,7 +372,7 @@ module _ (tools : List ℕ → ToolInput → ToolAnswer) (id : RunId) (run : Run
       (each-both part other kp ko f xs)
 
   -- a text is read, and then what follows
-  noted : (note : Note) (s t : State) (ps pt : List Put) → Cousin s t ps pt →
+  noted : (note : Note) (s t : State) (ps pt : List Act) → Cousin s t ps pt →
       Cousin (with_notes (note ∷ []) s) (with_notes (note ∷ []) t) ps pt
   noted note s t ps pt c = record {
     scope = c.scope;
@@ -387,7 +387,7 @@ module _ (tools : List ℕ → ToolInput → ToolAnswer) (id : RunId) (run : Run
   }
 
   read-both : {X : Type 0} (s t : State) (x y : Result X EvalFault) (next then : X →
-      Work (Result State Stopped)) → ((ps pt : List Put) → Cousin s t ps pt → x ≡ y) →
+      Work (Result State Stopped)) → ((ps pt : List Act) → Cousin s t ps pt → x ≡ y) →
       ((z : X) → Both s t (next z) (then z)) →
       Both s t (unless_stopped (or_stop s x) next) (unless_stopped (or_stop t y) then)
   read-both {X} s t x y next then same f ps pt c =
@@ -409,7 +409,7 @@ module _ (tools : List ℕ → ToolInput → ToolAnswer) (id : RunId) (run : Run
 
   -- ---- what is made in a state
 
-  taken-both : (m : Made) (s t : State) (ps pt : List Put) → Cousin s t ps pt →
+  taken-both : (m : Made) (s t : State) (ps pt : List Act) → Cousin s t ps pt →
       CousinEnd (taken m s) (taken m t) ps pt
   taken-both m s t ps pt c = go m.fault
     where
@@ -441,7 +441,7 @@ module _ (tools : List ℕ → ToolInput → ToolAnswer) (id : RunId) (run : Run
       go None = refl
       go (Some fault) = refl
 
-  notes-both : (ns ms : List Note) (s t : State) (ps pt : List Put) → Cousin s t ps pt →
+  notes-both : (ns ms : List Note) (s t : State) (ps pt : List Act) → Cousin s t ps pt →
       Cousin (with_notes ns s) (with_notes ms t) ps pt
   notes-both ns ms s t ps pt c = record {
     scope = c.scope;
@@ -455,7 +455,7 @@ module _ (tools : List ℕ → ToolInput → ToolAnswer) (id : RunId) (run : Run
     alike = c.alike;
   }
 
-  -- ---- files that are written
+  -- ---- acts that are done
 
   self : (n : ℕ) → n ≤ n
   self n = omega arith
@@ -463,151 +463,151 @@ module _ (tools : List ℕ → ToolInput → ToolAnswer) (id : RunId) (run : Run
   neither : (a b : Bool) → a ≡ false → b ≡ false → (a || b) ≡ false
   neither a b p q = cc
 
-  next-journal : (base l : Journal) (ps : List Put) (put : Put) → HasNotWritten id base →
-      l ≡ numbered id ps ++ base → add l (wrote id (length ps) put) ≡ wrote id (length ps) put ∷ l
-  next-journal base l ps put free n =
-      add_new l (wrote id (length ps) put) (ap (has (write_of id (length ps))) n
-      ∙ (has-append (write_of id (length ps)) (numbered id ps) base
-      ∙ neither (has (write_of id (length ps)) (numbered id ps))
-      (has (write_of id (length ps)) base) (has-above id ps (length ps) (self (length ps)))
+  next-journal : (base l : Journal) (ps : List Act) (act : Act) → HasNotActed id base →
+      l ≡ numbered id ps ++ base → add l (acted id (length ps) act) ≡ acted id (length ps) act ∷ l
+  next-journal base l ps act free n =
+      add_new l (acted id (length ps) act) (ap (has (act_of id (length ps))) n
+      ∙ (has-append (act_of id (length ps)) (numbered id ps) base
+      ∙ neither (has (act_of id (length ps)) (numbered id ps))
+      (has (act_of id (length ps)) base) (has-above id ps (length ps) (self (length ps)))
       (free (length ps))))
 
-  alike-next : (l m : Journal) (a b : ℕ) (put : Put) → AlikeJournals T AnyPath l m →
-      AlikeJournals T AnyPath (wrote id a put ∷ l) (wrote id b put ∷ m)
-  alike-next l m a b put h = record {
-    same = λ p. go p (bytes_eq put.path p);
+  alike-next : (l m : Journal) (a b : ℕ) (act : Act) → AlikeJournals T AnyPath l m →
+      AlikeJournals T AnyPath (acted id a act ∷ l) (acted id b act ∷ m)
+  alike-next l m a b act h = record {
+    same = λ p. go p (bytes_eq (act_path act) p);
     records =
         h.records;
     only = λ r n q i. tt;
   }
     where
-      go : (p : List ℕ) (t : Bool) → option_or (this_or t (content l p) put.bytes)
-          (T p) ≡ option_or (this_or t (content m p) put.bytes) (T p)
+      go : (p : List ℕ) (t : Bool) → unwrap_or (this_or t (content l p) (act_bytes act))
+          (T p) ≡ unwrap_or (this_or t (content m p) (act_bytes act)) (T p)
       go p true = refl
       go p false = h.same p
 
-  record WrittenEnd (ps pt : List Put) (E F : End State) : Type 0 where
-    cousins : Cousin E.value F.value E.puts F.puts
+  record ActedEnd (ps pt : List Act) (E F : End State) : Type 0 where
+    cousins : Cousin E.value F.value E.acts F.acts
     w_step : E.value.journal ≡ E.journal
     c_step : F.value.journal ≡ F.journal
-    new : List Put
-    w_puts : E.puts ≡ new ++ ps
-    c_puts : F.puts ≡ new ++ pt
+    new : List Act
+    w_acts : E.acts ≡ new ++ ps
+    c_acts : F.acts ≡ new ++ pt
 
-  written-both : (puts : List Put) (s t : State) (ps pt : List Put) → Cousin s t ps pt →
-      (E F : End State) → end_of tools id (all_written puts s) s.journal ps ≡ Some E →
-      end_of tools id (all_written puts t) t.journal pt ≡ Some F → WrittenEnd ps pt E F
-  written-both [] s t ps pt c E F he hf =
-      let e : record { value = s; journal = s.journal; puts = ps } ≡ E =
-      some-same (record { value = s; journal = s.journal; puts = ps }) E he in
-      let g : record { value = t; journal = t.journal; puts = pt } ≡ F =
-      some-same (record { value = t; journal = t.journal; puts = pt }) F hf in
-      subst (λ z. WrittenEnd ps pt z F) e (subst (WrittenEnd ps pt (record {
+  acted-both : (acts : List Act) (s t : State) (ps pt : List Act) → Cousin s t ps pt →
+      (E F : End State) → end_of tools id (all_acted acts s) s.journal ps ≡ Some E →
+      end_of tools id (all_acted acts t) t.journal pt ≡ Some F → ActedEnd ps pt E F
+  acted-both [] s t ps pt c E F he hf =
+      let e : record { value = s; journal = s.journal; acts = ps } ≡ E =
+      some-same (record { value = s; journal = s.journal; acts = ps }) E he in
+      let g : record { value = t; journal = t.journal; acts = pt } ≡ F =
+      some-same (record { value = t; journal = t.journal; acts = pt }) F hf in
+      subst (λ z. ActedEnd ps pt z F) e (subst (ActedEnd ps pt (record {
         value = s;
         journal =
             s.journal;
-        puts = ps;
+        acts = ps;
       })) g (record {
         cousins = c;
         w_step = refl;
         c_step = refl;
         new =
             [];
-        w_puts = refl;
-        c_puts = refl;
+        w_acts = refl;
+        c_acts = refl;
       }))
-  written-both (put ∷ puts) s t ps pt c E F he hf =
-      let wn : add s.journal (wrote id (length ps) put) ≡ wrote id (length ps) put ∷ s.journal =
-      next-journal j s.journal ps put fw c.w_is in
-      let cn : add t.journal (wrote id (length pt) put) ≡ wrote id (length pt) put ∷ t.journal =
-      next-journal k t.journal pt put fc c.c_is in
-      let next : Cousin (with_write put (add s.journal (wrote id (length ps) put)) s)
-      (with_write put (add t.journal (wrote id (length pt) put)) t) (put ∷ ps) (put ∷ pt) =
+  acted-both (act ∷ acts) s t ps pt c E F he hf =
+      let wn : add s.journal (acted id (length ps) act) ≡ acted id (length ps) act ∷ s.journal =
+      next-journal j s.journal ps act fw c.w_is in
+      let cn : add t.journal (acted id (length pt) act) ≡ acted id (length pt) act ∷ t.journal =
+      next-journal k t.journal pt act fc c.c_is in
+      let next : Cousin (with_act act (add s.journal (acted id (length ps) act)) s)
+      (with_act act (add t.journal (acted id (length pt) act)) t) (act ∷ ps) (act ∷ pt) =
       record {
         scope = c.scope;
         part = c.part;
         unseen = c.unseen;
         items = c.items;
         changes = c.changes;
-        w_is = wn ∙ ap (λ l. wrote id (length ps) put ∷ l) c.w_is;
-        c_is = cn ∙ ap (λ l. wrote id (length pt) put ∷ l) c.c_is;
-        alike = subst (λ l. AlikeJournals T AnyPath l (add t.journal (wrote id (length pt) put)))
-            (sym wn) (subst (AlikeJournals T AnyPath (wrote id (length ps) put ∷ s.journal))
-            (sym cn) (alike-next s.journal t.journal (length ps) (length pt) put c.alike));
+        w_is = wn ∙ ap (λ l. acted id (length ps) act ∷ l) c.w_is;
+        c_is = cn ∙ ap (λ l. acted id (length pt) act ∷ l) c.c_is;
+        alike = subst (λ l. AlikeJournals T AnyPath l (add t.journal (acted id (length pt) act)))
+            (sym wn) (subst (AlikeJournals T AnyPath (acted id (length ps) act ∷ s.journal))
+            (sym cn) (alike-next s.journal t.journal (length ps) (length pt) act c.alike));
       } in
-      let x = written-both puts (with_write put (add s.journal (wrote id (length ps) put)) s)
-      (with_write put (add t.journal (wrote id (length pt) put)) t) (put ∷ ps)
-      (put ∷ pt) next E F he hf in
+      let x = acted-both acts (with_act act (add s.journal (acted id (length ps) act)) s)
+      (with_act act (add t.journal (acted id (length pt) act)) t) (act ∷ ps)
+      (act ∷ pt) next E F he hf in
       record {
         cousins = x.cousins;
         w_step = x.w_step;
         c_step = x.c_step;
         new =
-            x.new ++ put ∷ [];
-        w_puts = x.w_puts ∙ sym (append_assoc x.new (put ∷ []) ps);
-        c_puts =
-            x.c_puts ∙ sym (append_assoc x.new (put ∷ []) pt);
+            x.new ++ act ∷ [];
+        w_acts = x.w_acts ∙ sym (append_assoc x.new (act ∷ []) ps);
+        c_acts =
+            x.c_acts ∙ sym (append_assoc x.new (act ∷ []) pt);
       }
 
   -- ---- answers
 
-  pub record AnswerEnd (ps pt : List Put) (E F : End (State × TaskOutput)) : Type 0 where
-    pub cousins : Cousin E.value.0 F.value.0 E.puts F.puts
+  pub record AnswerEnd (ps pt : List Act) (E F : End (State × TaskOutput)) : Type 0 where
+    pub cousins : Cousin E.value.0 F.value.0 E.acts F.acts
     pub output : E.value.1 ≡ F.value.1
     pub w_step : E.value.0.journal ≡ E.journal
     pub c_step : F.value.0.journal ≡ F.journal
-    pub new : List Put
-    pub w_puts : E.puts ≡ new ++ ps
-    pub c_puts : F.puts ≡ new ++ pt
+    pub new : List Act
+    pub w_acts : E.acts ≡ new ++ ps
+    pub c_acts : F.acts ≡ new ++ pt
 
   abbrev pub AnswerBoth : State → State → Work (State × TaskOutput) → Work (State × TaskOutput) →
       Type 0
-  AnswerBoth s t v u = (ps pt : List Put) → Cousin s t ps pt → (E F : End (State × TaskOutput)) →
+  AnswerBoth s t v u = (ps pt : List Act) → Cousin s t ps pt → (E F : End (State × TaskOutput)) →
       end_of tools id v s.journal ps ≡ Some E → end_of tools id u t.journal pt ≡ Some F →
       Fine E.value.1.notes → Fine F.value.1.notes → AnswerEnd ps pt E F
 
-  -- the output of files that are given
-  given-output : (output : TaskOutput) (s : State) (l : Journal) (ps : List Put)
+  -- the output of acts that are given
+  given-output : (output : TaskOutput) (s : State) (l : Journal) (ps : List Act)
       (E : End (State × TaskOutput)) → end_of tools id (given s output) l ps ≡ Some E →
       E.value.1 ≡ output
   given-output output s l ps E h =
-      let x = end-bound tools id (all_written output.files s)
+      let x = end-bound tools id (all_acted output.acts s)
       (λ after. done (after, output)) l ps E h in
       ap (λ (z : End (State × TaskOutput)). z.value.1)
       (sym (some-same (record {
         value = (x.0.value, output);
         journal = x.0.journal;
-        puts =
-            x.0.puts;
+        acts =
+            x.0.acts;
       }) E x.2))
 
   given-both : (output : TaskOutput) (s t : State) →
       AnswerBoth s t (given s output) (given t output)
   given-both output s t ps pt c E F he hf fe ff =
-      let x = end-bound tools id (all_written output.files s)
+      let x = end-bound tools id (all_acted output.acts s)
       (λ after. done (after, output)) s.journal ps E he in
-      let y = end-bound tools id (all_written output.files t)
+      let y = end-bound tools id (all_acted output.acts t)
       (λ after. done (after, output)) t.journal pt F hf in
-      let b = written-both output.files s t ps pt c x.0 y.0 x.1 y.1 in
-      let e : record { value = (x.0.value, output); journal = x.0.journal; puts = x.0.puts } ≡ E =
+      let b = acted-both output.acts s t ps pt c x.0 y.0 x.1 y.1 in
+      let e : record { value = (x.0.value, output); journal = x.0.journal; acts = x.0.acts } ≡ E =
       some-same (record {
         value = (x.0.value, output);
         journal = x.0.journal;
-        puts =
-            x.0.puts;
+        acts =
+            x.0.acts;
       }) E x.2 in
-      let g : record { value = (y.0.value, output); journal = y.0.journal; puts = y.0.puts } ≡ F =
+      let g : record { value = (y.0.value, output); journal = y.0.journal; acts = y.0.acts } ≡ F =
       some-same (record {
         value = (y.0.value, output);
         journal = y.0.journal;
-        puts =
-            y.0.puts;
+        acts =
+            y.0.acts;
       }) F y.2 in
       subst (λ z. AnswerEnd ps pt z F) e (subst (AnswerEnd ps pt (record {
         value =
             (x.0.value, output);
         journal = x.0.journal;
-        puts = x.0.puts;
+        acts = x.0.acts;
       })) g
       (record {
         cousins = b.cousins;
@@ -616,8 +616,8 @@ module _ (tools : List ℕ → ToolInput → ToolAnswer) (id : RunId) (run : Run
         c_step = b.c_step;
         new =
             b.new;
-        w_puts = b.w_puts;
-        c_puts = b.c_puts;
+        w_acts = b.w_acts;
+        c_acts = b.c_acts;
       }))
 
   -- a large output is not fine
@@ -641,15 +641,15 @@ module _ (tools : List ℕ → ToolInput → ToolAnswer) (id : RunId) (run : Run
 
   output-over : (s t : State) (x : TaskOutput) → AnswerBoth s t (done (s, x)) (done (t, x))
   output-over s t x ps pt c E F he hf fe ff =
-      let e : record { value = (s, x); journal = s.journal; puts = ps } ≡ E =
-      some-same (record { value = (s, x); journal = s.journal; puts = ps }) E he in
-      let g : record { value = (t, x); journal = t.journal; puts = pt } ≡ F =
-      some-same (record { value = (t, x); journal = t.journal; puts = pt }) F hf in
+      let e : record { value = (s, x); journal = s.journal; acts = ps } ≡ E =
+      some-same (record { value = (s, x); journal = s.journal; acts = ps }) E he in
+      let g : record { value = (t, x); journal = t.journal; acts = pt } ≡ F =
+      some-same (record { value = (t, x); journal = t.journal; acts = pt }) F hf in
       subst (λ z. AnswerEnd ps pt z F) e (subst (AnswerEnd ps pt (record {
         value = (s, x);
         journal =
             s.journal;
-        puts = ps;
+        acts = ps;
       })) g (record {
         cousins = c;
         output = refl;
@@ -657,8 +657,8 @@ module _ (tools : List ℕ → ToolInput → ToolAnswer) (id : RunId) (run : Run
         c_step =
             refl;
         new = [];
-        w_puts = refl;
-        c_puts = refl;
+        w_acts = refl;
+        c_acts = refl;
       }))
 
   tool-both : (name : List ℕ) (x : Result ToolInput Failure) (s t : State) →
@@ -798,7 +798,7 @@ module _ (tools : List ℕ → ToolInput → ToolAnswer) (id : RunId) (run : Run
       go (Warning text) h = h
       go (Fail text) h = h
 
-  ended-both : (on_error : OnError) (ok : Bool) (s t : State) (ps pt : List Put) →
+  ended-both : (on_error : OnError) (ok : Bool) (s t : State) (ps pt : List Act) →
       Cousin s t ps pt → CousinEnd (ended_by on_error ok s) (ended_by on_error ok t) ps pt
   ended-both on_error true s t ps pt c = c
   ended-both Stop false s t ps pt c = c
@@ -812,7 +812,7 @@ module _ (tools : List ℕ → ToolInput → ToolAnswer) (id : RunId) (run : Run
   ended-journal Warn false s = refl
   ended-journal Continue false s = refl
 
-  and-ends : (r q : Result State Stopped) (f g : State → Result State Stopped) (ps pt : List Put) →
+  and-ends : (r q : Result State Stopped) (f g : State → Result State Stopped) (ps pt : List Act) →
       CousinEnd r q ps pt → ((s t : State) → Cousin s t ps pt → CousinEnd (f s) (g t) ps pt) →
       CousinEnd (results.and_then r f) (results.and_then q g) ps pt
   and-ends (Ok s) (Ok t) f g ps pt c h = h s t c
@@ -831,12 +831,12 @@ module _ (tools : List ℕ → ToolInput → ToolAnswer) (id : RunId) (run : Run
   and-journal (Ok t) f g = g t
   and-journal (Err d) f g = refl
 
-  call-place : (s t : State) (bucket : Bucket) (ps pt : List Put) → Cousin s t ps pt →
+  call-place : (s t : State) (bucket : Bucket) (ps pt : List Act) → Cousin s t ps pt →
       called_place run s bucket ≡ called_place clean t bucket
   call-place s t bucket ps pt c = ap (λ p. in_bucket p bucket) (tasks-same s t ps pt c)
 
   answered-to : (e : At) (gives : Bool) (bucket : Bucket) (on_error : OnError) (s t : State)
-      (o : TaskOutput) (ps pt : List Put) → Cousin s t ps pt →
+      (o : TaskOutput) (ps pt : List Act) → Cousin s t ps pt →
       CousinEnd (answered_to run e gives bucket on_error (s, o))
       (answered_to clean e gives bucket on_error (t, o)) ps pt
   answered-to e gives bucket on_error s t o ps pt c =
@@ -888,25 +888,25 @@ module _ (tools : List ℕ → ToolInput → ToolAnswer) (id : RunId) (run : Run
         value = answered_to run e gives bucket ready.0 x.0.value;
         journal =
             x.0.journal;
-        puts = x.0.puts;
+        acts = x.0.acts;
       } ≡ E = some-same (record {
         value =
             answered_to run e gives bucket ready.0 x.0.value;
         journal = x.0.journal;
-        puts =
-            x.0.puts;
+        acts =
+            x.0.acts;
       }) E x.2 in
       let ey : record {
         value = answered_to clean e gives bucket ready.0 y.0.value;
         journal =
             y.0.journal;
-        puts = y.0.puts;
+        acts = y.0.acts;
       } ≡ F = some-same (record {
         value =
             answered_to clean e gives bucket ready.0 y.0.value;
         journal = y.0.journal;
-        puts =
-            y.0.puts;
+        acts =
+            y.0.acts;
       }) F y.2 in
       let fx : Fine x.0.value.1.notes = answered-notes run e gives bucket ready.0 x.0.value
       (subst (λ (z : End (Result State Stopped)). Fine (state_of z.value).notes) (sym ex) fe) in
@@ -917,18 +917,18 @@ module _ (tools : List ℕ → ToolInput → ToolAnswer) (id : RunId) (run : Run
         value =
             answered_to run e gives bucket ready.0 x.0.value;
         journal = x.0.journal;
-        puts =
-            x.0.puts;
+        acts =
+            x.0.acts;
       })) ey (record {
         cousins = subst (λ o. CousinEnd (answered_to run e gives bucket ready.0 x.0.value)
-            (answered_to clean e gives bucket ready.0 (y.0.value.0, o)) x.0.puts y.0.puts) b.output
-            (answered-to e gives bucket ready.0 x.0.value.0 y.0.value.0 x.0.value.1 x.0.puts
-            y.0.puts b.cousins);
+            (answered_to clean e gives bucket ready.0 (y.0.value.0, o)) x.0.acts y.0.acts) b.output
+            (answered-to e gives bucket ready.0 x.0.value.0 y.0.value.0 x.0.value.1 x.0.acts
+            y.0.acts b.cousins);
         w_step = answered-journal run e gives bucket ready.0 x.0.value ∙ b.w_step;
         c_step = answered-journal clean e gives bucket ready.0 y.0.value ∙ b.c_step;
         new = b.new;
-        w_puts = b.w_puts;
-        c_puts = b.c_puts;
+        w_acts = b.w_acts;
+        c_acts = b.c_acts;
       }))
 
   call-both : (e : At) (gives : Bool) (bucket : Bucket) (s t : State) →
@@ -952,7 +952,7 @@ module _ (tools : List ℕ → ToolInput → ToolAnswer) (id : RunId) (run : Run
       (call-keeps tools id run e gives) (call-keeps tools id clean e gives)
       (call-both e gives) buckets s t)
 
-  inferred-both : (e : At) (s t : State) (ps pt : List Put) → Cousin s t ps pt →
+  inferred-both : (e : At) (s t : State) (ps pt : List Act) → Cousin s t ps pt →
       CousinEnd (inferred run e s) (inferred clean e t) ps pt
   inferred-both e s t ps pt c =
       subst (λ m. CousinEnd (inferred run e s) (taken m t) ps pt)
@@ -962,7 +962,7 @@ module _ (tools : List ℕ → ToolInput → ToolAnswer) (id : RunId) (run : Run
   inferred-journal : (r : Run) (e : At) (s : State) → journal_of (inferred r e s) ≡ s.journal
   inferred-journal r e s = taken-journal (inferred_at (place_in r s s.scope) e) s
 
-  state-both : (r q : Result State Stopped) (ps pt : List Put) → CousinEnd r q ps pt →
+  state-both : (r q : Result State Stopped) (ps pt : List Act) → CousinEnd r q ps pt →
       Cousin (state_of r) (state_of q) ps pt
   state-both (Ok s) (Ok t) ps pt c = c
   state-both (Ok s) (Err (faulted e)) ps pt c = absurd c
@@ -974,7 +974,7 @@ module _ (tools : List ℕ → ToolInput → ToolAnswer) (id : RunId) (run : Run
   state-both (Err (faulted d)) (Err (failed e)) ps pt c = absurd c
   state-both (Err (failed d)) (Err (faulted e)) ps pt c = absurd c
 
-  then-inferred : (e : At) (r q : Result State Stopped) (ps pt : List Put) → CousinEnd r q ps pt →
+  then-inferred : (e : At) (r q : Result State Stopped) (ps pt : List Act) → CousinEnd r q ps pt →
       CousinEnd (then_inferred run e r) (then_inferred clean e q) ps pt
   then-inferred e (Ok s) (Ok t) ps pt c = inferred-both e s t ps pt c
   then-inferred e (Ok s) (Err (faulted d)) ps pt c = absurd c
@@ -995,7 +995,7 @@ module _ (tools : List ℕ → ToolInput → ToolAnswer) (id : RunId) (run : Run
 
   -- a part whose end is looked at
   then-both : (s t : State) (v u : Work (Result State Stopped)) (f g : Result State Stopped →
-      Result State Stopped) → Both s t v u → ((r q : Result State Stopped) (ps pt : List Put) →
+      Result State Stopped) → Both s t v u → ((r q : Result State Stopped) (ps pt : List Act) →
       CousinEnd r q ps pt → CousinEnd (f r) (g q) ps pt) →
       ((r : Result State Stopped) → journal_of (f r) ≡ journal_of r) →
       ((r : Result State Stopped) → journal_of (g r) ≡ journal_of r) →
@@ -1005,19 +1005,19 @@ module _ (tools : List ℕ → ToolInput → ToolAnswer) (id : RunId) (run : Run
   then-both s t v u f g h m jf jg nf ng ps pt c E F he hf fe ff =
       let x = end-bound tools id v (λ end. done (f end)) s.journal ps E he in
       let y = end-bound tools id u (λ end. done (g end)) t.journal pt F hf in
-      let ex : record { value = f x.0.value; journal = x.0.journal; puts = x.0.puts } ≡ E =
+      let ex : record { value = f x.0.value; journal = x.0.journal; acts = x.0.acts } ≡ E =
       some-same (record {
         value = f x.0.value;
         journal = x.0.journal;
-        puts =
-            x.0.puts;
+        acts =
+            x.0.acts;
       }) E x.2 in
-      let ey : record { value = g y.0.value; journal = y.0.journal; puts = y.0.puts } ≡ F =
+      let ey : record { value = g y.0.value; journal = y.0.journal; acts = y.0.acts } ≡ F =
       some-same (record {
         value = g y.0.value;
         journal = y.0.journal;
-        puts =
-            y.0.puts;
+        acts =
+            y.0.acts;
       }) F y.2 in
       let b = h ps pt c x.0 y.0 x.1 y.1 (nf x.0.value
       (subst (λ (z : End (Result State Stopped)). Fine (state_of z.value).notes) (sym ex) fe))
@@ -1027,14 +1027,14 @@ module _ (tools : List ℕ → ToolInput → ToolAnswer) (id : RunId) (run : Run
         value =
             f x.0.value;
         journal = x.0.journal;
-        puts = x.0.puts;
+        acts = x.0.acts;
       })) ey (record {
-        cousins = m x.0.value y.0.value x.0.puts y.0.puts b.cousins;
+        cousins = m x.0.value y.0.value x.0.acts y.0.acts b.cousins;
         w_step = jf x.0.value ∙ b.w_step;
         c_step = jg y.0.value ∙ b.c_step;
         new = b.new;
-        w_puts = b.w_puts;
-        c_puts = b.c_puts;
+        w_acts = b.w_acts;
+        c_acts = b.c_acts;
       }))
 
   has-self : (r : Result State Stopped) → Has (state_of r) r
@@ -1057,7 +1057,7 @@ module _ (tools : List ℕ → ToolInput → ToolAnswer) (id : RunId) (run : Run
 
   -- ---- children
 
-  group-both : (e : At) (s t : State) (ps pt : List Put) → Cousin s t ps pt →
+  group-both : (e : At) (s t : State) (ps pt : List Act) → Cousin s t ps pt →
       CousinEnd (group run e s) (group clean e t) ps pt
   group-both e s t ps pt c =
       subst (λ x. CousinEnd (group run e s) (map_ok (λ changes. with_changes_seen changes t)
@@ -1098,7 +1098,7 @@ module _ (tools : List ℕ → ToolInput → ToolAnswer) (id : RunId) (run : Run
       go (Ok changes) = refl
       go (Err fault) = refl
 
-  fold-both : (changes : List Change) (s t : State) (ps pt : List Put) → Cousin s t ps pt →
+  fold-both : (changes : List Change) (s t : State) (ps pt : List Act) → Cousin s t ps pt →
       Cousin (fold with_change s changes) (fold with_change t changes) ps pt
   fold-both [] s t ps pt c = c
   fold-both (change ∷ changes) s t ps pt c =
@@ -1116,7 +1116,7 @@ module _ (tools : List ℕ → ToolInput → ToolAnswer) (id : RunId) (run : Run
             c.alike;
       })
 
-  settled-state : (s t : State) (ps pt : List Put) → Cousin s t ps pt →
+  settled-state : (s t : State) (ps pt : List Act) → Cousin s t ps pt →
       Cousin (settled s) (settled t) ps pt
   settled-state s t ps pt c =
       subst (λ l. Cousin (settled s) (fold with_change (record t { unseen = [] }) l) ps pt) c.unseen
@@ -1133,7 +1133,7 @@ module _ (tools : List ℕ → ToolInput → ToolAnswer) (id : RunId) (run : Run
         alike = c.alike;
       }))
 
-  map-ends : (f g : State → State) (r q : Result State Stopped) (ps pt : List Put) →
+  map-ends : (f g : State → State) (r q : Result State Stopped) (ps pt : List Act) →
       CousinEnd r q ps pt → ((s t : State) → Cousin s t ps pt → Cousin (f s) (g t) ps pt) →
       CousinEnd (map_ok f r) (map_ok g q) ps pt
   map-ends f g (Ok s) (Ok t) ps pt c h = h s t c
@@ -1182,7 +1182,7 @@ module _ (tools : List ℕ → ToolInput → ToolAnswer) (id : RunId) (run : Run
       (children_of run.target.element) s t
 
   on-old : (items : Option (List ℕ × List Item)) (old : List Item) (s t : State)
-      (ps pt : List Put) → Cousin s t ps pt → Cousin (on_old items old s) (on_old items old t) ps pt
+      (ps pt : List Act) → Cousin s t ps pt → Cousin (on_old items old s) (on_old items old t) ps pt
   on-old None old s t ps pt c = c
   on-old (Some typed) old s t ps pt c = record {
     scope = c.scope;
@@ -1207,7 +1207,7 @@ module _ (tools : List ℕ → ToolInput → ToolAnswer) (id : RunId) (run : Run
       (on_old (Some typed) old s) (on_old (Some typed) old t) ps pt
       (on-old (Some typed) old s t ps pt c)
 
-  items-same : (bucket : Bucket) (s t : State) (ps pt : List Put) → Cousin s t ps pt →
+  items-same : (bucket : Bucket) (s t : State) (ps pt : List Act) → Cousin s t ps pt →
       (written : Option (List ℕ)) → items_if run bucket s written ≡ items_if clean bucket t written
   items-same bucket s t ps pt c None = refl
   items-same bucket s t ps pt c (Some written) =
@@ -1215,7 +1215,7 @@ module _ (tools : List ℕ → ToolInput → ToolAnswer) (id : RunId) (run : Run
       ∙ ap (λ l. returned_items (place_in clean t t.scope) bucket run.target.element l written)
       c.items
 
-  returned-both : (bucket : Bucket) (s t : State) (ps pt : List Put) → Cousin s t ps pt →
+  returned-both : (bucket : Bucket) (s t : State) (ps pt : List Act) → Cousin s t ps pt →
       CousinEnd (returned run bucket s) (returned clean bucket t) ps pt
   returned-both bucket s t ps pt c =
       subst (λ x. CousinEnd (returned run bucket s)

@@ -23,7 +23,7 @@ use Rattle.msb_laws.specs.Results.{map_ok}
 use Rattle.msb_values.specs.declared.item.Item.{Item}
 use Rattle.msb_values.specs.declared.mode.Mode.TheVariants.{Clean}
 use Rattle.msb_values.specs.declared.note.Note.TheVariants.{Fail}
-use Rattle.msb_values.specs.declared.put.Put.{Put}
+use Rattle.msb_values.specs.declared.act.Act.{Act}
 use Rattle.msb_values.specs.declared.scope.Scope.{Scope}
 use Rattle.msb_expand.specs.declared.lens.Bucket.{Bucket}
 use Rattle.result_cache.specs.declared.record.Decision.{Decision}
@@ -77,18 +77,18 @@ module _ (tools : List ℕ → ToolInput → ToolAnswer) (id : RunId) (run : Run
   abbrev clean : Run
   clean = record run { mode = Clean }
 
-  abbrev Ends : Result State Stopped → Result State Stopped → List Put → List Put → Type 0
+  abbrev Ends : Result State Stopped → Result State Stopped → List Act → List Act → Type 0
   Ends = EndsAlike tools id run scope j k
 
   abbrev Goes : End (Result State Stopped) → End (Result State Stopped) → Type 0
   Goes = GoAlike tools id run scope j k
 
   -- two states, each with its files
-  pub record Pairs (x y : State) (ps pt : List Put) : Type 0 where
+  pub record Pairs (x y : State) (ps pt : List Act) : Type 0 where
     pub scope_same : x.scope ≡ y.scope
     pub carry : Carry tools id run scope j k x y ps pt
 
-  place-same : (x y : State) (ps pt : List Put) → Pairs x y ps pt →
+  place-same : (x y : State) (ps pt : List Act) → Pairs x y ps pt →
       place_in run x x.scope ≡ place_in clean y y.scope
   place-same x y ps pt h =
       ap (λ l. item_place l run.instance.path x.scope)
@@ -97,7 +97,7 @@ module _ (tools : List ℕ → ToolInput → ToolAnswer) (id : RunId) (run : Run
       ∙ ap (place_in clean y) h.scope_same
 
   -- the state in which a bucket begins
-  pub entered-pair : (bucket : Bucket) (s t : State) (ps pt : List Put) →
+  pub entered-pair : (bucket : Bucket) (s t : State) (ps pt : List Act) →
       Carry tools id run scope j k s t ps pt → Pairs (entered scope bucket s)
       (entered scope bucket t) ps pt
   entered-pair bucket s t ps pt c = record {
@@ -113,14 +113,14 @@ module _ (tools : List ℕ → ToolInput → ToolAnswer) (id : RunId) (run : Run
         };
   }
 
-  pub lists-same : (bucket : Bucket) (x y : State) (ps pt : List Put) → Pairs x y ps pt →
+  pub lists-same : (bucket : Bucket) (x y : State) (ps pt : List Act) → Pairs x y ps pt →
       lists_at run bucket x ≡ lists_at clean bucket y
   lists-same bucket x y ps pt h =
       ap (λ p. lists_by (in_target p bucket) run.target.element
       (attribute_of (codes "Inputs") run.target.element)
       (attribute_of (codes "Outputs") run.target.element)) (place-same x y ps pt h)
 
-  items-same : (bucket : Bucket) (x y : State) (ps pt : List Put) → Pairs x y ps pt →
+  items-same : (bucket : Bucket) (x y : State) (ps pt : List Act) → Pairs x y ps pt →
       (written : Option (List ℕ)) → items_if run bucket x written ≡ items_if clean bucket y written
   items-same bucket x y ps pt h None = refl
   items-same bucket x y ps pt h (Some written) =
@@ -129,30 +129,30 @@ module _ (tools : List ℕ → ToolInput → ToolAnswer) (id : RunId) (run : Run
       h.carry.items
 
   -- after the children: the items that are returned, and the word
-  pub finish : (bucket : Bucket) (word other : Decision) (x y : State) (ps pt : List Put) →
+  pub finish : (bucket : Bucket) (word other : Decision) (x y : State) (ps pt : List Act) →
       Pairs x y ps pt →
       Goes (record {
         value = or_failed (map_ok (with_decision word) (returned run bucket x));
         journal = x.journal;
-        puts = ps;
+        acts = ps;
       })
       (record {
         value = or_failed (map_ok (with_decision other) (returned clean bucket y));
         journal = y.journal;
-        puts = pt;
+        acts = pt;
       })
   finish bucket word other x y ps pt h =
       subst (λ z. Goes (record {
         value = or_failed (map_ok (with_decision word)
             (returned run bucket x));
         journal = x.journal;
-        puts = ps;
+        acts = ps;
       })
       (record {
         value = or_failed (map_ok (with_decision other)
             (map_ok (λ items. with_items items y) (or_stop y z)));
         journal = y.journal;
-        puts =
+        acts =
             pt;
       }))
       (items-same bucket x y ps pt h (returns_of run.target))
@@ -163,13 +163,13 @@ module _ (tools : List ℕ → ToolInput → ToolAnswer) (id : RunId) (run : Run
             or_failed (map_ok (with_decision word) (map_ok (λ items. with_items items x)
             (or_stop x r)));
         journal = x.journal;
-        puts = ps;
+        acts = ps;
       })
           (record {
             value = or_failed (map_ok (with_decision other)
                 (map_ok (λ items. with_items items y) (or_stop y r)));
             journal = y.journal;
-            puts =
+            acts =
                 pt;
           })
       go (Ok items) = record {
@@ -209,7 +209,7 @@ module _ (tools : List ℕ → ToolInput → ToolAnswer) (id : RunId) (run : Run
       go (input ∷ inputs) [] e = refl
       go (input ∷ inputs) (output ∷ outputs) e = absurd (cc)
 
-  pub empty-goes : (bucket : Bucket) (s t : State) (ps pt : List Put) →
+  pub empty-goes : (bucket : Bucket) (s t : State) (ps pt : List Act) →
       Carry tools id run scope j k s t ps pt → IsEmpty
       (lists_at clean bucket (entered scope bucket t)) →
       (E : End (Result State Stopped)) × (F : End (Result State Stopped))
@@ -242,14 +242,14 @@ module _ (tools : List ℕ → ToolInput → ToolAnswer) (id : RunId) (run : Run
                 or_failed (Err (faulted (with_notes (Fail (fault_text fault) ∷ [])
                 (entered scope bucket s))));
             journal = s.journal;
-            puts = ps;
+            acts = ps;
           } in
           let F : End (Result State Stopped) = record {
             value =
                 or_failed (Err (faulted (with_notes (Fail (fault_text fault) ∷ [])
                 (entered scope bucket t))));
             journal = t.journal;
-            puts = pt;
+            acts = pt;
           } in (
             E,
             F,
@@ -271,14 +271,14 @@ module _ (tools : List ℕ → ToolInput → ToolAnswer) (id : RunId) (run : Run
                 or_failed (map_ok (with_decision (word_of Nothing lists.items))
                 (returned run bucket (entered scope bucket s)));
             journal = s.journal;
-            puts = ps;
+            acts = ps;
           } in
           let F : End (Result State Stopped) = record {
             value =
                 or_failed (map_ok (with_decision (word_of Nothing lists.items))
                 (returned clean bucket (entered scope bucket t)));
             journal = t.journal;
-            puts = pt;
+            acts = pt;
           } in (
             E,
             F,
@@ -301,7 +301,7 @@ module _ (tools : List ℕ → ToolInput → ToolAnswer) (id : RunId) (run : Run
 
   -- ---- a run without a piece
 
-  pub no-piece : (bucket : Bucket) (y : State) (before : List Put)
+  pub no-piece : (bucket : Bucket) (y : State) (before : List Act)
       (l : Result (Option Lists) EvalFault) → (l ≡ Ok None → ⊥) → piece_if bucket y before l ≡ [] →
       IsEmpty l
   no-piece bucket y before (Ok None) n e = n refl
@@ -326,7 +326,7 @@ module _ (tools : List ℕ → ToolInput → ToolAnswer) (id : RunId) (run : Run
 
   -- no bucket has lists that are absent, since the target has both Inputs and Outputs
   module _ (takes : (bucket : Bucket) (y : State) → lists_at clean bucket y ≡ Ok None → ⊥) where
-    pub none-goes : (buckets : List Bucket) (s t : State) (ps pt : List Put) →
+    pub none-goes : (buckets : List Bucket) (s t : State) (ps pt : List Act) →
         Carry tools id run scope j k s t ps pt → pieces_among tools id all_of clean scope buckets t
         pt ≡ [] →
         (E : End (Result State Stopped)) × (F : End (Result State Stopped))
@@ -335,8 +335,8 @@ module _ (tools : List ℕ → ToolInput → ToolAnswer) (id : RunId) (run : Run
         × (end_of tools id (each_in_turn (second_of tools id run scope j k) buckets t) t.journal pt
         ≡ Some F) × Goes E F
     none-goes [] s t ps pt c e = (
-      record { value = Ok s; journal = s.journal; puts = ps },
-      record { value = Ok t; journal = t.journal; puts = pt },
+      record { value = Ok s; journal = s.journal; acts = ps },
+      record { value = Ok t; journal = t.journal; acts = pt },
       refl,
       refl,
       record { ends = c; w_step = refl; c_step = refl },
@@ -353,7 +353,7 @@ module _ (tools : List ℕ → ToolInput → ToolAnswer) (id : RunId) (run : Run
         let rest : then_pieces (Some x.1) (pieces_among tools id all_of clean scope buckets) ≡ [] =
         sym (ap (λ z. then_pieces z (pieces_among tools id all_of clean scope buckets)) x.3)
         ∙ both.1 in
-        let y = go x.0.value x.1.value x.0.journal x.1.journal x.0.puts x.1.puts x.4.ends x.4.w_step
+        let y = go x.0.value x.1.value x.0.journal x.1.journal x.0.acts x.1.acts x.4.ends x.4.w_step
         x.4.c_step rest (none-goes buckets) in (
           y.0,
           y.1,
@@ -366,11 +366,11 @@ module _ (tools : List ℕ → ToolInput → ToolAnswer) (id : RunId) (run : Run
           y.4,
         )
       where
-        go : (r q : Result State Stopped) (l m : Journal) (ps pt : List Put) → Ends r q ps pt →
+        go : (r q : Result State Stopped) (l m : Journal) (ps pt : List Act) → Ends r q ps pt →
             InStep tools id run scope j k r l → InStep tools id run scope j k q m →
-            then_pieces (Some (record { value = q; journal = m; puts = pt }))
+            then_pieces (Some (record { value = q; journal = m; acts = pt }))
             (pieces_among tools id all_of clean scope buckets) ≡ [] →
-            ((s t : State) (ps pt : List Put) → Carry tools id run scope j k s t ps pt →
+            ((s t : State) (ps pt : List Act) → Carry tools id run scope j k s t ps pt →
             pieces_among tools id all_of clean scope buckets t pt ≡ [] →
             (E : End (Result State Stopped)) × (F : End (Result State Stopped))
             × (end_of tools id (each_in_turn (first_of tools id run scope j k) buckets s)
@@ -395,8 +395,8 @@ module _ (tools : List ℕ → ToolInput → ToolAnswer) (id : RunId) (run : Run
         go (Ok s) (Err d) l m ps pt c u v e ih = absurd c
         go (Err d) (Ok t) l m ps pt c u v e ih = absurd c
         go (Err d) (Err f) l m ps pt c u v e ih = (
-          record { value = Err d; journal = l; puts = ps },
-          record { value = Err f; journal = m; puts = pt },
+          record { value = Err d; journal = l; acts = ps },
+          record { value = Err f; journal = m; acts = pt },
           refl,
           refl,
           record { ends = c; w_step = tt; c_step = tt },

@@ -23,17 +23,17 @@ use Rattle.std.proofs.Common.{
 use Rattle.std.specs.Prelude.{Result}
 use Rattle.msb_values.specs.declared.mode.Mode.{Mode}
 use Rattle.msb_values.specs.declared.mode.Mode.TheVariants.{Incremental, Clean}
-use Rattle.msb_values.specs.declared.put.Put.{Put}
-use Rattle.file_store.specs.Commits.{AreWritten}
+use Rattle.msb_values.specs.declared.act.Act.{Act}
+use Rattle.file_store.specs.Commits.{AreDone}
 use Rattle.file_store.specs.declared.tree.File.{File}
 use Rattle.build_world.specs.Instances.{Instance}
 use Rattle.result_cache.specs.declared.run.RunId.{RunId}
 use Rattle.result_cache.specs.declared.record.Record.{Record}
-use Rattle.result_cache.specs.declared.record.Segment.TheVariants.{Write, Call}
+use Rattle.result_cache.specs.declared.record.Segment.TheVariants.{File as OnFile, Call}
 use Rattle.result_cache.specs.declared.request.RequestKey.{RequestKey}
 use Rattle.result_cache.specs.declared.request.RequestResult.{RequestResult}
 use Rattle.result_cache.specs.Lists.{In}
-use Rattle.result_cache.specs.Journal.{Journal, wrote, write_of, end_of, has, record_of}
+use Rattle.result_cache.specs.Journal.{Journal, acted, act_of, end_of, has, record_of}
 use Rattle.result_cache.proofs.RunTests.{clash}
 use Rattle.result_cache.proofs.JournalEntries.{Has, had-in, had-none}
 use Rattle.build_meaning.specs.Walk.{Body, Outcome, Reply}
@@ -42,7 +42,7 @@ use Rattle.build_meaning.specs.Meaning.{Given, meaning, requested}
 use Rattle.build_meaning.specs.Demand.{IsSteady}
 use Rattle.build_meaning.specs.Sound.{IsMade}
 use Rattle.build_incremental.specs.Alike.{AlikeJournals}
-use Rattle.build_incremental.specs.Alone.{written}
+use Rattle.build_incremental.specs.Alone.{segments_of}
 use Rattle.build_incremental.specs.Demand.{Occurrence, IsAmong}
 use Rattle.build_incremental.specs.Each.{EachOfMeaning}
 use Rattle.build_incremental.specs.Joins.{IsOfOneRun, Anyhow}
@@ -55,22 +55,22 @@ use Rattle.build_incremental.specs.SideBySide.{
   HasOneRecord,
 }
 use Rattle.build_incremental.proofs.BodyFacts.{
-  WritesRecorded,
+  ActsRecorded,
   HasBody,
   Facts,
   meaning-facts,
   also,
 }
 use Rattle.build_incremental.proofs.Demands.{told-journal, each-meaning}
-use Rattle.build_incremental.proofs.Entries.{none-or-some, in-parts, in-marked, marked-write}
+use Rattle.build_incremental.proofs.Entries.{none-or-some, in-parts, in-marked, marked-act}
 use Rattle.build_incremental.proofs.GoAlike.{meanings-go}
 use Rattle.build_incremental.proofs.Meanings.{meaning-each, weaker-meaning}
-use Rattle.build_incremental.proofs.Numbered.{numbered, writes_in, writes-written}
+use Rattle.build_incremental.proofs.Numbered.{numbered, acts_in, acts-segments}
 use Rattle.build_incremental.proofs.Orders.{
   Under,
   HasNoCall,
   once-same,
-  writes-once,
+  acts-once,
   meaning-once,
   meaning-under,
 }
@@ -96,14 +96,14 @@ run-said : {I A : Type 0} {files : List ℕ → Option (List ℕ)} {W : List ℕ
     ((m : Record) → T m) → AlikeRuns files W tools run j k b c made T
 run-said {made = made} (step_by_step alike may s) f = step_by_step alike may (f made)
 run-said (in_part o p part whole hw hc alike lacks may s) f =
-    in_part o p part whole hw hc alike lacks may (f (recorded o (written part)))
+    in_part o p part whole hw hc alike lacks may (f (recorded o (segments_of part)))
 
-no-call : (puts : List Put) (key : RequestKey) (runs : List RunId) →
-    In (Call key runs) (written puts) → ⊥
+no-call : (acts : List Act) (key : RequestKey) (runs : List RunId) →
+    In (Call key runs) (segments_of acts) → ⊥
 no-call [] key runs i = i
-no-call (put ∷ puts) key runs i =
-    elim (in-parts (Call key runs) (written puts) (Write put ∷ []) i) [
-      | inl u ↦ no-call puts key runs u
+no-call (act ∷ acts) key runs i =
+    elim (in-parts (Call key runs) (segments_of acts) (OnFile act ∷ []) i) [
+      | inl u ↦ no-call acts key runs u
       | inr (inl e) ↦ cc
       | inr (inr u) ↦ u
     ]
@@ -192,7 +192,7 @@ module _ (tools : List ℕ → ToolInput → ToolAnswer) (files : List File) (ro
 
     both-sides : SideBySide (bytes_in files) AnyPath Twin KnownClean
         (world_by tools files root instances Incremental) clean_world
-    both-sides = sides tools files AnyPath Twin KnownClean (λ site id k made q n put i. tt)
+    both-sides = sides tools files AnyPath Twin KnownClean (λ site id k made q n act i. tt)
         (λ site id j k made a q n. (k, made, q, a))
         (λ target scope id j k made a q lists fw fc.
         run-said (runs-go tools files (pieces-go tools files) target scope id j k made a
@@ -247,7 +247,7 @@ module _ (tools : List ℕ → ToolInput → ToolAnswer) (files : List File) (ro
           (sym both-said.1) (twins mode).2
 
       known-facts : EachOfMeaning world KnownHere Anyhow AnyKey out.value out.journal
-          × WritesRecorded SaidHere out.journal
+          × ActsRecorded SaidHere out.journal
       known-facts = meaning-facts world SaidHere Anyhow AnyKey (bodies_of files mode)
           (world-tells files mode tools root instances) out.value out.journal both-said.0
 
@@ -265,42 +265,57 @@ module _ (tools : List ℕ → ToolInput → ToolAnswer) (files : List File) (ro
           known-facts.0 id f.0 (had-in out.journal id f.0 f.1) in
           (x.1.0, x.1.1, f.0, x.1.2)
 
+      -- a run that has acted was made here
+      pub acted-here : (id : RunId) (n : ℕ) (act : Act) → In (acted id n act) out.journal →
+          (site : Site) × (j : Journal) × (m : Record) × KnownHere site id j m
+          × In (acted id n act) (acts_in id m.segments)
+      acted-here id n act i =
+          let y = known-facts.1 id n act i in
+          let x = each-meaning world KnownHere Anyhow AnyKey out.value out.journal known-facts.0 in
+          let same : Some x.0 ≡ Some out = sym x.1 ∙ means in
+          let e : x.0 ≡ out = cc in
+          let made : IsMade x.0.demand id y.2 =
+          subst (λ (z : Given ToolInput RequestResult). IsMade z.demand id y.2) (sym e) y.3.0.1 in
+          let body = x.4.bodies id y.2 made.0 made.1 in
+          (body.0, body.1, y.2, body.2, y.4)
+
       same-record : (p q : Site) (run : RunId) (j k : Journal) (m n : Record) →
           SaidHere p run j m → SaidHere q run k n → m ≡ n
       same-record p q run j k m n x y = steady run m n x.0.1.0 y.0.1.0 x.0.1.1 y.0.1.1
 
-      -- two journals of it agree on what a run has written with a number
-      agree : (from : Journal) → WritesRecorded SaidHere from → (run : RunId) (n : ℕ)
-          (put other : Put) → In (wrote run n put) from → In (wrote run n other) out.journal →
-          put ≡ other
-      agree from t run n put other i u =
-          let x = t run n put i in
+      -- two journals of it agree on what a run has done with a number
+      agree : (from : Journal) → ActsRecorded SaidHere from → (run : RunId) (n : ℕ)
+          (act other : Act) → In (acted run n act) from → In (acted run n other) out.journal →
+          act ≡ other
+      agree from t run n act other i u =
+          let x = t run n act i in
           let y = known-facts.1 run n other u in
           let same : x.2 ≡ y.2 = same-record x.0 y.0 run x.1 y.1 x.2 y.2 x.3 y.3 in
-          once-same (writes_in run x.2.segments) (writes-once run x.2.segments) run n put other x.4
-          (subst (λ (z : Record). In (wrote run n other) (writes_in run z.segments)) (sym same) y.4)
+          once-same (acts_in run x.2.segments) (acts-once run x.2.segments) run n act other x.4
+          (subst (λ (z : Record). In (acted run n other) (acts_in run z.segments)) (sym same) y.4)
 
-      -- what stands wherever the run begins stands below all its writes
+      -- what stands wherever the run begins stands below all its acts
       pub stood-under : (id run : RunId) (n : ℕ) → ((o : Occurrence Site) → In o made_bodies →
-          o.run ≡ id → has (write_of run n) o.from ≡ true) →
-          Under (write_of run n) id 0 out.journal
-      stood-under id run n stood = meaning-under world KnownHere Anyhow AnyKey (write_of run n) id 0
+          o.run ≡ id → has (act_of run n) o.from ≡ true) →
+          Under (act_of run n) id 0 out.journal
+      stood-under id run n stood = meaning-under world KnownHere Anyhow AnyKey (act_of run n) id 0
           (λ p from m k. inl (stood (record { place = p; run = id; from = from; made = m })
           k.said.0.0 refl)) out.value out.journal known-facts.0
 
-      module _ (after : List File) (commit : AreWritten (commit_list out.journal) files after)
+      module _ (after : List File) (commit : AreDone (commit_list out.journal) files after)
           (site : Site) (id : RunId) (j : Journal) (m : Record) (known : KnownHere site id j m)
-          (outcome : Outcome) (all : List Put) (made_so : m ≡ recorded outcome (written all)) where
-        own-writes : writes_in id m.segments ≡ numbered id all
-        own-writes = ap (λ (z : Record). writes_in id z.segments) made_so ∙ writes-written id all
+          (outcome : Outcome) (all : List Act)
+          (made_so : m ≡ recorded outcome (segments_of all)) where
+        own-acts : acts_in id m.segments ≡ numbered id all
+        own-acts = ap (λ (z : Record). acts_in id z.segments) made_so ∙ acts-segments id all
 
-        own-told : (n : ℕ) (put : Put) → In (wrote id n put) out.journal →
-            In (wrote id n put) (numbered id all)
-        own-told n put i =
-            let y = known-facts.1 id n put i in
+        own-told : (n : ℕ) (act : Act) → In (acted id n act) out.journal →
+            In (acted id n act) (numbered id all)
+        own-told n act i =
+            let y = known-facts.1 id n act i in
             let same : y.2 ≡ m = same-record y.0 site id y.1 j y.2 m y.3 known.said in
-            subst (In (wrote id n put)) own-writes
-            (subst (λ (z : Record). In (wrote id n put) (writes_in id z.segments)) same y.4)
+            subst (In (acted id n act)) own-acts
+            (subst (λ (z : Record). In (acted id n act) (acts_in id z.segments)) same y.4)
 
         calls-nothing : (p : Site) (from : Journal) (n : Record) → KnownHere p id from n →
             HasNoCall n
@@ -309,8 +324,8 @@ module _ (tools : List ℕ → ToolInput → ToolAnswer) (files : List File) (ro
             no-call all key runs (subst (λ (z : Record). In (Call key runs) z.segments)
             (same ∙ made_so) i)
 
-        own-rising : (k : ℕ) → Under (write_of id k) id (suc k) out.journal
-        own-rising k = meaning-under world KnownHere Anyhow AnyKey (write_of id k) id (suc k)
+        own-rising : (k : ℕ) → Under (act_of id k) id (suc k) out.journal
+        own-rising k = meaning-under world KnownHere Anyhow AnyKey (act_of id k) id (suc k)
             (λ p from n h. inr (k, refl, refl, least k, calls-nothing p from n h))
             out.value out.journal known-facts.0
           where
@@ -322,16 +337,16 @@ module _ (tools : List ℕ → ToolInput → ToolAnswer) (files : List File) (ro
           committed = commit;
           once = meaning-once world KnownHere Anyhow AnyKey out.value out.journal known-facts.0;
           told = own-told;
-          there = λ n put i. known.writes n put
-              (subst (In (wrote id n put)) (sym own-writes) i);
+          there = λ n act i. known.acts n act
+              (subst (In (acted id n act)) (sym own-acts) i);
           rising = own-rising;
-          lasting = λ run n put i.
-              let found = marked-write run n out.journal
-              (known.lasts (write_of run n) (in-marked (wrote run n put) j i)) in
-              subst (λ z. In (wrote run n z) out.journal)
-              (sym (agree j known.writes_so run n put found.0 i found.1)) found.1;
-          same = λ run n put i h.
-              let found = marked-write run n j h in
-              subst (λ z. In (wrote run n z) j)
-              (agree j known.writes_so run n found.0 put found.1 i) found.1;
+          lasting = λ run n act i.
+              let found = marked-act run n out.journal
+              (known.lasts (act_of run n) (in-marked (acted run n act) j i)) in
+              subst (λ z. In (acted run n z) out.journal)
+              (sym (agree j known.acts_so run n act found.0 i found.1)) found.1;
+          same = λ run n act i h.
+              let found = marked-act run n j h in
+              subst (λ z. In (acted run n z) j)
+              (agree j known.acts_so run n found.0 act found.1 i) found.1;
         }

@@ -20,12 +20,12 @@ use Rattle.std.proofs.Common.{
 }
 use Rattle.std.specs.Prelude.{Result, Ok, Err, codes}
 use Rattle.std.specs.Str.{bytes_eq}
-use Rattle.msb_values.specs.declared.put.Put.{Put}
+use Rattle.msb_values.specs.declared.act.Act.{Act}
 use Rattle.msb_expand.specs.Reserved.{folder_of}
 use Rattle.result_cache.specs.declared.request.RequestKey.{RequestKey}
 use Rattle.result_cache.specs.declared.request.RequestResult.{RequestResult}
 use Rattle.result_cache.specs.declared.run.RunId.{RunId}
-use Rattle.result_cache.specs.Journal.{Journal, add, wrote}
+use Rattle.result_cache.specs.Journal.{Journal, add, acted}
 use Rattle.build_world.specs.Elements.{At}
 use Rattle.task_trait.specs.Failures.{failed as failed_output}
 use Rattle.task_trait.specs.declared.failures.Failure.{Failure}
@@ -42,9 +42,9 @@ use Rattle.task_msbuild.specs.Gathered.{gathered}
 use Rattle.task_msbuild.specs.declared.plans.Plan.{Plan}
 use Rattle.target_texts.specs.Inferred.{task_of}
 use Rattle.target_body.specs.Work.{Work, done, calls}
-use Rattle.target_body.specs.States.{Run, State, with_journal, with_write, view_of}
+use Rattle.target_body.specs.States.{Run, State, with_journal, with_act, view_of}
 use Rattle.target_body.specs.Answers.{
-  all_written,
+  all_acted,
   given,
   at_once,
   in_order,
@@ -64,36 +64,36 @@ bare s = record s { journal = []; written = 0 }
 
 module _ (tools : List ℕ → ToolInput → ToolAnswer) (id : RunId) (run : Run) where
   abbrev Leaves : State → Work (State × TaskOutput) → Type 0
-  Leaves s v = (j : Journal) (ps : List Put) (E : End (State × TaskOutput)) →
+  Leaves s v = (j : Journal) (ps : List Act) (E : End (State × TaskOutput)) →
       end_of tools id v j ps ≡ Some E → bare E.value.0 ≡ bare s
 
-  written-leaves : (puts : List Put) (s : State) (j : Journal) (ps : List Put) (E : End State) →
-      end_of tools id (all_written puts s) j ps ≡ Some E → bare E.value ≡ bare s
-  written-leaves [] s j ps E e =
-      let same : record { value = s; journal = j; puts = ps } ≡ E =
-      some-same (record { value = s; journal = j; puts = ps }) E e in
+  acted-leaves : (acts : List Act) (s : State) (j : Journal) (ps : List Act) (E : End State) →
+      end_of tools id (all_acted acts s) j ps ≡ Some E → bare E.value ≡ bare s
+  acted-leaves [] s j ps E e =
+      let same : record { value = s; journal = j; acts = ps } ≡ E =
+      some-same (record { value = s; journal = j; acts = ps }) E e in
       ap (λ (z : End State). bare z.value) (sym same)
-  written-leaves (put ∷ puts) s j ps E e =
-      let n : Journal = add j (wrote id (length ps) put) in
-      written-leaves puts (with_write put n s) n (put ∷ ps) E e
+  acted-leaves (act ∷ acts) s j ps E e =
+      let n : Journal = add j (acted id (length ps) act) in
+      acted-leaves acts (with_act act n s) n (act ∷ ps) E e
 
   done-leaves : {R : Type 0} (get : R → State) (s : State) (r : R) → bare (get r) ≡ bare s →
-      (j : Journal) (ps : List Put) (E : End R) → end_of tools id (done r) j ps ≡ Some E →
+      (j : Journal) (ps : List Act) (E : End R) → end_of tools id (done r) j ps ≡ Some E →
       bare (get E.value) ≡ bare s
   done-leaves get s r h j ps E e =
-      let same : record { value = r; journal = j; puts = ps } ≡ E =
-      some-same (record { value = r; journal = j; puts = ps }) E e in
+      let same : record { value = r; journal = j; acts = ps } ≡ E =
+      some-same (record { value = r; journal = j; acts = ps }) E e in
       subst (λ (z : End _). bare (get z.value) ≡ bare s) same h
 
   given-leaves : (output : TaskOutput) (s : State) → Leaves s (given s output)
   given-leaves output s j ps E e =
-      let x = end-bound tools id (all_written output.files s)
+      let x = end-bound tools id (all_acted output.acts s)
       (λ after. done (after, output)) j ps E e in
       done-leaves (λ (r : State × TaskOutput). r.0) s (x.0.value, output)
-      (written-leaves output.files s j ps x.0 x.1) x.0.journal x.0.puts E x.2
+      (acted-leaves output.acts s j ps x.0 x.1) x.0.journal x.0.acts E x.2
 
   abbrev LeavesResults : State → Work (State × List RequestResult) → Type 0
-  LeavesResults s v = (j : Journal) (ps : List Put) (E : End (State × List RequestResult)) →
+  LeavesResults s v = (j : Journal) (ps : List Act) (E : End (State × List RequestResult)) →
       end_of tools id v j ps ≡ Some E → bare E.value.0 ≡ bare s
 
   once-leaves : (keys : List RequestKey) (s : State) → LeavesResults s (at_once keys s)
@@ -132,7 +132,7 @@ module _ (tools : List ℕ → ToolInput → ToolAnswer) (id : RunId) (run : Run
       in
       let x = end-bound tools id (made plan s) (λ x. done (x.0, gathered plan x.1)) j ps E e in
       done-leaves (λ (r : State × TaskOutput). r.0) s (x.0.value.0, gathered plan x.0.value.1)
-      (made-leaves plan s j ps x.0 x.1) x.0.journal x.0.puts E x.2
+      (made-leaves plan s j ps x.0 x.1) x.0.journal x.0.acts E x.2
 
   tool-leaves : (name : List ℕ) (s : State) (x : Result ToolInput Failure) →
       Leaves s (tool name s x)

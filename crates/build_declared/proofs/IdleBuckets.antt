@@ -29,7 +29,7 @@ use Rattle.std.proofs.Common.{
 use Rattle.std.specs.Prelude.{Result, Ok, Err}
 use Rattle.msb_values.specs.declared.mode.Mode.TheVariants.{Incremental, Clean}
 use Rattle.msb_values.specs.declared.note.Note.{Note}
-use Rattle.msb_values.specs.declared.put.Put.{Put}
+use Rattle.msb_values.specs.declared.act.Act.{Act}
 use Rattle.msb_values.specs.declared.scope.Scope.{Scope}
 use Rattle.msb_expand.specs.declared.lens.Bucket.{Bucket}
 use Rattle.result_cache.specs.declared.record.Decision.{Decision}
@@ -220,11 +220,11 @@ module _ (tools : List ℕ → ToolInput → ToolAnswer) (id : RunId) (run : Run
             ∙ none-at p lists.inputs lists.outputs m))
             (idle-over NothingToDo tt bucket s [] o (no-gain o.end) (λ p i. absurd i))
 
-    -- A piece whose outputs are no older than its inputs, and of whose files none is written by
+    -- A piece whose outputs are no older than its inputs, and on whose files nobody has acted by
     -- the journal with which the first run begins.
     pub record IsNew (p : Piece) : Type 0 where
       pub no_older : PieceIsNoOlder run.files p
-      pub unwritten : (path : List ℕ) → In path p.lists.inputs ⊎ In path p.lists.outputs →
+      pub untouched : (path : List ℕ) → In path p.lists.inputs ⊎ In path p.lists.outputs →
           content j path ≡ None
 
     abbrev pub SaidNew : Piece → Type 0
@@ -232,7 +232,7 @@ module _ (tools : List ℕ → ToolInput → ToolAnswer) (id : RunId) (run : Run
 
     -- a bucket with such a piece
     pub piece-idle : run.mode ≡ Incremental → (bucket : Bucket) (lists : Lists) (s t : State)
-        (pt : List Put) → Carry tools id run scope j k s t [] pt →
+        (pt : List Act) → Carry tools id run scope j k s t [] pt →
         lists_at run bucket (entered scope bucket s) ≡ Ok (Some lists) →
         lists_at clean bucket (entered scope bucket t) ≡ Ok (Some lists) →
         all_or_nothing lists.inputs lists.outputs ≡ RunAll → (E F : End (Result State Stopped)) →
@@ -249,7 +249,7 @@ module _ (tools : List ℕ → ToolInput → ToolAnswer) (id : RunId) (run : Run
         let chosen : choice_of run lists x ≡ Skip =
         new-skips run mode p said.1.no_older x
         (λ path i. ap (λ l. is_some (content l path)) c.w_is
-        ∙ ap is_some (said.1.unwritten path i)) all in
+        ∙ ap is_some (said.1.untouched path i)) all in
         let over = skip-over run (choice_of run) scope bucket s lists lw chosen in
         let alike = carry-alike tools id run scope j k a s t [] pt c in
         let kept = skip-kept tools id run clean mode p said.0.1 x refl alike.same chosen in
@@ -258,7 +258,7 @@ module _ (tools : List ℕ → ToolInput → ToolAnswer) (id : RunId) (run : Run
         let whole : End (Result State Stopped) = record {
           value = Ok w.0;
           journal = w.0.journal;
-          puts = w.1;
+          acts = w.1;
         } in
         let hf1 : end_of tools id (followed_by (decided clean bucket
         (all_or_nothing lists.inputs lists.outputs) lists.items y)
@@ -273,14 +273,14 @@ module _ (tools : List ℕ → ToolInput → ToolAnswer) (id : RunId) (run : Run
         let f : whole ≡ F = some-same whole F (sym (bound-end tools id
         (decided clean bucket RunAll lists.items y) (λ end. done (or_failed end)) t.journal pt
         whole w.2) ∙ hf2) in
-        let e : record { value = over.end; journal = s.journal; puts = [] } ≡ E =
-        some-same (record { value = over.end; journal = s.journal; puts = [] }) E
+        let e : record { value = over.end; journal = s.journal; acts = [] } ≡ E =
+        some-same (record { value = over.end; journal = s.journal; acts = [] }) E
         (sym (ap (λ v. end_of tools id v s.journal []) over.at_once) ∙ he) in
         let ends : EndsAlike tools id run scope j k over.end (Ok w.0) [] w.1 =
         subst (λ (z : End (Result State Stopped)).
-        EndsAlike tools id run scope j k z.value (Ok w.0) z.puts w.1) (sym e)
+        EndsAlike tools id run scope j k z.value (Ok w.0) z.acts w.1) (sym e)
         (subst (λ (z : End (Result State Stopped)).
-        EndsAlike tools id run scope j k E.value z.value E.puts z.puts) (sym f) g.ends) in
+        EndsAlike tools id run scope j k E.value z.value E.acts z.acts) (sym f) g.ends) in
         subst (IdleAt bucket s) (sym (ap (piece_if bucket x []) lw
         ∙ one-at met lists.inputs lists.outputs all))
         (idle-over UpToDate tt bucket s (met ∷ []) over (gains over.end w.0 w.1 ends)
@@ -289,7 +289,7 @@ module _ (tools : List ℕ → ToolInput → ToolAnswer) (id : RunId) (run : Run
           | inr n ↦ absurd n
         ]))
       where
-        gains : (r : Result State Stopped) (after : State) (qt : List Put) →
+        gains : (r : Result State Stopped) (after : State) (qt : List Act) →
             EndsAlike tools id run scope j k r (Ok after) [] qt → gain UpToDate r ≡ 1
         gains (Ok z) after qt h = refl
         gains (Err d) after qt h = absurd h
@@ -308,7 +308,7 @@ module _ (tools : List ℕ → ToolInput → ToolAnswer) (id : RunId) (run : Run
         choice_of run p.lists p.from ≡ Skip
 
   abbrev pub BucketIdles : (Piece → Type 0) → Type 0
-  BucketIdles S = (bucket : Bucket) (s t : State) (pt : List Put) →
+  BucketIdles S = (bucket : Bucket) (s t : State) (pt : List Act) →
       Carry tools id run scope j k s t [] pt → (E F : End (Result State Stopped)) →
       end_of tools id (first bucket s) s.journal [] ≡ Some E →
       end_of tools id (second bucket t) t.journal pt ≡ Some F →
@@ -323,7 +323,7 @@ module _ (tools : List ℕ → ToolInput → ToolAnswer) (id : RunId) (run : Run
       KeepsNotes tools id t (second bucket t)) where
     -- what is to be shown of some buckets
     abbrev Idles : List Bucket → Type 0
-    Idles buckets = (s t : State) (pt : List Put) → Carry tools id run scope j k s t [] pt →
+    Idles buckets = (s t : State) (pt : List Act) → Carry tools id run scope j k s t [] pt →
         AllIdle true s.decisions → (E F : End (Result State Stopped)) →
         end_of tools id (each_in_turn first buckets s) s.journal [] ≡ Some E →
         end_of tools id (each_in_turn second buckets t) t.journal pt ≡ Some F →
@@ -382,10 +382,10 @@ module _ (tools : List ℕ → ToolInput → ToolAnswer) (id : RunId) (run : Run
         (λ end. unless_stopped end (each_in_turn second buckets)) t.journal pt F hf in
         let fine-e : IsFine tools id run scope j k Fine x.0.value = λ note i.
         fe note (rest-keeps tools id run scope j k first first-keeps buckets x.0.value x.0.journal
-        x.0.puts E x.2 note i) in
+        x.0.acts E x.2 note i) in
         let fine-f : IsFine tools id run scope j k Fine y.0.value = λ note i.
         ff note (rest-keeps tools id run scope j k second second-keeps buckets y.0.value
-        y.0.journal y.0.puts F y.2 note i) in
+        y.0.journal y.0.acts F y.2 note i) in
         let here = piece_if bucket (entered scope bucket t) pt
         (lists_at clean bucket (entered scope bucket t)) in
         let later = then_pieces (end_of tools id (second bucket t) t.journal pt)
@@ -397,20 +397,20 @@ module _ (tools : List ℕ → ToolInput → ToolAnswer) (id : RunId) (run : Run
         (pieces_among tools id all_of clean scope buckets))) (sym y.1) i)) in
         let g = goes bucket s t [] pt c x.0 y.0 x.1 y.1 fine-e fine-f so-here in
         let o = idles bucket s t pt c x.0 y.0 x.1 y.1 g so-here in
-        let e : record { value = o.end; journal = s.journal; puts = [] } ≡ x.0 =
-        some-same (record { value = o.end; journal = s.journal; puts = [] }) x.0
+        let e : record { value = o.end; journal = s.journal; acts = [] } ≡ x.0 =
+        some-same (record { value = o.end; journal = s.journal; acts = [] }) x.0
         (sym (ap (λ v. end_of tools id v s.journal []) o.at_once) ∙ x.1) in
         let g2 : GoAlike tools id run scope j k
-        (record { value = o.end; journal = s.journal; puts = [] }) y.0 =
+        (record { value = o.end; journal = s.journal; acts = [] }) y.0 =
         subst (λ z. GoAlike tools id run scope j k z y.0) (sym e) g in
         let he2 : end_of tools id (unless_stopped o.end (each_in_turn first buckets)) s.journal []
         ≡ Some E =
         subst (λ (z : End (Result State Stopped)). end_of tools id (unless_stopped z.value
-        (each_in_turn first buckets)) z.journal z.puts ≡ Some E) (sym e) x.2 in
-        then-idle bucket buckets s o (go o.end y.0.value y.0.journal y.0.puts (o.words words)
+        (each_in_turn first buckets)) z.journal z.acts ≡ Some E) (sym e) x.2 in
+        then-idle bucket buckets s o (go o.end y.0.value y.0.journal y.0.acts (o.words words)
         g2.ends g2.w_step g2.c_step he2 y.2 so-later ih)
       where
-        go : (r q : Result State Stopped) (m : Journal) (qt : List Put) → HasIdle r →
+        go : (r q : Result State Stopped) (m : Journal) (qt : List Act) → HasIdle r →
             EndsAlike tools id run scope j k r q [] qt → InStep tools id run scope j k r s.journal →
             InStep tools id run scope j k q m → end_of tools id
             (unless_stopped r (each_in_turn first buckets)) s.journal [] ≡ Some E →
@@ -418,7 +418,7 @@ module _ (tools : List ℕ → ToolInput → ToolAnswer) (id : RunId) (run : Run
             AreSo tools id run scope j k S (then_pieces (Some (record {
               value = q;
               journal = m;
-              puts = qt;
+              acts = qt;
             })) (pieces_among tools id all_of clean scope buckets)) → Idles buckets →
             Next s.journal buckets r
         go (Ok u) (Ok v) m qt w ends a b he hf so ih =

@@ -15,6 +15,7 @@ pub mod LeftTrees
 pub mod Looks
 pub mod NewPieces
 pub mod NotesStay
+pub mod Owners
 pub mod PairFates
 pub mod PieceParts
 pub mod PieceRuns

@@ -1,4 +1,4 @@
--- A piece whose outputs are no older than its inputs is skipped, where no run has written any of
+-- A piece whose outputs are no older than its inputs is skipped, where no run has acted on any of
 -- them.
 use Rattle.std.proofs.Common.{
   ◌≡◌,
@@ -77,7 +77,7 @@ pairs-in (input ∷ inputs) (output ∷ outputs) pair (inl e) = (
 pairs-in (input ∷ inputs) (output ∷ outputs) pair (inr i) =
     let r = pairs-in inputs outputs pair i in (inr r.0, λ x u. inr (r.1 x u))
 
--- a pair of files that are in the tree and that no run has written
+-- a pair of files that are in the tree and on which no run has acted
 not-old : (v : View) (input output : List ℕ) (x y : File) → written v input ≡ false →
     written v output ≡ false → file_at input v.files ≡ Some x → file_at output v.files ≡ Some y →
     x.stamp ≤ y.stamp → pair_is_old v input output ≡ false

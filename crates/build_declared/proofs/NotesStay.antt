@@ -28,7 +28,7 @@ use Rattle.msb_values.specs.declared.change.Change.{Change}
 use Rattle.msb_values.specs.declared.item.Item.{Item}
 use Rattle.msb_values.specs.declared.note.Note.{Note}
 use Rattle.msb_values.specs.declared.note.Note.TheVariants.{Fail}
-use Rattle.msb_values.specs.declared.put.Put.{Put}
+use Rattle.msb_values.specs.declared.act.Act.{Act}
 use Rattle.msb_values.specs.declared.scope.Scope.{Scope}
 use Rattle.msb_elements.specs.Nodes.{name_of}
 use Rattle.msb_expand.specs.Reserved.{folder_of}
@@ -38,7 +38,7 @@ use Rattle.result_cache.specs.declared.request.RequestKey.{RequestKey}
 use Rattle.result_cache.specs.declared.request.RequestResult.{RequestResult}
 use Rattle.result_cache.specs.declared.run.RunId.{RunId}
 use Rattle.result_cache.specs.declared.record.Decision.{Decision}
-use Rattle.result_cache.specs.Journal.{Journal, add, wrote}
+use Rattle.result_cache.specs.Journal.{Journal, add, acted}
 use Rattle.build_world.specs.Elements.{At, children_of}
 use Rattle.build_world.specs.Faults.{fault_text}
 use Rattle.build_world.specs.declared.fault.EvalFault.{EvalFault}
@@ -81,7 +81,7 @@ use Rattle.target_body.specs.States.{
   failed,
   entered,
   with_journal,
-  with_write,
+  with_act,
   with_notes,
   with_items,
   with_decision,
@@ -99,7 +99,7 @@ use Rattle.target_body.specs.States.{
   state_of,
 }
 use Rattle.target_body.specs.Answers.{
-  all_written,
+  all_acted,
   given,
   at_once,
   in_order,
@@ -178,8 +178,8 @@ module _ (tools : List ℕ → ToolInput → ToolAnswer) (id : RunId) (run : Run
   -- a part that is over
   pub over : (s : State) (r : Result State Stopped) → Has s r → Keeps s (done r)
   over s r h j ps E e note i =
-      let same : record { value = r; journal = j; puts = ps } ≡ E =
-      some-same (record { value = r; journal = j; puts = ps }) E e in
+      let same : record { value = r; journal = j; acts = ps } ≡ E =
+      some-same (record { value = r; journal = j; acts = ps }) E e in
       subst (λ (z : End (Result State Stopped)). In note (state_of z.value).notes) same (h note i)
 
   -- a part whose end is looked at
@@ -188,7 +188,7 @@ module _ (tools : List ℕ → ToolInput → ToolAnswer) (id : RunId) (run : Run
       Keeps s (followed_by v (λ end. done (f end)))
   then-over s v f h g j ps E e note i =
       let x = end-bound tools id v (λ end. done (f end)) j ps E e in
-      over s (f x.0.value) (g x.0.value (h j ps x.0 x.1)) x.0.journal x.0.puts E x.2 note i
+      over s (f x.0.value) (g x.0.value (h j ps x.0 x.1)) x.0.journal x.0.acts E x.2 note i
 
   read : {X : Type 0} (s : State) (x : Result X EvalFault) (next : X →
       Work (Result State Stopped)) → ((y : X) → Keeps s (next y)) →
@@ -200,36 +200,36 @@ module _ (tools : List ℕ → ToolInput → ToolAnswer) (id : RunId) (run : Run
   -- ---- answers: they leave the notes as they are
 
   abbrev Leaves : State → Work (State × TaskOutput) → Type 0
-  Leaves s v = (j : Journal) (ps : List Put) (E : End (State × TaskOutput)) →
+  Leaves s v = (j : Journal) (ps : List Act) (E : End (State × TaskOutput)) →
       end_of tools id v j ps ≡ Some E → E.value.0.notes ≡ s.notes
 
-  written-leaves : (puts : List Put) (s : State) (j : Journal) (ps : List Put) (E : End State) →
-      end_of tools id (all_written puts s) j ps ≡ Some E → E.value.notes ≡ s.notes
-  written-leaves [] s j ps E e =
-      let same : record { value = s; journal = j; puts = ps } ≡ E =
-      some-same (record { value = s; journal = j; puts = ps }) E e in
+  acted-leaves : (acts : List Act) (s : State) (j : Journal) (ps : List Act) (E : End State) →
+      end_of tools id (all_acted acts s) j ps ≡ Some E → E.value.notes ≡ s.notes
+  acted-leaves [] s j ps E e =
+      let same : record { value = s; journal = j; acts = ps } ≡ E =
+      some-same (record { value = s; journal = j; acts = ps }) E e in
       ap (λ (z : End State). z.value.notes) (sym same)
-  written-leaves (put ∷ puts) s j ps E e =
-      let n : Journal = add j (wrote id (length ps) put) in
-      written-leaves puts (with_write put n s) n (put ∷ ps) E e
+  acted-leaves (act ∷ acts) s j ps E e =
+      let n : Journal = add j (acted id (length ps) act) in
+      acted-leaves acts (with_act act n s) n (act ∷ ps) E e
 
   done-leaves : {R : Type 0} (get : R → State) (s : State) (r : R) → (get r).notes ≡ s.notes →
-      (j : Journal) (ps : List Put) (E : End R) → end_of tools id (done r) j ps ≡ Some E →
+      (j : Journal) (ps : List Act) (E : End R) → end_of tools id (done r) j ps ≡ Some E →
       (get E.value).notes ≡ s.notes
   done-leaves get s r h j ps E e =
-      let same : record { value = r; journal = j; puts = ps } ≡ E =
-      some-same (record { value = r; journal = j; puts = ps }) E e in
+      let same : record { value = r; journal = j; acts = ps } ≡ E =
+      some-same (record { value = r; journal = j; acts = ps }) E e in
       subst (λ (z : End _). (get z.value).notes ≡ s.notes) same h
 
   given-leaves : (output : TaskOutput) (s : State) → Leaves s (given s output)
   given-leaves output s j ps E e =
-      let x = end-bound tools id (all_written output.files s)
+      let x = end-bound tools id (all_acted output.acts s)
       (λ after. done (after, output)) j ps E e in
       done-leaves (λ (r : State × TaskOutput). r.0) s (x.0.value, output)
-      (written-leaves output.files s j ps x.0 x.1) x.0.journal x.0.puts E x.2
+      (acted-leaves output.acts s j ps x.0 x.1) x.0.journal x.0.acts E x.2
 
   abbrev LeavesResults : State → Work (State × List RequestResult) → Type 0
-  LeavesResults s v = (j : Journal) (ps : List Put) (E : End (State × List RequestResult)) →
+  LeavesResults s v = (j : Journal) (ps : List Act) (E : End (State × List RequestResult)) →
       end_of tools id v j ps ≡ Some E → E.value.0.notes ≡ s.notes
 
   once-leaves : (keys : List RequestKey) (s : State) → LeavesResults s (at_once keys s)
@@ -268,7 +268,7 @@ module _ (tools : List ℕ → ToolInput → ToolAnswer) (id : RunId) (run : Run
       in
       let x = end-bound tools id (made plan s) (λ x. done (x.0, gathered plan x.1)) j ps E e in
       done-leaves (λ (r : State × TaskOutput). r.0) s (x.0.value.0, gathered plan x.0.value.1)
-      (made-leaves plan s j ps x.0 x.1) x.0.journal x.0.puts E x.2
+      (made-leaves plan s j ps x.0 x.1) x.0.journal x.0.acts E x.2
 
   tool-leaves : (name : List ℕ) (s : State) (x : Result ToolInput Failure) →
       Leaves s (tool name s x)
@@ -321,7 +321,7 @@ module _ (tools : List ℕ → ToolInput → ToolAnswer) (id : RunId) (run : Run
       (key_of (name_of e.node)) e ready.1 s j ps x.0 x.1 in
       over s (answered_to run e gives bucket ready.0 x.0.value)
       (λ n u. answered-has e gives bucket ready.0 x.0.value n (subst (In n) (sym same) u))
-      x.0.journal x.0.puts E x.2 note i
+      x.0.journal x.0.acts E x.2 note i
 
   pub call-keeps : (e : At) (gives : Bool) (bucket : Bucket) (s : State) →
       Keeps s (call run e gives bucket s)

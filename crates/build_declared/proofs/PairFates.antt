@@ -1,5 +1,5 @@
 -- What a build does with each output of a piece that succeeds: it writes what the whole writes, or
--- it leaves what is there, where nobody has written the output or an input that it is paired with.
+-- it leaves what is there, where nobody has acted on the output or an input that it is paired with.
 use Rattle.std.proofs.Common.{
   ◌≡◌,
   ℕ,
@@ -33,7 +33,7 @@ use Rattle.std.proofs.lemmas.Slice.Eq.{bytes_eq-Decides}
 use Rattle.msb_values.specs.declared.item.Item.{Item}
 use Rattle.msb_values.specs.declared.mode.Mode.{Mode}
 use Rattle.msb_values.specs.declared.mode.Mode.TheVariants.{Incremental, Clean}
-use Rattle.msb_values.specs.declared.put.Put.{Put}
+use Rattle.msb_values.specs.declared.act.Act.{Act}
 use Rattle.msb_values.specs.declared.scope.Scope.{Scope}
 use Rattle.msb_expand.specs.declared.lens.Bucket.{Bucket}
 use Rattle.file_store.specs.Files.{file_at}
@@ -45,7 +45,7 @@ use Rattle.result_cache.specs.Journal.{Journal}
 use Rattle.result_cache.proofs.RunTests.{tells, clash, or_left, or_right, or_neither}
 use Rattle.build_incremental.specs.Alike.{AlikeJournals}
 use Rattle.build_incremental.specs.Alone.{last_bytes}
-use Rattle.build_incremental.specs.SideBySide.{HasNotWritten}
+use Rattle.build_incremental.specs.SideBySide.{HasNotActed}
 use Rattle.msb_files.specs.Views.{View}
 use Rattle.task_trait.specs.declared.tools.ToolAnswer.{ToolAnswer}
 use Rattle.task_trait.specs.declared.tools.ToolInput.{ToolInput}
@@ -78,6 +78,7 @@ use Rattle.build_declared.specs.Written.{bytes_in, AnyPath, since, is_one_of}
 use Rattle.build_declared.proofs.Alones.{some-same}
 use Rattle.build_declared.proofs.BucketsGo.{Carry, carry-alike, IsFine}
 use Rattle.build_declared.proofs.Choices.{marks_of, decided-may, clean-all}
+use Rattle.build_declared.proofs.LastWrites.{last-in, write-leaves}
 use Rattle.build_declared.proofs.PieceParts.{part-facts}
 use Rattle.build_declared.proofs.PieceRuns.{same-goes}
 use Rattle.build_declared.proofs.PieceSkips.{no-front, since-front}
@@ -153,6 +154,42 @@ some-input p pair all (inl x) =
 some-input p pair all (inr x) =
     let one = first-input p.lists.inputs p.lists.outputs all in
     (one.0, subst (In one.0) (sym x.1) one.1)
+
+-- each output is paired
+in-pairs : (output : List ℕ) (inputs outputs : List (List ℕ)) → length inputs ≡ length outputs →
+    In output outputs →
+    (pair : Pairing) × In pair (pairs_of inputs outputs) × (pair.output ≡ output)
+in-pairs output inputs [] l i = absurd i
+in-pairs output [] (one ∷ outputs) l i = absurd (omega arith)
+in-pairs output (input ∷ inputs) (one ∷ outputs) l (inl e) =
+    (record { output = one; inputs = input ∷ [] }, inl refl, e)
+in-pairs output (input ∷ inputs) (one ∷ outputs) l (inr i) =
+    let x = in-pairs output inputs outputs (omega arith) i in (x.0, inr x.1, x.2)
+
+module _ (p : Piece) (output : List ℕ) (i : In output p.lists.outputs) where
+  abbrev Found : Type 0
+  Found = (pair : Pairing) × IsPaired p pair × (pair.output ≡ output)
+
+  paired-every : ((items : List Item) → ByItems p items → ⊥) → Found
+  paired-every none =
+      let pair : Pairing = record { output = output; inputs = p.lists.inputs } in
+      (pair, inr (none, refl, i), refl)
+
+  paired-each : (items : List Item) → ByItems p items → Found
+  paired-each items by =
+      let x = in-pairs output p.lists.inputs p.lists.outputs (by.inputs ∙ sym by.outputs) i in
+      (x.0, inl (items, by, x.1), x.2)
+
+  pub output-paired : Found
+  output-paired = go p.lists.items refl
+    where
+      go : (o : Option (List ℕ × List Item)) → p.lists.items ≡ o → Found
+      go None t = paired-every (names-none p t)
+      go (Some typed) t = by-length (as_long p typed t) refl
+        where
+          by-length : (b : Bool) → as_long p typed t ≡ b → Found
+          by-length true g = paired-each typed.1 (counts-items p typed t g)
+          by-length false g = paired-every (counts-no-items p typed t g)
 
 -- ---- which pairs are not out of date
 
@@ -275,34 +312,35 @@ module _ (run : Run) (mode : run.mode ≡ Incremental) (p : Piece) (x : State) (
 -- ---- what comes of an output
 
 -- the piece has written it, with the bytes that the whole writes
-pub record WroteIt (new whole : List Put) (output : List ℕ) : Type 0 where
+pub record WroteIt (new whole : List Act) (output : List ℕ) : Type 0 where
   pub bytes : List ℕ
-  pub ours : last_bytes new output ≡ Some bytes
-  pub theirs : last_bytes whole output ≡ Some bytes
+  pub ours : last_bytes new output ≡ Some (Some bytes)
+  pub theirs : last_bytes whole output ≡ Some (Some bytes)
 
 -- it has left the tree's, which the whole writes
-pub record LeftIt (v : View) (new whole : List Put) (pair : Pairing) : Type 0 where
+pub record LeftIt (v : View) (new whole : List Act) (pair : Pairing) : Type 0 where
   pub file : File
   pub there : file_at pair.output v.files ≡ Some file
-  pub unwritten : journals.content v.journal pair.output ≡ None
+  pub untouched : journals.content v.journal pair.output ≡ None
   pub not_now : last_bytes new pair.output ≡ None
-  pub theirs : last_bytes whole pair.output ≡ Some file.bytes
+  pub theirs : last_bytes whole pair.output ≡ Some (Some file.bytes)
   pub inputs : (input : List ℕ) → In input pair.inputs →
       (other : File) × (file_at input v.files ≡ Some other)
       × (journals.content v.journal input ≡ None) × (other.stamp ≤ file.stamp)
 
-abbrev pub Fate : View → (new whole : List Put) → Pairing → Type 0
+abbrev pub Fate : View → (new whole : List Act) → Pairing → Type 0
 Fate v new whole pair = WroteIt new whole pair.output ⊎ LeftIt v new whole pair
 
-left-it : (v : View) (new whole : List Put) (pair : Pairing) (file : File) →
+left-it : (v : View) (new whole : List Act) (pair : Pairing) (file : File) →
     file_at pair.output v.files ≡ Some file → last_bytes new pair.output ≡ None →
-    last_bytes whole pair.output ≡ Some file.bytes → (input : List ℕ) × In input pair.inputs →
+    last_bytes whole pair.output ≡ Some (Some file.bytes) →
+    (input : List ℕ) × In input pair.inputs →
     ((input : List ℕ) → In input pair.inputs → pair_is_old v input pair.output ≡ false) →
     LeftIt v new whole pair
 left-it v new whole pair file there not_now theirs one current = record {
   file = file;
   there = there;
-  unwritten = (current-pair v one.0 pair.output (current one.0 one.1)).out_unwritten;
+  untouched = (current-pair v one.0 pair.output (current one.0 one.1)).out_untouched;
   not_now = not_now;
   theirs = theirs;
   inputs = λ input i.
@@ -311,12 +349,12 @@ left-it v new whole pair file there not_now theirs one current = record {
       let same : x.out_file ≡ file = cc in (
         x.in_file,
         x.in_there,
-        x.in_unwritten,
+        x.in_untouched,
         subst (λ (z : File). x.in_file.stamp ≤ z.stamp) same x.no_newer,
       );
 }
 
-some-of : (o : Option (List ℕ)) → is_some o ≡ true → (x : List ℕ) × (o ≡ Some x)
+some-of : {X : Type 0} (o : Option X) → is_some o ≡ true → (x : X) × (o ≡ Some x)
 some-of None h = absurd (cc)
 some-of (Some x) h = (x, refl)
 
@@ -329,15 +367,15 @@ in-one-of path (p ∷ paths) (inr i) = or_right (bytes_eq path p) (is_one_of pat
 
 module _ (tools : List ℕ → ToolInput → ToolAnswer) (id : RunId) (run : Run) (scope : Scope)
     (j k : Journal) (a : AlikeJournals (bytes_in run.files) AnyPath j k)
-    (fw : HasNotWritten id j) (fc : HasNotWritten id k) (bucket : Bucket) (lists : Lists)
-    (s t : State) (ps pt : List Put) (c : Carry tools id run scope j k s t ps pt)
+    (fw : HasNotActed id j) (fc : HasNotActed id k) (bucket : Bucket) (lists : Lists)
+    (s t : State) (ps pt : List Act) (c : Carry tools id run scope j k s t ps pt)
     (all : all_or_nothing lists.inputs lists.outputs ≡ RunAll)
-    (E : End (Result State Stopped)) (after : State) (puts : List Put)
+    (E : End (Result State Stopped)) (after : State) (acts : List Act)
     (hf : end_of tools id (decided (record run { mode = Clean }) bucket RunAll lists.items
     (entered scope bucket t)) t.journal pt ≡ Some (record {
       value = Ok after;
       journal = after.journal;
-      puts = puts;
+      acts = acts;
     }))
     (fe : IsFine tools id run scope j k (Fine tools id run scope j k a) E.value)
     (ff : IsFine tools id run scope j k (Fine tools id run scope j k a) (Ok after))
@@ -353,27 +391,32 @@ module _ (tools : List ℕ → ToolInput → ToolAnswer) (id : RunId) (run : Run
     q = piece_at tools id run scope j k a bucket lists t pt
 
     abbrev whole : End (Result State Stopped)
-    whole = record { value = Ok after; journal = after.journal; puts = puts }
+    whole = record { value = Ok after; journal = after.journal; acts = acts }
 
-    -- each output that is paired, where the piece has written these files
+    -- each output that is paired, by the acts of the piece
     abbrev pub Fates : Type 0
-    Fates = (new : List Put) × (E.puts ≡ new ++ ps)
-        × ((pair : Pairing) → IsPaired q pair → Fate (view_of run x) new (since pt puts) pair)
+    Fates = (new : List Act) × (E.acts ≡ new ++ ps)
+        × ((pair : Pairing) → IsPaired q pair → Fate (view_of run x) new (since pt acts) pair)
 
     -- what the whole writes to an output
     whole-writes : (output : List ℕ) → In output lists.outputs →
-        (bytes : List ℕ) × (last_bytes (since pt puts) output ≡ Some bytes)
-    whole-writes output i = some-of (last_bytes (since pt puts) output)
-        (said.0.writes_outputs after puts hf output ∙ in-one-of output lists.outputs i)
+        (bytes : List ℕ) × (last_bytes (since pt acts) output ≡ Some (Some bytes))
+    whole-writes output i =
+        let left = some-of (last_bytes (since pt acts) output)
+        (said.0.writes_outputs after acts hf output ∙ in-one-of output lists.outputs i) in
+        let last = last-in (since pt acts) output left.0 left.1 in
+        let write = write-leaves last.0 (λ path e. said.0.removes_none after acts hf path
+        (subst (λ z. In z (since pt acts)) e last.1)) in
+        (write.0, left.1 ∙ ap Some (sym last.3 ∙ write.1))
 
     -- what a trusted output gets
     same-writes : (output : List ℕ) (file : File) → WritesSame tools id clean q output file →
-        last_bytes (since pt puts) output ≡ Some file.bytes
+        last_bytes (since pt acts) output ≡ Some (Some file.bytes)
     same-writes output file w =
         let other : End (Result State Stopped) =
-        record { value = Ok w.0; journal = w.0.journal; puts = w.1 } in
+        record { value = Ok w.0; journal = w.0.journal; acts = w.1 } in
         let same : other ≡ whole = some-same other whole (sym w.2 ∙ hf) in
-        sym (ap (λ (z : End (Result State Stopped)). last_bytes (since pt z.puts) output) same)
+        sym (ap (λ (z : End (Result State Stopped)). last_bytes (since pt z.acts) output) same)
         ∙ w.3
 
     whole-fates : end_of tools id (decided run bucket RunAll lists.items x) s.journal ps ≡ Some E →
@@ -381,10 +424,10 @@ module _ (tools : List ℕ → ToolInput → ToolAnswer) (id : RunId) (run : Run
     whole-fates he =
         let both = same-goes tools id run scope j k a fw fc bucket lists RunAll s t ps pt c E whole
         he hf fe ff in
-        let new-is : since pt puts ≡ both.new =
-        ap (since pt) both.c_puts ∙ since-front both.new pt in (
+        let new-is : since pt acts ≡ both.new =
+        ap (since pt) both.c_acts ∙ since-front both.new pt in (
           both.new,
-          both.w_puts,
+          both.w_acts,
           λ pair paired.
               let w = whole-writes pair.output (paired-output q pair paired) in
               inl (record {
@@ -400,20 +443,20 @@ module _ (tools : List ℕ → ToolInput → ToolAnswer) (id : RunId) (run : Run
       skip-fates e he =
           let alike = carry-alike tools id run scope j k a s t ps pt c in
           let kept = skip-kept tools id run clean mode q said.1 x refl alike.same e in
-          let sk = skips-same tools id run mode scope j k a fw fc bucket lists t pt after puts
-          said.0 c.c_is hf (λ o i. let f = kept o i in (f.0, f.1.there)) in
+          let sk = skips-same tools id run mode scope j k a fw fc bucket lists t pt after acts
+          said.0 c.c_is hf (λ o i. ap is_some (kept o i).1.unchanged) in
           let mid : End (Result State Stopped) =
-          record { value = Ok sk.0; journal = t.journal; puts = pt } in
+          record { value = Ok sk.0; journal = t.journal; acts = pt } in
           let fine : IsFine tools id run scope j k (Fine tools id run scope j k a) (Ok sk.0) =
           λ note i. ff note (sk.4 note i) in
           let both = same-goes tools id run scope j k a fw fc bucket lists Skip s t ps pt c E mid he
           sk.1 fe fine in
-          let none : both.new ≡ [] = no-front both.new pt both.c_puts in (
+          let none : both.new ≡ [] = no-front both.new pt both.c_acts in (
             [],
-            both.w_puts ∙ ap (λ l. l ++ ps) none,
+            both.w_acts ∙ ap (λ l. l ++ ps) none,
             λ pair paired.
                 let f = kept pair.output (paired-output q pair paired) in
-                inr (left-it (view_of run x) [] (since pt puts) pair f.0 f.1.there refl
+                inr (left-it (view_of run x) [] (since pt acts) pair f.0 f.1.there refl
                 (same-writes pair.output f.0 f.2) (some-input q pair all paired)
                 (λ input i. skip-current run mode q x pair paired input i e)),
           )
@@ -422,13 +465,13 @@ module _ (tools : List ℕ → ToolInput → ToolAnswer) (id : RunId) (run : Run
       abbrev marks : List Item → List Bool
       marks items = marks_of (view_of run x) lists.inputs lists.outputs items
 
-      part-fate : (items : List Item) → ByItems q items → (new ends : List Put) →
+      part-fate : (items : List Item) → ByItems q items → (new ends : List Act) →
           since pt ends ≡ new → ((path : List ℕ) →
           is_one_of path (kept (marks items) lists.outputs) ≡ true →
-          last_bytes (since pt ends) path ≡ last_bytes (since pt puts) path) →
+          last_bytes (since pt ends) path ≡ last_bytes (since pt acts) path) →
           ((path : List ℕ) → is_one_of path (kept (marks items) lists.outputs) ≡ false →
           last_bytes (since pt ends) path ≡ None) → (pair : Pairing) → IsPaired q pair →
-          Fate (view_of run x) new (since pt puts) pair
+          Fate (view_of run x) new (since pt acts) pair
       part-fate items by new ends new-is bytes none pair (inr y) = absurd (y.0 items by)
       part-fate items by new ends new-is bytes none pair (inl y) =
           elim (tells (is_one_of pair.output (kept (marks items) lists.outputs))) [
@@ -449,7 +492,7 @@ module _ (tools : List ℕ → ToolInput → ToolAnswer) (id : RunId) (run : Run
                 let alike = carry-alike tools id run scope j k a s t ps pt c in
                 let trusted = pair-trusted (view_of run x) (view_of clean q.from) refl alike.same
                 pair one.0 one.1 (current one.0 there) in
-                inr (left-it (view_of run x) new (since pt puts) pair trusted.0
+                inr (left-it (view_of run x) new (since pt acts) pair trusted.0
                 trusted.1.output_there.there
                 (sym (ap (λ l. last_bytes l pair.output) new-is) ∙ none pair.output h)
                 (same-writes pair.output trusted.0
@@ -468,11 +511,11 @@ module _ (tools : List ℕ → ToolInput → ToolAnswer) (id : RunId) (run : Run
             inputs = facts.li;
             outputs = facts.lo;
           } in
-          let part = said.0.parts after puts hf facts.items by (marks facts.items) facts.part in
+          let part = said.0.parts after acts hf facts.items by (marks facts.items) facts.part in
           let ended : End (Result State Stopped) = record {
             value = Ok part.after;
             journal = part.after.journal;
-            puts = part.written;
+            acts = part.acts;
           } in
           let partly : end_of tools id (decided run bucket (Part (kept (marks facts.items)
           facts.items)) lists.items x) s.journal ps ≡ Some E =
@@ -481,11 +524,11 @@ module _ (tools : List ℕ → ToolInput → ToolAnswer) (id : RunId) (run : Run
           let both = same-goes tools id run scope j k a fw fc bucket lists
           (Part (kept (marks facts.items) facts.items)) s t ps pt c E ended partly part.succeeds
           fe part.never_large in
-          let new-is : since pt part.written ≡ both.new =
-          ap (since pt) both.c_puts ∙ since-front both.new pt in (
+          let new-is : since pt part.acts ≡ both.new =
+          ap (since pt) both.c_acts ∙ since-front both.new pt in (
             both.new,
-            both.w_puts,
-            part-fate facts.items by both.new part.written new-is part.bytes part.no_other,
+            both.w_acts,
+            part-fate facts.items by both.new part.acts new-is part.bytes part.no_other,
           )
 
     pub fates : (m : Mode) → run.mode ≡ m →

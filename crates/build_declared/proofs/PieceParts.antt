@@ -33,7 +33,7 @@ use Rattle.std.specs.List.{list_any}
 use Rattle.std.specs.Str.{bytes_eq}
 use Rattle.std.proofs.lemmas.Slice.Eq.{bytes_eq-Decides}
 use Rattle.msb_values.specs.declared.mode.Mode.TheVariants.{Incremental, Clean}
-use Rattle.msb_values.specs.declared.put.Put.{Put}
+use Rattle.msb_values.specs.declared.act.Act.{Act}
 use Rattle.msb_values.specs.declared.scope.Scope.{Scope}
 use Rattle.msb_expand.specs.declared.lens.Bucket.{Bucket}
 use Rattle.file_store.specs.declared.tree.File.{File}
@@ -43,7 +43,7 @@ use Rattle.result_cache.specs.Journal.{Journal}
 use Rattle.result_cache.proofs.RunTests.{or_cases, or_left, or_right, tells, clash, and_both}
 use Rattle.build_incremental.specs.Alike.{seen, AlikeJournals}
 use Rattle.build_incremental.specs.Alone.{last_bytes, LacksOnly}
-use Rattle.build_incremental.specs.SideBySide.{HasNotWritten}
+use Rattle.build_incremental.specs.SideBySide.{HasNotActed}
 use Rattle.build_incremental.proofs.Entries.{none-some}
 use Rattle.build_incremental.proofs.Numbered.{numbered}
 use Rattle.task_trait.specs.declared.tools.ToolAnswer.{ToolAnswer}
@@ -257,7 +257,8 @@ module _ (v : View) (lists : Lists) (old : List Item) where
           (old_items v lists.inputs lists.outputs typed.1) refl h
       go false g h = absurd (pairs-not (any_is_old v lists.inputs lists.outputs) h)
 
-pub part-facts : (run : Run) → run.mode ≡ Incremental → (lists : Lists) (x : State) (old : List Item) →
+pub part-facts : (run : Run) → run.mode ≡ Incremental → (lists : Lists) (x : State)
+    (old : List Item) →
     choice_of run lists x ≡ Part old → PartFacts (view_of run x) lists old
 part-facts run mode lists x old e = go lists.inputs lists.outputs refl refl e
   where
@@ -284,47 +285,47 @@ is-some-of None x e = absurd (cc)
 is-some-of (Some y) x e = refl
 
 -- what a part lacks of the whole
-parts-lack : (files : List ℕ → Option (List ℕ)) (from : Journal) (new own : List Put)
+parts-lack : (files : List ℕ → Option (List ℕ)) (from : Journal) (new own : List Act)
     (outs : List (List ℕ)) (marks : List Bool) → length marks ≡ length outs →
     ((q : List ℕ) → is_one_of q (kept marks outs) ≡ true → last_bytes new q ≡ last_bytes own q) →
     ((q : List ℕ) → is_one_of q (kept marks outs) ≡ false → last_bytes new q ≡ None) →
     ((q : List ℕ) → is_some (last_bytes own q) ≡ is_one_of q outs) →
-    ((q bytes : List ℕ) → is_one_of q (kept (map not marks) outs) ≡ true →
-    last_bytes own q ≡ Some bytes → seen files from q ≡ Some bytes) →
+    ((q : List ℕ) (left : Option (List ℕ)) → is_one_of q (kept (map not marks) outs) ≡ true →
+    last_bytes own q ≡ Some left → seen files from q ≡ left) →
     PartLacks files from new own
 parts-lack files from new own outs marks ml same other writes there = record {
-  written = λ q. elim (tells (is_one_of q (kept marks outs))) [
+  acted = λ q. elim (tells (is_one_of q (kept marks outs))) [
     | inl h ↦ inr (same q h)
     | inr h ↦ inl (other q h)
   ];
-  unwritten = λ q bytes n h. elim (tells (is_one_of q (kept marks outs))) [
+  left_out = λ q left n h. elim (tells (is_one_of q (kept marks outs))) [
     | inl g ↦ absurd (none-some (last_bytes new q) n (same q g ∙ h))
-    | inr g ↦ there q bytes (kept-or q marks outs ml (sym (writes q) ∙ ap is_some h) g) h
+    | inr g ↦ there q left (kept-or q marks outs ml (sym (writes q) ∙ ap is_some h) g) h
   ];
 }
 
 module _ (tools : List ℕ → ToolInput → ToolAnswer) (id : RunId) (run : Run)
     (mode : run.mode ≡ Incremental) (scope : Scope) (j k : Journal)
-    (a : AlikeJournals (bytes_in run.files) AnyPath j k) (fw : HasNotWritten id j)
-    (fc : HasNotWritten id k) where
+    (a : AlikeJournals (bytes_in run.files) AnyPath j k) (fw : HasNotActed id j)
+    (fc : HasNotActed id k) where
   abbrev clean : Run
   clean = record run { mode = Clean }
 
   -- the end of the whole, and that of the part in the clean world
-  abbrev whole-end : State → List Put → End (Result State Stopped)
-  whole-end after puts = record { value = Ok after; journal = after.journal; puts = puts }
+  abbrev whole-end : State → List Act → End (Result State Stopped)
+  whole-end after acts = record { value = Ok after; journal = after.journal; acts = acts }
 
-  finish : (after : State) (puts : List Put) (r : Result State Stopped) (l : Journal)
-      (qs qt : List Put) (skipped : State) → CousinEnd tools id run j k fw fc r (Ok skipped) qs qt →
-      (state_of r).journal ≡ l → LacksOnly (bytes_in run.files) j qs puts →
+  finish : (after : State) (acts : List Act) (r : Result State Stopped) (l : Journal)
+      (qs qt : List Act) (skipped : State) → CousinEnd tools id run j k fw fc r (Ok skipped) qs qt →
+      (state_of r).journal ≡ l → LacksOnly (bytes_in run.files) j qs acts →
       skipped.changes ≡ after.changes → skipped.items ≡ after.items →
-      after.journal ≡ numbered id puts ++ k → GoAlike tools id run scope j k (record {
+      after.journal ≡ numbered id acts ++ k → GoAlike tools id run scope j k (record {
         value =
             r;
         journal = l;
-        puts = qs;
-      }) (whole-end after puts)
-  finish after puts (Ok z) l qs qt skipped h step lacks ch it n =
+        acts = qs;
+      }) (whole-end after acts)
+  finish after acts (Ok z) l qs qt skipped h step lacks ch it n =
       record {
         ends = record {
           items = h.items ∙ it;
@@ -337,53 +338,55 @@ module _ (tools : List ℕ → ToolInput → ToolAnswer) (id : RunId) (run : Run
         w_step = step;
         c_step = refl;
       }
-  finish after puts (Err (faulted d)) l qs qt skipped h step lacks ch it n = absurd h
-  finish after puts (Err (failed d)) l qs qt skipped h step lacks ch it n = absurd h
+  finish after acts (Err (faulted d)) l qs qt skipped h step lacks ch it n = absurd h
+  finish after acts (Err (failed d)) l qs qt skipped h step lacks ch it n = absurd h
 
-  module _ (bucket : Bucket) (lists : Lists) (s t : State) (ps pt : List Put)
+  module _ (bucket : Bucket) (lists : Lists) (s t : State) (ps pt : List Act)
       (c : Carry tools id run scope j k s t ps pt) (marks : List Bool) (items : List Item)
-      (after : State) (puts : List Put)
+      (after : State) (acts : List Act)
       (hf : end_of tools id (decided clean bucket RunAll lists.items (entered scope bucket t))
-      t.journal pt ≡ Some (whole-end after puts)) where
+      t.journal pt ≡ Some (whole-end after acts)) where
     abbrev p : Piece
     p = piece_at tools id run scope j k a bucket lists t pt
 
     abbrev y : State
     y = entered scope bucket t
 
-    -- what the whole has written itself
-    grown : (own : List Put) × (puts ≡ own ++ pt) × (after.journal ≡ numbered id puts ++ k)
+    -- what the whole has done itself
+    grown : (own : List Act) × (acts ≡ own ++ pt) × (after.journal ≡ numbered id acts ++ k)
     grown = let st = decided-steps tools id clean k fc bucket RunAll lists.items y pt c.c_is
-        (whole-end after puts) hf in (st.more, st.grown, st.numbered_so)
+        (whole-end after acts) hf in (st.more, st.grown, st.numbered_so)
 
     -- what is kept of a trusted output
-    kept-bytes : (own : List Put) → puts ≡ own ++ pt → (q bytes : List ℕ) (file : File) →
-        IsAsInTree (view_of clean y) q file → WritesSame tools id clean p q file →
-        last_bytes own q ≡ Some bytes → seen (bytes_in run.files) s.journal q ≡ Some bytes
-    kept-bytes own pf q bytes file tree (t1, puts1, e1, b1) h =
-        let same : whole-end t1 puts1 ≡ whole-end after puts =
-        some-same (whole-end t1 puts1) (whole-end after puts) (sym e1 ∙ hf) in
-        let ep : puts1 ≡ own ++ pt = ap (λ (z : End (Result State Stopped)). z.puts) same ∙ pf in
-        let own1 : since pt puts1 ≡ own = ap (since pt) ep ∙ since-front own pt in
-        let b2 : last_bytes own q ≡ Some file.bytes = sym (ap (λ l. last_bytes l q) own1) ∙ b1 in
-        (carry-alike tools id run scope j k a s t ps pt c).same q ∙ (tree.unchanged ∙ (sym b2 ∙ h))
+    kept-bytes : (own : List Act) → acts ≡ own ++ pt → (q : List ℕ) (left : Option (List ℕ))
+        (file : File) → IsAsInTree (view_of clean y) q file → WritesSame tools id clean p q file →
+        last_bytes own q ≡ Some left → seen (bytes_in run.files) s.journal q ≡ left
+    kept-bytes own pf q left file tree (t1, acts1, e1, b1) h =
+        let same : whole-end t1 acts1 ≡ whole-end after acts =
+        some-same (whole-end t1 acts1) (whole-end after acts) (sym e1 ∙ hf) in
+        let ep : acts1 ≡ own ++ pt = ap (λ (z : End (Result State Stopped)). z.acts) same ∙ pf in
+        let own1 : since pt acts1 ≡ own = ap (since pt) ep ∙ since-front own pt in
+        let b2 : last_bytes own q ≡ Some (Some file.bytes) =
+        sym (ap (λ l. last_bytes l q) own1) ∙ b1 in
+        let kept : Some file.bytes ≡ left = some-same (Some file.bytes) left (sym b2 ∙ h) in
+        (carry-alike tools id run scope j k a s t ps pt c).same q ∙ (tree.unchanged ∙ kept)
 
     part-whole : length marks ≡ length lists.outputs →
         ((q : List ℕ) → is_one_of q (kept (map not marks) lists.outputs) ≡ true →
         (file : File) × IsAsInTree (view_of clean y) q file × WritesSame tools id clean p q file) →
-        PieceIsDeclared tools id clean p → PartIsDeclared tools id clean p after puts items marks →
+        PieceIsDeclared tools id clean p → PartIsDeclared tools id clean p after acts items marks →
         (E : End (Result State Stopped)) → end_of tools id
         (decided run bucket (Part (kept marks items)) lists.items (entered scope bucket s))
         s.journal ps ≡ Some E →
         IsFine tools id run scope j k (Fine tools id run scope j k a) E.value →
-        GoAlike tools id run scope j k E (whole-end after puts)
+        GoAlike tools id run scope j k E (whole-end after acts)
     part-whole ml there declared part E he fe =
         with-both (same-goes tools id run scope j k a fw fc bucket lists
         (Part (kept marks items)) s t ps pt c E (record {
           value = Ok part.after;
           journal =
               part.after.journal;
-          puts = part.written;
+          acts = part.acts;
         }) he part.succeeds fe part.never_large) grown.0
         grown.1
       where
@@ -395,28 +398,28 @@ module _ (tools : List ℕ → ToolInput → ToolAnswer) (id : RunId) (run : Run
           value =
               Ok part.after;
           journal = part.after.journal;
-          puts = part.written;
-        }) → (own : List Put) →
-            puts ≡ own ++ pt → GoAlike tools id run scope j k E (whole-end after puts)
+          acts = part.acts;
+        }) → (own : List Act) →
+            acts ≡ own ++ pt → GoAlike tools id run scope j k E (whole-end after acts)
         with-both both own pf =
-            let new : List Put = both.new in
-            let own-is : since pt puts ≡ own = ap (since pt) pf ∙ since-front own pt in
-            let new-is : since pt part.written ≡ new =
-            ap (since pt) both.c_puts ∙ since-front new pt in
+            let new : List Act = both.new in
+            let own-is : since pt acts ≡ own = ap (since pt) pf ∙ since-front own pt in
+            let new-is : since pt part.acts ≡ new =
+            ap (since pt) both.c_acts ∙ since-front new pt in
             let lacking : PartLacks (bytes_in run.files) s.journal new own =
             parts-lack (bytes_in run.files) s.journal new own lists.outputs marks ml
             (λ q h. sym (ap (λ l. last_bytes l q) new-is)
             ∙ (part.bytes q h ∙ ap (λ l. last_bytes l q) own-is))
             (λ q h. sym (ap (λ l. last_bytes l q) new-is) ∙ part.no_other q h)
             (λ q. sym (ap (λ l. is_some (last_bytes l q)) own-is)
-            ∙ declared.writes_outputs after puts hf q)
-            (λ q bytes g h. let r = there q g in kept-bytes own pf q bytes r.0 r.1 r.2 h) in
-            let lacks : LacksOnly (bytes_in run.files) j E.puts puts =
-            subst (λ l. LacksOnly (bytes_in run.files) j l puts) (sym both.w_puts)
+            ∙ declared.writes_outputs after acts hf q)
+            (λ q left g h. let r = there q g in kept-bytes own pf q left r.0 r.1 r.2 h) in
+            let lacks : LacksOnly (bytes_in run.files) j E.acts acts =
+            subst (λ l. LacksOnly (bytes_in run.files) j l acts) (sym both.w_acts)
             (subst (LacksOnly (bytes_in run.files) j (new ++ ps)) (sym pf)
             (lacks-append (bytes_in run.files) j s.journal new own ps pt
             (seen-over tools id run scope j k a fw fc s t ps pt c) c.lacks lacking)) in
-            finish after puts E.value E.journal E.puts part.written part.after both.cousins
+            finish after acts E.value E.journal E.acts part.acts part.after both.cousins
             both.w_step lacks changed.0 changed.1 grown.2
 
   pub part-goes : GoesBy tools id run scope j k a fw fc (IsPart tools id run scope j k a fw fc)
@@ -433,10 +436,10 @@ module _ (tools : List ℕ → ToolInput → ToolAnswer) (id : RunId) (run : Run
           (file : File) × IsAsInTree (view_of clean (entered scope bucket t)) q file
           × WritesSame tools id clean (piece_at tools id run scope j k a bucket lists t pt)
           q file) →
-          (after : State) (puts : List Put) → end_of tools id
+          (after : State) (acts : List Act) → end_of tools id
           (decided clean bucket RunAll lists.items (entered scope bucket t)) t.journal pt
-          ≡ Some (whole-end after puts) → GoAlike tools id run scope j k E F
-      by-whole facts there after puts w1 =
+          ≡ Some (whole-end after acts) → GoAlike tools id run scope j k E F
+      by-whole facts there after acts w1 =
           let marks : List Bool = marks_of (view_of run (entered scope bucket s)) lists.inputs
           lists.outputs facts.items in
           let by : ByItems (piece_at tools id run scope j k a bucket lists t pt) facts.items =
@@ -451,10 +454,10 @@ module _ (tools : List ℕ → ToolInput → ToolAnswer) (id : RunId) (run : Run
           (entered scope bucket s)) s.journal ps ≡ Some E =
           subst (λ l. end_of tools id (decided run bucket (Part l) lists.items
           (entered scope bucket s)) s.journal ps ≡ Some E) facts.old_is he in
-          let same : whole-end after puts ≡ F = some-same (whole-end after puts) F (sym w1 ∙ hf) in
+          let same : whole-end after acts ≡ F = some-same (whole-end after acts) F (sym w1 ∙ hf) in
           subst (GoAlike tools id run scope j k E) same
-          (part-whole bucket lists s t ps pt c marks facts.items after puts w1 (facts.part.each
-          ∙ sym facts.lo) there said.0 (said.0.parts after puts w1 facts.items by marks
+          (part-whole bucket lists s t ps pt c marks facts.items after acts w1 (facts.part.each
+          ∙ sym facts.lo) there said.0 (said.0.parts after acts w1 facts.items by marks
           facts.part) E he' fe)
 
       by-facts : PartFacts (view_of run (entered scope bucket s)) lists old →

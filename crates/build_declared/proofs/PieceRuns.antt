@@ -21,11 +21,12 @@ use Rattle.std.proofs.Common.{
   ◌∙◌,
   subst,
 }
-use Rattle.std.specs.Prelude.{Result, Ok, Err}
+use Rattle.std.specs.Prelude.{Result, Ok, Err, unwrap_or}
 use Rattle.std.specs.Option.{option_or}
 use Rattle.std.specs.Str.{bytes_eq}
+use Rattle.msb_values.specs.Acts.{act_path, act_bytes}
 use Rattle.msb_values.specs.declared.mode.Mode.TheVariants.{Clean}
-use Rattle.msb_values.specs.declared.put.Put.{Put}
+use Rattle.msb_values.specs.declared.act.Act.{Act}
 use Rattle.msb_values.specs.declared.scope.Scope.{Scope}
 use Rattle.msb_expand.specs.declared.lens.Bucket.{Bucket}
 use Rattle.result_cache.specs.Lists.{this_or}
@@ -33,7 +34,7 @@ use Rattle.result_cache.specs.declared.run.RunId.{RunId}
 use Rattle.result_cache.specs.Journal.{Journal}
 use Rattle.build_incremental.specs.Alike.{seen, AlikeJournals}
 use Rattle.build_incremental.specs.Alone.{last_bytes, LacksOnly}
-use Rattle.build_incremental.specs.SideBySide.{HasNotWritten}
+use Rattle.build_incremental.specs.SideBySide.{HasNotActed}
 use Rattle.build_incremental.proofs.Moves.{seen-append}
 use Rattle.build_incremental.proofs.Numbered.{numbered, content-numbered}
 use Rattle.build_incremental.proofs.Entries.{none-or-some, none-some}
@@ -56,35 +57,35 @@ use Rattle.build_declared.proofs.BucketsGo.{Carry, carry-alike, EndsAlike, InSte
 use Rattle.build_declared.proofs.Cousins.{Cousin, CousinEnd, BothEnd, decided-both, journal_of}
 use Rattle.build_declared.proofs.RunLists.{Fine, Said, piece_at, PieceGoes}
 
--- ---- files in front of files
+-- ---- acts in front of acts
 
-pub last-append : (a b : List Put) (path : List ℕ) →
+pub last-append : (a b : List Act) (path : List ℕ) →
     last_bytes (a ++ b) path ≡ option_or (last_bytes a path) (last_bytes b path)
 last-append [] b path = refl
-last-append (put ∷ a) b path = go (bytes_eq put.path path) (last-append a b path)
+last-append (act ∷ a) b path = go (bytes_eq (act_path act) path) (last-append a b path)
   where
     go : (t : Bool) → last_bytes (a ++ b) path ≡ option_or (last_bytes a path) (last_bytes b path) →
-        this_or t (last_bytes (a ++ b) path) put.bytes
-        ≡ option_or (this_or t (last_bytes a path) put.bytes) (last_bytes b path)
+        this_or t (last_bytes (a ++ b) path) (act_bytes act)
+        ≡ option_or (this_or t (last_bytes a path) (act_bytes act)) (last_bytes b path)
     go true ih = refl
     go false ih = ih
 
 -- what a part of the run lacks, in front of what was lacking before: files is what the part began
 -- with
 pub record PartLacks (files : List ℕ → Option (List ℕ)) (from : Journal)
-    (a b : List Put) : Type 0 where
-  pub written : (path : List ℕ) → (last_bytes a path ≡ None)
+    (a b : List Act) : Type 0 where
+  pub acted : (path : List ℕ) → (last_bytes a path ≡ None)
       ⊎ (last_bytes a path ≡ last_bytes b path)
-  pub unwritten : (path bytes : List ℕ) → last_bytes a path ≡ None →
-      last_bytes b path ≡ Some bytes → seen files from path ≡ Some bytes
+  pub left_out : (path : List ℕ) (left : Option (List ℕ)) → last_bytes a path ≡ None →
+      last_bytes b path ≡ Some left → seen files from path ≡ left
 
--- from is the journal with the earlier files over the base
-pub lacks-append : (files : List ℕ → Option (List ℕ)) (base from : Journal) (a b ps pt : List Put) →
-    ((path : List ℕ) → seen files from path ≡ option_or (last_bytes ps path)
+-- from is the journal with the earlier acts over the base
+pub lacks-append : (files : List ℕ → Option (List ℕ)) (base from : Journal) (a b ps pt : List Act) →
+    ((path : List ℕ) → seen files from path ≡ unwrap_or (last_bytes ps path)
     (seen files base path)) → LacksOnly files base ps pt → PartLacks files from a b →
     LacksOnly files base (a ++ ps) (b ++ pt)
 lacks-append files base from a b ps pt is old new = record {
-  written = λ p. elim (none-or-some (last_bytes a p)) [
+  acted = λ p. elim (none-or-some (last_bytes a p)) [
     | inl n ↦
         let w : last_bytes (a ++ ps) p ≡ last_bytes ps p =
         last-append a ps p ∙ ap (λ o. option_or o (last_bytes ps p)) n in
@@ -92,71 +93,73 @@ lacks-append files base from a b ps pt is old new = record {
           | inl m ↦
               let c : last_bytes (b ++ pt) p ≡ last_bytes pt p =
               last-append b pt p ∙ ap (λ o. option_or o (last_bytes pt p)) m in
-              elim (old.written p) [ inl e ↦ inl (w ∙ e) | inr e ↦ inr (w ∙ (e ∙ sym c)) ]
+              elim (old.acted p) [ inl e ↦ inl (w ∙ e) | inr e ↦ inr (w ∙ (e ∙ sym c)) ]
           | inr s ↦
               let c : last_bytes (b ++ pt) p ≡ Some s.0 =
               last-append b pt p ∙ ap (λ o. option_or o (last_bytes pt p)) s.1 in
-              let here : option_or (last_bytes ps p) (seen files base p) ≡ Some s.0 =
-              sym (is p) ∙ new.unwritten p s.0 n s.1 in
+              let here : unwrap_or (last_bytes ps p) (seen files base p) ≡ s.0 =
+              sym (is p) ∙ new.left_out p s.0 n s.1 in
               elim (none-or-some (last_bytes ps p)) [
                 | inl e ↦ inl (w ∙ e)
-                | inr e ↦ inr (w ∙ (e.1 ∙ (sym (ap (λ o. option_or o (seen files base p)) e.1)
-                    ∙ (here ∙ sym c))))
+                | inr e ↦
+                    let same : e.0 ≡ s.0 =
+                    sym (ap (λ o. unwrap_or o (seen files base p)) e.1) ∙ here in
+                    inr (w ∙ (e.1 ∙ (ap Some same ∙ sym c)))
               ]
         ]
-    | inr s ↦ elim (new.written p) [
+    | inr s ↦ elim (new.acted p) [
       | inl n ↦ absurd (none-some (last_bytes a p) n s.1)
       | inr e ↦ inr (last-append a ps p ∙ (ap (λ o. option_or o (last_bytes ps p)) s.1
           ∙ sym (last-append b pt p ∙ ap (λ o. option_or o (last_bytes pt p)) (sym e ∙ s.1))))
     ]
   ];
-  unwritten = λ p bytes n s.
+  left_out = λ p left n s.
       let split : option_or (last_bytes a p) (last_bytes ps p) ≡ None =
       sym (last-append a ps p) ∙ n in
       let na = first-none (last_bytes a p) (last_bytes ps p) split in
       let np = second-none (last_bytes a p) (last_bytes ps p) split in
-      let s' : option_or (last_bytes b p) (last_bytes pt p) ≡ Some bytes =
+      let s' : option_or (last_bytes b p) (last_bytes pt p) ≡ Some left =
       sym (last-append b pt p) ∙ s in
       elim (none-or-some (last_bytes b p)) [
-        | inl m ↦ old.unwritten p bytes np (sym (ap (λ o. option_or o (last_bytes pt p)) m) ∙ s')
+        | inl m ↦ old.left_out p left np (sym (ap (λ o. option_or o (last_bytes pt p)) m) ∙ s')
         | inr x ↦
-            let same : Some x.0 ≡ Some bytes = sym (ap (λ o. option_or o (last_bytes pt p)) x.1)
+            let same : Some x.0 ≡ Some left = sym (ap (λ o. option_or o (last_bytes pt p)) x.1)
             ∙ s' in
-            sym (ap (λ o. option_or o (seen files base p)) np)
-            ∙ (sym (is p) ∙ (new.unwritten p x.0 na x.1 ∙ same))
+            sym (ap (λ o. unwrap_or o (seen files base p)) np)
+            ∙ (sym (is p) ∙ new.left_out p left na (x.1 ∙ same))
       ];
 }
   where
-    first-none : (x y : Option (List ℕ)) → option_or x y ≡ None → x ≡ None
+    first-none : (x y : Option (Option (List ℕ))) → option_or x y ≡ None → x ≡ None
     first-none None y h = refl
     first-none (Some z) y h = absurd (cc)
 
-    second-none : (x y : Option (List ℕ)) → option_or x y ≡ None → y ≡ None
+    second-none : (x y : Option (Option (List ℕ))) → option_or x y ≡ None → y ≡ None
     second-none None y h = h
     second-none (Some z) y h = absurd (cc)
 
--- the same files in front
-pub same-lacks : (files : List ℕ → Option (List ℕ)) (from : Journal) (a : List Put) →
+-- the same acts in front
+pub same-lacks : (files : List ℕ → Option (List ℕ)) (from : Journal) (a : List Act) →
     PartLacks files from a a
 same-lacks files from a = record {
-  written = λ p. inr refl;
-  unwritten =
-      λ p bytes n s. absurd (none-some (last_bytes a p) n s);
+  acted = λ p. inr refl;
+  left_out =
+      λ p left n s. absurd (none-some (last_bytes a p) n s);
 }
 
 module _ (tools : List ℕ → ToolInput → ToolAnswer) (id : RunId) (run : Run) (scope : Scope)
-    (j k : Journal) (a : AlikeJournals (bytes_in run.files) AnyPath j k) (fw : HasNotWritten id j)
-    (fc : HasNotWritten id k) where
+    (j k : Journal) (a : AlikeJournals (bytes_in run.files) AnyPath j k) (fw : HasNotActed id j)
+    (fc : HasNotActed id k) where
   -- what a state sees over what the run began with
-  pub seen-over : (s t : State) (ps pt : List Put) → Carry tools id run scope j k s t ps pt →
-      (path : List ℕ) → seen (bytes_in run.files) s.journal path ≡ option_or (last_bytes ps path)
+  pub seen-over : (s t : State) (ps pt : List Act) → Carry tools id run scope j k s t ps pt →
+      (path : List ℕ) → seen (bytes_in run.files) s.journal path ≡ unwrap_or (last_bytes ps path)
       (seen (bytes_in run.files) j path)
   seen-over s t ps pt c path =
       ap (λ l. seen (bytes_in run.files) l path) c.w_is
       ∙ (seen-append (bytes_in run.files) AnyPath (numbered id ps) j path
-      ∙ ap (λ o. option_or o (seen (bytes_in run.files) j path)) (content-numbered id ps path))
+      ∙ ap (λ o. unwrap_or o (seen (bytes_in run.files) j path)) (content-numbered id ps path))
 
-  pub entered-cousin : (bucket : Bucket) (s t : State) (ps pt : List Put) →
+  pub entered-cousin : (bucket : Bucket) (s t : State) (ps pt : List Act) →
       Carry tools id run scope j k s t ps pt → Cousin tools id run j k fw fc
       (entered scope bucket s) (entered scope bucket t) ps pt
   entered-cousin bucket s t ps pt c =
@@ -173,8 +176,8 @@ module _ (tools : List ℕ → ToolInput → ToolAnswer) (id : RunId) (run : Run
             carry-alike tools id run scope j k a s t ps pt c;
       }
 
-  -- what both have written since is the same
-  both-goes : (s t : State) (ps pt : List Put) → Carry tools id run scope j k s t ps pt →
+  -- what both have done since is the same
+  both-goes : (s t : State) (ps pt : List Act) → Carry tools id run scope j k s t ps pt →
       (E F : End (Result State Stopped)) → BothEnd tools id run j k fw fc ps pt E F →
       GoAlike tools id run scope j k E F
   both-goes s t ps pt c E F b = record {
@@ -184,9 +187,9 @@ module _ (tools : List ℕ → ToolInput → ToolAnswer) (id : RunId) (run : Run
     c_step = step F.value b.c_step;
   }
     where
-      lacks : LacksOnly (bytes_in run.files) j E.puts F.puts
-      lacks = subst (λ x. LacksOnly (bytes_in run.files) j x F.puts) (sym b.w_puts)
-          (subst (LacksOnly (bytes_in run.files) j (b.new ++ ps)) (sym b.c_puts)
+      lacks : LacksOnly (bytes_in run.files) j E.acts F.acts
+      lacks = subst (λ x. LacksOnly (bytes_in run.files) j x F.acts) (sym b.w_acts)
+          (subst (LacksOnly (bytes_in run.files) j (b.new ++ ps)) (sym b.c_acts)
           (lacks-append (bytes_in run.files) j s.journal b.new b.new ps pt
           (seen-over s t ps pt c) c.lacks (same-lacks (bytes_in run.files) s.journal b.new)))
 
@@ -195,8 +198,8 @@ module _ (tools : List ℕ → ToolInput → ToolAnswer) (id : RunId) (run : Run
       step (Ok x) h = h
       step (Err d) h = tt
 
-      ends : (r q : Result State Stopped) → CousinEnd tools id run j k fw fc r q E.puts F.puts →
-          EndsAlike tools id run scope j k r q E.puts F.puts
+      ends : (r q : Result State Stopped) → CousinEnd tools id run j k fw fc r q E.acts F.acts →
+          EndsAlike tools id run scope j k r q E.acts F.acts
       ends (Ok x) (Ok y) h = record {
         items = h.items;
         changes = h.changes;
@@ -216,7 +219,7 @@ module _ (tools : List ℕ → ToolInput → ToolAnswer) (id : RunId) (run : Run
 
   -- a piece that is done in one way in both
   pub same-goes : (bucket : Bucket) (lists : Lists) (choice : Choice) (s t : State)
-      (ps pt : List Put) → Carry tools id run scope j k s t ps pt →
+      (ps pt : List Act) → Carry tools id run scope j k s t ps pt →
       (E F : End (Result State Stopped)) →
       end_of tools id (decided run bucket choice lists.items (entered scope bucket s)) s.journal ps
       ≡ Some E → end_of tools id (decided (record run {
@@ -232,7 +235,7 @@ module _ (tools : List ℕ → ToolInput → ToolAnswer) (id : RunId) (run : Run
 
   -- still to be shown: a piece that is skipped, or runs in part
   abbrev pub GoesBy : (Choice → Type 0) → Type 0
-  GoesBy C = (bucket : Bucket) (lists : Lists) (s t : State) (ps pt : List Put) →
+  GoesBy C = (bucket : Bucket) (lists : Lists) (s t : State) (ps pt : List Act) →
       Carry tools id run scope j k s t ps pt → lists_at run bucket (entered scope bucket s)
       ≡ Ok (Some lists) → lists_at (record run { mode = Clean }) bucket (entered scope bucket t)
       ≡ Ok (Some lists) →

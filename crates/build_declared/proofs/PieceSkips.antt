@@ -28,18 +28,16 @@ use Rattle.std.specs.Str.{bytes_eq}
 use Rattle.std.proofs.lemmas.Slice.Eq.{bytes_eq-Decides}
 use Rattle.msb_values.specs.declared.mode.Mode.TheVariants.{Incremental, Clean}
 use Rattle.msb_values.specs.declared.note.Note.{Note}
-use Rattle.msb_values.specs.declared.put.Put.{Put}
+use Rattle.msb_values.specs.declared.act.Act.{Act}
 use Rattle.msb_values.specs.declared.scope.Scope.{Scope}
 use Rattle.msb_expand.specs.declared.lens.Bucket.{Bucket}
-use Rattle.file_store.specs.Files.{file_at}
-use Rattle.file_store.specs.declared.tree.File.{File}
 use Rattle.result_cache.specs.Lists.{In}
 use Rattle.result_cache.specs.declared.run.RunId.{RunId}
 use Rattle.result_cache.specs.Journal.{Journal}
 use Rattle.result_cache.proofs.RunTests.{or_cases}
-use Rattle.build_incremental.specs.Alike.{AlikeJournals}
+use Rattle.build_incremental.specs.Alike.{AlikeJournals, seen}
 use Rattle.build_incremental.specs.Alone.{last_bytes, LacksOnly}
-use Rattle.build_incremental.specs.SideBySide.{HasNotWritten}
+use Rattle.build_incremental.specs.SideBySide.{HasNotActed}
 use Rattle.build_incremental.proofs.Numbered.{numbered}
 use Rattle.task_trait.specs.declared.tools.ToolAnswer.{ToolAnswer}
 use Rattle.task_trait.specs.declared.tools.ToolInput.{ToolInput}
@@ -80,7 +78,7 @@ take-front {X} a b = ap (λ n. take n (a ++ b)) (let e : length (a ++ b) - lengt
     front [] b = refl
     front (x ∷ a) b = ap (λ l. x ∷ l) (front a b)
 
-pub since-front : (a b : List Put) → since b (a ++ b) ≡ a
+pub since-front : (a b : List Act) → since b (a ++ b) ≡ a
 since-front a b = take-front a b
 
 pub one-in : (path : List ℕ) (paths : List (List ℕ)) → is_one_of path paths ≡ true → In path paths
@@ -97,34 +95,34 @@ first-output [] outputs e = absurd (cc)
 first-output (i ∷ inputs) [] e = absurd (cc)
 first-output (i ∷ inputs) (o ∷ outputs) e = (o, inl refl)
 
-pub no-front : (new pt : List Put) → pt ≡ new ++ pt → new ≡ []
+pub no-front : (new pt : List Act) → pt ≡ new ++ pt → new ≡ []
 no-front [] pt e = refl
-no-front (put ∷ new) pt e = let l : length pt ≡ length ((put ∷ new) ++ pt) = ap length e in
-    absurd (omega (arith, length-append (put ∷ new) pt))
+no-front (act ∷ new) pt e = let l : length pt ≡ length ((act ∷ new) ++ pt) = ap length e in
+    absurd (omega (arith, length-append (act ∷ new) pt))
 
 module _ (tools : List ℕ → ToolInput → ToolAnswer) (id : RunId) (run : Run)
     (mode : run.mode ≡ Incremental) (scope : Scope) (j k : Journal)
-    (a : AlikeJournals (bytes_in run.files) AnyPath j k) (fw : HasNotWritten id j)
-    (fc : HasNotWritten id k) where
+    (a : AlikeJournals (bytes_in run.files) AnyPath j k) (fw : HasNotActed id j)
+    (fc : HasNotActed id k) where
   abbrev clean : Run
   clean = record run { mode = Clean }
 
-  -- shown in SkipsSame, by returns_given: where all outputs are in the tree, skipping a piece that
+  -- shown in SkipsSame, by returns_given: where all outputs are there, skipping a piece that
   -- succeeds writes nothing, and changes and returns what the whole does
   abbrev pub SkipsSame : Type 0
-  SkipsSame = (bucket : Bucket) (lists : Lists) (t : State) (pt : List Put) (after : State)
-      (puts : List Put) → PieceIsDeclared tools id clean
+  SkipsSame = (bucket : Bucket) (lists : Lists) (t : State) (pt : List Act) (after : State)
+      (acts : List Act) → PieceIsDeclared tools id clean
       (piece_at tools id run scope j k a bucket lists t pt) → t.journal ≡ numbered id pt ++ k →
       end_of tools id (decided clean bucket RunAll lists.items (entered scope bucket t)) t.journal
-      pt ≡ Some (record { value = Ok after; journal = after.journal; puts = puts }) →
+      pt ≡ Some (record { value = Ok after; journal = after.journal; acts = acts }) →
       ((output : List ℕ) → In output lists.outputs →
-      (file : File) × (file_at output run.files ≡ Some file)) →
+      is_some (seen (bytes_in run.files) t.journal output) ≡ true) →
       (skipped : State) × (end_of tools id (decided clean bucket Skip lists.items
       (entered scope bucket t)) t.journal pt ≡ Some (record {
         value = Ok skipped;
         journal =
             t.journal;
-        puts = pt;
+        acts = pt;
       }))
       × (skipped.changes ≡ after.changes) × (skipped.items ≡ after.items)
       × ((note : Note) → In note skipped.notes → In note after.notes)
@@ -143,16 +141,16 @@ module _ (tools : List ℕ → ToolInput → ToolAnswer) (id : RunId) (run : Run
       let o = first-output lists.inputs lists.outputs all in
       let w1 = (kept o.0 o.1).2 in
       let after : State = w1.0 in
-      let puts : List Put = w1.1 in
-      let whole : record { value = Ok after; journal = after.journal; puts = puts } ≡ F =
-      some-same (record { value = Ok after; journal = after.journal; puts = puts }) F (sym w1.2
+      let acts : List Act = w1.1 in
+      let whole : record { value = Ok after; journal = after.journal; acts = acts } ≡ F =
+      some-same (record { value = Ok after; journal = after.journal; acts = acts }) F (sym w1.2
       ∙ hf) in
-      let sk = skips bucket lists t pt after puts said.0 c.c_is w1.2 (λ q i. let f = kept q i in
-      (f.0, f.1.there)) in
+      let sk = skips bucket lists t pt after acts said.0 c.c_is w1.2 (λ q i.
+      ap is_some (kept q i).1.unchanged) in
       let mid : End (Result State Stopped) = record {
         value = Ok sk.0;
         journal = t.journal;
-        puts =
+        acts =
             pt;
       } in
       let fine-mid : IsFine tools id run scope j k (Fine tools id run scope j k a) (Ok sk.0) =
@@ -160,56 +158,57 @@ module _ (tools : List ℕ → ToolInput → ToolAnswer) (id : RunId) (run : Run
       In note (state_of z.value).notes) whole (sk.4 note i)) in
       let both = same-goes tools id run scope j k a fw fc bucket lists Skip s t ps pt c E mid he
       sk.1 fe fine-mid in
-      let none : both.new ≡ [] = no-front both.new pt both.c_puts in
-      let ep : E.puts ≡ ps = both.w_puts ∙ ap (λ l. l ++ ps) none in
+      let none : both.new ≡ [] = no-front both.new pt both.c_acts in
+      let ep : E.acts ≡ ps = both.w_acts ∙ ap (λ l. l ++ ps) none in
       let st = decided-steps tools id clean k fc bucket RunAll lists.items y pt c.c_is F hf in
-      let own : List Put = st.more in
-      let fp : F.puts ≡ own ++ pt = st.grown in
-      let pf : puts ≡ own ++ pt = ap (λ (z : End (Result State Stopped)). z.puts) whole ∙ fp in
+      let own : List Act = st.more in
+      let fp : F.acts ≡ own ++ pt = st.grown in
+      let pf : acts ≡ own ++ pt = ap (λ (z : End (Result State Stopped)). z.acts) whole ∙ fp in
       let part : PartLacks (bytes_in run.files) s.journal [] own = record {
-        written = λ q. inl refl;
-        unwritten = λ q bytes n h.
-            let there : last_bytes (since pt puts) q ≡ Some bytes =
+        acted = λ q. inl refl;
+        left_out = λ q left n h.
+            let there : last_bytes (since pt acts) q ≡ Some left =
             ap (λ l. last_bytes (since pt l) q) pf
             ∙ (ap (λ l. last_bytes l q) (since-front own pt) ∙ h) in
             let one : is_one_of q lists.outputs ≡ true =
-            sym (said.0.writes_outputs after puts w1.2 q) ∙ ap is_some there in
+            sym (said.0.writes_outputs after acts w1.2 q) ∙ ap is_some there in
             let g = kept q (one-in q lists.outputs one) in
             let end-same : record {
               value = Ok g.2.0;
               journal = g.2.0.journal;
-              puts =
+              acts =
                   g.2.1;
-            } ≡ record { value = Ok after; journal = after.journal; puts = puts } =
-            some-same (record { value = Ok g.2.0; journal = g.2.0.journal; puts = g.2.1 })
-            (record { value = Ok after; journal = after.journal; puts = puts })
+            } ≡ record { value = Ok after; journal = after.journal; acts = acts } =
+            some-same (record { value = Ok g.2.0; journal = g.2.0.journal; acts = g.2.1 })
+            (record { value = Ok after; journal = after.journal; acts = acts })
             (sym g.2.2 ∙ w1.2) in
-            let gb : last_bytes (since pt puts) q ≡ Some g.0.bytes =
-            ap (λ (z : End (Result State Stopped)). last_bytes (since pt z.puts) q)
+            let gb : last_bytes (since pt acts) q ≡ Some (Some g.0.bytes) =
+            ap (λ (z : End (Result State Stopped)). last_bytes (since pt z.acts) q)
             (sym end-same) ∙ g.2.3 in
-            alike.same q ∙ (g.1.unchanged ∙ (sym gb ∙ there));
+            let same : Some g.0.bytes ≡ left = some-same (Some g.0.bytes) left (sym gb ∙ there) in
+            alike.same q ∙ (g.1.unchanged ∙ same);
       } in
-      let lacks : LacksOnly (bytes_in run.files) j E.puts F.puts =
-      subst (λ l. LacksOnly (bytes_in run.files) j l F.puts) (sym ep)
+      let lacks : LacksOnly (bytes_in run.files) j E.acts F.acts =
+      subst (λ l. LacksOnly (bytes_in run.files) j l F.acts) (sym ep)
       (subst (LacksOnly (bytes_in run.files) j ps) (sym fp)
       (lacks-append (bytes_in run.files) j s.journal [] own ps pt
       (seen-over tools id run scope j k a fw fc s t ps pt c) c.lacks part)) in
       subst (GoAlike tools id run scope j k E) whole
-      (finish E.value E.journal E.puts sk.0 after puts both.cousins both.w_step
+      (finish E.value E.journal E.acts sk.0 after acts both.cousins both.w_step
       (subst (λ (z : End (Result State Stopped)).
-      LacksOnly (bytes_in run.files) j E.puts z.puts) (sym whole) lacks) sk.2 sk.3
+      LacksOnly (bytes_in run.files) j E.acts z.acts) (sym whole) lacks) sk.2 sk.3
       (ap (λ (z : End (Result State Stopped)). z.journal) whole
-      ∙ (st.numbered_so ∙ ap (λ (z : End (Result State Stopped)). numbered id z.puts ++ k)
+      ∙ (st.numbered_so ∙ ap (λ (z : End (Result State Stopped)). numbered id z.acts ++ k)
       (sym whole))))
     where
-      finish : (r : Result State Stopped) (l : Journal) (qs : List Put) (skipped after : State)
-          (puts : List Put) → CousinEnd tools id run j k fw fc r (Ok skipped) qs pt →
-          (state_of r).journal ≡ l → LacksOnly (bytes_in run.files) j qs puts →
+      finish : (r : Result State Stopped) (l : Journal) (qs : List Act) (skipped after : State)
+          (acts : List Act) → CousinEnd tools id run j k fw fc r (Ok skipped) qs pt →
+          (state_of r).journal ≡ l → LacksOnly (bytes_in run.files) j qs acts →
           skipped.changes ≡ after.changes → skipped.items ≡ after.items →
-          after.journal ≡ numbered id puts ++ k →
-          GoAlike tools id run scope j k (record { value = r; journal = l; puts = qs })
-          (record { value = Ok after; journal = after.journal; puts = puts })
-      finish (Ok z) l qs skipped after puts h step lacks ch it n =
+          after.journal ≡ numbered id acts ++ k →
+          GoAlike tools id run scope j k (record { value = r; journal = l; acts = qs })
+          (record { value = Ok after; journal = after.journal; acts = acts })
+      finish (Ok z) l qs skipped after acts h step lacks ch it n =
           record {
             ends = record {
               items = h.items ∙ it;
@@ -222,5 +221,5 @@ module _ (tools : List ℕ → ToolInput → ToolAnswer) (id : RunId) (run : Run
             w_step = step;
             c_step = refl;
           }
-      finish (Err (faulted d)) l qs skipped after puts h step lacks ch it n = absurd h
-      finish (Err (failed d)) l qs skipped after puts h step lacks ch it n = absurd h
+      finish (Err (faulted d)) l qs skipped after acts h step lacks ch it n = absurd h
+      finish (Err (failed d)) l qs skipped after acts h step lacks ch it n = absurd h

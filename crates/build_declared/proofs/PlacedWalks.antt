@@ -40,7 +40,7 @@ use Rattle.result_cache.specs.declared.request.RequestKey.{RequestKey}
 use Rattle.build_meaning.specs.Walk.{Body}
 use Rattle.build_incremental.specs.Alike.{AlikeRecords, AlikeJournals}
 use Rattle.build_incremental.specs.Placed.{Placed}
-use Rattle.build_incremental.specs.SideBySide.{HasNotWritten, AlikeRuns, AlikeWalks}
+use Rattle.build_incremental.specs.SideBySide.{HasNotActed, AlikeRuns, AlikeWalks}
 use Rattle.task_trait.specs.declared.tools.ToolAnswer.{ToolAnswer}
 use Rattle.task_trait.specs.declared.tools.ToolInput.{ToolInput}
 use Rattle.request_machine.specs.declared.standing.Standing.{Standing}
@@ -70,7 +70,7 @@ module _ (p : Project) (key : RequestKey) (W : List ℕ → Type 0) (Q' Q : Site
     (runs : (name : List ℕ) (scope : Scope) (j k : Journal) →
     AlikeJournals (bytes_in p.files) W j k → (made : Record) →
     Q (record { target = target_at p name; scope = scope }) (run_of p.key name) k made →
-    HasNotWritten (run_of p.key name) j → HasNotWritten (run_of p.key name) k →
+    HasNotActed (run_of p.key name) j → HasNotActed (run_of p.key name) k →
     AlikeRuns (bytes_in p.files) W tools (run_of p.key name) j k (first name scope j)
     (second name scope k) made (Q' (record { target = target_at p name; scope = scope })
     (run_of p.key name) j)) where

@@ -20,7 +20,7 @@ use Rattle.std.specs.Prelude.{Result, Ok, Err, codes}
 use Rattle.msb_values.specs.declared.mode.Mode.TheVariants.{Incremental, Clean}
 use Rattle.msb_values.specs.declared.note.Note.{Note}
 use Rattle.msb_values.specs.declared.note.Note.TheVariants.{Fail}
-use Rattle.msb_values.specs.declared.put.Put.{Put}
+use Rattle.msb_values.specs.declared.act.Act.{Act}
 use Rattle.msb_values.specs.declared.scope.Scope.{Scope}
 use Rattle.msb_expand.specs.declared.lens.Bucket.{Bucket}
 use Rattle.file_store.specs.declared.tree.File.{File}
@@ -35,7 +35,7 @@ use Rattle.build_world.specs.declared.fault.EvalFault.{EvalFault}
 use Rattle.build_meaning.specs.Walk.{Outcome}
 use Rattle.build_incremental.specs.Alike.{AlikeFound, AlikeOutcomes, AlikeJournals}
 use Rattle.build_incremental.specs.Alone.{alone, LacksOnly}
-use Rattle.build_incremental.specs.SideBySide.{HasNotWritten, AlikeRuns, in_part}
+use Rattle.build_incremental.specs.SideBySide.{HasNotActed, AlikeRuns, in_part}
 use Rattle.msb_items.specs.Places.{Place, item_place}
 use Rattle.task_trait.specs.declared.tools.ToolAnswer.{ToolAnswer}
 use Rattle.task_trait.specs.declared.tools.ToolInput.{ToolInput}
@@ -146,7 +146,7 @@ module _ (tools : List ℕ → ToolInput → ToolAnswer) (id : RunId) (run : Run
   abbrev pub Said : Piece → Type 0
   Said p = PieceIsDeclared tools id clean p × PieceIsFresh tools id clean p
 
-  abbrev pub piece_at : Bucket → Lists → State → List Put → Piece
+  abbrev pub piece_at : Bucket → Lists → State → List Act → Piece
   piece_at bucket lists t pt = record {
     bucket = bucket;
     lists = lists;
@@ -157,7 +157,7 @@ module _ (tools : List ℕ → ToolInput → ToolAnswer) (id : RunId) (run : Run
 
   -- what is still to be shown: a piece goes alike, done as is decided and done whole
   abbrev pub PieceGoes : Type 0
-  PieceGoes = (bucket : Bucket) (lists : Lists) (s t : State) (ps pt : List Put) →
+  PieceGoes = (bucket : Bucket) (lists : Lists) (s t : State) (ps pt : List Act) →
       Carry tools id run scope j k s t ps pt → lists_at run bucket (entered scope bucket s)
       ≡ Ok (Some lists) → lists_at clean bucket (entered scope bucket t) ≡ Ok (Some lists) →
       all_or_nothing lists.inputs lists.outputs ≡ RunAll → (E F : End (Result State Stopped)) →
@@ -173,12 +173,12 @@ module _ (tools : List ℕ → ToolInput → ToolAnswer) (id : RunId) (run : Run
         value = or_failed E.value;
         journal =
             E.journal;
-        puts = E.puts;
+        acts = E.acts;
       }) (record {
         value = or_failed F.value;
         journal =
             F.journal;
-        puts = F.puts;
+        acts = F.acts;
       })
   failed-goes E F g = record {
     ends = ends E.value F.value g.ends;
@@ -192,15 +192,15 @@ module _ (tools : List ℕ → ToolInput → ToolAnswer) (id : RunId) (run : Run
       step (Ok s) l h = h
       step (Err d) l h = tt
 
-      stops : (d e : Stopped) → StopsAlike tools id run scope j k d e E.puts F.puts →
-          StopsAlike tools id run scope j k (as_failed d) (as_failed e) E.puts F.puts
+      stops : (d e : Stopped) → StopsAlike tools id run scope j k d e E.acts F.acts →
+          StopsAlike tools id run scope j k (as_failed d) (as_failed e) E.acts F.acts
       stops (faulted s) (faulted t) h = h
       stops (faulted s) (failed t) h = h
       stops (failed s) (faulted t) h = h
       stops (failed s) (failed t) h = h
 
-      ends : (r q : Result State Stopped) → EndsAlike tools id run scope j k r q E.puts F.puts →
-          EndsAlike tools id run scope j k (or_failed r) (or_failed q) E.puts F.puts
+      ends : (r q : Result State Stopped) → EndsAlike tools id run scope j k r q E.acts F.acts →
+          EndsAlike tools id run scope j k (or_failed r) (or_failed q) E.acts F.acts
       ends (Ok s) (Ok t) h = h
       ends (Ok s) (Err e) h = absurd h
       ends (Err d) (Ok t) h = absurd h
@@ -214,7 +214,7 @@ module _ (tools : List ℕ → ToolInput → ToolAnswer) (id : RunId) (run : Run
 
   module _ (goes : PieceGoes) (takes : (bucket : Bucket) (y : State) →
       lists_at clean bucket y ≡ Ok None → ⊥) where
-    pub both-same : (bucket : Bucket) (s t : State) (ps pt : List Put) →
+    pub both-same : (bucket : Bucket) (s t : State) (ps pt : List Act) →
         Carry tools id run scope j k s t ps pt → (E F : End (Result State Stopped)) →
         end_of tools id (first_of tools id run scope j k bucket s) s.journal ps ≡ Some E →
         end_of tools id (second_of tools id run scope j k bucket t) t.journal pt ≡ Some F →
@@ -262,24 +262,24 @@ module _ (tools : List ℕ → ToolInput → ToolAnswer) (id : RunId) (run : Run
             let ew : record {
               value = or_failed u.0.value;
               journal = u.0.journal;
-              puts =
-                  u.0.puts;
+              acts =
+                  u.0.acts;
             } ≡ E = some-same (record {
               value = or_failed u.0.value;
               journal =
                   u.0.journal;
-              puts = u.0.puts;
+              acts = u.0.acts;
             }) E u.2 in
             let ec : record {
               value = or_failed v.0.value;
               journal = v.0.journal;
-              puts =
-                  v.0.puts;
+              acts =
+                  v.0.acts;
             } ≡ F = some-same (record {
               value = or_failed v.0.value;
               journal =
                   v.0.journal;
-              puts = v.0.puts;
+              acts = v.0.acts;
             }) F v.2 in
             let fu : IsFine tools id run scope j k Fine u.0.value =
             fine-failed u.0.value (subst (λ (z : End (Result State Stopped)).
@@ -298,7 +298,7 @@ module _ (tools : List ℕ → ToolInput → ToolAnswer) (id : RunId) (run : Run
               value =
                   or_failed u.0.value;
               journal = u.0.journal;
-              puts = u.0.puts;
+              acts = u.0.acts;
             })) ec
             (failed-goes u.0 v.0 g))
 
@@ -351,7 +351,7 @@ pub alike-self : (files : List File) (k : Journal) → AlikeJournals (bytes_in f
 alike-self files k = record {
   same = λ p. refl;
   records = λ r. found-self (record_of k r);
-  only = λ r n put i. tt;
+  only = λ r n act i. tt;
 }
 
 -- a clean build chooses what may be chosen
@@ -372,11 +372,11 @@ notes-of (Err stop) note i = i
 
 module _ (tools : List ℕ → ToolInput → ToolAnswer) (files : List File)
     (goes : (target : UsedTarget) (scope : Scope) (id : RunId) (j k : Journal)
-    (a : AlikeJournals (bytes_in files) AnyPath j k) → HasNotWritten id j → HasNotWritten id k →
+    (a : AlikeJournals (bytes_in files) AnyPath j k) → HasNotActed id j → HasNotActed id k →
     PieceGoes tools id (run_at files Incremental id target) scope j k a) where
   module _ (target : UsedTarget) (scope : Scope) (id : RunId) (j k : Journal) (made : Record)
       (a : AlikeJournals (bytes_in files) AnyPath j k) (takes : TakesLists target)
-      (fw : HasNotWritten id j) (fc : HasNotWritten id k) where
+      (fw : HasNotActed id j) (fc : HasNotActed id k) where
     abbrev pub run : Run
     run = run_at files Incremental id target
 
@@ -400,7 +400,7 @@ module _ (tools : List ℕ → ToolInput → ToolAnswer) (files : List File)
       w_is = refl;
       c_is = refl;
       lacks =
-          record { written = λ p. inl refl; unwritten = λ p b n e. absurd (cc) };
+          record { acted = λ p. inl refl; left_out = λ p b n e. absurd (cc) };
     }
 
     pub buckets-same : target_buckets (place_in run s0 scope) target.element
@@ -413,38 +413,38 @@ module _ (tools : List ℕ → ToolInput → ToolAnswer) (files : List File)
         end_of tools id (buckets_by (choice_of run) run scope s0) j [] ≡ Some E →
         end_of tools id (buckets_by all_of clean-run scope t0) k [] ≡ Some F →
         AlikeOutcomes (outcome_of E.value) (outcome_of F.value) →
-        LacksOnly (bytes_in files) j E.puts F.puts → Went
+        LacksOnly (bytes_in files) j E.acts F.acts → Went
     done-so E F he hf o lacks =
         let ew : end_of tools id (work_by (choice_of run) run scope j) j []
-        ≡ Some (record { value = outcome_of E.value; journal = E.journal; puts = E.puts }) =
+        ≡ Some (record { value = outcome_of E.value; journal = E.journal; acts = E.acts }) =
         bound-end tools id (buckets_by (choice_of run) run scope s0)
         (λ end. done (outcome_of end)) j [] E he in
         let ec : end_of tools id (work_by all_of clean-run scope k) k []
-        ≡ Some (record { value = outcome_of F.value; journal = F.journal; puts = F.puts }) =
+        ≡ Some (record { value = outcome_of F.value; journal = F.journal; acts = F.acts }) =
         bound-end tools id (buckets_by all_of clean-run scope t0)
         (λ end. done (outcome_of end)) k [] F hf in
         let aw : alone tools id (body_by (choice_of run) run scope j) j []
-        ≡ Some (outcome_of E.value, E.puts) = alone-end tools id
+        ≡ Some (outcome_of E.value, E.acts) = alone-end tools id
         (work_by (choice_of run) run scope j) j [] (record {
           value =
               outcome_of E.value;
           journal = E.journal;
-          puts = E.puts;
+          acts = E.acts;
         }) ew in
         let ac : alone tools id (body_by all_of clean-run scope k) k [] ≡ Some (
           outcome_of F.value,
-          F.puts,
+          F.acts,
         ) = alone-end tools id (work_by all_of clean-run scope k) k [] (record {
           value =
               outcome_of F.value;
           journal = F.journal;
-          puts = F.puts;
+          acts = F.acts;
         }) ec in
-        in_part (outcome_of E.value) (outcome_of F.value) E.puts F.puts aw
+        in_part (outcome_of E.value) (outcome_of F.value) E.acts F.acts aw
         (subst (λ c. alone tools id (body_by c clean-run scope k) k [] ≡ Some (
           outcome_of F.value,
-          F.puts,
-        )) (sym (clean-all clean-run refl)) ac) o lacks (λ put i. tt) tt
+          F.acts,
+        )) (sym (clean-all clean-run refl)) ac) o lacks (λ act i. tt) tt
 
     pub takes-clean : (bucket : Bucket) (y : State) → lists_at clean-run bucket y ≡ Ok None → ⊥
     takes-clean bucket y e = lists-there (in_target (place_in clean-run y y.scope) bucket) target
@@ -498,14 +498,14 @@ module _ (tools : List ℕ → ToolInput → ToolAnswer) (files : List File)
           value =
               outcome_of x.0.value;
           journal = x.0.journal;
-          puts = x.0.puts;
+          acts = x.0.acts;
         }) w.0 x.2) in
         let oy : outcome_of y.0.value ≡ c.0.value =
         ap (λ (z : End Outcome). z.value) (some-same (record {
           value =
               outcome_of y.0.value;
           journal = y.0.journal;
-          puts = y.0.puts;
+          acts = y.0.acts;
         }) c.0 y.2) in
         record {
           E = x.0;
@@ -522,8 +522,8 @@ module _ (tools : List ℕ → ToolInput → ToolAnswer) (files : List File)
         end_of tools id (buckets_by (choice_of run) run scope s0) j [] ≡ Some E →
         end_of tools id (buckets_by all_of clean-run scope t0) k [] ≡ Some F →
         GoAlike tools id run scope j k E F → Went
-    finish-alike E F he hf g = let o = outcomes-alike tools id run scope j k E.value F.value E.puts
-        F.puts g.ends in done-so E F he hf o.0 o.1
+    finish-alike E F he hf g = let o = outcomes-alike tools id run scope j k E.value F.value E.acts
+        F.acts g.ends in done-so E F he hf o.0 o.1
 
     by-buckets : (x : Result (List Bucket) EvalFault) →
         target_buckets (place_in run s0 scope) target.element ≡ x →
@@ -538,14 +538,14 @@ module _ (tools : List ℕ → ToolInput → ToolAnswer) (files : List File)
               or_failed (Err (faulted (with_notes (Fail (fault_text fault) ∷ []) s0)));
           journal =
               j;
-          puts = [];
+          acts = [];
         } in
         let F : End (Result State Stopped) = record {
           value =
               or_failed (Err (faulted (with_notes (Fail (fault_text fault) ∷ []) t0)));
           journal =
               k;
-          puts = [];
+          acts = [];
         } in
         done-so E F
         (ap (λ z. end_of tools id (unless_stopped (or_failed (or_stop s0 z))
@@ -553,7 +553,7 @@ module _ (tools : List ℕ → ToolInput → ToolAnswer) (files : List File)
         (ap (λ z. end_of tools id (unless_stopped (or_failed (or_stop t0 z))
         (λ found. each_in_turn (bucket_by all_of clean-run scope) found t0)) k []) ec)
         (record { ok = refl; items = refl; changes = refl })
-        (record { written = λ p. inl refl; unwritten = λ p b n e. absurd (cc) })
+        (record { acted = λ p. inl refl; left_out = λ p b n e. absurd (cc) })
     by-buckets (Ok found) ew ec declared fresh =
         go (pieces_among tools id all_of clean-run scope found t0 []) refl declared
       where

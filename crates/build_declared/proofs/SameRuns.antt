@@ -25,7 +25,7 @@ use Rattle.msb_values.specs.Keys.{key_of}
 use Rattle.msb_values.specs.declared.change.Change.{Change}
 use Rattle.msb_values.specs.declared.item.Item.{Item}
 use Rattle.msb_values.specs.declared.mode.Mode.{Mode}
-use Rattle.msb_values.specs.declared.put.Put.{Put}
+use Rattle.msb_values.specs.declared.act.Act.{Act}
 use Rattle.msb_values.specs.declared.scope.Scope.{Scope}
 use Rattle.msb_elements.specs.Nodes.{name_of}
 use Rattle.msb_expand.specs.declared.lens.Bucket.{Bucket}
@@ -83,7 +83,7 @@ use Rattle.target_body.specs.States.{
   begun,
   entered,
   with_journal,
-  with_write,
+  with_act,
   with_notes,
   with_items,
   with_decision,
@@ -101,7 +101,7 @@ use Rattle.target_body.specs.States.{
   state_of,
 }
 use Rattle.target_body.specs.Answers.{
-  all_written,
+  all_acted,
   given,
   at_once,
   in_order,
@@ -211,8 +211,8 @@ module _ (run : Run) (mode : Mode) (W : List ℕ → Type 0) (looks : LooksSame 
   scope-same : (s t : State) → Same s t → s.scope ≡ t.scope
   scope-same s t h = ap (λ (z : State). z.scope) h.same
 
-  written-same : (s t : State) → Same s t → s.written ≡ t.written
-  written-same s t h = ap (λ (z : State). z.written) h.same
+  acted-same : (s t : State) → Same s t → s.written ≡ t.written
+  acted-same s t h = ap (λ (z : State). z.written) h.same
 
   -- where the texts of a place give the same
   at-place : (s t : State) → Same s t → place_in run s s.scope ≡ place_in other t t.scope
@@ -255,31 +255,31 @@ module _ (run : Run) (mode : Mode) (W : List ℕ → Type 0) (looks : LooksSame 
   abbrev Answers : Work (State × TaskOutput) → Work (State × TaskOutput) → Type 0
   Answers = AlikeWork T W TwinOutput
 
-  write-twin : (put : Put) (s t : State) → Same s t → (j k : Journal) → AlikeJournals T W j k →
-      Same (with_write put j s) (with_write put k t)
-  write-twin put s t h j k a = by-twin T W (λ z. Same (with_write put j s)
-      (with_write put k z)) s t h (λ l b. record { alike = a; same = refl })
+  write-twin : (act : Act) (s t : State) → Same s t → (j k : Journal) → AlikeJournals T W j k →
+      Same (with_act act j s) (with_act act k t)
+  write-twin act s t h j k a = by-twin T W (λ z. Same (with_act act j s)
+      (with_act act k z)) s t h (λ l b. record { alike = a; same = refl })
 
   journal-twin : (s t : State) → Same s t → (j k : Journal) → AlikeJournals T W j k →
       Same (with_journal j s) (with_journal k t)
   journal-twin s t h j k a = by-twin T W (λ z. Same (with_journal j s)
       (with_journal k z)) s t h (λ l b. record { alike = a; same = refl })
 
-  all-written : (puts : List Put) (s t : State) → Same s t →
-      AlikeWork T W Same (all_written puts s) (all_written puts t)
-  all-written [] s t h = h
-  all-written (put ∷ puts) s t h = (
+  all-acted : (acts : List Act) (s t : State) → Same s t →
+      AlikeWork T W Same (all_acted acts s) (all_acted acts t)
+  all-acted [] s t h = h
+  all-acted (act ∷ acts) s t h = (
     refl,
-    λ j k a. all-written puts (with_write put j s)
-        (with_write put k t) (write-twin put s t h j k a),
+    λ j k a. all-acted acts (with_act act j s)
+        (with_act act k t) (write-twin act s t h j k a),
   )
 
   given-twin : (output : TaskOutput) (s t : State) → Same s t →
       Answers (given s output) (given t output)
   given-twin output s t h =
-      bound T W Same TwinOutput (all_written output.files s) (all_written output.files t)
+      bound T W Same TwinOutput (all_acted output.acts s) (all_acted output.acts t)
       (λ after. done (after, output)) (λ after. done (after, output))
-      (all-written output.files s t h) (λ x y e. (e, refl))
+      (all-acted output.acts s t h) (λ x y e. (e, refl))
 
   abbrev TwinResults : State × List RequestResult → State × List RequestResult → Type 0
   TwinResults x y = Same x.0 y.0 × (x.1 ≡ y.1)
@@ -341,7 +341,7 @@ module _ (run : Run) (mode : Mode) (W : List ℕ → Type 0) (looks : LooksSame 
     refl,
     refl,
     λ a. subst (λ n. Answers (given s (foreign_output name s.written a))
-        (given t (foreign_output name n a))) (written-same s t h)
+        (given t (foreign_output name n a))) (acted-same s t h)
         (given-twin (foreign_output name s.written a) s t h),
   )
   tool-twin name (Err failure) s t h = (h, refl)
@@ -367,7 +367,7 @@ module _ (run : Run) (mode : Mode) (W : List ℕ → Type 0) (looks : LooksSame 
       subst (λ x. Answers (answered run s name params) (answered_by x other t name params))
       (looks.answers s.journal t.journal h.alike name (folder_of run.instance.path) params s.written
       ∙ ap (λ n. answer name (folder_of run.instance.path) (view_of other t) params n)
-      (written-same s t h))
+      (acted-same s t h))
       (by-answer (answer name (folder_of run.instance.path)
       (view_of run s) params s.written) name params s t h)
 

@@ -20,8 +20,9 @@ use Rattle.std.proofs.Common.{
 }
 use Rattle.std.specs.Prelude.{Result, Ok, Err, codes}
 use Rattle.std.proofs.lemmas.Slice.Eq.{bytes_eq-Decides}
+use Rattle.msb_values.specs.Acts.{act_path}
 use Rattle.msb_values.specs.declared.mode.Mode.TheVariants.{Incremental, Clean}
-use Rattle.msb_values.specs.declared.put.Put.{Put}
+use Rattle.msb_values.specs.declared.act.Act.{Act}
 use Rattle.msb_values.specs.declared.scope.Scope.{Scope}
 use Rattle.msb_expand.specs.declared.lens.Bucket.{Bucket}
 use Rattle.file_store.specs.declared.tree.File.{File}
@@ -31,11 +32,11 @@ use Rattle.result_cache.specs.Lists.{In}
 use Rattle.result_cache.specs.Journal.{Journal}
 use Rattle.result_cache.specs.declared.run.RunId.{RunId}
 use Rattle.result_cache.specs.declared.record.Record.{Record}
-use Rattle.result_cache.specs.declared.record.Segment.TheVariants.{Write}
+use Rattle.result_cache.specs.declared.record.Segment.TheVariants.{File as OnFile}
 use Rattle.result_cache.specs.declared.request.RequestKey.{RequestKey}
 use Rattle.result_cache.specs.declared.request.RequestResult.{RequestResult}
 use Rattle.build_meaning.specs.SoFar.{recorded}
-use Rattle.build_meaning.specs.Walk.{Body, makes, writes, uses, calls, Outcome, Reply}
+use Rattle.build_meaning.specs.Walk.{Body, makes, does, uses, calls, Outcome, Reply}
 use Rattle.build_meaning.specs.Meaning.{Given}
 use Rattle.build_incremental.specs.Alike.{AlikeOutcomes, AlikeJournals}
 use Rattle.build_incremental.specs.Alone.{alone, LacksOnly}
@@ -48,7 +49,7 @@ use Rattle.build_incremental.specs.SideBySide.{
   AlikeRuns,
   step_by_step,
   in_part,
-  HasNotWritten,
+  HasNotActed,
   HasOneRecord,
 }
 use Rattle.build_incremental.proofs.Entries.{nothing-content}
@@ -94,21 +95,21 @@ module _ {I A : Type 0} (files : List ℕ → Option (List ℕ)) (W : List ℕ �
     (S : Record → Type 0) (o : Outcome) (said : S (recorded o [])) where
   lacks-none : LacksOnly files j [] []
   lacks-none = record {
-    written = λ p. inl refl;
-    unwritten = λ p b n e. absurd (cc);
+    acted = λ p. inl refl;
+    left_out = λ p b n e. absurd (cc);
   }
 
   at-once : (c : Body I A) → AlikeBodies files AnyPath (makes o) c →
       AlikeRuns files W tools run j k (makes o) c made S
   at-once (makes p) alike =
-      let ends : Outcome → Option (Outcome × List Put) = λ z. Some (z, []) in
+      let ends : Outcome → Option (Outcome × List Act) = λ z. Some (z, []) in
       in_part o o [] [] refl (ap ends (sym alike))
-      (record { ok = refl; items = refl; changes = refl }) lacks-none (λ put i. absurd i) said
-  at-once (writes put go) alike = absurd alike
+      (record { ok = refl; items = refl; changes = refl }) lacks-none (λ act i. absurd i) said
+  at-once (does act go) alike = absurd alike
   at-once (uses name input go) alike = absurd alike
   at-once (calls key keys go) alike = absurd alike
 
-  -- it goes alike whatever paths may be written
+  -- it goes alike on whatever paths the first may act
   pub nothing-goes : (b c : Body I A) → b ≡ makes o →
       AlikeRuns files AnyPath tools run j k b c made (λ first. Unit {0}) →
       AlikeRuns files W tools run j k b c made S
@@ -116,34 +117,34 @@ module _ {I A : Type 0} (files : List ℕ → Option (List ℕ)) (W : List ℕ �
       subst (λ z. AlikeRuns files W tools run j k z c made S) (sym e)
       (at-once c (subst (λ z. AlikeBodies files AnyPath z c) e alike))
   nothing-goes b c e (in_part q p part whole hw hc alike lacks may any) =
-      let one : Outcome × List Put = (o, []) in
-      let other : Outcome × List Put = (q, part) in
+      let one : Outcome × List Act = (o, []) in
+      let other : Outcome × List Act = (q, part) in
       let here : alone tools run b j [] ≡ Some one = ap (λ z. alone tools run z j []) e in
       let ends : Some one ≡ Some other = sym here ∙ hw in
       let both : one ≡ other = cc in
       let po : o ≡ q = ap (λ z. z.0) both in
       let pp : [] ≡ part = ap (λ z. z.1) both in
       in_part o p [] whole here hc (subst (λ z. AlikeOutcomes z p) (sym po) alike)
-      (subst (λ l. LacksOnly files j l whole) (sym pp) lacks) (λ put i. absurd i) said
+      (subst (λ l. LacksOnly files j l whole) (sym pp) lacks) (λ act i. absurd i) said
 
 -- ---- a run without a piece
 
 module _ (tools : List ℕ → ToolInput → ToolAnswer) (id : RunId) (choose : Chooser) (run : Run)
     (scope : Scope) (none : (bucket : Bucket) (s : State) → lists_at run bucket s ≡ Ok None) where
-  abbrev among : List Bucket → State → List Put → List Piece
+  abbrev among : List Bucket → State → List Act → List Piece
   among = pieces_among tools id choose run scope
 
-  later-none : (buckets : List Bucket) → ((s : State) (before : List Put) →
+  later-none : (buckets : List Bucket) → ((s : State) (before : List Act) →
       among buckets s before ≡ []) → (o : Option (End (Result State Stopped))) →
       then_pieces o (among buckets) ≡ []
   later-none buckets ih None = refl
   later-none buckets ih (Some end) = go end.value
     where
-      go : (r : Result State Stopped) → next_by r end.puts (among buckets) ≡ []
-      go (Ok s) = ih s end.puts
+      go : (r : Result State Stopped) → next_by r end.acts (among buckets) ≡ []
+      go (Ok s) = ih s end.acts
       go (Err stop) = refl
 
-  among-none : (buckets : List Bucket) (s : State) (before : List Put) →
+  among-none : (buckets : List Bucket) (s : State) (before : List Act) →
       among buckets s before ≡ []
   among-none [] s before = refl
   among-none (bucket ∷ buckets) s before =
@@ -223,10 +224,11 @@ module _ (tools : List ℕ → ToolInput → ToolAnswer) (files : List File) (ro
       (attribute_of (codes "Outputs") target.element) refl refl (n target refl)) k
 
   may : (site : Site) (id : RunId) (k : Journal) (made : Record) → Known site id k made →
-      WithoutLists site.target → (put : Put) → In (Write put) made.segments → KeepsOff put.path
-  may site id k made q n put written o there p among at =
+      WithoutLists site.target → (act : Act) → In (OnFile act) made.segments →
+      KeepsOff (act_path act)
+  may site id k made q n act written o there p among at =
       free (record { place = site; run = id; from = k; made = made }) o q.listed.among there
-      (no-piece site.target site.scope id k made n) p among put written at
+      (no-piece site.target site.scope id k made n) p among act written at
 
   skips-none : (o : Option UsedTarget) (scope : Scope) (id : RunId) (j : Journal)
       (made : Record) → WithoutLists o → SkippedAt tools files o scope id j made
@@ -235,9 +237,9 @@ module _ (tools : List ℕ → ToolInput → ToolAnswer) (files : List File) (ro
 
   any-path : (j k : Journal) → AlikeJournals (bytes_in files) KeepsOff j k →
       AlikeJournals (bytes_in files) AnyPath j k
-  any-path j k a = record { same = a.same; records = a.records; only = λ run n put i. tt }
+  any-path j k a = record { same = a.same; records = a.records; only = λ run n act i. tt }
 
-  -- nobody has written a file of a piece
+  -- nobody has acted on a file of a piece
   new : (target : UsedTarget) (scope : Scope) (id : RunId) (j k : Journal) (made : Record) →
       (a : AlikeJournals (bytes_in files) KeepsOff j k) →
       Known (record { target = Some target; scope = scope }) id k made →
@@ -250,9 +252,9 @@ module _ (tools : List ℕ → ToolInput → ToolAnswer) (files : List File) (ro
       in
       record {
         no_older = q.listed.older p i;
-        unwritten = λ path at. nothing-content j path (λ other n put written same.
-            let e : put.path ≡ path = (bytes_eq-Decides put.path path).0 same in
-            a.only other n put written (record {
+        untouched = λ path at. nothing-content j path (λ other n act written same.
+            let e : act_path act ≡ path = (bytes_eq-Decides (act_path act) path).0 same in
+            a.only other n act written (record {
               place = record { target = Some target; scope = scope };
               run = id;
               from = k;
@@ -264,7 +266,7 @@ module _ (tools : List ℕ → ToolInput → ToolAnswer) (files : List File) (ro
   with-lists : (target : UsedTarget) (scope : Scope) (id : RunId) (j k : Journal)
       (made : Record) → AlikeJournals (bytes_in files) KeepsOff j k →
       Known (record { target = Some target; scope = scope }) id k made → TakesLists target →
-      HasNotWritten id j → HasNotWritten id k →
+      HasNotActed id j → HasNotActed id k →
       AlikeRuns (bytes_in files) KeepsOff tools id j k
       (body (run_at files Incremental id target) scope j)
       (body (run_at files Clean id target) scope k) made

@@ -16,8 +16,9 @@ use Rattle.std.proofs.Common.{
   subst,
 }
 use Rattle.std.specs.Prelude.{Result, Ok, Err, codes}
+use Rattle.msb_values.specs.Acts.{act_path}
 use Rattle.msb_values.specs.declared.mode.Mode.TheVariants.{Incremental, Clean}
-use Rattle.msb_values.specs.declared.put.Put.{Put}
+use Rattle.msb_values.specs.declared.act.Act.{Act}
 use Rattle.msb_values.specs.declared.scope.Scope.{Scope}
 use Rattle.file_store.specs.declared.tree.File.{File}
 use Rattle.target_order.specs.Visit.{order}
@@ -28,13 +29,13 @@ use Rattle.result_cache.specs.Lists.{In}
 use Rattle.result_cache.specs.Journal.{Journal}
 use Rattle.result_cache.specs.declared.run.RunId.{RunId}
 use Rattle.result_cache.specs.declared.record.Record.{Record}
-use Rattle.result_cache.specs.declared.record.Segment.TheVariants.{Write}
+use Rattle.result_cache.specs.declared.record.Segment.TheVariants.{File as OnFile}
 use Rattle.result_cache.specs.declared.request.RequestKey.{RequestKey}
 use Rattle.build_meaning.specs.Walk.{Reply}
 use Rattle.build_incremental.specs.Alike.{AlikeJournals}
 use Rattle.build_incremental.specs.Placed.{PlacedWorld}
 use Rattle.build_incremental.specs.SideBySide.{
-  HasNotWritten,
+  HasNotActed,
   AlikeRuns,
   step_by_step,
   AlikeWalks,
@@ -99,8 +100,8 @@ takes target None o e f = (
 module _ (tools : List ℕ → ToolInput → ToolAnswer) (files : List File) (W : List ℕ → Type 0)
     (Q' Q : Site → RunId → Journal → Record → Type 0)
     (may : (site : Site) (id : RunId) (k : Journal) (made : Record) → Q site id k made →
-    ((target : UsedTarget) → site.target ≡ Some target → TakesLists target → ⊥) → (put : Put) →
-    In (Write put) made.segments → W put.path)
+    ((target : UsedTarget) → site.target ≡ Some target → TakesLists target → ⊥) → (act : Act) →
+    In (OnFile act) made.segments → W (act_path act))
     (said : (site : Site) (id : RunId) (j k : Journal) (made : Record) →
     AlikeJournals (bytes_in files) W j k → Q site id k made →
     ((target : UsedTarget) → site.target ≡ Some target → TakesLists target → ⊥) →
@@ -108,7 +109,7 @@ module _ (tools : List ℕ → ToolInput → ToolAnswer) (files : List File) (W 
     (with_lists : (target : UsedTarget) (scope : Scope) (id : RunId) (j k : Journal)
     (made : Record) → AlikeJournals (bytes_in files) W j k →
     Q (record { target = Some target; scope = scope }) id k made → TakesLists target →
-    HasNotWritten id j → HasNotWritten id k →
+    HasNotActed id j → HasNotActed id k →
     AlikeRuns (bytes_in files) W tools id j k (body
     (run_at files Incremental id target) scope j)
     (body (run_at files Clean id target) scope k) made
@@ -140,7 +141,7 @@ module _ (tools : List ℕ → ToolInput → ToolAnswer) (files : List File) (W 
 
   each-run : (o : Option UsedTarget) (scope : Scope) (id : RunId) (j k : Journal) →
       AlikeJournals (bytes_in files) W j k → (made : Record) →
-      Q (record { target = o; scope = scope }) id k made → HasNotWritten id j → HasNotWritten id k →
+      Q (record { target = o; scope = scope }) id k made → HasNotActed id j → HasNotActed id k →
       AlikeRuns (bytes_in files) W tools id j k (body_if files Incremental id o scope j)
       (body_if files Clean id o scope k) made (Q' (record { target = o; scope = scope }) id j)
   each-run None scope id j k a made q fw fc =

@@ -1,5 +1,5 @@
 -- A declared and fresh run of a target with Inputs and Outputs does nothing, where the outputs of
--- its pieces are no older than their inputs and nobody has written any of them.
+-- its pieces are no older than their inputs and nobody has acted on any of them.
 use Rattle.std.proofs.Common.{
   ◌≡◌,
   ℕ,
@@ -24,7 +24,7 @@ use Rattle.std.proofs.Common.{
 use Rattle.std.specs.Prelude.{Result, Ok, Err}
 use Rattle.msb_values.specs.declared.mode.Mode.TheVariants.{Incremental, Clean}
 use Rattle.msb_values.specs.declared.note.Note.TheVariants.{Fail}
-use Rattle.msb_values.specs.declared.put.Put.{Put}
+use Rattle.msb_values.specs.declared.act.Act.{Act}
 use Rattle.msb_values.specs.declared.scope.Scope.{Scope}
 use Rattle.msb_expand.specs.declared.lens.Bucket.{Bucket}
 use Rattle.file_store.specs.declared.tree.File.{File}
@@ -38,7 +38,7 @@ use Rattle.build_world.specs.Instances.{UsedTarget}
 use Rattle.build_world.specs.declared.fault.EvalFault.{EvalFault}
 use Rattle.build_meaning.specs.Walk.{Outcome, makes}
 use Rattle.build_incremental.specs.Alike.{AlikeJournals}
-use Rattle.build_incremental.specs.SideBySide.{HasNotWritten}
+use Rattle.build_incremental.specs.SideBySide.{HasNotActed}
 use Rattle.task_trait.specs.declared.tools.ToolAnswer.{ToolAnswer}
 use Rattle.task_trait.specs.declared.tools.ToolInput.{ToolInput}
 use Rattle.target_incremental.specs.declared.decision.Choice.{Choice}
@@ -124,7 +124,7 @@ decisions-of (Err d) = refl
 module _ (tools : List ℕ → ToolInput → ToolAnswer) (files : List File) (target : UsedTarget)
     (scope : Scope) (id : RunId) (j k : Journal) (made : Record)
     (a : AlikeJournals (bytes_in files) AnyPath j k) (takes : TakesLists target)
-    (fw : HasNotWritten id j) (fc : HasNotWritten id k) where
+    (fw : HasNotActed id j) (fc : HasNotActed id k) where
   abbrev run : Run
   run = run_at files Incremental id target
 
@@ -167,7 +167,7 @@ module _ (tools : List ℕ → ToolInput → ToolAnswer) (files : List File) (ta
   start : Carry tools id run scope j k s0 t0 [] []
   start = at-start tools files (pieces-go tools files) target scope id j k made a takes fw fc
 
-  same-lists : (bucket : Bucket) (s t : State) (pt : List Put) →
+  same-lists : (bucket : Bucket) (s t : State) (pt : List Act) →
       Carry tools id run scope j k s t [] pt → lists_at run bucket (entered scope bucket s)
       ≡ lists_at clean bucket (entered scope bucket t)
   same-lists bucket s t pt c =
@@ -179,7 +179,7 @@ module _ (tools : List ℕ → ToolInput → ToolAnswer) (files : List File) (ta
   abbrev NoPiece : Piece → Type 0
   NoPiece p = ⊥
 
-  is-empty : (bucket : Bucket) (t : State) (pt : List Put) →
+  is-empty : (bucket : Bucket) (t : State) (pt : List Act) →
       AreSo tools id run scope j k NoPiece (piece_if bucket (entered scope bucket t) pt
       (lists_at clean bucket (entered scope bucket t))) →
       IsEmpty tools id run scope j k a (lists_at clean bucket (entered scope bucket t))

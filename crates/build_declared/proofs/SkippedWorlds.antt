@@ -43,7 +43,7 @@ use Rattle.build_incremental.specs.Placed.{PlacedWorld}
 use Rattle.build_incremental.specs.Each.{
   EachBody,
   each_ended,
-  each_wrote,
+  each_acted,
   each_used_tool,
   each_called,
   EachOfMeaning,
@@ -96,7 +96,7 @@ makes-tools : {P I A : Type 0} {w : PlacedWorld P I A} {Q : P → RunId → Jour
     {uses : List (ToolUse I)} {k : Journal} → EachBody w Q J K path r j so_far b m uses k →
     (o : Outcome) → b ≡ makes o → uses ≡ so_far.tools
 makes-tools each_ended o e = refl
-makes-tools (each_wrote rest) o e = absurd (cc)
+makes-tools (each_acted rest) o e = absurd (cc)
 makes-tools (each_used_tool rest) o e = absurd (cc)
 makes-tools (each_called asked rest) o e = absurd (cc)
 

@@ -23,20 +23,20 @@ use Rattle.std.proofs.Common.{
   ◌∙◌,
   subst,
 }
-use Rattle.std.specs.Prelude.{Result, Ok, Err, option_map}
+use Rattle.std.specs.Prelude.{Result, Ok, Err, unwrap_or}
 use Rattle.msb_laws.specs.Results as results
 use Rattle.msb_laws.specs.Results.{map_ok}
 use Rattle.msb_values.specs.Keys.{key_of}
 use Rattle.msb_values.specs.declared.change.Change.{Change}
 use Rattle.msb_values.specs.declared.item.Item.{Item}
 use Rattle.msb_values.specs.declared.mode.Mode.TheVariants.{Clean}
-use Rattle.msb_values.specs.declared.put.Put.{Put}
+use Rattle.msb_values.specs.Acts.{act_path, act_bytes}
+use Rattle.msb_values.specs.declared.act.Act.{Act}
 use Rattle.msb_values.specs.declared.scope.Scope.{Scope}
 use Rattle.msb_elements.specs.Nodes.{name_of}
 use Rattle.msb_expand.specs.declared.lens.Bucket.{Bucket}
-use Rattle.file_store.specs.declared.tree.File.{File}
 use Rattle.result_cache.specs.declared.record.Decision.{Decision}
-use Rattle.result_cache.specs.Journal.{Journal, content}
+use Rattle.result_cache.specs.Journal.{Journal}
 use Rattle.build_world.specs.Elements.{At, children_of}
 use Rattle.build_world.specs.Faults.{fault_text}
 use Rattle.msb_values.specs.declared.note.Note.TheVariants.{Fail}
@@ -113,7 +113,7 @@ use Rattle.build_declared.specs.Written.{bytes_in, AnyPath}
 use Rattle.build_declared.specs.Ends.{End, end_of}
 use Rattle.build_declared.proofs.Alones.{some-same, end-bound}
 use Rattle.build_incremental.proofs.Numbered.{numbered}
-use Rattle.build_incremental.specs.SideBySide.{HasNotWritten}
+use Rattle.build_incremental.specs.SideBySide.{HasNotActed}
 use Rattle.build_incremental.specs.Alike.{seen}
 use Rattle.build_meaning.proofs.MeaningDerived.{in-left, in-right}
 use Rattle.result_cache.specs.Lists.{In}
@@ -122,7 +122,8 @@ use Rattle.msb_values.specs.declared.note.Note.{Note}
 use Rattle.std.specs.Option.{option_or}
 use Rattle.msb_items.specs.Places.{element_holds}
 use Rattle.msb_values.specs.Changes.{applied}
-use Rattle.std.proofs.Common.{append-nil, is_some, ◌⊎◌}
+use Rattle.std.proofs.Common.{append-nil, is_some}
+use Rattle.std.proofs.lemmas.Slice.Eq.{bytes_eq-Decides}
 use Rattle.msb_values.specs.declared.mode.Mode.TheVariants.{Incremental}
 use Rattle.target_texts.specs.Inferred.{inference, inference_if}
 use Rattle.target_texts.specs.Made.{all_made, or_fault_made, made_before, up_to_fault}
@@ -153,10 +154,11 @@ use Rattle.build_declared.specs.CalledTasks.{
   calls_of,
   ReturnsGiven,
 }
-use Rattle.build_declared.specs.Written.{since, is_one_of}
+use Rattle.build_declared.specs.Written.{since}
+use Rattle.build_declared.proofs.LastWrites.{last-in, has-last, write-leaves}
 use Rattle.build_declared.proofs.Looks.{rising-same}
 use Rattle.build_declared.proofs.PieceRuns.{last-append}
-use Rattle.build_declared.proofs.PieceSkips.{SkipsSame, since-front, one-in}
+use Rattle.build_declared.proofs.PieceSkips.{SkipsSame, no-front, since-front, one-in}
 use Rattle.build_declared.proofs.Held.{bare, if-leaves}
 use Rattle.build_declared.proofs.Steps.{
   Stepped,
@@ -170,10 +172,10 @@ use Rattle.build_declared.proofs.Steps.{
 
 -- ---- results
 
-err-ok : {X E : Type 0} (e : E) (x : X) → Err e ≡ Ok x → ⊥
+pub err-ok : {X E : Type 0} (e : E) (x : X) → Err e ≡ Ok x → ⊥
 err-ok e x h = cc
 
-ok-same : {X E : Type 0} (x y : X) → (let r : Result X E = Ok x in r ≡ Ok y) → x ≡ y
+pub ok-same : {X E : Type 0} (x y : X) → (let r : Result X E = Ok x in r ≡ Ok y) → x ≡ y
 ok-same x y h = cc
 
 none-true : false ≡ true → ⊥
@@ -307,7 +309,7 @@ answered-gave t x on_error m after held h = go m.fault refl h
 -- ---- the skipped beside the whole
 
 module _ (tools : List ℕ → ToolInput → ToolAnswer) (id : RunId) (r : Run) (k : Journal)
-    (fc : HasNotWritten id k) (pt : List Put) where
+    (fc : HasNotActed id k) (pt : List Act) where
   abbrev T : List ℕ → Option (List ℕ)
   T = bytes_in r.files
 
@@ -317,25 +319,21 @@ module _ (tools : List ℕ → ToolInput → ToolAnswer) (id : RunId) (r : Run) 
   abbrev P : List (List ℕ)
   P = views.paths (record { files = r.files; journal = first })
 
-  -- each path that was written is in the tree, or had been written before the piece
-  abbrev InTree : List Put → Type 0
-  InTree ps = (p : List ℕ) → is_some (last_bytes ps p) ≡ true →
-      (is_some (T p) ≡ true) ⊎ (is_some (last_bytes pt p) ≡ true)
+  -- each act of the piece is a write of a path that was there when it began
+  abbrev InTree : List Act → Type 0
+  InTree ps = (own : List Act) → ps ≡ own ++ pt → (act : Act) → In act own →
+      (is_some (act_bytes act) ≡ true) × (is_some (seen T first (act_path act)) ≡ true)
 
-  in-tree-less : (more ps : List Put) → InTree (more ++ ps) → InTree ps
-  in-tree-less more ps h p i = h p (ap is_some (last-append more ps p)
-      ∙ second (last_bytes more p) (last_bytes ps p) i)
-    where
-      second : (x y : Option (List ℕ)) → is_some y ≡ true → is_some (option_or x y) ≡ true
-      second None y i = i
-      second (Some z) y i = refl
+  in-tree-less : (more ps : List Act) → InTree (more ++ ps) → InTree ps
+  in-tree-less more ps h own g act i = h (more ++ own)
+      (ap (λ l. more ++ l) g ∙ sym (append_assoc more own pt)) act (in-right act more own i)
 
-  record Stands (l : Journal) (ps : List Put) : Type 0 where
+  record Stands (l : Journal) (ps : List Act) : Type 0 where
     is : l ≡ numbered id ps ++ k
-    own : List Put
+    own : List Act
     grown : ps ≡ own ++ pt
 
-  stands-on : {l m last : Journal} {ps qs : List Put} → Stands l ps →
+  stands-on : {l m last : Journal} {ps qs : List Act} → Stands l ps →
       Stepped tools id r k fc m ps last qs → Stands m qs
   stands-on s d = record {
     is = d.in_step ∙ d.numbered_so;
@@ -344,36 +342,36 @@ module _ (tools : List ℕ → ToolInput → ToolAnswer) (id : RunId) (r : Run) 
         d.grown ∙ (ap (λ z. d.more ++ z) s.grown ∙ sym (append_assoc d.more s.own pt));
   }
 
-  both-there : (own q c t : Option (List ℕ)) → (is_some (option_or own q) ≡ true →
-      (is_some t ≡ true) ⊎ (is_some q ≡ true)) → is_some (option_or (option_or own q)
-      (option_or c t)) ≡ is_some (option_or q (option_or c t))
-  both-there None q c t h = refl
-  both-there (Some x) (Some y) c t h = refl
-  both-there (Some x) None (Some z) t h = refl
-  both-there (Some x) None None (Some w) h = refl
-  both-there (Some x) None None None h = elim (h refl) [
-    | inl e ↦ absurd (none-true e)
-    | inr e ↦ absurd (none-true e)
-  ]
+  both-there : (own q : Option (Option (List ℕ))) (o : Option (List ℕ)) →
+      ((left : Option (List ℕ)) → own ≡ Some left →
+      (is_some left ≡ true) × (is_some (unwrap_or q o) ≡ true)) →
+      is_some (unwrap_or (option_or own q) o) ≡ is_some (unwrap_or q o)
+  both-there None q o h = refl
+  both-there (Some left) q o h = let x = h left refl in x.0 ∙ sym x.1
 
-  seen-so : (ps : List Put) (p : List ℕ) → seen T (numbered id ps ++ k) p
-      ≡ option_or (last_bytes ps p) (seen T k p)
+  seen-so : (ps : List Act) (p : List ℕ) → seen T (numbered id ps ++ k) p
+      ≡ unwrap_or (last_bytes ps p) (seen T k p)
   seen-so ps p = seen-append T AnyPath (numbered id ps) k p
-      ∙ ap (λ o. option_or o (seen T k p)) (content-numbered id ps p)
+      ∙ ap (λ o. unwrap_or o (seen T k p)) (content-numbered id ps p)
 
-  same-there : (l : Journal) (ps : List Put) → Stands l ps → InTree ps → (p : List ℕ) →
+  same-there : (l : Journal) (ps : List Act) → Stands l ps → InTree ps → (p : List ℕ) →
       is_some (seen T l p) ≡ is_some (seen T first p)
   same-there l ps s i p =
       let own : last_bytes ps p ≡ option_or (last_bytes s.own p) (last_bytes pt p) =
       ap (λ z. last_bytes z p) s.grown ∙ last-append s.own pt p in
       ap (λ z. is_some (seen T z p)) s.is
       ∙ (ap is_some (seen-so ps p)
-      ∙ (ap (λ o. is_some (option_or o (seen T k p))) own
-      ∙ (both-there (last_bytes s.own p) (last_bytes pt p) (content k p) (T p)
-      (λ h. i p (ap is_some own ∙ h))
+      ∙ (ap (λ o. is_some (unwrap_or o (seen T k p))) own
+      ∙ (both-there (last_bytes s.own p) (last_bytes pt p) (seen T k p)
+      (λ left h. let x = last-in s.own p left h in
+      let y = i s.own s.grown x.0 x.1 in (
+        ap is_some (sym x.3) ∙ y.0,
+        ap is_some (sym (seen-so pt p)) ∙ subst (λ z. is_some (seen T first z) ≡ true)
+            ((bytes_eq-Decides (act_path x.0) p).0 x.2) y.1,
+      ))
       ∙ sym (ap is_some (seen-so pt p)))))
 
-  paths-so : (l : Journal) (ps : List Put) → Stands l ps → InTree ps →
+  paths-so : (l : Journal) (ps : List Act) → Stands l ps → InTree ps →
       views.paths (record { files = r.files; journal = l }) ≡ P
   paths-so l ps s i =
       let v : View = record { files = r.files; journal = l } in
@@ -384,26 +382,26 @@ module _ (tools : List ℕ → ToolInput → ToolAnswer) (id : RunId) (r : Run) 
   abbrev place : Scope → Place
   place sc = item_place P r.instance.path sc
 
-  place-so : (t : State) (ps : List Put) → Stands t.journal ps → InTree ps → (sc : Scope) →
+  place-so : (t : State) (ps : List Act) → Stands t.journal ps → InTree ps → (sc : Scope) →
       t.scope ≡ sc → place_in r t t.scope ≡ place sc
   place-so t ps s i sc e = ap (λ l. item_place l r.instance.path t.scope)
       (paths-so t.journal ps s i) ∙ ap place e
 
-  tasks-so : (t : State) (ps : List Put) → Stands t.journal ps → InTree ps → (sc : Scope) →
+  tasks-so : (t : State) (ps : List Act) → Stands t.journal ps → InTree ps → (sc : Scope) →
       t.scope ≡ sc → t.part ≡ None → place_in r t (task_scope t) ≡ place sc
   tasks-so t ps s i sc e n = ap (λ p. place_in r t (with_part p t.scope)) n ∙ place-so t ps s i sc e
 
   -- ---- calls
 
-  over-is : {R : Type 0} (x : R) (l : Journal) (ps : List Put) (E : End R) →
+  over-is : {R : Type 0} (x : R) (l : Journal) (ps : List Act) (E : End R) →
       end_of tools id (done x) l ps ≡ Some E → E.value ≡ x
   over-is x l ps E h = ap (λ (z : End _). z.value)
-      (sym (some-same (record { value = x; journal = l; puts = ps }) E h))
+      (sym (some-same (record { value = x; journal = l; acts = ps }) E h))
 
-  call-gave : (e : At) (sc : Scope) (bucket : Bucket) (t : State) (ps : List Put) →
+  call-gave : (e : At) (sc : Scope) (bucket : Bucket) (t : State) (ps : List Act) →
       Stands t.journal ps → t.scope ≡ sc → t.part ≡ None → (E : End (Result State Stopped)) →
       end_of tools id (call r e true bucket t) t.journal ps ≡ Some E →
-      (after : State) → E.value ≡ Ok after → InTree E.puts →
+      (after : State) → E.value ≡ Ok after → InTree E.acts →
       ((c : Called) → In c (called_if tools id r e t ps (readied (called_place r t bucket) e)) →
       ReturnsGiven tools id r c) →
       GaveAll t after (inference (in_bucket (place sc) bucket) e (task_of e))
@@ -442,17 +440,17 @@ module _ (tools : List ℕ → ToolInput → ToolAnswer) (id : RunId) (r : Run) 
             value = answered_to r e true bucket ready.0 x.0.value;
             journal =
                 x.0.journal;
-            puts = x.0.puts;
+            acts = x.0.acts;
           } ≡ E = some-same (record {
             value =
                 answered_to r e true bucket ready.0 x.0.value;
             journal = x.0.journal;
-            puts =
-                x.0.puts;
+            acts =
+                x.0.acts;
           }) E x.2 in
-          let tx : InTree x.0.puts = subst (λ (z : End (Result State Stopped)). InTree z.puts)
+          let tx : InTree x.0.acts = subst (λ (z : End (Result State Stopped)). InTree z.acts)
           (sym ex) tree in
-          let there = tasks-so x.0.value.0 x.0.puts (stands-on s sx) tx sc
+          let there = tasks-so x.0.value.0 x.0.acts (stands-on s sx) tx sc
           (ap (λ (z : State). z.scope) held ∙ hs) (ap (λ (z : State). z.part) held ∙ hp) in
           let called : Called = record { element = e; params = ready.1; answer = x.0.value.1 } in
           let rg = c called (subst (λ o. In called (answered_in tools id r e ready.1 o)) (sym x.1)
@@ -472,10 +470,10 @@ module _ (tools : List ℕ → ToolInput → ToolAnswer) (id : RunId) (r : Run) 
       inference (in_bucket (place sc) bucket) e (task_of e)) buckets
 
   abbrev BucketsGive : At → Scope → List Bucket → Type 0
-  BucketsGive e sc buckets = (t : State) (ps : List Put) → Stands t.journal ps → t.scope ≡ sc →
+  BucketsGive e sc buckets = (t : State) (ps : List Act) → Stands t.journal ps → t.scope ≡ sc →
       t.part ≡ None → (E : End (Result State Stopped)) →
       end_of tools id (each_in_turn (call r e true) buckets t) t.journal ps ≡ Some E →
-      (after : State) → E.value ≡ Ok after → InTree E.puts →
+      (after : State) → E.value ≡ Ok after → InTree E.acts →
       ((c : Called) → In c (calls_among tools id r e buckets t ps) →
       ReturnsGiven tools id r c) → GaveAll t after (inferred_over e sc buckets)
 
@@ -489,31 +487,31 @@ module _ (tools : List ℕ → ToolInput → ToolAnswer) (id : RunId) (r : Run) 
     where
       go : (X : End (Result State Stopped)) → end_of tools id (call r e true bucket t) t.journal ps
           ≡ Some X → (v : Result State Stopped) → X.value ≡ v →
-          end_of tools id (unless_stopped v (each_in_turn (call r e true) buckets)) X.journal X.puts
+          end_of tools id (unless_stopped v (each_in_turn (call r e true) buckets)) X.journal X.acts
           ≡ Some E →
           GaveAll t after (inferred_over e sc (bucket ∷ buckets))
       go X hx (Err stop) hv h = absurd (err-ok stop after
-          (sym (over-is (Err stop) X.journal X.puts E h) ∙ ev))
+          (sym (over-is (Err stop) X.journal X.acts E h) ∙ ev))
       go X hx (Ok u) hv h =
           let st = call-steps tools id r k fc e true bucket t ps s.is X hx in
           let ju : u.journal ≡ X.journal = ap (λ v. (state_of v).journal) (sym hv) ∙ st.in_step in
-          let su : Stands u.journal X.puts = subst (λ v. Stands (state_of v).journal X.puts) hv
+          let su : Stands u.journal X.acts = subst (λ v. Stands (state_of v).journal X.acts) hv
           (stands-on s st) in
-          let h2 : end_of tools id (each_in_turn (call r e true) buckets u) u.journal X.puts
+          let h2 : end_of tools id (each_in_turn (call r e true) buckets u) u.journal X.acts
           ≡ Some E = subst (λ l. end_of tools id (each_in_turn (call r e true) buckets u) l
-          X.puts ≡ Some E) (sym ju) h in
+          X.acts ≡ Some E) (sym ju) h in
           let rest = each-steps tools id r k fc (call r e true)
-          (call-steps tools id r k fc e true) buckets u X.puts su.is E h2 in
-          let tx : InTree X.puts = in-tree-less rest.more X.puts (subst InTree rest.grown tree) in
+          (call-steps tools id r k fc e true) buckets u X.acts su.is E h2 in
+          let tx : InTree X.acts = in-tree-less rest.more X.acts (subst InTree rest.grown tree) in
           let one = called_if tools id r e t ps (readied (called_place r t bucket) e) in
           let two = then_called tools id r (end_of tools id (call r e true bucket t) t.journal ps)
           (calls_among tools id r e buckets) in
           let g = call-gave e sc bucket t ps s hs hp X hx u hv tx
           (λ c i. given c (in-left c one two i)) in
-          let f = ih u X.puts su (g.1.scope ∙ hs) (g.1.part
+          let f = ih u X.acts su (g.1.scope ∙ hs) (g.1.part
           ∙ hp) E h2 after ev tree (λ c i. given c (in-right c one two
           (subst (λ o. In c (then_called tools id r o (calls_among tools id r e buckets)))
-          (sym hx) (subst (λ v. In c (called_by tools id r v X.puts
+          (sym hx) (subst (λ v. In c (called_by tools id r v X.acts
           (calls_among tools id r e buckets))) (sym hv) i)))) in
           gave-join t u after (inference (in_bucket (place sc) bucket) e (task_of e))
           (inferred_over e sc buckets) g f
@@ -543,14 +541,14 @@ module _ (tools : List ℕ → ToolInput → ToolAnswer) (id : RunId) (r : Run) 
   z-stands z e = record { is = e; own = []; grown = refl }
 
   z-tree : InTree pt
-  z-tree p i = inr i
+  z-tree own g act i = absurd (subst (In act) (no-front own pt g) i)
 
   abbrev Skipped : Result State Stopped → State → Type 0
   Skipped x after = (y : State) × (x ≡ Ok y) × Aside y after
 
-  task-aside : (e : At) (z t : State) (ps : List Put) → Aside z t → Stands t.journal ps →
+  task-aside : (e : At) (z t : State) (ps : List Act) → Aside z t → Stands t.journal ps →
       (E : End (Result State Stopped)) → end_of tools id (called r e true t) t.journal ps ≡ Some E →
-      (after : State) → E.value ≡ Ok after → InTree ps → InTree E.puts →
+      (after : State) → E.value ≡ Ok after → InTree ps → InTree E.acts →
       ((c : Called) → In c (calls_of_task tools id r e t ps
       (task_buckets (place_in r t (task_scope t)) e)) → ReturnsGiven tools id r c) →
       Skipped (inferred r e z) after
@@ -593,7 +591,7 @@ module _ (tools : List ℕ → ToolInput → ToolAnswer) (id : RunId) (r : Run) 
   none-part (change ∷ changes) part e = none-part changes (part_after change part)
       (ap (part_after change) e)
 
-  group-aside : (e : At) (z t : State) (ps : List Put) → Aside z t → Stands t.journal ps →
+  group-aside : (e : At) (z t : State) (ps : List Act) → Aside z t → Stands t.journal ps →
       InTree ps → (after : State) → group r e t ≡ Ok after → Skipped (group r e z) after
   group-aside e z t ps a s start after ev =
       subst (λ p. Skipped (map_ok (λ changes. with_changes_seen changes z)
@@ -665,9 +663,9 @@ module _ (tools : List ℕ → ToolInput → ToolAnswer) (id : RunId) (r : Run) 
   settled-ok (Ok u) after h = (u, refl, ok-same (settled u) after h)
   settled-ok (Err stop) after h = absurd (err-ok stop after h)
 
-  child-aside : (e : At) (z t : State) (ps : List Put) → Aside z t → Stands t.journal ps →
+  child-aside : (e : At) (z t : State) (ps : List Act) → Aside z t → Stands t.journal ps →
       (E : End (Result State Stopped)) → end_of tools id (child r RunAll e t) t.journal ps
-      ≡ Some E → (after : State) → E.value ≡ Ok after → InTree E.puts →
+      ≡ Some E → (after : State) → E.value ≡ Ok after → InTree E.acts →
       ((c : Called) → In c (calls_of_child tools id r (kind_of (name_of e.node)) e t ps) →
       ReturnsGiven tools id r c) → SkippedWork (child r Skip e z) after
   child-aside e z t ps a s E he after ev tree given =
@@ -677,19 +675,19 @@ module _ (tools : List ℕ → ToolInput → ToolAnswer) (id : RunId) (r : Run) 
       let ex : record {
         value = map_ok settled x.0.value;
         journal = x.0.journal;
-        puts =
-            x.0.puts;
+        acts =
+            x.0.acts;
       } ≡ E = some-same (record {
         value = map_ok settled x.0.value;
         journal =
             x.0.journal;
-        puts = x.0.puts;
+        acts = x.0.acts;
       }) E x.2 in
       let u = settled-ok x.0.value after (ap (λ (w : End (Result State Stopped)). w.value) ex
       ∙ ev) in
       let st = child-steps tools id r k fc RunAll e t ps s.is E he in
       let start : InTree ps = in-tree-less st.more ps (subst InTree st.grown tree) in
-      let tx : InTree x.0.puts = subst (λ (w : End (Result State Stopped)). InTree w.puts)
+      let tx : InTree x.0.acts = subst (λ (w : End (Result State Stopped)). InTree w.acts)
       (sym ex) tree in
       let g = go kind x.0 x.1 u.0 u.1 start tx given in (
         settled g.0,
@@ -699,7 +697,7 @@ module _ (tools : List ℕ → ToolInput → ToolAnswer) (id : RunId) (r : Run) 
     where
       go : (kind : Kind) (X : End (Result State Stopped)) →
           end_of tools id (child_by kind r RunAll e t) t.journal ps ≡ Some X → (u : State) →
-          X.value ≡ Ok u → InTree ps → InTree X.puts →
+          X.value ≡ Ok u → InTree ps → InTree X.acts →
           ((c : Called) → In c (calls_of_child tools id r kind e t ps) →
           ReturnsGiven tools id r c) → SkippedWork (child_by kind r Skip e z) u
       go group_element X hx u hu start tx c =
@@ -716,10 +714,10 @@ module _ (tools : List ℕ → ToolInput → ToolAnswer) (id : RunId) (r : Run) 
           (g.0, ap (λ v. done v) g.1, g.2)
 
   abbrev ChildrenAside : List At → Type 0
-  ChildrenAside es = (z t : State) (ps : List Put) → Aside z t → Stands t.journal ps →
+  ChildrenAside es = (z t : State) (ps : List Act) → Aside z t → Stands t.journal ps →
       (E : End (Result State Stopped)) → end_of tools id
       (each_in_turn (child r RunAll) es t) t.journal ps ≡ Some E → (after : State) →
-      E.value ≡ Ok after → InTree E.puts →
+      E.value ≡ Ok after → InTree E.acts →
       ((c : Called) → In c (calls_of tools id r es t ps) → ReturnsGiven tools id r c) →
       SkippedWork (each_in_turn (child r Skip) es z) after
 
@@ -731,29 +729,29 @@ module _ (tools : List ℕ → ToolInput → ToolAnswer) (id : RunId) (r : Run) 
     where
       go : (X : End (Result State Stopped)) → end_of tools id (child r RunAll e t) t.journal ps
           ≡ Some X → (v : Result State Stopped) → X.value ≡ v →
-          end_of tools id (unless_stopped v (each_in_turn (child r RunAll) es)) X.journal X.puts
+          end_of tools id (unless_stopped v (each_in_turn (child r RunAll) es)) X.journal X.acts
           ≡ Some E →
           SkippedWork (each_in_turn (child r Skip) (e ∷ es) z) after
       go X hx (Err stop) hv h = absurd (err-ok stop after
-          (sym (over-is (Err stop) X.journal X.puts E h) ∙ ev))
+          (sym (over-is (Err stop) X.journal X.acts E h) ∙ ev))
       go X hx (Ok u) hv h =
           let st = child-steps tools id r k fc RunAll e t ps s.is X hx in
           let ju : u.journal ≡ X.journal = ap (λ v. (state_of v).journal) (sym hv) ∙ st.in_step in
-          let su : Stands u.journal X.puts = subst (λ v. Stands (state_of v).journal X.puts) hv
+          let su : Stands u.journal X.acts = subst (λ v. Stands (state_of v).journal X.acts) hv
           (stands-on s st) in
-          let h2 : end_of tools id (each_in_turn (child r RunAll) es u) u.journal X.puts ≡ Some E =
-          subst (λ l. end_of tools id (each_in_turn (child r RunAll) es u) l X.puts ≡ Some E)
+          let h2 : end_of tools id (each_in_turn (child r RunAll) es u) u.journal X.acts ≡ Some E =
+          subst (λ l. end_of tools id (each_in_turn (child r RunAll) es u) l X.acts ≡ Some E)
           (sym ju) h in
           let rest = each-steps tools id r k fc (child r RunAll)
-          (child-steps tools id r k fc RunAll) es u X.puts su.is E h2 in
-          let tx : InTree X.puts = in-tree-less rest.more X.puts (subst InTree rest.grown tree) in
+          (child-steps tools id r k fc RunAll) es u X.acts su.is E h2 in
+          let tx : InTree X.acts = in-tree-less rest.more X.acts (subst InTree rest.grown tree) in
           let one = calls_of_child tools id r (kind_of (name_of e.node)) e t ps in
           let two = then_called tools id r (end_of tools id (child r RunAll e t) t.journal ps)
           (calls_of tools id r es) in
           let g = child-aside e z t ps a s X hx u hv tx (λ c i. given c (in-left c one two i)) in
-          let f = ih g.0 u X.puts g.2 su E h2 after ev tree (λ c i. given c (in-right c one two
+          let f = ih g.0 u X.acts g.2 su E h2 after ev tree (λ c i. given c (in-right c one two
           (subst (λ o. In c (then_called tools id r o (calls_of tools id r es))) (sym hx)
-          (subst (λ v. In c (called_by tools id r v X.puts (calls_of tools id r es)))
+          (subst (λ v. In c (called_by tools id r v X.acts (calls_of tools id r es)))
           (sym hv) i)))) in (
             f.0,
             ap (λ v. followed_by v (λ end. unless_stopped end
@@ -812,7 +810,7 @@ module _ (tools : List ℕ → ToolInput → ToolAnswer) (id : RunId) (r : Run) 
   decided-aside : (bucket : Bucket) (items : Option (List ℕ × List Item)) (t : State) →
       t.part ≡ None → t.journal ≡ first → (E : End (Result State Stopped)) →
       end_of tools id (decided r bucket RunAll items t) t.journal pt ≡ Some E →
-      (after : State) → E.value ≡ Ok after → InTree E.puts →
+      (after : State) → E.value ≡ Ok after → InTree E.acts →
       ((c : Called) → In c (calls_of tools id r (children_of r.target.element) t pt) →
       ReturnsGiven tools id r c) →
       (y : State) × (decided r bucket Skip items t ≡ done (Ok y)) × Told y after
@@ -826,24 +824,24 @@ module _ (tools : List ℕ → ToolInput → ToolAnswer) (id : RunId) (r : Run) 
           ≡ Some X → (v : Result State Stopped) → X.value ≡ v →
           end_of tools id (unless_stopped v (λ end.
           done (map_ok (with_decision (word_of RunAll items)) (returned r bucket end))))
-          X.journal X.puts ≡ Some E → (y : State)
+          X.journal X.acts ≡ Some E → (y : State)
           × (decided r bucket Skip items t ≡ done (Ok y)) × Told y after
       go X hx (Err stop) hv h = absurd (err-ok stop after
-          (sym (over-is (Err stop) X.journal X.puts E h) ∙ ev))
+          (sym (over-is (Err stop) X.journal X.acts E h) ∙ ev))
       go X hx (Ok u) hv h =
           let ex : record {
             value = map_ok (with_decision (word_of RunAll items))
                 (returned r bucket u);
             journal = X.journal;
-            puts = X.puts;
+            acts = X.acts;
           } ≡ E =
           some-same (record {
             value = map_ok (with_decision (word_of RunAll items))
                 (returned r bucket u);
             journal = X.journal;
-            puts = X.puts;
+            acts = X.acts;
           }) E h in
-          let tx : InTree X.puts = subst (λ (w : End (Result State Stopped)). InTree w.puts)
+          let tx : InTree X.acts = subst (λ (w : End (Result State Stopped)). InTree w.acts)
           (sym ex) tree in
           let start : Stands t.journal pt = z-stands t is in
           let self : Aside t t = record {
@@ -858,13 +856,13 @@ module _ (tools : List ℕ → ToolInput → ToolAnswer) (id : RunId) (r : Run) 
             z_is = is;
           } in
           let st = children-steps tools id r k fc RunAll t pt start.is X hx in
-          let su : Stands u.journal X.puts = subst (λ v. Stands (state_of v).journal X.puts) hv
+          let su : Stands u.journal X.acts = subst (λ v. Stands (state_of v).journal X.acts) hv
           (stands-on start st) in
           let g = children-aside (children_of r.target.element) t t pt self start X hx u hv tx given
           in
           let places : place_in r g.0 g.0.scope ≡ place_in r u u.scope =
           place-so g.0 pt (z-stands g.0 g.2.z_is) z-tree g.0.scope refl
-          ∙ sym (place-so u X.puts su tx g.0.scope (sym g.2.scope)) in
+          ∙ sym (place-so u X.acts su tx g.0.scope (sym g.2.scope)) in
           let f = returned-aside bucket (word_of RunAll items)
           (word_of Skip items) g.0 u g.2 places after
           (ap (λ (w : End (Result State Stopped)). w.value) ex ∙ ev) in (
@@ -879,35 +877,30 @@ module _ (tools : List ℕ → ToolInput → ToolAnswer) (id : RunId) (r : Run) 
 -- a piece that is skipped changes and returns what the whole does, and writes nothing
 pub skips-same : (tools : List ℕ → ToolInput → ToolAnswer) (id : RunId) (run : Run)
     (mode : run.mode ≡ Incremental) (scope : Scope) (j k : Journal)
-    (a : AlikeJournals (bytes_in run.files) AnyPath j k) (fw : HasNotWritten id j)
-    (fc : HasNotWritten id k) →
+    (a : AlikeJournals (bytes_in run.files) AnyPath j k) (fw : HasNotActed id j)
+    (fc : HasNotActed id k) →
     SkipsSame tools id run mode scope j k a fw fc
-skips-same tools id run mode scope j k a fw fc bucket lists t pt after puts declared is he there =
+skips-same tools id run mode scope j k a fw fc bucket lists t pt after acts declared is he there =
     let r : Run = record run { mode = Clean } in
     let E : End (Result State Stopped) = record {
       value = Ok after;
       journal = after.journal;
-      puts =
-          puts;
+      acts =
+          acts;
     } in
     let st = decided-steps tools id r k fc bucket RunAll lists.items
     (entered scope bucket t) pt is E he in
-    let own : (p : List ℕ) → is_some (last_bytes st.more p) ≡ is_one_of p lists.outputs =
-    λ p. ap (λ l. is_some (last_bytes l p)) (sym (since-front st.more pt)
-    ∙ ap (since pt) (sym st.grown)) ∙ declared.writes_outputs after puts he p in
-    let tree : (p : List ℕ) → is_some (last_bytes puts p) ≡ true →
-    (is_some (bytes_in run.files p) ≡ true) ⊎ (is_some (last_bytes pt p) ≡ true) =
-    λ p i. elim (either (last_bytes st.more p) (last_bytes pt p)
-    (sym (ap is_some (ap (λ l. last_bytes l p) st.grown ∙ last-append st.more pt p)) ∙ i)) [
-      | inl o ↦ (let f = there p (one-in p lists.outputs (sym (own p) ∙ o)) in
-          inl (ap (λ o. is_some (option_map (λ (f : File). f.bytes) o)) f.1))
-      | inr o ↦ inr o
-    ] in
+    let tree : InTree tools id r k fc pt acts = λ own g act i.
+    let mine : In act (since pt acts) =
+    subst (In act) (sym (ap (since pt) g ∙ since-front own pt)) i in
+    let done_so : is_some (last_bytes (since pt acts) (act_path act)) ≡ true =
+    has-last (since pt acts) act mine in (
+      ap is_some (write-leaves act (λ path e. declared.removes_none after acts he path
+          (subst (λ z. In z (since pt acts)) e mine))).1,
+      subst (λ l. is_some (seen (bytes_in run.files) l (act_path act)) ≡ true) is
+          (there (act_path act) (one-in (act_path act) lists.outputs
+          (sym (declared.writes_outputs after acts he (act_path act)) ∙ done_so))),
+    ) in
     let g = decided-aside tools id r k fc pt bucket lists.items
     (entered scope bucket t) refl is E he after refl tree declared.returns_given in
     (g.0, ap (λ v. end_of tools id v t.journal pt) g.1, g.2.changes, g.2.items, g.2.notes)
-  where
-    either : (x y : Option (List ℕ)) → is_some (option_or x y) ≡ true →
-        (is_some x ≡ true) ⊎ (is_some y ≡ true)
-    either None y h = inr h
-    either (Some x) y h = inl refl

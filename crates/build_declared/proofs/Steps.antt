@@ -1,5 +1,5 @@
--- The state of a run has the journal then: the files that it has written, over the journal with
--- which it began.
+-- The state of a run has the journal then: the acts that it has done, over the journal with which
+-- it began.
 use Rattle.std.proofs.Common.{
   ◌≡◌,
   ℕ,
@@ -33,7 +33,7 @@ use Rattle.msb_values.specs.Keys.{key_of}
 use Rattle.msb_values.specs.declared.change.Change.{Change}
 use Rattle.msb_values.specs.declared.item.Item.{Item}
 use Rattle.msb_values.specs.declared.note.Note.TheVariants.{Fail}
-use Rattle.msb_values.specs.declared.put.Put.{Put}
+use Rattle.msb_values.specs.declared.act.Act.{Act}
 use Rattle.msb_elements.specs.Nodes.{name_of}
 use Rattle.msb_expand.specs.Reserved.{folder_of}
 use Rattle.msb_expand.specs.declared.lens.Bucket.{Bucket}
@@ -41,13 +41,13 @@ use Rattle.result_cache.specs.declared.request.RequestKey.{RequestKey}
 use Rattle.result_cache.specs.declared.request.RequestResult.{RequestResult}
 use Rattle.result_cache.specs.declared.run.RunId.{RunId}
 use Rattle.result_cache.specs.declared.record.Decision.{Decision}
-use Rattle.result_cache.specs.Journal.{Journal, add, wrote, write_of, has}
+use Rattle.result_cache.specs.Journal.{Journal, add, acted, act_of, has}
 use Rattle.build_world.specs.Elements.{At, children_of}
 use Rattle.build_world.specs.Faults.{fault_text}
 use Rattle.build_world.specs.declared.fault.EvalFault.{EvalFault}
 use Rattle.build_incremental.proofs.Numbered.{numbered, has-above}
 use Rattle.build_incremental.proofs.Entries.{has-append}
-use Rattle.build_incremental.specs.SideBySide.{HasNotWritten}
+use Rattle.build_incremental.specs.SideBySide.{HasNotActed}
 use Rattle.result_cache.proofs.JournalEntries.{add_new}
 use Rattle.msb_items.specs.TargetGroups.{group_changes}
 use Rattle.task_trait.specs.Failures.{failed as failed_output}
@@ -93,7 +93,7 @@ use Rattle.target_body.specs.States.{
   faulted,
   failed,
   with_journal,
-  with_write,
+  with_act,
   with_notes,
   with_items,
   with_decision,
@@ -111,7 +111,7 @@ use Rattle.target_body.specs.States.{
   state_of,
 }
 use Rattle.target_body.specs.Answers.{
-  all_written,
+  all_acted,
   given,
   at_once,
   in_order,
@@ -185,19 +185,19 @@ settled-journal (Ok t) = fold-journal t.unseen (record t { unseen = [] })
 settled-journal (Err d) = refl
 
 module _ (tools : List ℕ → ToolInput → ToolAnswer) (id : RunId) (run : Run) (base : Journal)
-    (free : HasNotWritten id base) where
-  -- the state has the journal then, which is the run's numbered files over the base; files are put
+    (free : HasNotActed id base) where
+  -- the state has the journal then, which is the run's numbered files over the base; files are act
   -- in front
-  pub record Stepped (l : Journal) (before : List Put) (journal : Journal)
-      (puts : List Put) : Type 0 where
+  pub record Stepped (l : Journal) (before : List Act) (journal : Journal)
+      (acts : List Act) : Type 0 where
     pub in_step : l ≡ journal
-    pub numbered_so : journal ≡ numbered id puts ++ base
-    pub more : List Put
-    pub grown : puts ≡ more ++ before
+    pub numbered_so : journal ≡ numbered id acts ++ base
+    pub more : List Act
+    pub grown : acts ≡ more ++ before
 
   abbrev pub StepsBy : {R : Type 0} → (R → Journal) → State → Work R → Type 0
-  StepsBy {R} get s v = (ps : List Put) → s.journal ≡ numbered id ps ++ base → (E : End R) →
-      end_of tools id v s.journal ps ≡ Some E → Stepped (get E.value) ps E.journal E.puts
+  StepsBy {R} get s v = (ps : List Act) → s.journal ≡ numbered id ps ++ base → (E : End R) →
+      end_of tools id v s.journal ps ≡ Some E → Stepped (get E.value) ps E.journal E.acts
 
   abbrev pub Steps : State → Work (Result State Stopped) → Type 0
   Steps = StepsBy journal_of
@@ -206,9 +206,9 @@ module _ (tools : List ℕ → ToolInput → ToolAnswer) (id : RunId) (run : Run
   over-by : {R : Type 0} (get : R → Journal) (s : State) (r : R) → get r ≡ s.journal →
       StepsBy get s (done r)
   over-by get s r h ps n E e =
-      let same : record { value = r; journal = s.journal; puts = ps } ≡ E =
-      some-same (record { value = r; journal = s.journal; puts = ps }) E e in
-      subst (λ (z : End _). Stepped (get z.value) ps z.journal z.puts) same (record {
+      let same : record { value = r; journal = s.journal; acts = ps } ≡ E =
+      some-same (record { value = r; journal = s.journal; acts = ps }) E e in
+      subst (λ (z : End _). Stepped (get z.value) ps z.journal z.acts) same (record {
         in_step =
             h;
         numbered_so = n;
@@ -220,20 +220,20 @@ module _ (tools : List ℕ → ToolInput → ToolAnswer) (id : RunId) (run : Run
   over s r h = over-by journal_of s r h
 
   -- a part whose end is looked at
-  then-by : {R S : Type 0} (get : R → Journal) (put : S → Journal) (s : State) (v : Work R) (f : R →
-      S) → StepsBy get s v → ((r : R) → put (f r) ≡ get r) →
-      StepsBy put s (followed_by v (λ end. done (f end)))
-  then-by get put s v f h g ps n E e =
+  then-by : {R S : Type 0} (get : R → Journal) (act : S → Journal) (s : State) (v : Work R) (f : R →
+      S) → StepsBy get s v → ((r : R) → act (f r) ≡ get r) →
+      StepsBy act s (followed_by v (λ end. done (f end)))
+  then-by get act s v f h g ps n E e =
       let x = end-bound tools id v (λ end. done (f end)) s.journal ps E e in
       let y = h ps n x.0 x.1 in
-      let same : record { value = f x.0.value; journal = x.0.journal; puts = x.0.puts } ≡ E =
+      let same : record { value = f x.0.value; journal = x.0.journal; acts = x.0.acts } ≡ E =
       some-same (record {
         value = f x.0.value;
         journal = x.0.journal;
-        puts =
-            x.0.puts;
+        acts =
+            x.0.acts;
       }) E x.2 in
-      subst (λ (z : End _). Stepped (put z.value) ps z.journal z.puts) same (record {
+      subst (λ (z : End _). Stepped (act z.value) ps z.journal z.acts) same (record {
         in_step =
             g x.0.value ∙ y.in_step;
         numbered_so = y.numbered_so;
@@ -248,8 +248,8 @@ module _ (tools : List ℕ → ToolInput → ToolAnswer) (id : RunId) (run : Run
   read s (Err fault) next f = over s (Err (faulted (with_notes (Fail (fault_text fault) ∷ []) s)))
       refl
 
-  then-next : {l : Journal} {before : List Put} {journal : Journal} {puts : List Put}
-      {m last : Journal} {qs : List Put} → Stepped l before journal puts → Stepped m puts last qs →
+  then-next : {l : Journal} {before : List Act} {journal : Journal} {acts : List Act}
+      {m last : Journal} {qs : List Act} → Stepped l before journal acts → Stepped m acts last qs →
       Stepped m before last qs
   then-next {before = before} a b = record {
     in_step = b.in_step;
@@ -265,19 +265,19 @@ module _ (tools : List ℕ → ToolInput → ToolAnswer) (id : RunId) (run : Run
       Steps s (and_then v next)
   and-steps s v next f g ps n E e =
       let x = end-bound tools id v (λ end. unless_stopped end next) s.journal ps E e in
-      go x.0.value x.0.journal x.0.puts (f ps n x.0 x.1) x.2
+      go x.0.value x.0.journal x.0.acts (f ps n x.0 x.1) x.2
     where
-      go : (r : Result State Stopped) (l : Journal) (qs : List Put) →
+      go : (r : Result State Stopped) (l : Journal) (qs : List Act) →
           Stepped (journal_of r) ps l qs → end_of tools id (unless_stopped r next) l qs ≡ Some E →
-          Stepped (journal_of E.value) ps E.journal E.puts
+          Stepped (journal_of E.value) ps E.journal E.acts
       go (Ok t) l qs a h = then-next a (g t qs (a.in_step
           ∙ a.numbered_so) E (subst (λ z. end_of tools id (next t) z qs ≡ Some E)
           (sym a.in_step) h))
       go (Err d) l qs a h =
-          let same : record { value = Err d; journal = l; puts = qs } ≡ E =
-          some-same (record { value = Err d; journal = l; puts = qs }) E h in
+          let same : record { value = Err d; journal = l; acts = qs } ≡ E =
+          some-same (record { value = Err d; journal = l; acts = qs }) E h in
           subst (λ (z : End (Result State Stopped)).
-          Stepped (journal_of z.value) ps z.journal z.puts) same a
+          Stepped (journal_of z.value) ps z.journal z.acts) same a
 
   pub each-steps : {X : Type 0} (part : X → State → Work (Result State Stopped)) →
       ((x : X) (s : State) → Steps s (part x s)) → (xs : List X) (s : State) →
@@ -288,25 +288,25 @@ module _ (tools : List ℕ → ToolInput → ToolAnswer) (id : RunId) (run : Run
 
   -- ---- answers
 
-  written-steps : (puts : List Put) (s : State) →
-      StepsBy (λ (t : State). t.journal) s (all_written puts s)
-  written-steps [] s = over-by (λ (t : State). t.journal) s s refl
-  written-steps (put ∷ puts) s = λ ps n E e.
-      let next : Journal = add s.journal (wrote id (length ps) put) in
-      let new : next ≡ numbered id (put ∷ ps) ++ base =
-      ap (λ l. add l (wrote id (length ps) put)) n
-      ∙ add_new (numbered id ps ++ base) (wrote id (length ps) put)
-      (has-append (write_of id (length ps)) (numbered id ps) base
-      ∙ neither (has (write_of id (length ps)) (numbered id ps))
-      (has (write_of id (length ps)) base) (has-above id ps (length ps) (self (length ps)))
+  acted-steps : (acts : List Act) (s : State) →
+      StepsBy (λ (t : State). t.journal) s (all_acted acts s)
+  acted-steps [] s = over-by (λ (t : State). t.journal) s s refl
+  acted-steps (act ∷ acts) s = λ ps n E e.
+      let next : Journal = add s.journal (acted id (length ps) act) in
+      let new : next ≡ numbered id (act ∷ ps) ++ base =
+      ap (λ l. add l (acted id (length ps) act)) n
+      ∙ add_new (numbered id ps ++ base) (acted id (length ps) act)
+      (has-append (act_of id (length ps)) (numbered id ps) base
+      ∙ neither (has (act_of id (length ps)) (numbered id ps))
+      (has (act_of id (length ps)) base) (has-above id ps (length ps) (self (length ps)))
       (free (length ps))) in
-      let x = written-steps puts (with_write put next s) (put ∷ ps) new E e in
+      let x = acted-steps acts (with_act act next s) (act ∷ ps) new E e in
       record {
         in_step = x.in_step;
         numbered_so = x.numbered_so;
-        more = x.more ++ put ∷ [];
+        more = x.more ++ act ∷ [];
         grown =
-            x.grown ∙ sym (append_assoc x.more (put ∷ []) ps);
+            x.grown ∙ sym (append_assoc x.more (act ∷ []) ps);
       }
     where
       self : (n : ℕ) → n ≤ n
@@ -320,7 +320,7 @@ module _ (tools : List ℕ → ToolInput → ToolAnswer) (id : RunId) (run : Run
 
   pub given-steps : (output : TaskOutput) (s : State) → StepsBy first-journal s (given s output)
   given-steps output s = then-by (λ (t : State). t.journal) first-journal s
-      (all_written output.files s) (λ after. (after, output)) (written-steps output.files s)
+      (all_acted output.acts s) (λ after. (after, output)) (acted-steps output.acts s)
       (λ t. refl)
 
   abbrev results-journal : State × List RequestResult → Journal

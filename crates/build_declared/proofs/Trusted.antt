@@ -25,9 +25,8 @@ use Rattle.std.proofs.Common.{
   subst,
   arith,
 }
-use Rattle.std.specs.Prelude.{nat_lt, option_map}
+use Rattle.std.specs.Prelude.{nat_lt, option_map, unwrap_or}
 use Rattle.std.specs.List.{list_any}
-use Rattle.std.specs.Option.{option_or}
 use Rattle.std.proofs.lemmas.Bool.{ltb-false}
 use Rattle.msb_values.specs.declared.item.Item.{Item}
 use Rattle.file_store.specs.Files.{file_at}
@@ -41,9 +40,9 @@ use Rattle.target_incremental.specs.Ages.{is_missing_or_older, pair_is_old, any_
 use Rattle.target_incremental.specs.Decisions.{item_if, old_items}
 use Rattle.build_declared.specs.Fresh.{IsAsInTree, IsTrusted, Pairing, pairs_of}
 
-none-written : (o : Option (List ℕ)) → is_some o ≡ false → o ≡ None
-none-written None h = refl
-none-written (Some x) h = absurd (cc)
+none-acted : (o : Option (Option (List ℕ))) → is_some o ≡ false → o ≡ None
+none-acted None h = refl
+none-acted (Some x) h = absurd (cc)
 
 pub not-in : {X : Type 0} (f : X → Bool) (x : X) (xs : List X) → list_any f xs ≡ false →
     In x xs → f x ≡ false
@@ -51,14 +50,14 @@ not-in f x [] h i = absurd i
 not-in f x (y ∷ xs) h (inl e) = subst (λ z. f z ≡ false) e (or_neither (f y) (list_any f xs) h).0
 not-in f x (y ∷ xs) h (inr i) = not-in f x xs (or_neither (f y) (list_any f xs) h).1 i
 
--- an input and an output that nobody has written, and the input is no newer
+-- an input and an output on which nobody has acted, and the input is no newer
 pub record CurrentPair (v : View) (input output : List ℕ) : Type 0 where
   pub in_file : File
   pub out_file : File
   pub in_there : file_at input v.files ≡ Some in_file
   pub out_there : file_at output v.files ≡ Some out_file
-  pub in_unwritten : journals.content v.journal input ≡ None
-  pub out_unwritten : journals.content v.journal output ≡ None
+  pub in_untouched : journals.content v.journal input ≡ None
+  pub out_untouched : journals.content v.journal output ≡ None
   pub no_newer : in_file.stamp ≤ out_file.stamp
 
 pub current-pair : (v : View) (input output : List ℕ) → pair_is_old v input output ≡ false →
@@ -69,8 +68,8 @@ current-pair v input output h =
     let b = or_neither (written v output) (is_missing_or_older (stamp v input)
     (stamp v output)) a.1 in
     go (file_at input v.files) (file_at output v.files) refl refl
-    (none-written (journals.content v.journal input) a.0)
-    (none-written (journals.content v.journal output) b.0) b.1
+    (none-acted (journals.content v.journal input) a.0)
+    (none-acted (journals.content v.journal output) b.0) b.1
   where
     go : (x y : Option File) → file_at input v.files ≡ x → file_at output v.files ≡ y →
         journals.content v.journal input ≡ None → journals.content v.journal output ≡ None →
@@ -88,8 +87,8 @@ current-pair v input output h =
           out_file = y;
           in_there = e;
           out_there = f;
-          in_unwritten = wi;
-          out_unwritten = wo;
+          in_untouched = wi;
+          out_untouched = wo;
           no_newer = ltb-false y.stamp x.stamp n;
         }
     go (Some x) None e f wi wo m =
@@ -111,7 +110,7 @@ module _ (v u : View) (files : v.files ≡ u.files) (same : (path : List ℕ) �
       file_at path v.files ≡ Some file → IsAsInTree u path file
   as-in-tree path file w e = record {
     there = sym (ap (file_at path) files) ∙ e;
-    unchanged = sym (same path) ∙ (ap (λ o. option_or o (option_map (λ (f : File). f.bytes)
+    unchanged = sym (same path) ∙ (ap (λ o. unwrap_or o (option_map (λ (f : File). f.bytes)
         (file_at path v.files))) w ∙ ap (option_map (λ (f : File). f.bytes)) e);
   }
 
@@ -130,8 +129,8 @@ module _ (v u : View) (files : v.files ≡ u.files) (same : (path : List ℕ) �
       record {
         in_file = x.in_file;
         out_file = x.out_file;
-        in_there = as-in-tree input x.in_file x.in_unwritten x.in_there;
-        out_there = as-in-tree output x.out_file x.out_unwritten x.out_there;
+        in_there = as-in-tree input x.in_file x.in_untouched x.in_there;
+        out_there = as-in-tree output x.out_file x.out_untouched x.out_there;
         no_newer = x.no_newer;
       }
 

@@ -15,7 +15,7 @@ use Rattle.task_trait.specs.declared.tools.ToolAnswer.{ToolAnswer}
 use Rattle.target_body.specs.Work.{
   Work,
   done,
-  writes,
+  does,
   uses,
   calls,
   followed_by,
@@ -42,8 +42,8 @@ module _ (files : List ℕ → Option (List ℕ)) (W : List ℕ → Type 0) wher
 
   abbrev pub AlikeWork : {S T : Type 0} → (S → T → Type 0) → Work S → Work T → Type 0
   AlikeWork R (done x) (done y) = R x y
-  AlikeWork R (writes put go) (writes other to) =
-      (put ≡ other) × ((j k : Journal) → AlikeJournals files W j k → AlikeWork R (go j) (to k))
+  AlikeWork R (does act go) (does other to) =
+      (act ≡ other) × ((j k : Journal) → AlikeJournals files W j k → AlikeWork R (go j) (to k))
   AlikeWork R (uses name input go) (uses other given to) =
       (name ≡ other) × (input ≡ given) × ((answer : ToolAnswer) →
       AlikeWork R (go answer) (to answer))
@@ -57,18 +57,18 @@ module _ (files : List ℕ → Option (List ℕ)) (W : List ℕ → Type 0) wher
       ((x : S) (y : T) → R x y → AlikeWork Q (next x) (then y)) →
       AlikeWork Q (followed_by v next) (followed_by u then)
   bound R Q (done x) (done y) next then h f = f x y h
-  bound R Q (done x) (writes put go) next then h f = absurd h
+  bound R Q (done x) (does act go) next then h f = absurd h
   bound R Q (done x) (uses name input go) next then h f = absurd h
   bound R Q (done x) (calls key keys go) next then h f = absurd h
-  bound R Q (writes put go) (writes other to) next then h f =
+  bound R Q (does act go) (does other to) next then h f =
       (h.0, λ j k a. bound R Q (go j) (to k) next then (h.1 j k a) f)
-  bound R Q (writes put go) (done y) next then h f = absurd h
-  bound R Q (writes put go) (uses name input to) next then h f = absurd h
-  bound R Q (writes put go) (calls key keys to) next then h f = absurd h
+  bound R Q (does act go) (done y) next then h f = absurd h
+  bound R Q (does act go) (uses name input to) next then h f = absurd h
+  bound R Q (does act go) (calls key keys to) next then h f = absurd h
   bound R Q (uses name input go) (uses other given to) next then h f =
       (h.0, h.1, λ answer. bound R Q (go answer) (to answer) next then (h.2 answer) f)
   bound R Q (uses name input go) (done y) next then h f = absurd h
-  bound R Q (uses name input go) (writes put to) next then h f = absurd h
+  bound R Q (uses name input go) (does act to) next then h f = absurd h
   bound R Q (uses name input go) (calls key keys to) next then h f = absurd h
   bound R Q (calls key keys go) (calls other others to) next then h f = (
     h.0,
@@ -77,28 +77,28 @@ module _ (files : List ℕ → Option (List ℕ)) (W : List ℕ → Type 0) wher
         (to answers k) next then (h.2 answers j k a) f,
   )
   bound R Q (calls key keys go) (done y) next then h f = absurd h
-  bound R Q (calls key keys go) (writes put to) next then h f = absurd h
+  bound R Q (calls key keys go) (does act to) next then h f = absurd h
   bound R Q (calls key keys go) (uses name input to) next then h f = absurd h
 
   pub bodies : (v u : Work Outcome) → AlikeWork (λ o p. o ≡ p) v u →
       AlikeBodies files W (body_of v) (body_of u)
   bodies (done x) (done y) h = h
-  bodies (done x) (writes put go) h = absurd h
+  bodies (done x) (does act go) h = absurd h
   bodies (done x) (uses name input go) h = absurd h
   bodies (done x) (calls key keys go) h = absurd h
-  bodies (writes put go) (writes other to) h = (h.0, λ j k a. bodies (go j) (to k) (h.1 j k a))
-  bodies (writes put go) (done y) h = absurd h
-  bodies (writes put go) (uses name input to) h = absurd h
-  bodies (writes put go) (calls key keys to) h = absurd h
+  bodies (does act go) (does other to) h = (h.0, λ j k a. bodies (go j) (to k) (h.1 j k a))
+  bodies (does act go) (done y) h = absurd h
+  bodies (does act go) (uses name input to) h = absurd h
+  bodies (does act go) (calls key keys to) h = absurd h
   bodies (uses name input go) (uses other given to) h =
       (h.0, h.1, λ answer. bodies (go answer) (to answer) (h.2 answer))
   bodies (uses name input go) (done y) h = absurd h
-  bodies (uses name input go) (writes put to) h = absurd h
+  bodies (uses name input go) (does act to) h = absurd h
   bodies (uses name input go) (calls key keys to) h = absurd h
   bodies (calls key keys go) (calls other others to) h =
       (h.0, h.1, λ answers j k a. bodies (go answers j) (to answers k) (h.2 answers j k a))
   bodies (calls key keys go) (done y) h = absurd h
-  bodies (calls key keys go) (writes put to) h = absurd h
+  bodies (calls key keys go) (does act to) h = absurd h
   bodies (calls key keys go) (uses name input to) h = absurd h
 
   -- ---- states

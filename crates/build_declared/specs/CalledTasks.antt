@@ -16,7 +16,7 @@ use Rattle.std.specs.Prelude.{
   Err,
 }
 use Rattle.msb_values.specs.Keys.{key_of}
-use Rattle.msb_values.specs.declared.put.Put.{Put}
+use Rattle.msb_values.specs.declared.act.Act.{Act}
 use Rattle.msb_elements.specs.Nodes.{name_of}
 use Rattle.msb_expand.specs.declared.lens.Bucket.{Bucket}
 use Rattle.result_cache.specs.declared.run.RunId.{RunId}
@@ -56,7 +56,7 @@ module _ (tools : List ℕ → ToolInput → ToolAnswer) (id : RunId) (run : Run
       record { element = e; params = params; answer = end.value.1 } ∷ []
 
   -- a task is called unless its Condition is false or one of its texts has a fault
-  abbrev pub called_if : At → State → List Put → Result (Option (OnError × List Param)) EvalFault →
+  abbrev pub called_if : At → State → List Act → Result (Option (OnError × List Param)) EvalFault →
       List Called
   called_if e s before (Ok (Some ready)) =
       answered_in e ready.1
@@ -64,36 +64,36 @@ module _ (tools : List ℕ → ToolInput → ToolAnswer) (id : RunId) (run : Run
   called_if e s before (Ok None) = []
   called_if e s before (Err fault) = []
 
-  abbrev pub called_by : Result State Stopped → List Put → (State → List Put → List Called) →
+  abbrev pub called_by : Result State Stopped → List Act → (State → List Act → List Called) →
       List Called
-  called_by (Ok s) puts next = next s puts
-  called_by (Err stop) puts next = []
+  called_by (Ok s) acts next = next s acts
+  called_by (Err stop) acts next = []
 
-  abbrev pub then_called : Option (End (Result State Stopped)) → (State → List Put → List Called) →
+  abbrev pub then_called : Option (End (Result State Stopped)) → (State → List Act → List Called) →
       List Called
   then_called None next = []
-  then_called (Some end) next = called_by end.value end.puts next
+  then_called (Some end) next = called_by end.value end.acts next
 
   -- the calls of a task element, bucket by bucket
-  abbrev pub calls_among : At → List Bucket → State → List Put → List Called
+  abbrev pub calls_among : At → List Bucket → State → List Act → List Called
   calls_among e [] s before = []
   calls_among e (bucket ∷ buckets) s before =
       called_if e s before (readied (called_place run s bucket) e)
       ++ then_called (end_of tools id (call run e true bucket s) s.journal before)
       (calls_among e buckets)
 
-  abbrev pub calls_of_task : At → State → List Put → Result (List Bucket) EvalFault → List Called
+  abbrev pub calls_of_task : At → State → List Act → Result (List Bucket) EvalFault → List Called
   calls_of_task e s before (Ok buckets) = calls_among e buckets s before
   calls_of_task e s before (Err fault) = []
 
-  abbrev pub calls_of_child : Kind → At → State → List Put → List Called
+  abbrev pub calls_of_child : Kind → At → State → List Act → List Called
   calls_of_child group_element e s before = []
   calls_of_child on_error_element e s before = []
   calls_of_child task_element e s before =
       calls_of_task e s before (task_buckets (place_in run s (task_scope s)) e)
 
   -- the calls of the children in order, where all of them run
-  abbrev pub calls_of : List At → State → List Put → List Called
+  abbrev pub calls_of : List At → State → List Act → List Called
   calls_of [] s before = []
   calls_of (e ∷ es) s before =
       calls_of_child (kind_of (name_of e.node)) e s before

@@ -23,7 +23,8 @@ use Rattle.msb_values.specs.declared.mode.Mode.{Mode}
 use Rattle.msb_values.specs.declared.mode.Mode.TheVariants.{Clean}
 use Rattle.msb_values.specs.declared.note.Note.{Note}
 use Rattle.msb_values.specs.declared.note.Note.TheVariants.{Fail, Warning}
-use Rattle.msb_values.specs.declared.put.Put.{Put}
+use Rattle.msb_values.specs.declared.act.Act.{Act}
+use Rattle.msb_values.specs.declared.act.Act.TheVariants.{Remove}
 use Rattle.msb_values.specs.declared.scope.Scope.{Scope}
 use Rattle.file_store.specs.declared.tree.File.{File}
 use Rattle.result_cache.specs.declared.run.RunId.{RunId}
@@ -73,42 +74,45 @@ module _ (tools : List ℕ → ToolInput → ToolAnswer) (id : RunId) (run : Run
       (task path : List ℕ) → text ≡ failure_text task (TooLarge path) → ⊥
   IsNotTooLarge note = Unit {0}
 
-  -- A part of the items of a piece, of which the whole comes to the state t and has written these
-  -- files. Where the tasks run on the part alone, the piece succeeds and calls nothing; it writes
+  -- A part of the items of a piece, of which the whole comes to the state t with these acts of the
+  -- run. Where the tasks run on the part alone, the piece succeeds and calls nothing; it writes
   -- just the outputs of these items, with the bytes of the whole; no file is too large; and, where
   -- the outputs of the other items are there, it changes and returns what the whole does.
-  pub record PartIsDeclared (p : Piece) (t : State) (puts : List Put) (items : List Item)
+  pub record PartIsDeclared (p : Piece) (t : State) (whole : List Act) (items : List Item)
       (marks : List Bool) : Type 0 where
     pub after : State
-    pub written : List Put
+    pub acts : List Act
     pub succeeds : end_of_piece tools id run p (Part (kept marks items))
-        ≡ Some (record { value = Ok after; journal = after.journal; puts = written })
+        ≡ Some (record { value = Ok after; journal = after.journal; acts = acts })
     pub bytes : (path : List ℕ) → is_one_of path (kept marks p.lists.outputs) ≡ true →
-        last_bytes (since p.before written) path ≡ last_bytes (since p.before puts) path
+        last_bytes (since p.before acts) path ≡ last_bytes (since p.before whole) path
     pub no_other : (path : List ℕ) → is_one_of path (kept marks p.lists.outputs) ≡ false →
-        last_bytes (since p.before written) path ≡ None
+        last_bytes (since p.before acts) path ≡ None
     pub never_large : (note : Note) → In note after.notes → IsNotTooLarge note
     pub changes : ((path : List ℕ) → is_one_of path (kept (map not marks) p.lists.outputs) ≡ true →
         IsSome (views.content (view_of run p.from) path)) →
         (after.changes ≡ t.changes) × (after.items ≡ t.items)
 
-  -- Where the piece succeeds with this state and has written these files then.
-  abbrev pub SucceedsWith : Piece → State → List Put → Type 0
-  SucceedsWith p t puts = end_of_piece tools id run p RunAll
-      ≡ Some (record { value = Ok t; journal = t.journal; puts = puts })
+  -- Where the piece succeeds with this state, these are the acts of the run then.
+  abbrev pub SucceedsWith : Piece → State → List Act → Type 0
+  SucceedsWith p t acts = end_of_piece tools id run p RunAll
+      ≡ Some (record { value = Ok t; journal = t.journal; acts = acts })
 
   -- The tasks of a piece return the lists that its Output elements name; it writes its outputs and
-  -- no other path; and where it takes its items one by one, each part of them is declared.
+  -- no other path, and removes none; and where it takes its items one by one, each part of them is
+  -- declared.
   pub record PieceIsDeclared (p : Piece) : Type 0 where
     pub returns_given : (c : Called) →
         In c (calls_of tools id run (children_of run.target.element) p.from p.before) →
         ReturnsGiven tools id run c
-    pub writes_outputs : (t : State) (puts : List Put) → SucceedsWith p t puts →
+    pub writes_outputs : (t : State) (acts : List Act) → SucceedsWith p t acts →
         (path : List ℕ) →
-        is_some (last_bytes (since p.before puts) path) ≡ is_one_of path p.lists.outputs
-    pub parts : (t : State) (puts : List Put) → SucceedsWith p t puts →
+        is_some (last_bytes (since p.before acts) path) ≡ is_one_of path p.lists.outputs
+    pub removes_none : (t : State) (acts : List Act) → SucceedsWith p t acts →
+        (path : List ℕ) → In (Remove path) (since p.before acts) → ⊥
+    pub parts : (t : State) (acts : List Act) → SucceedsWith p t acts →
         (items : List Item) → ByItems p items → (marks : List Bool) → ArePart marks items →
-        PartIsDeclared p t puts items marks
+        PartIsDeclared p t acts items marks
 
   -- ---- a run
 
@@ -155,7 +159,7 @@ module _ (tools : List ℕ → ToolInput → ToolAnswer) (files : List File) whe
       (clean_pieces (Some target) scope id journal)
 
   -- The clean world is whole and steady; each of its bodies is declared; and where calls made at
-  -- once write one path, all their writes of it are of one run.
+  -- once write or remove one path, all their acts on it are of one run.
   pub record IsDeclared (clean : PlacedWorld Site ToolInput ToolAnswer)
       (out : Given ToolInput RequestResult) : Type 0 where
     pub whole : IsWhole (plain_world clean) out

@@ -3,7 +3,7 @@
 use Rattle.std.specs.Prelude.{ℕ, ◌≡◌, ◌≤◌, List, [], ◌∷◌, Option, None, Some, Ok}
 use Rattle.msb_values.specs.declared.item.Item.{Item}
 use Rattle.msb_values.specs.declared.mode.Mode.TheVariants.{Clean}
-use Rattle.msb_values.specs.declared.put.Put.{Put}
+use Rattle.msb_values.specs.declared.act.Act.{Act}
 use Rattle.msb_values.specs.declared.scope.Scope.{Scope}
 use Rattle.file_store.specs.Files.{file_at}
 use Rattle.file_store.specs.declared.tree.File.{File}
@@ -52,12 +52,12 @@ pairs_of (input ∷ inputs) (output ∷ outputs) =
 pairs_of inputs outputs = []
 
 module _ (tools : List ℕ → ToolInput → ToolAnswer) (id : RunId) (run : Run) where
-  -- the piece succeeds, and of what it writes to the path the last has the file's bytes
+  -- the piece succeeds, and its last act on the path leaves the file's bytes there
   abbrev pub WritesSame : Piece → List ℕ → File → Type 0
-  WritesSame p path file = (t : State) × (puts : List Put)
+  WritesSame p path file = (t : State) × (acts : List Act)
       × (end_of_piece tools id run p RunAll
-      ≡ Some (record { value = Ok t; journal = t.journal; puts = puts }))
-      × (last_bytes (since p.before puts) path ≡ Some file.bytes)
+      ≡ Some (record { value = Ok t; journal = t.journal; acts = acts }))
+      × (last_bytes (since p.before acts) path ≡ Some (Some file.bytes))
 
   pub record PieceIsFresh (p : Piece) : Type 0 where
     -- item by item, each trusted output is what the piece writes

@@ -16,7 +16,7 @@ use Rattle.std.specs.Prelude.{
   Err,
 }
 use Rattle.msb_values.specs.declared.item.Item.{Item}
-use Rattle.msb_values.specs.declared.put.Put.{Put}
+use Rattle.msb_values.specs.declared.act.Act.{Act}
 use Rattle.msb_values.specs.declared.scope.Scope.{Scope}
 use Rattle.msb_expand.specs.declared.lens.Bucket.{Bucket}
 use Rattle.result_cache.specs.declared.run.RunId.{RunId}
@@ -32,13 +32,13 @@ use Rattle.target_body.specs.Bodies.{buckets_at}
 use Rattle.build_declared.specs.Chosen.{Chooser, bucket_by}
 use Rattle.build_declared.specs.Ends.{End, end_of}
 
--- a bucket with its lists, the state in which it begins, and the files that the run has written by
--- then, the newest first
+-- a bucket with its lists, the state in which it begins, and the acts of the run by then, the
+-- newest first
 pub record Piece : Type 0 where
   pub bucket : Bucket
   pub lists : Lists
   pub from : State
-  pub before : List Put
+  pub before : List Act
 
 -- the items of a piece that takes its items one by one: each has an input and an output of its own
 pub record ByItems (p : Piece) (items : List Item) : Type 0 where
@@ -53,7 +53,7 @@ one_if piece [] outputs = []
 one_if piece (input ∷ inputs) [] = []
 one_if piece (input ∷ inputs) (output ∷ outputs) = piece ∷ []
 
-abbrev pub piece_if : Bucket → State → List Put → Result (Option Lists) EvalFault → List Piece
+abbrev pub piece_if : Bucket → State → List Act → Result (Option Lists) EvalFault → List Piece
 piece_if bucket s before (Ok (Some lists)) =
     let piece : Piece = record { bucket = bucket; lists = lists; from = s; before = before } in
     one_if piece lists.inputs lists.outputs
@@ -61,19 +61,19 @@ piece_if bucket s before (Ok None) = []
 piece_if bucket s before (Err fault) = []
 
 -- those that follow a bucket that has come to its end; none where it stopped the run
-abbrev pub next_by : Result State Stopped → List Put → (State → List Put → List Piece) → List Piece
-next_by (Ok s) puts next = next s puts
-next_by (Err stop) puts next = []
+abbrev pub next_by : Result State Stopped → List Act → (State → List Act → List Piece) → List Piece
+next_by (Ok s) acts next = next s acts
+next_by (Err stop) acts next = []
 
-abbrev pub then_pieces : Option (End (Result State Stopped)) → (State → List Put → List Piece) →
+abbrev pub then_pieces : Option (End (Result State Stopped)) → (State → List Act → List Piece) →
     List Piece
 then_pieces None next = []
-then_pieces (Some end) next = next_by end.value end.puts next
+then_pieces (Some end) next = next_by end.value end.acts next
 
 module _ (tools : List ℕ → ToolInput → ToolAnswer) (id : RunId) (choose : Chooser) (run : Run)
     (scope : Scope) where
   -- the pieces among some buckets, where each bucket is done as is chosen
-  abbrev pub pieces_among : List Bucket → State → List Put → List Piece
+  abbrev pub pieces_among : List Bucket → State → List Act → List Piece
   pieces_among [] s before = []
   pieces_among (bucket ∷ buckets) s before =
       let begins : State = entered scope bucket s in

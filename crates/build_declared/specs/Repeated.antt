@@ -3,7 +3,7 @@
 use Rattle.std.specs.Prelude.{ℕ, ◌≡◌, List, [], ◌∷◌, Option, Some}
 use Rattle.msb_values.specs.declared.item.Item.{Item}
 use Rattle.msb_values.specs.declared.mode.Mode.TheVariants.{Clean}
-use Rattle.msb_values.specs.declared.put.Put.{Put}
+use Rattle.msb_values.specs.declared.act.Act.{Act}
 use Rattle.file_store.specs.declared.tree.File.{File}
 use Rattle.file_store.specs.declared.tree.Tree.{Tree}
 use Rattle.result_cache.specs.declared.run.RunId.{RunId}
@@ -34,7 +34,7 @@ use Rattle.build_declared.specs.Written.{since}
 
 module _ (tools : List ℕ → ToolInput → ToolAnswer) (id : RunId) (first again : Run) where
   -- A piece of the second build is as one of the first: it has the same inputs and outputs, paired
-  -- in the same way; and where the first one succeeds it succeeds, and leaves the same bytes at
+  -- in the same way; and where the first one succeeds it succeeds, and its acts leave the same at
   -- each of its outputs.
   pub record IsAgain (p earlier : Piece) : Type 0 where
     pub inputs : p.lists.inputs ≡ earlier.lists.inputs
@@ -43,11 +43,11 @@ module _ (tools : List ℕ → ToolInput → ToolAnswer) (id : RunId) (first aga
         (others : List Item) × ByItems earlier others
     pub by_pairs : (others : List Item) → ByItems earlier others →
         (items : List Item) × ByItems p items
-    pub writes : (t : State) (puts : List Put) → SucceedsWith tools id first earlier t puts →
-        (u : State) × (more : List Put) × SucceedsWith tools id again p u more
+    pub writes : (t : State) (acts : List Act) → SucceedsWith tools id first earlier t acts →
+        (u : State) × (more : List Act) × SucceedsWith tools id again p u more
         × ((output : List ℕ) → In output earlier.lists.outputs →
         last_bytes (since p.before more) output
-        ≡ last_bytes (since earlier.before puts) output)
+        ≡ last_bytes (since earlier.before acts) output)
 
   abbrev pub AreAgain : (pieces earlier : List Piece) → Type 0
   AreAgain [] [] = Unit {0}

@@ -1,4 +1,4 @@
--- Settled worlds: what a piece reads is written before it begins, and what it writes nobody writes
+-- Settled worlds: what a piece reads is written before it begins, and on what it writes nobody acts
 -- later. (Incremental builds)
 use Rattle.std.specs.Prelude.{
   ℕ,
@@ -16,13 +16,14 @@ use Rattle.std.specs.Prelude.{
   IsSome,
   Ok,
 }
+use Rattle.msb_values.specs.Acts.{act_path}
 use Rattle.msb_values.specs.declared.mode.Mode.{Mode}
-use Rattle.msb_values.specs.declared.put.Put.{Put}
+use Rattle.msb_values.specs.declared.act.Act.{Act}
 use Rattle.file_store.specs.declared.tree.File.{File}
 use Rattle.result_cache.specs.declared.run.RunId.{RunId}
-use Rattle.result_cache.specs.declared.record.Segment.TheVariants.{Write}
+use Rattle.result_cache.specs.declared.record.Segment.TheVariants.{File as OnFile}
 use Rattle.result_cache.specs.Lists.{In}
-use Rattle.result_cache.specs.Journal.{Journal, wrote, write_of, has}
+use Rattle.result_cache.specs.Journal.{Journal, acted, act_of, has}
 use Rattle.build_world.specs.Instances.{UsedTarget}
 use Rattle.build_incremental.specs.Demand.{Occurrence}
 use Rattle.task_trait.specs.declared.tools.ToolAnswer.{ToolAnswer}
@@ -48,44 +49,44 @@ module _ (tools : List ℕ → ToolInput → ToolAnswer) (files : List File) (mo
   abbrev pub is_of : List ℕ → Piece → Type 0
   is_of path p = In path p.lists.inputs ⊎ In path p.lists.outputs
 
-  -- a run without a piece writes no input and no output of a piece
+  -- a run without a piece writes or removes no input and no output of a piece
   abbrev pub FreeRunsKeepOff : List (Occurrence Site) → Type 0
   FreeRunsKeepOff demand = (o other : Occurrence Site) → In o demand → In other demand →
       pieces_at o ≡ [] → (p : Piece) → In p (pieces_at other) →
-      (put : Put) → In (Write put) o.made.segments → is_of put.path p → ⊥
+      (act : Act) → In (OnFile act) o.made.segments → is_of (act_path act) p → ⊥
 
-  -- as it is decided, the piece succeeds, and the run has written these files then
-  abbrev pub Succeeds : Option UsedTarget → Occurrence Site → Piece → (puts : List Put) → Type 0
-  Succeeds None o p puts = ⊥
-  Succeeds (Some target) o p puts =
+  -- as it is decided, the piece succeeds, and these are the acts of the run then
+  abbrev pub Succeeds : Option UsedTarget → Occurrence Site → Piece → (acts : List Act) → Type 0
+  Succeeds None o p acts = ⊥
+  Succeeds (Some target) o p acts =
       let run : Run = run_at files mode o.run target in
       (t : State) × (end_of_piece tools o.run run p (choice_of run p.lists p.from)
-      ≡ Some (record { value = Ok t; journal = t.journal; puts = puts }))
+      ≡ Some (record { value = Ok t; journal = t.journal; acts = acts }))
 
-  -- a write had been made when the piece began, at each occurrence of its run: by the run itself,
-  -- or before the run began
+  -- an act had been done when the piece began, at each occurrence of its run: by the run itself, or
+  -- before the run began
   abbrev pub Stood : List (Occurrence Site) → Occurrence Site → Piece → RunId → (number : ℕ) →
       Type 0
   Stood demand o p run number = ((run ≡ o.run) × (number < length p.before))
       ⊎ ((other : Occurrence Site) → In other demand → other.run ≡ o.run →
-      has (write_of run number) other.from ≡ true)
+      has (act_of run number) other.from ≡ true)
 
   -- The world settles, by the bodies of its meaning and by the last journal of its root: each piece
-  -- succeeds, and its inputs exist; what is ever written to an input of a piece had been written
-  -- when it began, and what is ever written to an output of it had been then or is its own; and
-  -- runs without a piece keep off.
+  -- succeeds, and its inputs exist; every act on an input of a piece had been done when it began,
+  -- and every act on an output of it had been then or is its own; and runs without a piece keep
+  -- off.
   pub record IsSettled (demand : List (Occurrence Site)) (last : Journal) : Type 0 where
     pub succeeds : (o : Occurrence Site) → In o demand → (p : Piece) → In p (pieces_at o) →
-        (puts : List Put) × Succeeds o.place.target o p puts
+        (acts : List Act) × Succeeds o.place.target o p acts
     pub inputs_exist : (o : Occurrence Site) → In o demand → (p : Piece) → In p (pieces_at o) →
         (input : List ℕ) → In input p.lists.inputs →
         IsSome (views.content (record { files = files; journal = p.from.journal }) input)
     pub inputs_stood : (o : Occurrence Site) → In o demand → (p : Piece) → In p (pieces_at o) →
-        (run : RunId) (number : ℕ) (put : Put) → In (wrote run number put) last →
-        In put.path p.lists.inputs → Stood demand o p run number
+        (run : RunId) (number : ℕ) (act : Act) → In (acted run number act) last →
+        In (act_path act) p.lists.inputs → Stood demand o p run number
     pub outputs_own : (o : Occurrence Site) → In o demand → (p : Piece) → In p (pieces_at o) →
-        (puts : List Put) → Succeeds o.place.target o p puts →
-        (run : RunId) (number : ℕ) (put : Put) → In (wrote run number put) last →
-        In put.path p.lists.outputs → Stood demand o p run number
-        ⊎ ((run ≡ o.run) × (length p.before ≤ number) × (number < length puts))
+        (acts : List Act) → Succeeds o.place.target o p acts →
+        (run : RunId) (number : ℕ) (act : Act) → In (acted run number act) last →
+        In (act_path act) p.lists.outputs → Stood demand o p run number
+        ⊎ ((run ≡ o.run) × (length p.before ≤ number) × (number < length acts))
     pub free : FreeRunsKeepOff demand

@@ -99,8 +99,9 @@ module _ (tools : List ℕ → ToolInput → ToolAnswer) (files : List File) whe
       let run : Run = run_at files Incremental id target in
       pieces_of tools id (choice_of run) run scope from
 
-  -- Each piece of a run is skipped. The body does nothing but to say its outcome: it writes no
-  -- file, uses no tool and calls nothing. And its record says `up to date` once for each piece.
+  -- Each piece of a run is skipped. The body does nothing but to say its outcome: it writes and
+  -- removes no file, uses no tool and calls nothing. And its record says `up to date` once for each
+  -- piece.
   pub record IsSkipped (target : UsedTarget) (scope : Scope) (id : RunId) (from : Journal)
       (made : Record) : Type 0 where
     pub outcome : Outcome

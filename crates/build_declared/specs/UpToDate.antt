@@ -22,8 +22,8 @@ use Rattle.build_declared.specs.Settled.{FreeRunsKeepOff}
 use Rattle.build_declared.specs.Skipped.{TakesLists, target_of, IsOfSkipped, SkippedAt}
 
 -- In the tree each output of a piece of the clean build, which comes to this, is no older than its
--- inputs; and the runs without a piece write no input and no output of a piece. The clean build has
--- these bodies.
+-- inputs; and the runs without a piece write or remove no input and no output of a piece. The clean
+-- build has these bodies.
 pub record IsUpToDate (tools : List ℕ → ToolInput → ToolAnswer) (w : World)
     (clean : Given ToolInput RequestResult) : Type 0 where
   pub no_older : IsNoOlder tools w.tree.files (placed_world tools (in_mode Clean w)) clean.value

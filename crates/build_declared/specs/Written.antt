@@ -1,8 +1,8 @@
--- Files of a tree, and files that a run writes.
+-- Files of a tree, and what a run does to files.
 use Rattle.std.specs.Prelude.{ℕ, Bool, List, length, ◌-◌, take, Option, option_map}
 use Rattle.std.specs.List.{list_any}
 use Rattle.std.specs.Str.{bytes_eq}
-use Rattle.msb_values.specs.declared.put.Put.{Put}
+use Rattle.msb_values.specs.declared.act.Act.{Act}
 use Rattle.file_store.specs.Files.{file_at}
 use Rattle.file_store.specs.declared.tree.File.{File}
 
@@ -14,9 +14,9 @@ bytes_in files path = option_map (λ (f : File). f.bytes) (file_at path files)
 abbrev pub AnyPath : List ℕ → Type 0
 AnyPath path = Unit {0}
 
--- those of some files that were not written before, the newest first
-abbrev pub since : List Put → List Put → List Put
-since before puts = take (length puts - length before) puts
+-- those of some acts that were not done before, the newest first
+abbrev pub since : List Act → List Act → List Act
+since before acts = take (length acts - length before) acts
 
 abbrev pub is_one_of : List ℕ → List (List ℕ) → Bool
 is_one_of path paths = list_any (bytes_eq path) paths

@@ -9,7 +9,7 @@ ghost use Rattle.std.specs.Prelude.{◌≡◌, ℕ, List, Some};
 ghost use Rattle.msb_values.specs.declared.mode.Mode.TheVariants.{Incremental};
 ghost use Rattle.file_store.specs.declared.tree.File.{File};
 ghost use Rattle.result_cache.specs.declared.request.RequestResult.{RequestResult};
-ghost use Rattle.file_store.specs.Commits.{AreWritten};
+ghost use Rattle.file_store.specs.Commits.{AreDone};
 ghost use Rattle.file_store.specs.declared.tree.Tree.{Tree};
 ghost use Rattle.build_world.specs.declared.world.World.{World};
 ghost use Rattle.build_meaning.specs.Meaning.{Given, meaning};
@@ -54,29 +54,30 @@ pub fn incremental_is_clean()
 /// it left, that clean build is fresh, and in the tree no output of a piece is older than the
 /// inputs that it is paired with. (Incremental builds.)
 ///
-/// The tree is the one that the commit leaves: the files of the build's journal are written in
-/// order, each with a stamp that is greater than all others. The build may be a clean one itself.
+/// The tree is the one that the commit leaves: the last act on each path is done, in the journal's
+/// order, and a file that is written gets a stamp that is greater than all others. The build may be
+/// a clean one itself.
 pub fn stays_fresh()
     ensures fresh { (tools : List ℕ → ToolInput → ToolAnswer) (w : World) (left : Tree)
         (clean out again : Given ToolInput RequestResult) → IsTrustworthy tools w clean →
         IsSettledBuild tools w out →
-        AreWritten (commit_list out.journal) w.tree.files left.files →
+        AreDone (commit_list out.journal) w.tree.files left.files →
         IsRepeatedBuild tools w left clean again →
         IsFresh tools left.files (clean_over tools w left) again.value again.journal }
     ensures no_older { (tools : List ℕ → ToolInput → ToolAnswer) (w : World) (left : Tree)
         (clean out again : Given ToolInput RequestResult) → IsTrustworthy tools w clean →
         IsSettledBuild tools w out →
-        AreWritten (commit_list out.journal) w.tree.files left.files →
+        AreDone (commit_list out.journal) w.tree.files left.files →
         IsRepeatedBuild tools w left clean again →
         IsNoOlder tools left.files (clean_over tools w left) again.value again.journal }
 {}
 
 /// An incremental build of declared and fresh projects skips each piece, where in the tree each
-/// output of a piece is no older than its inputs, and runs without a piece write none of them.
-/// (Incremental builds.)
+/// output of a piece is no older than its inputs, and runs without a piece write or remove none of
+/// them. (Incremental builds.)
 ///
 /// So it was left by a build that has done its work, where no input was changed since. Each run of
-/// a target with Inputs and Outputs writes no file and uses no tool, and its record says `up to
+/// a target with Inputs and Outputs acts on no file and uses no tool, and its record says `up to
 /// date` once for each piece, and `nothing to do` for each other bucket, or `failed` for a fault in
 /// a text.
 pub fn second_build_skips()
@@ -94,7 +95,7 @@ pub fn next_build_skips()
     ensures { (tools : List ℕ → ToolInput → ToolAnswer) (w : World) (left : Tree)
         (clean out again : Given ToolInput RequestResult) → IsTrustworthy tools w clean →
         IsSettledBuild tools w out →
-        AreWritten (commit_list out.journal) w.tree.files left.files →
+        AreDone (commit_list out.journal) w.tree.files left.files →
         IsRepeatedBuild tools w left clean again →
         IsDeclared tools left.files (clean_over tools w left) again →
         (next : Given ToolInput RequestResult) →

@@ -33,7 +33,7 @@ use Rattle.result_cache.specs.declared.request.RequestKey.{RequestKey}
 use Rattle.result_cache.specs.declared.request.RequestResult.{RequestResult}
 use Rattle.result_cache.specs.declared.record.Record.{Record}
 use Rattle.result_cache.specs.Lists.{In}
-use Rattle.result_cache.specs.Journal.{Journal, wrote, ended, add, merge}
+use Rattle.result_cache.specs.Journal.{Journal, acted, ended, add, merge}
 use Rattle.result_cache.specs.Same.{is_in}
 use Rattle.result_cache.proofs.RunTests.{tells, in-is_in}
 use Rattle.result_cache.proofs.Closed.{in-merge}
@@ -73,7 +73,7 @@ use Rattle.build_incremental.specs.Each.{
   each_made,
   EachBody,
   each_ended,
-  each_wrote,
+  each_acted,
   each_used_tool,
   each_called,
   EachCalls,
@@ -218,7 +218,7 @@ module _ {P I A : Type 0} (w : PlacedWorld P I A) (Q : P → RunId → Journal �
         Comes (body (plain_world w) (request (plain_world w) d path) r b j so_far) (m, tools) k
     body-comes (each_ended {j = j} {so_far = so_far} {outcome = outcome}) d h =
         just (recorded outcome so_far.segments, so_far.tools) j
-    body-comes (each_wrote rest) d h = body-comes rest d h
+    body-comes (each_acted rest) d h = body-comes rest d h
     body-comes (each_used_tool rest) d h = body-comes rest d h
     body-comes (each_called {path = path} {r = r} {j = j} {i = i} {k = k} {so_far = so_far}
         {key = key} {keys = keys} {go = go} {results = results} {m = m} {tools = tools}
@@ -304,9 +304,9 @@ module _ {P I A : Type 0} (w : PlacedWorld P I A) (Q : P → RunId → Journal �
         EachBody w Q J K path r j so_far b m tools k → (s : RunId) (n : Record) →
         In (ended s n) k → In (ended s n) j ⊎ WasMade s n
     body-ended each_ended s n u = inl u
-    body-ended (each_wrote {r = r} {j = j} {so_far = so_far} {put = put} rest) s n u =
+    body-ended (each_acted {r = r} {j = j} {so_far = so_far} {act = act} rest) s n u =
         elim (body-ended rest s n u) [
-          | inl v ↦ elim (in-add (ended s n) j (wrote r (length so_far.segments) put) v)
+          | inl v ↦ elim (in-add (ended s n) j (acted r (length so_far.segments) act) v)
               [ inl e ↦ absurd (cc) | inr v ↦ inl v ]
           | inr t ↦ inr t
         ]

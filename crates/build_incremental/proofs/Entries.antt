@@ -1,4 +1,4 @@
--- What a journal that is put together has: contents, records, marks, and the writes of one run.
+-- What a journal that is put together has: contents, records, marks, and the acts of one run.
 use Rattle.std.proofs.Common.{
   ◌≡◌,
   ℕ,
@@ -25,7 +25,8 @@ use Rattle.std.proofs.Common.{
 use Rattle.std.specs.Option.{option_or}
 use Rattle.std.specs.Str.{bytes_eq}
 use Rattle.std.proofs.Math.Bool.{or_assoc}
-use Rattle.msb_values.specs.declared.put.Put.{Put}
+use Rattle.msb_values.specs.Acts.{act_path, act_bytes}
+use Rattle.msb_values.specs.declared.act.Act.{Act}
 use Rattle.result_cache.specs.declared.run.RunId.{RunId}
 use Rattle.result_cache.specs.declared.record.Record.{Record}
 use Rattle.result_cache.specs.Lists.{In, this_or}
@@ -33,10 +34,10 @@ use Rattle.result_cache.specs.Same.{same_run}
 use Rattle.result_cache.specs.Journal.{
   Journal,
   Entry,
-  wrote,
+  acted,
   ended,
   Mark,
-  write_of,
+  act_of,
   end_of,
   mark,
   same_mark,
@@ -80,15 +81,15 @@ this_or-append false x y z this e = e
 pub content-append : (newer older : Journal) (path : List ℕ) →
     content (newer ++ older) path ≡ option_or (content newer path) (content older path)
 content-append [] older path = refl
-content-append (wrote run place put ∷ newer) older path =
-    this_or-append (bytes_eq put.path path) (content newer path)
-    (content older path) _ put.bytes (content-append newer older path)
+content-append (acted run place act ∷ newer) older path =
+    this_or-append (bytes_eq (act_path act) path) (content newer path)
+    (content older path) _ (act_bytes act) (content-append newer older path)
 content-append (ended run made ∷ newer) older path = content-append newer older path
 
 pub record-append : (newer older : Journal) (run : RunId) →
     record_of (newer ++ older) run ≡ option_or (record_of newer run) (record_of older run)
 record-append [] older run = refl
-record-append (wrote other place put ∷ newer) older run = record-append newer older run
+record-append (acted other place act ∷ newer) older run = record-append newer older run
 record-append (ended other made ∷ newer) older run =
     this_or-append (same_run other run) (record_of newer run)
     (record_of older run) _ made (record-append newer older run)
@@ -113,20 +114,20 @@ in-marked e (x ∷ j) (inl p) = or_left (same_mark (mark x) (mark e)) (has (mark
 in-marked e (x ∷ j) (inr i) = or_right (same_mark (mark x) (mark e)) (has (mark e) j)
     (in-marked e j i)
 
-pub marked-write : (run : RunId) (n : ℕ) (j : Journal) → Has (write_of run n) j →
-    (put : Put) × In (wrote run n put) j
-marked-write run n [] h = absurd (cc)
-marked-write run n (wrote other k put ∷ j) h =
-    elim (or_cases (same_mark (write_of other k) (write_of run n)) (has (write_of run n) j) h) [
+pub marked-act : (run : RunId) (n : ℕ) (j : Journal) → Has (act_of run n) j →
+    (act : Act) × In (acted run n act) j
+marked-act run n [] h = absurd (cc)
+marked-act run n (acted other k act ∷ j) h =
+    elim (or_cases (same_mark (act_of other k) (act_of run n)) (has (act_of run n) j) h) [
       | inl p ↦ (
-        put,
-        inl (let q : write_of other k ≡ write_of run n =
-            same_mark-true (write_of other k) (write_of run n) p in let a : other ≡ run = cc in
+        act,
+        inl (let q : act_of other k ≡ act_of run n =
+            same_mark-true (act_of other k) (act_of run n) p in let a : other ≡ run = cc in
             let b : k ≡ n = cc in cc),
       )
-      | inr p ↦ let x = marked-write run n j p in (x.0, inr x.1)
+      | inr p ↦ let x = marked-act run n j p in (x.0, inr x.1)
     ]
-marked-write run n (ended other m ∷ j) h = let x = marked-write run n j h in (x.0, inr x.1)
+marked-act run n (ended other m ∷ j) h = let x = marked-act run n j h in (x.0, inr x.1)
 
 -- the run has ended with a record
 abbrev pub HasEnded : RunId → Journal → Type 0
@@ -147,50 +148,54 @@ not-ended run j h = elim (none-or-some (record_of j run)) [ inl n ↦ n | inr s 
 
 -- ---- contents
 
-pub content-there : (j : Journal) (path bytes : List ℕ) → content j path ≡ Some bytes →
-    (run : RunId) × (n : ℕ) × (put : Put) × In (wrote run n put) j × (bytes_eq put.path path ≡ true)
-content-there [] path bytes h = absurd (cc)
-content-there (ended run m ∷ j) path bytes h = let x = content-there j path bytes h in
+pub content-there : (j : Journal) (path : List ℕ) (left : Option (List ℕ)) →
+    content j path ≡ Some left →
+    (run : RunId) × (n : ℕ) × (act : Act) × In (acted run n act) j
+    × (bytes_eq (act_path act) path ≡ true)
+content-there [] path left h = absurd (cc)
+content-there (ended run m ∷ j) path left h = let x = content-there j path left h in
     (x.0, x.1, x.2, inr x.3, x.4)
-content-there (wrote run n put ∷ j) path bytes h =
-    go (bytes_eq put.path path) refl h (content-there j path bytes)
+content-there (acted run n act ∷ j) path left h =
+    go (bytes_eq (act_path act) path) refl h (content-there j path left)
   where
-    go : (b : Bool) → bytes_eq put.path path ≡ b → this_or b (content j path) put.bytes ≡ Some bytes
-        → (content j path ≡ Some bytes → (run : RunId) × (n : ℕ) × (put : Put)
-        × In (wrote run n put) j × (bytes_eq put.path path ≡ true))
-        → (r : RunId) × (k : ℕ) × (p : Put) × In (wrote r k p) (wrote run n put ∷ j)
-        × (bytes_eq p.path path ≡ true)
-    go true e h ih = (run, n, put, inl refl, e)
+    go : (b : Bool) → bytes_eq (act_path act) path ≡ b →
+        this_or b (content j path) (act_bytes act) ≡ Some left →
+        (content j path ≡ Some left → (run : RunId) × (n : ℕ) × (act : Act)
+        × In (acted run n act) j × (bytes_eq (act_path act) path ≡ true))
+        → (r : RunId) × (k : ℕ) × (p : Act) × In (acted r k p) (acted run n act ∷ j)
+        × (bytes_eq (act_path p) path ≡ true)
+    go true e h ih = (run, n, act, inl refl, e)
     go false e h ih = let x = ih h in (x.0, x.1, x.2, inr x.3, x.4)
 
-pub there-content : (j : Journal) (path : List ℕ) (run : RunId) (n : ℕ) (put : Put) →
-    In (wrote run n put) j → bytes_eq put.path path ≡ true →
-    (bytes : List ℕ) × (content j path ≡ Some bytes)
-there-content [] path run n put i e = absurd i
-there-content (ended other m ∷ j) path run n put (inl p) e = absurd (cc)
-there-content (ended other m ∷ j) path run n put (inr i) e = there-content j path run n put i e
-there-content (wrote other k file ∷ j) path run n put i e =
-    go (bytes_eq file.path path) refl i (λ x. there-content j path run n put x e)
+pub there-content : (j : Journal) (path : List ℕ) (run : RunId) (n : ℕ) (act : Act) →
+    In (acted run n act) j → bytes_eq (act_path act) path ≡ true →
+    (left : Option (List ℕ)) × (content j path ≡ Some left)
+there-content [] path run n act i e = absurd i
+there-content (ended other m ∷ j) path run n act (inl p) e = absurd (cc)
+there-content (ended other m ∷ j) path run n act (inr i) e = there-content j path run n act i e
+there-content (acted other k this ∷ j) path run n act i e =
+    go (bytes_eq (act_path this) path) refl i (λ x. there-content j path run n act x e)
   where
-    go : (b : Bool) → bytes_eq file.path path ≡ b → In (wrote run n put) (wrote other k file ∷ j) →
-        (In (wrote run n put) j → (bytes : List ℕ) × (content j path ≡ Some bytes))
-        → (bytes : List ℕ) × (this_or b (content j path) file.bytes ≡ Some bytes)
-    go true t i ih = (file.bytes, refl)
-    go false t (inl p) ih = let same : file ≡ put = cc in
-        absurd (clash (bytes_eq put.path path) e (subst (λ (f : Put). bytes_eq f.path path
-        ≡ false) same t))
+    go : (b : Bool) → bytes_eq (act_path this) path ≡ b →
+        In (acted run n act) (acted other k this ∷ j) →
+        (In (acted run n act) j → (left : Option (List ℕ)) × (content j path ≡ Some left))
+        → (left : Option (List ℕ)) × (this_or b (content j path) (act_bytes this) ≡ Some left)
+    go true t i ih = (act_bytes this, refl)
+    go false t (inl p) ih = let same : this ≡ act = cc in
+        absurd (clash (bytes_eq (act_path act) path) e
+        (subst (λ (f : Act). bytes_eq (act_path f) path ≡ false) same t))
     go false t (inr i) ih = ih i
 
 pub nothing-content : (j : Journal) (path : List ℕ) →
-    ((run : RunId) (n : ℕ) (put : Put) → In (wrote run n put) j → bytes_eq put.path path ≡ true →
-    ⊥) → content j path ≡ None
+    ((run : RunId) (n : ℕ) (act : Act) → In (acted run n act) j →
+    bytes_eq (act_path act) path ≡ true → ⊥) → content j path ≡ None
 nothing-content j path h = elim (none-or-some (content j path)) [
   | inl n ↦ n
   | inr s ↦ let x =
       content-there j path s.0 s.1 in absurd (h x.0 x.1 x.2 x.3 x.4)
 ]
 
--- ---- the writes of one run
+-- ---- the acts of one run
 
 abbrev pub front_if : Bool → Entry → Journal → Journal
 front_if true e j = e ∷ j
@@ -198,30 +203,30 @@ front_if false e j = j
 
 abbrev pub own : RunId → Journal → Journal
 own run [] = []
-own run (wrote other n put ∷ j) = front_if (same_run other run) (wrote other n put) (own run j)
+own run (acted other n act ∷ j) = front_if (same_run other run) (acted other n act) (own run j)
 own run (ended other m ∷ j) = own run j
 
 pub own-append : (run : RunId) (a b : Journal) → own run (a ++ b) ≡ own run a ++ own run b
 own-append run [] b = refl
 own-append run (ended other m ∷ a) b = own-append run a b
-own-append run (wrote other n put ∷ a) b = go (same_run other run) (own-append run a b)
+own-append run (acted other n act ∷ a) b = go (same_run other run) (own-append run a b)
   where
     go : (t : Bool) → own run (a ++ b) ≡ own run a ++ own run b →
-        front_if t (wrote other n put) (own run (a ++ b)) ≡ front_if t (wrote other n put)
+        front_if t (acted other n act) (own run (a ++ b)) ≡ front_if t (acted other n act)
         (own run a) ++ own run b
-    go true ih = ap (λ l. wrote other n put ∷ l) ih
+    go true ih = ap (λ l. acted other n act ∷ l) ih
     go false ih = ih
 
-pub in-own : (run : RunId) (j : Journal) (n : ℕ) (put : Put) → In (wrote run n put) j →
-    In (wrote run n put) (own run j)
-in-own run [] n put i = absurd i
-in-own run (ended other m ∷ j) n put (inl p) = absurd (cc)
-in-own run (ended other m ∷ j) n put (inr i) = in-own run j n put i
-in-own run (wrote other k file ∷ j) n put i = go (same_run other run) refl i (in-own run j n put)
+pub in-own : (run : RunId) (j : Journal) (n : ℕ) (act : Act) → In (acted run n act) j →
+    In (acted run n act) (own run j)
+in-own run [] n act i = absurd i
+in-own run (ended other m ∷ j) n act (inl p) = absurd (cc)
+in-own run (ended other m ∷ j) n act (inr i) = in-own run j n act i
+in-own run (acted other k this ∷ j) n act i = go (same_run other run) refl i (in-own run j n act)
   where
-    go : (t : Bool) → same_run other run ≡ t → In (wrote run n put) (wrote other k file ∷ j) →
-        (In (wrote run n put) j → In (wrote run n put) (own run j)) →
-        In (wrote run n put) (front_if t (wrote other k file) (own run j))
+    go : (t : Bool) → same_run other run ≡ t → In (acted run n act) (acted other k this ∷ j) →
+        (In (acted run n act) j → In (acted run n act) (own run j)) →
+        In (acted run n act) (front_if t (acted other k this) (own run j))
     go true t (inl p) ih = inl p
     go true t (inr i) ih = inr (ih i)
     go false t (inl p) ih = let same : other ≡ run = cc in
@@ -229,64 +234,64 @@ in-own run (wrote other k file ∷ j) n put i = go (same_run other run) refl i (
         (same_run-refl other)) t)
     go false t (inr i) ih = ih i
 
-pub own-in : (run other : RunId) (j : Journal) (n : ℕ) (put : Put) →
-    In (wrote other n put) (own run j) → In (wrote other n put) j × (other ≡ run)
-own-in run other [] n put i = absurd i
-own-in run other (ended s m ∷ j) n put i = let x = own-in run other j n put i in (inr x.0, x.1)
-own-in run other (wrote s k file ∷ j) n put i =
-    go (same_run s run) refl i (own-in run other j n put)
+pub own-in : (run other : RunId) (j : Journal) (n : ℕ) (act : Act) →
+    In (acted other n act) (own run j) → In (acted other n act) j × (other ≡ run)
+own-in run other [] n act i = absurd i
+own-in run other (ended s m ∷ j) n act i = let x = own-in run other j n act i in (inr x.0, x.1)
+own-in run other (acted s k this ∷ j) n act i =
+    go (same_run s run) refl i (own-in run other j n act)
   where
-    go : (t : Bool) → same_run s run ≡ t → In (wrote other n put)
-        (front_if t (wrote s k file) (own run j)) →
-        (In (wrote other n put) (own run j) → In (wrote other n put) j × (other ≡ run))
-        → In (wrote other n put) (wrote s k file ∷ j) × (other ≡ run)
+    go : (t : Bool) → same_run s run ≡ t → In (acted other n act)
+        (front_if t (acted s k this) (own run j)) →
+        (In (acted other n act) (own run j) → In (acted other n act) j × (other ≡ run))
+        → In (acted other n act) (acted s k this ∷ j) × (other ≡ run)
     go true t (inl p) ih = (inl p, let same : s ≡ other = cc in sym same ∙ same_run-true s run t)
     go true t (inr i) ih = let x = ih i in (inr x.0, x.1)
     go false t i ih = let x = ih i in (inr x.0, x.1)
 
--- a journal without writes of the run
-pub own-none : (run : RunId) (j : Journal) → ((n : ℕ) (put : Put) → In (wrote run n put) j → ⊥) →
+-- a journal without acts of the run
+pub own-none : (run : RunId) (j : Journal) → ((n : ℕ) (act : Act) → In (acted run n act) j → ⊥) →
     own run j ≡ []
 own-none run [] h = refl
-own-none run (ended other m ∷ j) h = own-none run j (λ n put i. h n put (inr i))
-own-none run (wrote other k file ∷ j) h = go (same_run other run) refl
-    (own-none run j (λ n put i. h n put (inr i)))
+own-none run (ended other m ∷ j) h = own-none run j (λ n act i. h n act (inr i))
+own-none run (acted other k this ∷ j) h = go (same_run other run) refl
+    (own-none run j (λ n act i. h n act (inr i)))
   where
     go : (t : Bool) → same_run other run ≡ t → own run j ≡ [] →
-        front_if t (wrote other k file) (own run j) ≡ []
-    go true t ih = absurd (h k file (inl (ap (λ r. wrote r k file) (same_run-true other run t))))
+        front_if t (acted other k this) (own run j) ≡ []
+    go true t ih = absurd (h k this (inl (ap (λ r. acted r k this) (same_run-true other run t))))
     go false t ih = ih
 
--- where one run alone writes a path, the content is that of its own writes
+-- where one run alone acts on a path, the content is that of its own acts
 pub content-own : (run : RunId) (j : Journal) (path : List ℕ) →
-    ((other : RunId) (n : ℕ) (put : Put) → In (wrote other n put) j →
-    bytes_eq put.path path ≡ true → other ≡ run) → content j path ≡ content (own run j) path
+    ((other : RunId) (n : ℕ) (act : Act) → In (acted other n act) j →
+    bytes_eq (act_path act) path ≡ true → other ≡ run) → content j path ≡ content (own run j) path
 content-own run [] path h = refl
-content-own run (ended other m ∷ j) path h = content-own run j path (λ s n put i. h s n put (inr i))
-content-own run (wrote other k file ∷ j) path h =
-    go (same_run other run) refl (bytes_eq file.path path) refl
-    (content-own run j path (λ s n put i. h s n put (inr i)))
+content-own run (ended other m ∷ j) path h = content-own run j path (λ s n act i. h s n act (inr i))
+content-own run (acted other k this ∷ j) path h =
+    go (same_run other run) refl (bytes_eq (act_path this) path) refl
+    (content-own run j path (λ s n act i. h s n act (inr i)))
   where
-    go : (t : Bool) → same_run other run ≡ t → (b : Bool) → bytes_eq file.path path ≡ b →
+    go : (t : Bool) → same_run other run ≡ t → (b : Bool) → bytes_eq (act_path this) path ≡ b →
         content j path ≡ content (own run j) path →
-        this_or (bytes_eq file.path path) (content j path) file.bytes
-        ≡ content (front_if t (wrote other k file) (own run j)) path
-    go true t b e ih = ap (λ x. this_or (bytes_eq file.path path) x file.bytes) ih
-    go false t true e ih = let same = h other k file (inl refl) e in
+        this_or (bytes_eq (act_path this) path) (content j path) (act_bytes this)
+        ≡ content (front_if t (acted other k this) (own run j)) path
+    go true t b e ih = ap (λ x. this_or (bytes_eq (act_path this) path) x (act_bytes this)) ih
+    go false t true e ih = let same = h other k this (inl refl) e in
         absurd (clash (same_run other run) (subst (λ r. same_run other r ≡ true) same
         (same_run-refl other)) t)
-    go false t false e ih = ap (λ x. this_or x (content j path) file.bytes) e ∙ ih
+    go false t false e ih = ap (λ x. this_or x (content j path) (act_bytes this)) e ∙ ih
 
 -- its own marks
 pub own-marks : (run : RunId) (n : ℕ) (j : Journal) →
-    has (write_of run n) (own run j) ≡ has (write_of run n) j
+    has (act_of run n) (own run j) ≡ has (act_of run n) j
 own-marks run n [] = refl
 own-marks run n (ended other m ∷ j) = own-marks run n j
-own-marks run n (wrote other k file ∷ j) = go (same_run other run) refl (own-marks run n j)
+own-marks run n (acted other k this ∷ j) = go (same_run other run) refl (own-marks run n j)
   where
-    go : (t : Bool) → same_run other run ≡ t → has (write_of run n)
-        (own run j) ≡ has (write_of run n) j → has (write_of run n)
-        (front_if t (wrote other k file) (own run j)) ≡ has (write_of run n)
-        (wrote other k file ∷ j)
-    go true t ih = ap (λ b. same_mark (write_of other k) (write_of run n) || b) ih
+    go : (t : Bool) → same_run other run ≡ t → has (act_of run n)
+        (own run j) ≡ has (act_of run n) j → has (act_of run n)
+        (front_if t (acted other k this) (own run j)) ≡ has (act_of run n)
+        (acted other k this ∷ j)
+    go true t ih = ap (λ b. same_mark (act_of other k) (act_of run n) || b) ih
     go false t ih = rw t ih

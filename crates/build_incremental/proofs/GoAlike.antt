@@ -24,23 +24,24 @@ use Rattle.std.proofs.Common.{
   ◌∙◌,
   subst,
 }
-use Rattle.msb_values.specs.declared.put.Put.{Put}
+use Rattle.msb_values.specs.Acts.{act_path}
+use Rattle.msb_values.specs.declared.act.Act.{Act}
 use Rattle.result_cache.specs.declared.run.RunId.{RunId}
 use Rattle.result_cache.specs.declared.request.RequestKey.{RequestKey}
 use Rattle.result_cache.specs.declared.request.RequestResult.{RequestResult}
 use Rattle.result_cache.specs.declared.record.Record.{Record}
 use Rattle.result_cache.specs.declared.record.Segment.{Segment}
-use Rattle.result_cache.specs.declared.record.Segment.TheVariants.{Write}
+use Rattle.result_cache.specs.declared.record.Segment.TheVariants.{File}
 use Rattle.result_cache.specs.Lists.{In}
-use Rattle.result_cache.specs.Journal.{Journal, wrote, ended, write_of, has, add, merge, record_of}
+use Rattle.result_cache.specs.Journal.{Journal, acted, ended, act_of, has, add, merge, record_of}
 use Rattle.result_cache.proofs.JournalEntries.{none-had, had-none, add_new}
 use Rattle.build_meaning.proofs.MeaningDerived.{in-left, in-right}
-use Rattle.build_meaning.specs.Walk.{Body, makes, writes, uses, calls, Outcome}
+use Rattle.build_meaning.specs.Walk.{Body, makes, does, uses, calls, Outcome}
 use Rattle.build_meaning.specs.SoFar.{
   ToolUse,
   SoFar,
   nothing_yet,
-  with_write,
+  with_act,
   with_tool,
   recorded,
   result_of,
@@ -54,7 +55,7 @@ use Rattle.build_incremental.specs.Each.{
   each_made,
   EachBody,
   each_ended,
-  each_wrote,
+  each_acted,
   each_used_tool,
   each_called,
   EachCalls,
@@ -64,7 +65,7 @@ use Rattle.build_incremental.specs.Each.{
 }
 use Rattle.build_incremental.specs.Joins.{IsOfOneRun, Anyhow}
 use Rattle.build_incremental.specs.Alike.{AlikeOutcomes, AlikeRecords, AlikeJournals}
-use Rattle.build_incremental.specs.Alone.{alone, written, LacksOnly}
+use Rattle.build_incremental.specs.Alone.{alone, segments_of, LacksOnly}
 use Rattle.build_incremental.specs.SideBySide.{
   AlikeBodies,
   AlikeRuns,
@@ -79,8 +80,8 @@ use Rattle.build_incremental.proofs.Numbered.{
   numbered,
   has-above,
   kept_whole,
-  writes-called,
-  written-length,
+  acts-called,
+  segments-length,
 }
 use Rattle.build_incremental.proofs.Pairs.{found-first, found-none}
 use Rattle.build_incremental.proofs.Moves.{
@@ -101,9 +102,9 @@ use Rattle.build_incremental.proofs.Moves.{
 use Rattle.build_incremental.proofs.OpenRuns.{
   went-closed,
   went-in-part,
-  wrote-w,
-  wrote-c,
-  writes-on,
+  acted-w,
+  acted-c,
+  acts-on,
   calls-on,
 }
 
@@ -111,17 +112,17 @@ use Rattle.build_incremental.proofs.OpenRuns.{
 
 module _ {P I A : Type 0} (w : PlacedWorld P I A) (Q : P → RunId → Journal → Record → Type 0)
     (J : Journal → Journal → Journal → Type 0) (K : RequestKey → Type 0) where
-  next-journal : (r : RunId) (j0 : Journal) → ((n : ℕ) → has (write_of r n) j0 ≡ false) →
-      (puts : List Put) (put : Put) (n : ℕ) → n ≡ length puts →
-      add (numbered r puts ++ j0) (wrote r n put) ≡ numbered r (put ∷ puts) ++ j0
-  next-journal r j0 free puts put n e =
-      subst (λ k. add (numbered r puts ++ j0) (wrote r k put) ≡ numbered r (put ∷ puts) ++ j0)
+  next-journal : (r : RunId) (j0 : Journal) → ((n : ℕ) → has (act_of r n) j0 ≡ false) →
+      (acts : List Act) (act : Act) (n : ℕ) → n ≡ length acts →
+      add (numbered r acts ++ j0) (acted r n act) ≡ numbered r (act ∷ acts) ++ j0
+  next-journal r j0 free acts act n e =
+      subst (λ k. add (numbered r acts ++ j0) (acted r k act) ≡ numbered r (act ∷ acts) ++ j0)
       (sym e)
-      (add_new (numbered r puts ++ j0) (wrote r (length puts) put)
-      (has-append (write_of r (length puts)) (numbered r puts) j0
-      ∙ neither (has (write_of r (length puts)) (numbered r puts))
-      (has (write_of r (length puts)) j0) (has-above r puts (length puts) (self (length puts)))
-      (free (length puts))))
+      (add_new (numbered r acts ++ j0) (acted r (length acts) act)
+      (has-append (act_of r (length acts)) (numbered r acts) j0
+      ∙ neither (has (act_of r (length acts)) (numbered r acts))
+      (has (act_of r (length acts)) j0) (has-above r acts (length acts) (self (length acts)))
+      (free (length acts))))
     where
       self : (n : ℕ) → n ≤ n
       self n = omega arith
@@ -131,85 +132,85 @@ module _ {P I A : Type 0} (w : PlacedWorld P I A) (Q : P → RunId → Journal �
 
   -- it is made
   pub alone-made : (path : List RunId) (r : RunId) (j0 : Journal) →
-      ((n : ℕ) → has (write_of r n) j0 ≡ false) →
-      (b : Body I A) (before : List Put) (o : Outcome) (puts : List Put) →
-      alone w.tools r b (numbered r before ++ j0) before ≡ Some (o, puts) →
-      (so_far : SoFar I) → so_far.segments ≡ written before →
+      ((n : ℕ) → has (act_of r n) j0 ≡ false) →
+      (b : Body I A) (before : List Act) (o : Outcome) (acts : List Act) →
+      alone w.tools r b (numbered r before ++ j0) before ≡ Some (o, acts) →
+      (so_far : SoFar I) → so_far.segments ≡ segments_of before →
       (tools : List (ToolUse I)) × EachBody w Q J K path r (numbered r before ++ j0) so_far b
-      (recorded o (written puts)) tools (numbered r puts ++ j0)
-  alone-made path r j0 free (makes outcome) before o puts h so_far e =
-      let one : Outcome × List Put = (outcome, before) in
-      let other : Outcome × List Put = (o, puts) in
+      (recorded o (segments_of acts)) tools (numbered r acts ++ j0)
+  alone-made path r j0 free (makes outcome) before o acts h so_far e =
+      let one : Outcome × List Act = (outcome, before) in
+      let other : Outcome × List Act = (o, acts) in
       let both : one ≡ other = cc in
       let po : outcome ≡ o = ap (λ z. z.0) both in
-      let pp : before ≡ puts = ap (λ z. z.1) both in (
+      let pp : before ≡ acts = ap (λ z. z.1) both in (
         so_far.tools,
         subst (λ z. EachBody w Q J K path r (numbered r before ++ j0) so_far
-            (makes outcome) (recorded o (written z)) so_far.tools (numbered r z ++ j0)) pp
+            (makes outcome) (recorded o (segments_of z)) so_far.tools (numbered r z ++ j0)) pp
             (subst (λ z. EachBody w Q J K path r (numbered r before ++ j0) so_far (makes outcome)
-            (recorded z (written before)) so_far.tools (numbered r before ++ j0)) po
+            (recorded z (segments_of before)) so_far.tools (numbered r before ++ j0)) po
             (subst (λ z. EachBody w Q J K path r (numbered r before ++ j0) so_far (makes outcome)
             (recorded outcome z) so_far.tools (numbered r before ++ j0)) e each_ended)),
       )
-  alone-made path r j0 free (writes put go) before o puts h so_far e =
+  alone-made path r j0 free (does act go) before o acts h so_far e =
       let j : Journal = numbered r before ++ j0 in
-      let long : length so_far.segments ≡ length before = ap length e ∙ written-length before in
-      let next : add j (wrote r (length before) put) ≡ numbered r (put ∷ before) ++ j0 =
-      next-journal r j0 free before put (length before) refl in
-      let next' : add j (wrote r (length so_far.segments) put) ≡ numbered r (put ∷ before) ++ j0 =
-      next-journal r j0 free before put (length so_far.segments) long in
-      let x = alone-made path r j0 free (go (numbered r (put ∷ before) ++ j0))
-      (put ∷ before) o puts (subst (λ z. alone w.tools r (go z) z (put ∷ before) ≡ Some (
+      let long : length so_far.segments ≡ length before = ap length e ∙ segments-length before in
+      let next : add j (acted r (length before) act) ≡ numbered r (act ∷ before) ++ j0 =
+      next-journal r j0 free before act (length before) refl in
+      let next' : add j (acted r (length so_far.segments) act) ≡ numbered r (act ∷ before) ++ j0 =
+      next-journal r j0 free before act (length so_far.segments) long in
+      let x = alone-made path r j0 free (go (numbered r (act ∷ before) ++ j0))
+      (act ∷ before) o acts (subst (λ z. alone w.tools r (go z) z (act ∷ before) ≡ Some (
         o,
-        puts,
-      )) next h) (with_write so_far put) (ap (λ s. s ++ Write put ∷ []) e) in (
+        acts,
+      )) next h) (with_act so_far act) (ap (λ s. s ++ File act ∷ []) e) in (
         x.0,
-        each_wrote (subst (λ z. EachBody w Q J K path r z (with_write so_far put) (go z)
-            (recorded o (written puts)) x.0 (numbered r puts ++ j0)) (sym next') x.1),
+        each_acted (subst (λ z. EachBody w Q J K path r z (with_act so_far act) (go z)
+            (recorded o (segments_of acts)) x.0 (numbered r acts ++ j0)) (sym next') x.1),
       )
-  alone-made path r j0 free (uses name input go) before o puts h so_far e =
-      let x = alone-made path r j0 free (go (w.tools name input)) before o puts h
+  alone-made path r j0 free (uses name input go) before o acts h so_far e =
+      let x = alone-made path r j0 free (go (w.tools name input)) before o acts h
       (with_tool so_far name input) e in (x.0, each_used_tool x.1)
-  alone-made path r j0 free (calls key keys go) before o puts h so_far e = absurd (cc)
+  alone-made path r j0 free (calls key keys go) before o acts h so_far e = absurd (cc)
 
   -- what is made of it
   pub alone-told : {path : List RunId} {r : RunId} {j i : Journal} {so_far : SoFar I} {b : Body I A}
       {m : Record} {tools : List (ToolUse I)} → EachBody w Q J K path r j so_far b m tools i →
-      (j0 : Journal) → ((n : ℕ) → has (write_of r n) j0 ≡ false) → (before : List Put) →
-      j ≡ numbered r before ++ j0 → (o : Outcome) (puts : List Put) →
-      alone w.tools r b j before ≡ Some (o, puts) → so_far.segments ≡ written before →
-      (m ≡ recorded o (written puts)) × (i ≡ numbered r puts ++ j0)
+      (j0 : Journal) → ((n : ℕ) → has (act_of r n) j0 ≡ false) → (before : List Act) →
+      j ≡ numbered r before ++ j0 → (o : Outcome) (acts : List Act) →
+      alone w.tools r b j before ≡ Some (o, acts) → so_far.segments ≡ segments_of before →
+      (m ≡ recorded o (segments_of acts)) × (i ≡ numbered r acts ++ j0)
   alone-told (each_ended {r = r} {so_far = so_far} {outcome =
-      outcome}) j0 free before at o puts h e =
-      let one : Outcome × List Put = (outcome, before) in
-      let other : Outcome × List Put = (o, puts) in
+      outcome}) j0 free before at o acts h e =
+      let one : Outcome × List Act = (outcome, before) in
+      let other : Outcome × List Act = (o, acts) in
       let both : one ≡ other = cc in
       let po : outcome ≡ o = ap (λ z. z.0) both in
-      let pp : before ≡ puts = ap (λ z. z.1) both in (
-        ap (recorded outcome) e ∙ (ap (λ z. recorded z (written before)) po
-            ∙ ap (λ z. recorded o (written z)) pp),
+      let pp : before ≡ acts = ap (λ z. z.1) both in (
+        ap (recorded outcome) e ∙ (ap (λ z. recorded z (segments_of before)) po
+            ∙ ap (λ z. recorded o (segments_of z)) pp),
         at ∙ ap (λ z. numbered r z ++ j0) pp,
       )
-  alone-told (each_wrote {r = r} {j = j} {so_far = so_far} {put = put} {go =
-      go} rest) j0 free before at o puts h e =
-      let long : length so_far.segments ≡ length before = ap length e ∙ written-length before in
-      let next : add j (wrote r (length so_far.segments) put) ≡ numbered r (put ∷ before) ++ j0 =
-      ap (λ z. add z (wrote r (length so_far.segments) put)) at
-      ∙ next-journal r j0 free before put (length so_far.segments) long in
-      alone-told rest j0 free (put ∷ before) next o puts
-      (subst (λ n. alone w.tools r (go (add j (wrote r n put))) (add j (wrote r n put))
-      (put ∷ before) ≡ Some (o, puts)) (sym long) h) (ap (λ s. s ++ Write put ∷ []) e)
-  alone-told (each_used_tool rest) j0 free before at o puts h e =
-      alone-told rest j0 free before at o puts h e
-  alone-told (each_called asked rest) j0 free before at o puts h e = absurd (cc)
+  alone-told (each_acted {r = r} {j = j} {so_far = so_far} {act = act} {go =
+      go} rest) j0 free before at o acts h e =
+      let long : length so_far.segments ≡ length before = ap length e ∙ segments-length before in
+      let next : add j (acted r (length so_far.segments) act) ≡ numbered r (act ∷ before) ++ j0 =
+      ap (λ z. add z (acted r (length so_far.segments) act)) at
+      ∙ next-journal r j0 free before act (length so_far.segments) long in
+      alone-told rest j0 free (act ∷ before) next o acts
+      (subst (λ n. alone w.tools r (go (add j (acted r n act))) (add j (acted r n act))
+      (act ∷ before) ≡ Some (o, acts)) (sym long) h) (ap (λ s. s ++ File act ∷ []) e)
+  alone-told (each_used_tool rest) j0 free before at o acts h e =
+      alone-told rest j0 free before at o acts h e
+  alone-told (each_called asked rest) j0 free before at o acts h e = absurd (cc)
 
   -- a record has what was done so far
   pub has-so-far : {path : List RunId} {r : RunId} {j i : Journal} {so_far : SoFar I} {b : Body I A}
       {m : Record} {tools : List (ToolUse I)} → EachBody w Q J K path r j so_far b m tools i →
       (s : Segment) → In s so_far.segments → In s m.segments
   has-so-far each_ended s u = u
-  has-so-far (each_wrote {so_far = so_far} {put = put} rest) s u =
-      has-so-far rest s (in-left s so_far.segments (Write put ∷ []) u)
+  has-so-far (each_acted {so_far = so_far} {act = act} rest) s u =
+      has-so-far rest s (in-left s so_far.segments (File act ∷ []) u)
   has-so-far (each_used_tool rest) s u = has-so-far rest s u
   has-so-far (each_called {so_far = so_far} {key = key} {keys = keys} {results =
       results} asked rest) s u = has-so-far rest s
@@ -260,17 +261,18 @@ module _ {P I A : Type 0} (files : List ℕ → Option (List ℕ)) (W : List ℕ
       (tools : List (ToolUse I)) (l : Journal) → EachBody c Q IsOfOneRun K (r
       ∷ path) r k nothing_yet y m tools l →
       IsFree files W MadeSo r path j → IsFree files W MadeSo r path k → ¬ In r path → MadeSo r m →
-      Alike j k → (o q : Outcome) (puts wholes : List Put) →
-      alone c.tools r b j [] ≡ Some (o, puts) → alone c.tools r y k [] ≡ Some (q, wholes) →
-      AlikeOutcomes o q → LacksOnly files j puts wholes → ((put : Put) → In put puts → W put.path) →
-      Q' p r j (recorded o (written puts)) → RunGoes p path r j k b m l
-  part-goes p path r j k b y m tools l d fw fc out made base o q puts wholes hw hc alike lacks may
+      Alike j k → (o q : Outcome) (acts wholes : List Act) →
+      alone c.tools r b j [] ≡ Some (o, acts) → alone c.tools r y k [] ≡ Some (q, wholes) →
+      AlikeOutcomes o q → LacksOnly files j acts wholes →
+      ((act : Act) → In act acts → W (act_path act)) →
+      Q' p r j (recorded o (segments_of acts)) → RunGoes p path r j k b m l
+  part-goes p path r j k b y m tools l d fw fc out made base o q acts wholes hw hc alike lacks may
       said =
-      let u = alone-made w Q' Anyhow K (r ∷ path) r j fw.writes b [] o puts
-      (subst (λ t. alone t r b j [] ≡ Some (o, puts)) (sym side.tools) hw) nothing_yet refl in
-      let v = alone-told c Q IsOfOneRun K d k fc.writes [] refl q wholes hc refl in
-      let seg : m.segments ≡ written wholes = ap (λ (x : Record). x.segments) v.0 in
-      let recs : AlikeRecords (recorded o (written puts)) m =
+      let u = alone-made w Q' Anyhow K (r ∷ path) r j fw.acts b [] o acts
+      (subst (λ t. alone t r b j [] ≡ Some (o, acts)) (sym side.tools) hw) nothing_yet refl in
+      let v = alone-told c Q IsOfOneRun K d k fc.acts [] refl q wholes hc refl in
+      let seg : m.segments ≡ segments_of wholes = ap (λ (x : Record). x.segments) v.0 in
+      let recs : AlikeRecords (recorded o (segments_of acts)) m =
       record {
         ok = alike.ok ∙ sym (ap (λ (x : Record). x.ok) v.0);
         items =
@@ -278,17 +280,17 @@ module _ {P I A : Type 0} (files : List ℕ → Option (List ℕ)) (W : List ℕ
         changes =
             alike.changes ∙ sym (ap (λ (x : Record). x.changes) v.0);
       } in (
-        recorded o (written puts),
+        recorded o (segments_of acts),
         u.0,
-        numbered r puts ++ j,
+        numbered r acts ++ j,
         u.1,
         said,
         recs,
         subst (λ z. Moved path j k
-            (add (numbered r puts ++ j) (ended r (recorded o (written puts))))
+            (add (numbered r acts ++ j) (ended r (recorded o (segments_of acts))))
             (add z (ended r m))) (sym v.1)
-            (went-in-part files W MadeSo r path (recorded o (written puts)) m puts wholes j k seg
-            fw fc out made recs base lacks may),
+            (went-in-part files W MadeSo r path (recorded o (segments_of acts)) m acts wholes j k
+            seg fw fc out made recs base lacks may),
       )
 
   run-goes : (p : P) {path : List RunId} {r : RunId} {k : Journal} {y : Body I A} {m : Record}
@@ -297,12 +299,12 @@ module _ {P I A : Type 0} (files : List ℕ → Option (List ℕ)) (W : List ℕ
       (b : Body I A) (j : Journal) → IsFree files W MadeSo r path j →
       IsFree files W MadeSo r path k → ¬ In r path → MadeSo r m → Alike j k →
       (AlikeBodies files W b y → Midway files W MadeSo r path [] j k j k →
-      ((put : Put) → In (Write put) m.segments → W put.path) →
+      ((act : Act) → In (File act) m.segments → W (act_path act)) →
       StepsGo r path j k j nothing_yet b m tools l) →
       AlikeRuns files W c.tools r j k b y m (Q' p r j) → RunGoes p path r j k b m l
   run-goes p {path} {r} {k} {y} {m} {tools} {l} d b j fw fc out made a steps
-      (in_part o q puts wholes hw hc alike lacks may said) =
-      part-goes p path r j k b y m tools l d fw fc out made a o q puts wholes hw hc alike lacks may
+      (in_part o q acts wholes hw hc alike lacks may said) =
+      part-goes p path r j k b y m tools l d fw fc out made a o q acts wholes hw hc alike lacks may
       said
   run-goes p {path} {r} {k} {y} {m} {tools} {l} d b j fw fc out made a steps
       (step_by_step alike may said) =
@@ -315,8 +317,8 @@ module _ {P I A : Type 0} (files : List ℕ → Option (List ℕ)) (W : List ℕ
           once_w = tt;
           once_c = tt;
           same_ends = λ s. tt;
-          by_w = λ s n put u. absurd u;
-          by_c = λ s n put u. absurd u;
+          by_w = λ s n act u. absurd u;
+          by_c = λ s n act u. absurd u;
           made = λ s x e. absurd (cc);
           own_c = λ s x e. absurd (cc);
           own_w = λ s x e. absurd (cc);
@@ -342,7 +344,7 @@ module _ {P I A : Type 0} (files : List ℕ → Option (List ℕ)) (W : List ℕ
       )
 
   midway-known : (r : RunId) (path : List RunId) (segments : List Segment) (i j N : Journal) →
-      i ≡ N ++ j → ((s : RunId) (n : ℕ) (put : Put) → In (wrote s n put) N →
+      i ≡ N ++ j → ((s : RunId) (n : ℕ) (act : Act) → In (acted s n act) N →
       HasEnded s N ⊎ (r ≡ s)) → IsFree files W MadeSo r path j → Known (r ∷ path) i
   midway-known r path segments i j N e by f =
       subst (Known (r ∷ path)) (sym e) (known-over (r ∷ path)
@@ -380,13 +382,13 @@ module _ {P I A : Type 0} (files : List ℕ → Option (List ℕ)) (W : List ℕ
         (a.records s) none-c in
         let fw : IsFree files W MadeSo s path j = record {
           known = kw;
-          writes =
+          acts =
               none-of path j s kw out none-w;
           ends = none-w;
         } in
         let fc : IsFree files W MadeSo s path k = record {
           known = kc;
-          writes =
+          acts =
               none-of path k s kc out none-c;
           ends = none-c;
         } in
@@ -395,7 +397,7 @@ module _ {P I A : Type 0} (files : List ℕ → Option (List ℕ)) (W : List ℕ
           k,
           q,
         ) a (λ alike start may. steps-go d b j j k fw fc a alike start may)
-        (h.1 m q fw.writes fc.writes) in
+        (h.1 m q fw.acts fc.acts) in
         let moved = u.6 in
         let x = walk-goes rest (go u.0 (add u.2 (ended s u.0))) (add u.2 (ended s u.0))
         (h.2 u.0 m (add u.2 (ended s u.0)) (add i (ended s m)) u.5 moved.alike)
@@ -412,7 +414,7 @@ module _ {P I A : Type 0} (files : List ℕ → Option (List ℕ)) (W : List ℕ
         (b : Body I A) (i j k : Journal) → IsFree files W MadeSo r path j →
         IsFree files W MadeSo r path k → Alike j k → AlikeBodies files W b y →
         Midway files W MadeSo r path so_far.segments j k i l →
-        ((put : Put) → In (Write put) m.segments → W put.path) →
+        ((act : Act) → In (File act) m.segments → W (act_path act)) →
         StepsGo r path j k i so_far b m tools end
     steps-go {path} {r} (each_ended {so_far = so_far} {outcome = outcome})
         (makes o) i j k fw fc a alike mid may = (
@@ -421,40 +423,40 @@ module _ {P I A : Type 0} (files : List ℕ → Option (List ℕ)) (W : List ℕ
               (recorded z so_far.segments) so_far.tools i) alike each_ended,
           mid,
         )
-    steps-go each_ended (writes put go) i j k fw fc a alike mid may = absurd alike
+    steps-go each_ended (does act go) i j k fw fc a alike mid may = absurd alike
     steps-go each_ended (uses name input go) i j k fw fc a alike mid may = absurd alike
     steps-go each_ended (calls key keys go) i j k fw fc a alike mid may = absurd alike
     steps-go {path} {r} {l} {m = m} {tools = tools}
-        (each_wrote {so_far = so_far} {put = put} {go = to} rest)
-        (writes put' go) i j k fw fc a alike mid may =
-        let wi : add i (wrote r (length so_far.segments) put) ≡ wrote r (length so_far.segments) put
-        ∷ i = wrote-w files W MadeSo r path so_far.segments fw fc a mid put in
-        let ci : add l (wrote r (length so_far.segments) put) ≡ wrote r (length so_far.segments) put
-        ∷ l = wrote-c files W MadeSo r path so_far.segments fw fc a mid put in
-        let in_record : In (Write put) m.segments =
-        has-so-far c Q IsOfOneRun K rest (Write put)
-        (in-right (Write put) so_far.segments (Write put ∷ []) (inl refl)) in
-        let on = writes-on files W MadeSo r path so_far.segments fw fc a mid put
-        (may put in_record) in
-        let mid' : Midway files W MadeSo r path (so_far.segments ++ Write put ∷ []) j k
-        (add i (wrote r (length so_far.segments) put))
-        (add l (wrote r (length so_far.segments) put)) =
-        subst (λ z. Midway files W MadeSo r path (so_far.segments ++ Write put ∷ []) j k z
-        (add l (wrote r (length so_far.segments) put))) (sym wi)
-        (subst (λ z. Midway files W MadeSo r path (so_far.segments ++ Write put ∷ []) j k
-        (wrote r (length so_far.segments) put ∷ i) z) (sym ci) on) in
-        let x = steps-go rest (go (add i (wrote r (length so_far.segments) put)))
-        (add i (wrote r (length so_far.segments) put)) j k fw fc a
-        (alike.1 (add i (wrote r (length so_far.segments) put))
-        (add l (wrote r (length so_far.segments) put)) mid'.alike) mid' may in (
+        (each_acted {so_far = so_far} {act = act} {go = to} rest)
+        (does act' go) i j k fw fc a alike mid may =
+        let wi : add i (acted r (length so_far.segments) act) ≡ acted r (length so_far.segments) act
+        ∷ i = acted-w files W MadeSo r path so_far.segments fw fc a mid act in
+        let ci : add l (acted r (length so_far.segments) act) ≡ acted r (length so_far.segments) act
+        ∷ l = acted-c files W MadeSo r path so_far.segments fw fc a mid act in
+        let in_record : In (File act) m.segments =
+        has-so-far c Q IsOfOneRun K rest (File act)
+        (in-right (File act) so_far.segments (File act ∷ []) (inl refl)) in
+        let on = acts-on files W MadeSo r path so_far.segments fw fc a mid act
+        (may act in_record) in
+        let mid' : Midway files W MadeSo r path (so_far.segments ++ File act ∷ []) j k
+        (add i (acted r (length so_far.segments) act))
+        (add l (acted r (length so_far.segments) act)) =
+        subst (λ z. Midway files W MadeSo r path (so_far.segments ++ File act ∷ []) j k z
+        (add l (acted r (length so_far.segments) act))) (sym wi)
+        (subst (λ z. Midway files W MadeSo r path (so_far.segments ++ File act ∷ []) j k
+        (acted r (length so_far.segments) act ∷ i) z) (sym ci) on) in
+        let x = steps-go rest (go (add i (acted r (length so_far.segments) act)))
+        (add i (acted r (length so_far.segments) act)) j k fw fc a
+        (alike.1 (add i (acted r (length so_far.segments) act))
+        (add l (acted r (length so_far.segments) act)) mid'.alike) mid' may in (
           x.0,
-          subst (λ z. EachBody w Q' Anyhow K (r ∷ path) r i so_far (writes z go) m tools x.0)
-              (sym alike.0) (each_wrote x.1),
+          subst (λ z. EachBody w Q' Anyhow K (r ∷ path) r i so_far (does z go) m tools x.0)
+              (sym alike.0) (each_acted x.1),
           x.2,
         )
-    steps-go (each_wrote rest) (makes o) i j k fw fc a alike mid may = absurd alike
-    steps-go (each_wrote rest) (uses name input go) i j k fw fc a alike mid may = absurd alike
-    steps-go (each_wrote rest) (calls key keys go) i j k fw fc a alike mid may = absurd alike
+    steps-go (each_acted rest) (makes o) i j k fw fc a alike mid may = absurd alike
+    steps-go (each_acted rest) (uses name input go) i j k fw fc a alike mid may = absurd alike
+    steps-go (each_acted rest) (calls key keys go) i j k fw fc a alike mid may = absurd alike
     steps-go {path} {r} {l} {m = m} {tools = tools}
         (each_used_tool {so_far = so_far} {name = name} {input = input} {go = to} rest)
         (uses name' input' go) i j k fw fc a alike mid may =
@@ -473,7 +475,7 @@ module _ {P I A : Type 0} (files : List ℕ → Option (List ℕ)) (W : List ℕ
           x.2,
         )
     steps-go (each_used_tool rest) (makes o) i j k fw fc a alike mid may = absurd alike
-    steps-go (each_used_tool rest) (writes put go) i j k fw fc a alike mid may = absurd alike
+    steps-go (each_used_tool rest) (does act go) i j k fw fc a alike mid may = absurd alike
     steps-go (each_used_tool rest) (calls key keys go) i j k fw fc a alike mid may = absurd alike
     steps-go {path} {r} {l} {m = m} {tools = tools}
         (each_called {i = after} {so_far = so_far} {key = key} {keys = keys} {go = to} {results =
@@ -487,7 +489,7 @@ module _ {P I A : Type 0} (files : List ℕ → Option (List ℕ)) (W : List ℕ
         let mid' : Midway files W MadeSo r path (so_far.segments
         ++ called (key ∷ keys) results) j k x.0 after =
         calls-on files W MadeSo r path so_far.segments fw fc a mid (so_far.segments
-        ++ called (key ∷ keys) results) (writes-called r so_far.segments (key
+        ++ called (key ∷ keys) results) (acts-called r so_far.segments (key
         ∷ keys) results) x.2 in
         let y' = steps-go rest (go results x.0) x.0 j k fw fc a
         (alike.2 results x.0 after mid'.alike) mid' may in (
@@ -500,7 +502,7 @@ module _ {P I A : Type 0} (files : List ℕ → Option (List ℕ)) (W : List ℕ
           y'.2,
         )
     steps-go (each_called asked rest) (makes o) i j k fw fc a alike mid may = absurd alike
-    steps-go (each_called asked rest) (writes put go) i j k fw fc a alike mid may = absurd alike
+    steps-go (each_called asked rest) (does act go) i j k fw fc a alike mid may = absurd alike
     steps-go (each_called asked rest) (uses name input go) i j k fw fc a alike mid may =
         absurd alike
 
@@ -527,7 +529,7 @@ module _ {P I A : Type 0} (files : List ℕ → Option (List ℕ)) (W : List ℕ
         same = λ p. refl;
         records = λ r. tt;
         only =
-            λ r n put u. absurd u;
+            λ r n act u. absurd u;
       } in
       let alike : AlikeWalks files W Q' Q c.tools (w.walks w.root []) (c.walks c.root []) [] [] =
       subst (λ z. AlikeWalks files W Q' Q c.tools (w.walks z []) (c.walks c.root []) [] [])

@@ -1,21 +1,21 @@
--- What a meaning keeps: the marks that a journal has, and whatever each write, each end of a run
+-- What a meaning keeps: the marks that a journal has, and whatever each act, each end of a run
 -- and each join keeps.
 use Rattle.std.proofs.Common.{ℕ, inl, inr, List, [], ◌∷◌, ◌++◌, length, refl, sym, subst}
-use Rattle.msb_values.specs.declared.put.Put.{Put}
+use Rattle.msb_values.specs.declared.act.Act.{Act}
 use Rattle.result_cache.specs.declared.run.RunId.{RunId}
 use Rattle.result_cache.specs.declared.request.RequestKey.{RequestKey}
 use Rattle.result_cache.specs.declared.request.RequestResult.{RequestResult}
 use Rattle.result_cache.specs.declared.record.Record.{Record}
 use Rattle.result_cache.specs.declared.record.Segment.{Segment}
-use Rattle.result_cache.specs.declared.record.Segment.TheVariants.{Write, Call}
+use Rattle.result_cache.specs.declared.record.Segment.TheVariants.{File, Call}
 use Rattle.result_cache.specs.Lists.{In}
 use Rattle.result_cache.specs.Journal.{
   Journal,
   Entry,
-  wrote,
+  acted,
   ended,
   Mark,
-  write_of,
+  act_of,
   mark,
   add,
   merge,
@@ -32,7 +32,7 @@ use Rattle.build_incremental.specs.Each.{
   each_made,
   EachBody,
   each_ended,
-  each_wrote,
+  each_acted,
   each_used_tool,
   each_called,
   EachCalls,
@@ -40,17 +40,17 @@ use Rattle.build_incremental.specs.Each.{
   each_call,
 }
 use Rattle.build_incremental.proofs.GoAlike.{has-so-far}
-use Rattle.build_incremental.proofs.Numbered.{writes_in, writes-more, writes-called}
+use Rattle.build_incremental.proofs.Numbered.{acts_in, acts-more, acts-called}
 
--- what is there when one write more is added
-own-added : (r : RunId) (j older : Journal) (n : ℕ) (put : Put) →
-    ((k : ℕ) (q : Put) → In (wrote r k q) older → Has (write_of r k) j) →
-    (k : ℕ) (q : Put) → In (wrote r k q) (wrote r n put ∷ older) →
-    Has (write_of r k) (add j (wrote r n put))
-own-added r j older n put f k q (inl e) =
-    subst (λ z. Has (mark z) (add j (wrote r n put))) e (has-added j (wrote r n put))
-own-added r j older n put f k q (inr i) =
-    has-add (write_of r k) j (wrote r n put) (f k q i)
+-- what is there when one act more is added
+own-added : (r : RunId) (j older : Journal) (n : ℕ) (act : Act) →
+    ((k : ℕ) (q : Act) → In (acted r k q) older → Has (act_of r k) j) →
+    (k : ℕ) (q : Act) → In (acted r k q) (acted r n act ∷ older) →
+    Has (act_of r k) (add j (acted r n act))
+own-added r j older n act f k q (inl e) =
+    subst (λ z. Has (mark z) (add j (acted r n act))) e (has-added j (acted r n act))
+own-added r j older n act f k q (inr i) =
+    has-add (act_of r k) j (acted r n act) (f k q i)
 
 module _ {P I A : Type 0} (w : PlacedWorld P I A) (Q : P → RunId → Journal → Record → Type 0)
     (J : Journal → Journal → Journal → Type 0) (K : RequestKey → Type 0) where
@@ -69,8 +69,8 @@ module _ {P I A : Type 0} (w : PlacedWorld P I A) (Q : P → RunId → Journal �
         {b : Body I A} {m : Record} {tools : List (ToolUse I)} {k : Journal} →
         EachBody w Q J K path r j so_far b m tools k → (s : Mark) → Has s j → Has s k
     body-has each_ended s h = h
-    body-has (each_wrote {r = r} {j = j} {so_far = so_far} {put = put} rest) s h =
-        body-has rest s (has-add s j (wrote r (length so_far.segments) put) h)
+    body-has (each_acted {r = r} {j = j} {so_far = so_far} {act = act} rest) s h =
+        body-has rest s (has-add s j (acted r (length so_far.segments) act) h)
     body-has (each_used_tool rest) s h = body-has rest s h
     body-has (each_called asked rest) s h = body-has rest s (calls-has asked s h)
 
@@ -81,37 +81,37 @@ module _ {P I A : Type 0} (w : PlacedWorld P I A) (Q : P → RunId → Journal �
     calls-has (each_call {a = a} {i = i} known less walk so rest) s h =
         calls-has rest s (has-merge_left s a i h)
 
-  -- ---- the writes and calls of a record
+  -- ---- the acts and calls of a record
 
-  pub has-writes : {path : List RunId} {r : RunId} {j : Journal} {so_far : SoFar I}
+  pub has-acts : {path : List RunId} {r : RunId} {j : Journal} {so_far : SoFar I}
       {b : Body I A} {m : Record} {tools : List (ToolUse I)} {k : Journal} →
       EachBody w Q J K path r j so_far b m tools k → (e : Entry) →
-      In e (writes_in r so_far.segments) → In e (writes_in r m.segments)
-  has-writes each_ended e i = i
-  has-writes (each_wrote {r = r} {so_far = so_far} {put = put} rest) e i =
-      has-writes rest e (subst (In e) (sym (writes-more r so_far.segments put)) (inr i))
-  has-writes (each_used_tool rest) e i = has-writes rest e i
-  has-writes (each_called {r = r} {so_far = so_far} {key = key} {keys = keys} {results = results}
+      In e (acts_in r so_far.segments) → In e (acts_in r m.segments)
+  has-acts each_ended e i = i
+  has-acts (each_acted {r = r} {so_far = so_far} {act = act} rest) e i =
+      has-acts rest e (subst (In e) (sym (acts-more r so_far.segments act)) (inr i))
+  has-acts (each_used_tool rest) e i = has-acts rest e i
+  has-acts (each_called {r = r} {so_far = so_far} {key = key} {keys = keys} {results = results}
       asked rest) e i =
-      has-writes rest e
-      (subst (In e) (sym (writes-called r so_far.segments (key ∷ keys) results)) i)
+      has-acts rest e
+      (subst (In e) (sym (acts-called r so_far.segments (key ∷ keys) results)) i)
 
-  -- what the record writes is there when its body has come to its end
+  -- what the record has of acts is there when its body has come to its end
   pub own-there : {path : List RunId} {r : RunId} {j : Journal} {so_far : SoFar I}
       {b : Body I A} {m : Record} {tools : List (ToolUse I)} {k : Journal} →
-      EachBody w Q J K path r j so_far b m tools k → ((n : ℕ) (put : Put) →
-      In (wrote r n put) (writes_in r so_far.segments) → Has (write_of r n) j) →
-      (n : ℕ) (put : Put) → In (wrote r n put) (writes_in r m.segments) → Has (write_of r n) k
-  own-there each_ended f n put i = f n put i
-  own-there (each_wrote {r = r} {j = j} {so_far = so_far} {put = new} rest) f n put i =
-      own-there rest (λ k q u. own-added r j (writes_in r so_far.segments)
+      EachBody w Q J K path r j so_far b m tools k → ((n : ℕ) (act : Act) →
+      In (acted r n act) (acts_in r so_far.segments) → Has (act_of r n) j) →
+      (n : ℕ) (act : Act) → In (acted r n act) (acts_in r m.segments) → Has (act_of r n) k
+  own-there each_ended f n act i = f n act i
+  own-there (each_acted {r = r} {j = j} {so_far = so_far} {act = new} rest) f n act i =
+      own-there rest (λ k q u. own-added r j (acts_in r so_far.segments)
       (length so_far.segments) new f k q
-      (subst (In (wrote r k q)) (writes-more r so_far.segments new) u)) n put i
-  own-there (each_used_tool rest) f n put i = own-there rest f n put i
+      (subst (In (acted r k q)) (acts-more r so_far.segments new) u)) n act i
+  own-there (each_used_tool rest) f n act i = own-there rest f n act i
   own-there (each_called {r = r} {so_far = so_far} {key = key} {keys = keys} {results = results}
-      asked rest) f n put i =
-      own-there rest (λ k q u. calls-has asked (write_of r k) (f k q
-      (subst (In (wrote r k q)) (writes-called r so_far.segments (key ∷ keys) results) u))) n put i
+      asked rest) f n act i =
+      own-there rest (λ k q u. calls-has asked (act_of r k) (f k q
+      (subst (In (acted r k q)) (acts-called r so_far.segments (key ∷ keys) results) u))) n act i
 
   -- a record tells of each call
   pub call-told : {path : List RunId} {r : RunId} {j a i k : Journal} {key : RequestKey}
@@ -129,17 +129,17 @@ module _ {P I A : Type 0} (w : PlacedWorld P I A) (Q : P → RunId → Journal �
 
   -- ---- what each step keeps
 
-  -- Inv holds of a journal. It is kept by the end of a run, by a join, and by a write of a run
+  -- Inv holds of a journal. It is kept by the end of a run, by a join, and by an act of a run
   -- where Ready holds of its record, of what it has done so far and of its journal.
   module _ (Inv : Journal → Type 0) (Ready : RunId → Record → List Segment → Journal → Type 0)
       (ends : (p : P) (r : RunId) (from : Journal) (m : Record) → Q p r from m →
       (j : Journal) → Inv j → Inv (add j (ended r m)))
       (joins : (a i : Journal) → Inv a → Inv i → Inv (merge a i))
       (starts : (p : P) (r : RunId) (j : Journal) (m : Record) → Q p r j m → Ready r m [] j)
-      (writes : (r : RunId) (m : Record) (segments : List Segment) (put : Put) (j : Journal) →
-      In (wrote r (length segments) put) (writes_in r m.segments) → Ready r m segments j → Inv j →
-      Inv (add j (wrote r (length segments) put))
-      × Ready r m (segments ++ Write put ∷ []) (add j (wrote r (length segments) put)))
+      (acts : (r : RunId) (m : Record) (segments : List Segment) (act : Act) (j : Journal) →
+      In (acted r (length segments) act) (acts_in r m.segments) → Ready r m segments j → Inv j →
+      Inv (add j (acted r (length segments) act))
+      × Ready r m (segments ++ File act ∷ []) (add j (acted r (length segments) act)))
       (calls : (r : RunId) (m : Record) (segments : List Segment) (key : RequestKey)
       (keys : List RequestKey) (results : List RequestResult) (j i : Journal) →
       ((s : Mark) → Has s j → Has s i) →
@@ -159,11 +159,11 @@ module _ {P I A : Type 0} (w : PlacedWorld P I A) (Q : P → RunId → Journal �
           EachBody w Q J K path r j so_far b m tools k → Ready r m so_far.segments j →
           Inv j → Inv k
       body-keeps each_ended g v = v
-      body-keeps (each_wrote {r = r} {j = j} {so_far = so_far} {put = put} {m = m} rest) g v =
-          let e : Entry = wrote r (length so_far.segments) put in
-          let there : In e (writes_in r (so_far.segments ++ Write put ∷ [])) =
-          subst (In e) (sym (writes-more r so_far.segments put)) (inl refl) in
-          let x = writes r m so_far.segments put j (has-writes rest e there) g v in
+      body-keeps (each_acted {r = r} {j = j} {so_far = so_far} {act = act} {m = m} rest) g v =
+          let e : Entry = acted r (length so_far.segments) act in
+          let there : In e (acts_in r (so_far.segments ++ File act ∷ [])) =
+          subst (In e) (sym (acts-more r so_far.segments act)) (inl refl) in
+          let x = acts r m so_far.segments act j (has-acts rest e there) g v in
           body-keeps rest x.1 x.0
       body-keeps (each_used_tool rest) g v = body-keeps rest g v
       body-keeps (each_called {r = r} {j = j} {i = i} {so_far = so_far} {key = key} {keys = keys}

@@ -33,7 +33,7 @@ use Rattle.build_meaning.specs.Derived.{
   made,
   OfBody,
   ended_so,
-  wrote_one,
+  acted_one,
   used_tool,
   called_all,
   OfCalls,
@@ -59,7 +59,7 @@ use Rattle.build_incremental.specs.Each.{
   each_made,
   EachBody,
   each_ended,
-  each_wrote,
+  each_acted,
   each_used_tool,
   each_called,
   EachCalls,
@@ -123,7 +123,7 @@ module _ {P I A : Type 0} (w : PlacedWorld P I A) (D : Demanded I → Type 0) wh
         OfBody (plain_world w) D path r j so_far b m tools k →
         EachBody w MadeIn Anyhow AskedIn path r j so_far b m tools k
     each-body ended_so = each_ended
-    each-body (wrote_one rest) = each_wrote (each-body rest)
+    each-body (acted_one rest) = each_acted (each-body rest)
     each-body (used_tool rest) = each_used_tool (each-body rest)
     each-body (called_all asked rest) = each_called (each-calls asked) (each-body rest)
 
@@ -192,8 +192,8 @@ module _ {P I A : Type 0} (w : PlacedWorld P I A) (Q R : P → RunId → Journal
         EachBody w R H G path r j so_far b n others l →
         EachBody w QR JH KG path r j so_far b m tools k × (m ≡ n) × (k ≡ l)
     both-body each_ended n others l each_ended = (each_ended, refl, refl)
-    both-body (each_wrote rest) n others l (each_wrote more) = let x =
-        both-body rest n others l more in (each_wrote x.0, x.1, x.2)
+    both-body (each_acted rest) n others l (each_acted more) = let x =
+        both-body rest n others l more in (each_acted x.0, x.1, x.2)
     both-body (each_used_tool rest) n others l (each_used_tool more) = let x =
         both-body rest n others l more in (each_used_tool x.0, x.1, x.2)
     both-body (each_called {path = path} {r = r} {i = i} {so_far = so_far} {key = key} {keys = keys}
@@ -248,7 +248,7 @@ module _ {P I A : Type 0} (w : PlacedWorld P I A) (Q R : P → RunId → Journal
         {b : Body I A} {m : Record} {tools : List (ToolUse I)} {k : Journal} →
         EachBody w Q J K path r j so_far b m tools k → EachBody w R H G path r j so_far b m tools k
     weaker-body each_ended = each_ended
-    weaker-body (each_wrote rest) = each_wrote (weaker-body rest)
+    weaker-body (each_acted rest) = each_acted (weaker-body rest)
     weaker-body (each_used_tool rest) = each_used_tool (weaker-body rest)
     weaker-body (each_called asked rest) = each_called (weaker-calls asked) (weaker-body rest)
 
@@ -319,7 +319,7 @@ module _ {P I A : Type 0} (w : PlacedWorld P I A) (Q : P → RunId → Journal �
         (demand : List (Occurrence P)) × EachBody w (IsAmong demand) J K path r j so_far b m tools k
         × AreSo demand
     collect-body each_ended = ([], each_ended, λ o i. absurd i)
-    collect-body (each_wrote rest) = let x = collect-body rest in (x.0, each_wrote x.1, x.2)
+    collect-body (each_acted rest) = let x = collect-body rest in (x.0, each_acted x.1, x.2)
     collect-body (each_used_tool rest) = let x = collect-body rest in (x.0, each_used_tool x.1, x.2)
     collect-body (each_called asked rest) =
         let a = collect-calls asked in

@@ -21,15 +21,17 @@ use Rattle.std.proofs.Common.{
   subst,
   append_assoc,
 }
+use Rattle.std.specs.Prelude.{unwrap_or}
 use Rattle.std.specs.Option.{option_or}
 use Rattle.std.specs.Str.{bytes_eq}
 use Rattle.std.proofs.lemmas.Slice.Eq.{bytes_eq-Decides}
-use Rattle.msb_values.specs.declared.put.Put.{Put}
+use Rattle.msb_values.specs.Acts.{act_path}
+use Rattle.msb_values.specs.declared.act.Act.{Act}
 use Rattle.result_cache.specs.declared.run.RunId.{RunId}
 use Rattle.result_cache.specs.declared.record.Record.{Record}
 use Rattle.result_cache.specs.declared.record.Segment.{Segment}
 use Rattle.result_cache.specs.Lists.{In}
-use Rattle.result_cache.specs.Journal.{Journal, wrote, write_of, has, merge, record_of, content}
+use Rattle.result_cache.specs.Journal.{Journal, acted, act_of, has, merge, record_of, content}
 use Rattle.result_cache.proofs.RunTests.{tells, or_neither}
 use Rattle.build_meaning.proofs.MeaningDerived.{in-left}
 use Rattle.build_incremental.specs.Joins.{IsOfOneRun}
@@ -41,11 +43,11 @@ use Rattle.build_incremental.proofs.Entries.{
   has-append,
   in-parts,
   in-marked,
-  marked-write,
+  marked-act,
   HasEnded,
   own,
 }
-use Rattle.build_incremental.proofs.Numbered.{fresh, in-fresh, writes_in}
+use Rattle.build_incremental.proofs.Numbered.{fresh, in-fresh, acts_in}
 use Rattle.build_incremental.proofs.Pairs.{
   alike-or,
   ended-newer,
@@ -58,30 +60,30 @@ use Rattle.build_incremental.proofs.Pairs.{
 }
 use Rattle.build_incremental.proofs.Joined.{Nobody, Pair, nothing, compose, joined, joined-seen}
 
--- runs that have written have ended, or are open
+-- runs that have acts have ended, or are open
 abbrev pub Known : List RunId → Journal → Type 0
-Known path j = (r : RunId) (n : ℕ) (put : Put) → In (wrote r n put) j → HasEnded r j ⊎ In r path
+Known path j = (r : RunId) (n : ℕ) (act : Act) → In (acted r n act) j → HasEnded r j ⊎ In r path
 
 pub known-nothing : (path : List RunId) → Known path []
-known-nothing path r n put i = absurd i
+known-nothing path r n act i = absurd i
 
 pub known-deeper : (s : RunId) (path : List RunId) (j : Journal) → Known path j → Known (s ∷ path) j
-known-deeper s path j k r n put i = elim (k r n put i) [ inl x ↦ inl x | inr x ↦ inr (inr x) ]
+known-deeper s path j k r n act i = elim (k r n act i) [ inl x ↦ inl x | inr x ↦ inr (inr x) ]
 
 pub known-over : (path : List RunId) (o : RunId → Type 0) (N j : Journal) →
-    ((r : RunId) → o r → In r path) → ((r : RunId) (n : ℕ) (put : Put) → In (wrote r n put) N →
+    ((r : RunId) → o r → In r path) → ((r : RunId) (n : ℕ) (act : Act) → In (acted r n act) N →
     HasEnded r N ⊎ o r) → Known path j → Known path (N ++ j)
-known-over path o N j f by k r n put i = elim (in-parts (wrote r n put) N j i) [
-  | inl h ↦ elim (by r n put h) [ inl s ↦ inl (ended-newer r N j s) | inr x ↦ inr (f r x) ]
-  | inr h ↦ elim (k r n put h) [ inl s ↦ inl (ended-older r N j s) | inr x ↦ inr x ]
+known-over path o N j f by k r n act i = elim (in-parts (acted r n act) N j i) [
+  | inl h ↦ elim (by r n act h) [ inl s ↦ inl (ended-newer r N j s) | inr x ↦ inr (f r x) ]
+  | inr h ↦ elim (k r n act h) [ inl s ↦ inl (ended-older r N j s) | inr x ↦ inr x ]
 ]
 
--- a run that is neither open nor over has written nothing
+-- a run that is neither open nor over has no act
 pub none-of : (path : List RunId) (j : Journal) (r : RunId) → Known path j → ¬ In r path →
-    record_of j r ≡ None → (n : ℕ) → has (write_of r n) j ≡ false
-none-of path j r k out e n = elim (tells (has (write_of r n) j)) [
+    record_of j r ≡ None → (n : ℕ) → has (act_of r n) j ≡ false
+none-of path j r k out e n = elim (tells (has (act_of r n) j)) [
   | inl h ↦
-      let w = marked-write r n j h in
+      let w = marked-act r n j h in
       elim (k r n w.0 w.1) [
         | inl s ↦ absurd (none-some (record_of j r) e s.1)
         | inr x ↦ absurd (out x)
@@ -96,23 +98,23 @@ pub apart-right : (a b c : Journal) → Apart a (b ++ c) → Apart a c
 apart-right a b c p s h = (or_neither (has s b) (has s c) (sym (has-append s b c) ∙ p s h)).1
 
 module _ (files : List ℕ → Option (List ℕ)) (W : List ℕ → Type 0) where
-  option-assoc : {X : Type 0} (a b c : Option X) →
-      option_or (option_or a b) c ≡ option_or a (option_or b c)
-  option-assoc None b c = refl
-  option-assoc (Some x) b c = refl
+  or-else : {X : Type 0} (a b : Option X) (c : X) →
+      unwrap_or (option_or a b) c ≡ unwrap_or a (unwrap_or b c)
+  or-else None b c = refl
+  or-else (Some x) b c = refl
 
   pub seen-append : (N j : Journal) (path : List ℕ) →
-      seen files (N ++ j) path ≡ option_or (content N path) (seen files j path)
-  seen-append N j path = ap (λ o. option_or o (files path)) (content-append N j path)
-      ∙ option-assoc (content N path) (content j path) (files path)
+      seen files (N ++ j) path ≡ unwrap_or (content N path) (seen files j path)
+  seen-append N j path = ap (λ o. unwrap_or o (files path)) (content-append N j path)
+      ∙ or-else (content N path) (content j path) (files path)
 
   module _ (D : RunId → Record → Type 0) where
     -- what is put in front keeps journals alike, where contents stay equal
     pub alike-over : {o : RunId → Type 0} {N L j k : Journal} → Pair D o N L →
         AlikeJournals files W j k → ((path : List ℕ) →
-        option_or (content N path) (seen files j path) ≡ option_or (content L path)
+        unwrap_or (content N path) (seen files j path) ≡ unwrap_or (content L path)
         (seen files k path)) →
-        ((r : RunId) (n : ℕ) (put : Put) → In (wrote r n put) N → W put.path) →
+        ((r : RunId) (n : ℕ) (act : Act) → In (acted r n act) N → W (act_path act)) →
         AlikeJournals files W (N ++ j) (L ++ k)
     alike-over {o} {N} {L} {j} {k} pair a same only = record {
       same = λ path. seen-append N j path ∙ (same path ∙ sym (seen-append L k path));
@@ -122,9 +124,9 @@ module _ (files : List ℕ → Option (List ℕ)) (W : List ℕ → Type 0) wher
           (sym (record-append L k r))
           (alike-or (record_of N r) (record_of L r) (record_of j r) (record_of k r)
           (pair.same_ends r) (a.records r)));
-      only = λ r n put i. elim (in-parts (wrote r n put) N j i) [
-        | inl h ↦ only r n put h
-        | inr h ↦ a.only r n put h
+      only = λ r n act i. elim (in-parts (acted r n act) N j i) [
+        | inl h ↦ only r n act h
+        | inr h ↦ a.only r n act h
       ];
     }
 
@@ -192,36 +194,37 @@ module _ (files : List ℕ → Option (List ℕ)) (W : List ℕ → Type 0) wher
           ap (λ x. merge x l') a.c_is ∙ (ap (λ x. merge (a.L ++ k) x) b.c_is
           ∙ merge-fresh a.L b.L k b.pair.once_c b.new_c) in
           let pair = joined D one a.pair b.pair in
-          let first : (p : List ℕ) → option_or (content a.N p)
-          (seen files j p) ≡ option_or (content a.L p) (seen files k p) =
+          let first : (p : List ℕ) → unwrap_or (content a.N p)
+          (seen files j p) ≡ unwrap_or (content a.L p) (seen files k p) =
           λ p. sym (seen-append a.N j p) ∙ (sym (ap (λ x. seen files x p) a.w_is)
           ∙ (a.alike.same p ∙ (ap (λ x. seen files x p) a.c_is ∙ seen-append a.L k p))) in
-          let second : (p : List ℕ) → option_or (content b.N p)
-          (seen files j p) ≡ option_or (content b.L p) (seen files k p) =
+          let second : (p : List ℕ) → unwrap_or (content b.N p)
+          (seen files j p) ≡ unwrap_or (content b.L p) (seen files k p) =
           λ p. sym (seen-append b.N j p) ∙ (sym (ap (λ x. seen files x p) b.w_is)
           ∙ (b.alike.same p ∙ (ap (λ x. seen files x p) b.c_is ∙ seen-append b.L k p))) in
-          let runs : (r s : RunId) (n m : ℕ) (x y : Put) (p : List ℕ) → In (wrote r n x) a.L →
-          In (wrote s m y) b.L → bytes_eq x.path p ≡ true → bytes_eq y.path p ≡ true → r ≡ s =
+          let runs : (r s : RunId) (n m : ℕ) (x y : Act) (p : List ℕ) → In (acted r n x) a.L →
+          In (acted s m y) b.L → bytes_eq (act_path x) p ≡ true →
+          bytes_eq (act_path y) p ≡ true → r ≡ s =
           λ r s n m x y p u v t z. of_one p r s
           (record {
             number = n;
-            put = x;
+            act = x;
             there =
-                subst (In (wrote r n x)) (sym a.c_is) (in-left (wrote r n x) a.L k u);
+                subst (In (acted r n x)) (sym a.c_is) (in-left (acted r n x) a.L k u);
             since =
-                a.new_c (write_of r n) (in-marked (wrote r n x) a.L u);
+                a.new_c (act_of r n) (in-marked (acted r n x) a.L u);
             at =
-                (bytes_eq-Decides x.path p).0 t;
+                (bytes_eq-Decides (act_path x) p).0 t;
           })
           (record {
             number = m;
-            put = y;
+            act = y;
             there =
-                subst (In (wrote s m y)) (sym b.c_is) (in-left (wrote s m y) b.L k v);
+                subst (In (acted s m y)) (sym b.c_is) (in-left (acted s m y) b.L k v);
             since =
-                b.new_c (write_of s m) (in-marked (wrote s m y) b.L v);
+                b.new_c (act_of s m) (in-marked (acted s m y) b.L v);
             at =
-                (bytes_eq-Decides y.path p).0 z;
+                (bytes_eq-Decides (act_path y) p).0 z;
           }) in
           record {
             N = fresh a.N b.N ++ a.N;
@@ -239,11 +242,11 @@ module _ (files : List ℕ → Option (List ℕ)) (W : List ℕ → Type 0) wher
                 (subst (AlikeJournals files W ((fresh a.N b.N ++ a.N) ++ j)) (sym c)
                 (alike-over pair base (λ p. joined-seen D one a.pair b.pair runs (seen files j p)
                 (seen files k p) p (first p) (second p))
-                (λ r n put u. elim (in-parts (wrote r n put) (fresh a.N b.N) a.N u) [
-                  | inl h ↦ b.alike.only r n put (subst (In (wrote r n put)) (sym b.w_is)
-                      (in-left (wrote r n put) b.N j (in-fresh (wrote r n put) a.N b.N h)))
-                  | inr h ↦ a.alike.only r n put (subst (In (wrote r n put)) (sym a.w_is)
-                      (in-left (wrote r n put) a.N j h))
+                (λ r n act u. elim (in-parts (acted r n act) (fresh a.N b.N) a.N u) [
+                  | inl h ↦ b.alike.only r n act (subst (In (acted r n act)) (sym b.w_is)
+                      (in-left (acted r n act) b.N j (in-fresh (acted r n act) a.N b.N h)))
+                  | inr h ↦ a.alike.only r n act (subst (In (acted r n act)) (sym a.w_is)
+                      (in-left (acted r n act) a.N j h))
                 ])));
           }
 
@@ -259,12 +262,12 @@ module _ (files : List ℕ → Option (List ℕ)) (W : List ℕ → Type 0) wher
       pub new_w : Apart N j
       pub new_c : Apart L k
       pub outside : (s : RunId) → In s (r ∷ path) → record_of L s ≡ None
-      pub mine_w : own r N ≡ writes_in r segments
-      pub mine_c : own r L ≡ writes_in r segments
+      pub mine_w : own r N ≡ acts_in r segments
+      pub mine_c : own r L ≡ acts_in r segments
       pub alike : AlikeJournals files W i l
 
     -- what the run began with has nothing of it
     pub record IsFree (r : RunId) (path : List RunId) (j : Journal) : Type 0 where
       pub known : Known path j
-      pub writes : (n : ℕ) → has (write_of r n) j ≡ false
+      pub acts : (n : ℕ) → has (act_of r n) j ≡ false
       pub ends : record_of j r ≡ None

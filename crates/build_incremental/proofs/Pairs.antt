@@ -25,17 +25,18 @@ use Rattle.std.proofs.Common.{
 }
 use Rattle.std.specs.Option.{option_or}
 use Rattle.std.specs.Str.{bytes_eq}
-use Rattle.msb_values.specs.declared.put.Put.{Put}
+use Rattle.msb_values.specs.Acts.{act_path, act_bytes}
+use Rattle.msb_values.specs.declared.act.Act.{Act}
 use Rattle.result_cache.specs.declared.run.RunId.{RunId}
 use Rattle.result_cache.specs.declared.record.Record.{Record}
 use Rattle.result_cache.specs.Lists.{In, this_or}
 use Rattle.result_cache.specs.Same.{same_run}
 use Rattle.result_cache.specs.Journal.{
   Journal,
-  wrote,
+  acted,
   ended,
   Mark,
-  write_of,
+  act_of,
   end_of,
   mark,
   same_mark,
@@ -214,10 +215,10 @@ merge-fresh a (e ∷ b) j o p =
 
 fresh-gone : (r : RunId) (a b : Journal) → Has (end_of r) a → record_of (fresh a b) r ≡ None
 fresh-gone r a [] h = refl
-fresh-gone r a (wrote s k p ∷ b) h = go (has (write_of s k) a) (fresh-gone r a b h)
+fresh-gone r a (acted s k p ∷ b) h = go (has (act_of s k) a) (fresh-gone r a b h)
   where
     go : (t : Bool) → record_of (fresh a b) r ≡ None →
-        record_of (add_unless t (fresh a b) (wrote s k p)) r ≡ None
+        record_of (add_unless t (fresh a b) (acted s k p)) r ≡ None
     go true ih = ih
     go false ih = ih
 fresh-gone r a (ended s m ∷ b) h = go (has (end_of s) a) refl (same_run s r) refl
@@ -233,10 +234,10 @@ fresh-gone r a (ended s m ∷ b) h = go (has (end_of s) a) refl (same_run s r) r
 fresh-stays : (r : RunId) (a b : Journal) → has (end_of r) a ≡ false →
     record_of (fresh a b) r ≡ record_of b r
 fresh-stays r a [] h = refl
-fresh-stays r a (wrote s k p ∷ b) h = go (has (write_of s k) a) (fresh-stays r a b h)
+fresh-stays r a (acted s k p ∷ b) h = go (has (act_of s k) a) (fresh-stays r a b h)
   where
     go : (t : Bool) → record_of (fresh a b) r ≡ record_of b r →
-        record_of (add_unless t (fresh a b) (wrote s k p)) r ≡ record_of b r
+        record_of (add_unless t (fresh a b) (acted s k p)) r ≡ record_of b r
     go true ih = ih
     go false ih = ih
 fresh-stays r a (ended s m ∷ b) h = go (has (end_of s) a) refl (same_run s r) refl
@@ -268,48 +269,48 @@ own-fresh r a (ended s m ∷ b) = go (has (end_of s) a) (own-fresh r a b)
         own r (add_unless t (fresh a b) (ended s m)) ≡ fresh (own r a) (own r b)
     go true ih = ih
     go false ih = ih
-own-fresh r a (wrote s k p ∷ b) = go (has (write_of s k) a) refl (same_run s r) refl
+own-fresh r a (acted s k p ∷ b) = go (has (act_of s k) a) refl (same_run s r) refl
     (own-fresh r a b)
   where
-    mine : s ≡ r → has (write_of s k) (own r a) ≡ has (write_of s k) a
-    mine e = subst (λ x. has (write_of x k) (own r a) ≡ has (write_of x k) a) (sym e)
+    mine : s ≡ r → has (act_of s k) (own r a) ≡ has (act_of s k) a
+    mine e = subst (λ x. has (act_of x k) (own r a) ≡ has (act_of x k) a) (sym e)
         (own-marks r k a)
 
-    go : (t : Bool) → has (write_of s k) a ≡ t → (u : Bool) → same_run s r ≡ u →
+    go : (t : Bool) → has (act_of s k) a ≡ t → (u : Bool) → same_run s r ≡ u →
         own r (fresh a b) ≡ fresh (own r a) (own r b) →
-        own r (add_unless t (fresh a b) (wrote s k p)) ≡ fresh (own r a)
-        (front_if (same_run s r) (wrote s k p) (own r b))
-    go true h true q ih = ih ∙ sym (ap (λ x. fresh (own r a) (front_if x (wrote s k p) (own r b))) q
-        ∙ ap (λ x. add_unless x (fresh (own r a) (own r b)) (wrote s k p))
+        own r (add_unless t (fresh a b) (acted s k p)) ≡ fresh (own r a)
+        (front_if (same_run s r) (acted s k p) (own r b))
+    go true h true q ih = ih ∙ sym (ap (λ x. fresh (own r a) (front_if x (acted s k p) (own r b))) q
+        ∙ ap (λ x. add_unless x (fresh (own r a) (own r b)) (acted s k p))
         (mine (same_run-true s r q) ∙ h))
     go false h true q ih =
-        ap (λ x. front_if x (wrote s k p) (own r (fresh a b))) q ∙ (ap (λ l. wrote s k p ∷ l) ih
-        ∙ sym (ap (λ x. fresh (own r a) (front_if x (wrote s k p) (own r b))) q
-        ∙ ap (λ x. add_unless x (fresh (own r a) (own r b)) (wrote s k p))
+        ap (λ x. front_if x (acted s k p) (own r (fresh a b))) q ∙ (ap (λ l. acted s k p ∷ l) ih
+        ∙ sym (ap (λ x. fresh (own r a) (front_if x (acted s k p) (own r b))) q
+        ∙ ap (λ x. add_unless x (fresh (own r a) (own r b)) (acted s k p))
         (mine (same_run-true s r q) ∙ h)))
     go true h false q ih = ih ∙ sym (ap (λ x. fresh (own r a)
-        (front_if x (wrote s k p) (own r b))) q)
-    go false h false q ih = ap (λ x. front_if x (wrote s k p) (own r (fresh a b))) q
-        ∙ (ih ∙ sym (ap (λ x. fresh (own r a) (front_if x (wrote s k p) (own r b))) q))
+        (front_if x (acted s k p) (own r b))) q)
+    go false h false q ih = ap (λ x. front_if x (acted s k p) (own r (fresh a b))) q
+        ∙ (ih ∙ sym (ap (λ x. fresh (own r a) (front_if x (acted s k p) (own r b))) q))
 
 pub fresh-content : (a b : Journal) (path : List ℕ) →
-    ((r : RunId) (n : ℕ) (put : Put) → In (wrote r n put) b → bytes_eq put.path path ≡ true →
-    has (write_of r n) a ≡ false) → content (fresh a b) path ≡ content b path
+    ((r : RunId) (n : ℕ) (act : Act) → In (acted r n act) b → bytes_eq (act_path act) path ≡ true →
+    has (act_of r n) a ≡ false) → content (fresh a b) path ≡ content b path
 fresh-content a [] path h = refl
 fresh-content a (ended s m ∷ b) path h = go (has (end_of s) a)
-    (fresh-content a b path (λ r n put i. h r n put (inr i)))
+    (fresh-content a b path (λ r n act i. h r n act (inr i)))
   where
     go : (t : Bool) → content (fresh a b) path ≡ content b path →
         content (add_unless t (fresh a b) (ended s m)) path ≡ content b path
     go true ih = ih
     go false ih = ih
-fresh-content a (wrote s k p ∷ b) path h = go (has (write_of s k) a) refl
-    (bytes_eq p.path path) refl (fresh-content a b path (λ r n put i. h r n put (inr i)))
+fresh-content a (acted s k p ∷ b) path h = go (has (act_of s k) a) refl
+    (bytes_eq (act_path p) path) refl (fresh-content a b path (λ r n act i. h r n act (inr i)))
   where
-    go : (t : Bool) → has (write_of s k) a ≡ t → (u : Bool) → bytes_eq p.path path ≡ u →
+    go : (t : Bool) → has (act_of s k) a ≡ t → (u : Bool) → bytes_eq (act_path p) path ≡ u →
         content (fresh a b) path ≡ content b path →
-        content (add_unless t (fresh a b) (wrote s k p)) path ≡ this_or (bytes_eq p.path path)
-        (content b path) p.bytes
-    go true q true e ih = absurd (clash (has (write_of s k) a) q (h s k p (inl refl) e))
-    go true q false e ih = ih ∙ sym (ap (λ x. this_or x (content b path) p.bytes) e)
-    go false q u e ih = ap (λ x. this_or (bytes_eq p.path path) x p.bytes) ih
+        content (add_unless t (fresh a b) (acted s k p)) path ≡ this_or (bytes_eq (act_path p) path)
+        (content b path) (act_bytes p)
+    go true q true e ih = absurd (clash (has (act_of s k) a) q (h s k p (inl refl) e))
+    go true q false e ih = ih ∙ sym (ap (λ x. this_or x (content b path) (act_bytes p)) e)
+    go false q u e ih = ap (λ x. this_or (bytes_eq (act_path p) path) x (act_bytes p)) ih

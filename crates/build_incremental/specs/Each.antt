@@ -2,19 +2,19 @@
 -- is made, of each join of calls made at once, and of each request. (MSBuild task; Target build
 -- order)
 use Rattle.std.specs.Prelude.{ℕ, ◌≡◌, true, false, List, [], ◌∷◌, ◌++◌, length, Some, nat_lt}
-use Rattle.msb_values.specs.declared.put.Put.{Put}
+use Rattle.msb_values.specs.declared.act.Act.{Act}
 use Rattle.result_cache.specs.declared.run.RunId.{RunId}
 use Rattle.result_cache.specs.declared.request.RequestKey.{RequestKey}
 use Rattle.result_cache.specs.declared.request.RequestResult.{RequestResult}
 use Rattle.result_cache.specs.declared.record.Record.{Record}
 use Rattle.result_cache.specs.Lists.{In}
-use Rattle.result_cache.specs.Journal.{Journal, end_of, wrote, ended, has, add, merge, record_of}
-use Rattle.build_meaning.specs.Walk.{Body, makes, writes, uses, calls, Outcome, Reply}
+use Rattle.result_cache.specs.Journal.{Journal, end_of, acted, ended, has, add, merge, record_of}
+use Rattle.build_meaning.specs.Walk.{Body, makes, does, uses, calls, Outcome, Reply}
 use Rattle.build_meaning.specs.SoFar.{
   ToolUse,
   SoFar,
   nothing_yet,
-  with_write,
+  with_act,
   with_tool,
   with_calls,
   recorded,
@@ -56,11 +56,11 @@ mutual
         {outcome : Outcome} →
         EachBody w Q J K path r j so_far (makes outcome) (recorded outcome so_far.segments)
         so_far.tools j
-    each_wrote : {path : List RunId} {r : RunId} {j k : Journal} {so_far : SoFar I} {put : Put}
+    each_acted : {path : List RunId} {r : RunId} {j k : Journal} {so_far : SoFar I} {act : Act}
         {go : Journal → Body I A} {m : Record} {tools : List (ToolUse I)} →
-        EachBody w Q J K path r (add j (wrote r (length so_far.segments) put))
-        (with_write so_far put) (go (add j (wrote r (length so_far.segments) put))) m tools k →
-        EachBody w Q J K path r j so_far (writes put go) m tools k
+        EachBody w Q J K path r (add j (acted r (length so_far.segments) act))
+        (with_act so_far act) (go (add j (acted r (length so_far.segments) act))) m tools k →
+        EachBody w Q J K path r j so_far (does act go) m tools k
     each_used_tool : {path : List RunId} {r : RunId} {j k : Journal} {so_far : SoFar I}
         {name : List ℕ} {input : I} {go : A → Body I A} {m : Record} {tools : List (ToolUse I)} →
         EachBody w Q J K path r j (with_tool so_far name input) (go (w.tools name input)) m tools

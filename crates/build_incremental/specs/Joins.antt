@@ -1,23 +1,24 @@
--- Calls made at once that write one path. (MSBuild task: BuildInParallel)
+-- Calls made at once that write or remove one path. (MSBuild task: BuildInParallel)
 use Rattle.std.specs.Prelude.{ℕ, ◌≡◌, false, List}
-use Rattle.msb_values.specs.declared.put.Put.{Put}
+use Rattle.msb_values.specs.Acts.{act_path}
+use Rattle.msb_values.specs.declared.act.Act.{Act}
 use Rattle.result_cache.specs.declared.run.RunId.{RunId}
 use Rattle.result_cache.specs.Lists.{In}
-use Rattle.result_cache.specs.Journal.{Journal, wrote, write_of, has}
+use Rattle.result_cache.specs.Journal.{Journal, acted, act_of, has}
 
--- the run has written the path after the earlier journal
-pub record WroteSince (earlier later : Journal) (run : RunId) (path : List ℕ) : Type 0 where
+-- the run has acted on the path after the earlier journal
+pub record ActedSince (earlier later : Journal) (run : RunId) (path : List ℕ) : Type 0 where
   pub number : ℕ
-  pub put : Put
-  pub there : In (wrote run number put) later
-  pub since : has (write_of run number) earlier ≡ false
-  pub at : put.path ≡ path
+  pub act : Act
+  pub there : In (acted run number act) later
+  pub since : has (act_of run number) earlier ≡ false
+  pub at : act_path act ≡ path
 
--- where what was joined so far and what is joined next have written a path since the caller's
--- journal, all their writes of it are of one run
+-- where what was joined so far and what is joined next have acted on a path since the caller's
+-- journal, all their acts on it are of one run
 abbrev pub IsOfOneRun : Journal → Journal → Journal → Type 0
 IsOfOneRun caller so_far next = (path : List ℕ) (run other : RunId) →
-    WroteSince caller so_far run path → WroteSince caller next other path → run ≡ other
+    ActedSince caller so_far run path → ActedSince caller next other path → run ≡ other
 
 -- calls may be joined in any way
 abbrev pub Anyhow : Journal → Journal → Journal → Type 0

@@ -1,31 +1,32 @@
--- Two worlds side by side: what the second does, the first does alike, but that it may leave out to
--- write what is there. (Incremental builds)
+-- Two worlds side by side: what the second does, the first does alike, but that it may leave out
+-- acts that leave what is there. (Incremental builds)
 use Rattle.std.specs.Prelude.{ℕ, ◌≡◌, false, List, [], Option, Some}
-use Rattle.msb_values.specs.declared.put.Put.{Put}
+use Rattle.msb_values.specs.Acts.{act_path}
+use Rattle.msb_values.specs.declared.act.Act.{Act}
 use Rattle.result_cache.specs.declared.run.RunId.{RunId}
 use Rattle.result_cache.specs.declared.request.RequestKey.{RequestKey}
 use Rattle.result_cache.specs.declared.request.RequestResult.{RequestResult}
 use Rattle.result_cache.specs.declared.record.Record.{Record}
-use Rattle.result_cache.specs.declared.record.Segment.TheVariants.{Write}
+use Rattle.result_cache.specs.declared.record.Segment.TheVariants.{File}
 use Rattle.result_cache.specs.Lists.{In}
-use Rattle.result_cache.specs.Journal.{Journal, write_of, has}
-use Rattle.build_meaning.specs.Walk.{Body, makes, writes, uses, calls, Outcome}
+use Rattle.result_cache.specs.Journal.{Journal, act_of, has}
+use Rattle.build_meaning.specs.Walk.{Body, makes, does, uses, calls, Outcome}
 use Rattle.build_meaning.specs.SoFar.{recorded}
 use Rattle.build_incremental.specs.Placed.{Placed, replies, wants_at, PlacedWorld}
 use Rattle.build_incremental.specs.Alike.{AlikeOutcomes, AlikeRecords, AlikeJournals}
-use Rattle.build_incremental.specs.Alone.{alone, written, LacksOnly}
+use Rattle.build_incremental.specs.Alone.{alone, segments_of, LacksOnly}
 
--- the run has written nothing
-abbrev pub HasNotWritten : RunId → Journal → Type 0
-HasNotWritten run journal = (number : ℕ) → has (write_of run number) journal ≡ false
+-- the run has no act on a file
+abbrev pub HasNotActed : RunId → Journal → Type 0
+HasNotActed run journal = (number : ℕ) → has (act_of run number) journal ≡ false
 
--- W are the paths that the first world may write.
+-- W are the paths on which the first world may act.
 module _ (files : List ℕ → Option (List ℕ)) (W : List ℕ → Type 0) {I A : Type 0} where
   -- two bodies do the same step by step and come to the same, as long as their journals are alike
   abbrev pub AlikeBodies : Body I A → Body I A → Type 0
   AlikeBodies (makes o) (makes p) = o ≡ p
-  AlikeBodies (writes put go) (writes other to) =
-      (put ≡ other)
+  AlikeBodies (does act go) (does other to) =
+      (act ≡ other)
       × ((j k : Journal) → AlikeJournals files W j k → AlikeBodies (go j) (to k))
   AlikeBodies (uses name input go) (uses other given to) =
       (name ≡ other) × (input ≡ given)
@@ -42,24 +43,24 @@ module _ (files : List ℕ → Option (List ℕ)) (W : List ℕ → Type 0) {I A
   pub data AlikeRuns (tools : List ℕ → I → A) (run : RunId) (j k : Journal) (b c : Body I A)
       (made : Record) (S : Record → Type 0) : Type 0 where
     step_by_step : AlikeBodies b c →
-        ((put : Put) → In (Write put) made.segments → W put.path) → S made →
+        ((act : Act) → In (File act) made.segments → W (act_path act)) → S made →
         AlikeRuns tools run j k b c made S
-    in_part : (o p : Outcome) (part whole : List Put) →
+    in_part : (o p : Outcome) (part whole : List Act) →
         alone tools run b j [] ≡ Some (o, part) → alone tools run c k [] ≡ Some (p, whole) →
         AlikeOutcomes o p → LacksOnly files j part whole →
-        ((put : Put) → In put part → W put.path) → S (recorded o (written part)) →
+        ((act : Act) → In act part → W (act_path act)) → S (recorded o (segments_of part)) →
         AlikeRuns tools run j k b c made S
 
   -- Two requests give one reply. Or they want one run: its bodies are alike where the second one is
-  -- as Q says and the run has written nothing yet, and then the first one is as Q' says; and the
-  -- requests go on alike by alike records and journals.
+  -- as Q says and the run has no act yet, and then the first one is as Q' says; and the requests go
+  -- on alike by alike records and journals.
   abbrev pub AlikeWalks : {P : Type 0} → (P → RunId → Journal → Record → Type 0) →
       (P → RunId → Journal → Record → Type 0) → (List ℕ → I → A) →
       Placed P I A → Placed P I A → Journal → Journal → Type 0
   AlikeWalks Q' Q tools (replies reply) (replies other) j k = reply ≡ other
   AlikeWalks Q' Q tools (wants_at p r b go) (wants_at q s c to) j k =
       (r ≡ s)
-      × ((made : Record) → Q q s k made → HasNotWritten s j → HasNotWritten s k →
+      × ((made : Record) → Q q s k made → HasNotActed s j → HasNotActed s k →
       AlikeRuns tools s j k b c made (Q' p s j))
       × ((first made : Record) (i l : Journal) → AlikeRecords first made →
       AlikeJournals files W i l → AlikeWalks Q' Q tools (go first i) (to made l) i l)

@@ -24,20 +24,20 @@ ghost use Rattle.build_incremental.specs.SideBySide.{SideBySide, HasOneRecord};
 /// journal that is alike.
 ///
 /// The second world has a meaning with these bodies, in which each run has one record, and of calls
-/// made at once that write one path, all writes of it are of one run. Nothing is asked of the first
-/// world, not that it has a meaning and not that it is steady: it has a meaning then, which asks
-/// for the same requests.
+/// made at once that write or remove one path, all acts on it are of one run. Nothing is asked of
+/// the first world, not that it has a meaning and not that it is steady: it has a meaning then,
+/// which asks for the same requests.
 pub fn worlds_go_alike<P, I, A>()
-    ensures { (files : List ℕ → Option (List ℕ)) (may_write : List ℕ → Bool)
+    ensures { (files : List ℕ → Option (List ℕ)) (may_act : List ℕ → Bool)
         (first second : PlacedWorld P I A)
         (demand : List (Occurrence P)) (keys : List RequestKey) →
         HasOneRecord (IsAmong demand) →
-        SideBySide files (λ path. IsTrue (may_write path)) IsAny (IsAmong demand) first second →
+        SideBySide files (λ path. IsTrue (may_act path)) IsAny (IsAmong demand) first second →
         (result : RequestResult) (last : Journal) →
         EachOfMeaning second (IsAmong demand) IsOfOneRun (λ key. In key keys) result last →
         (journal : Journal)
         × EachOfMeaning first IsAny Anyhow (λ key. In key keys) result journal
-        × AlikeJournals files (λ path. IsTrue (may_write path)) journal last }
+        × AlikeJournals files (λ path. IsTrue (may_act path)) journal last }
 {}
 
 /// The meaning of a world has its bodies, and what has bodies is the meaning.

@@ -28,7 +28,7 @@ use Rattle.msb_values.specs.declared.item.Item.{Item}
 use Rattle.msb_values.specs.declared.mode.Mode.{Mode}
 use Rattle.msb_values.specs.declared.mode.Mode.TheVariants.{Clean}
 use Rattle.msb_values.specs.declared.note.Note.{Note}
-use Rattle.msb_values.specs.declared.put.Put.{Put}
+use Rattle.msb_values.specs.declared.act.Act.{Act}
 use Rattle.msb_expression.specs.Machine.{run as read_on}
 use Rattle.file_store.specs.declared.tree.File.{File}
 use Rattle.result_cache.specs.declared.record.Decision.{Decision}
@@ -69,9 +69,9 @@ use Rattle.declared_witness.specs.ThreeCopies.{
   scope,
   files_with,
   run,
-  first_put,
-  second_put,
-  third_put,
+  first_act,
+  second_act,
+  third_act,
 }
 
 -- how the run comes to its end where this is chosen
@@ -94,11 +94,11 @@ module _ (bytes : List ℕ) (stamp : ℕ) where
   abbrev over_tree : Run
   over_tree = clean_run bytes stamp
 
-  abbrev GoesAs : Choice → List Put → Decision → Type 0
-  GoesAs choice puts decision =
-      work_by (always choice) over_tree scope [] ≡ steps_of puts (outcome_as decision)
+  abbrev GoesAs : Choice → List Act → Decision → Type 0
+  GoesAs choice acts decision =
+      work_by (always choice) over_tree scope [] ≡ steps_of acts (outcome_as decision)
 
-  all-go : GoesAs RunAll (first_put ∷ second_put ∷ third_put ∷ []) Ran
+  all-go : GoesAs RunAll (first_act ∷ second_act ∷ third_act ∷ []) Ran
   unfolding same_run same_instance read_on fold_case folding value_in rows chars
   all-go = refl
 
@@ -106,30 +106,30 @@ module _ (bytes : List ℕ) (stamp : ℕ) where
   unfolding same_run same_instance read_on fold_case folding value_in rows chars
   none-go = refl
 
-  abbrev PartGoes : List Bool → List Put → Decision → Type 0
-  PartGoes marks puts decision = GoesAs (Part (kept marks sources)) puts decision
+  abbrev PartGoes : List Bool → List Act → Decision → Type 0
+  PartGoes marks acts decision = GoesAs (Part (kept marks sources)) acts decision
 
-  first-goes : PartGoes (true ∷ false ∷ false ∷ []) (first_put ∷ []) (InPart 1 3)
+  first-goes : PartGoes (true ∷ false ∷ false ∷ []) (first_act ∷ []) (InPart 1 3)
   unfolding same_run same_instance read_on fold_case folding value_in rows chars
   first-goes = refl
 
-  second-goes : PartGoes (false ∷ true ∷ false ∷ []) (second_put ∷ []) (InPart 1 3)
+  second-goes : PartGoes (false ∷ true ∷ false ∷ []) (second_act ∷ []) (InPart 1 3)
   unfolding same_run same_instance read_on fold_case folding value_in rows chars
   second-goes = refl
 
-  third-goes : PartGoes (false ∷ false ∷ true ∷ []) (third_put ∷ []) (InPart 1 3)
+  third-goes : PartGoes (false ∷ false ∷ true ∷ []) (third_act ∷ []) (InPart 1 3)
   unfolding same_run same_instance read_on fold_case folding value_in rows chars
   third-goes = refl
 
-  not-third-go : PartGoes (true ∷ true ∷ false ∷ []) (first_put ∷ second_put ∷ []) (InPart 2 3)
+  not-third-go : PartGoes (true ∷ true ∷ false ∷ []) (first_act ∷ second_act ∷ []) (InPart 2 3)
   unfolding same_run same_instance read_on fold_case folding value_in rows chars
   not-third-go = refl
 
-  not-second-go : PartGoes (true ∷ false ∷ true ∷ []) (first_put ∷ third_put ∷ []) (InPart 2 3)
+  not-second-go : PartGoes (true ∷ false ∷ true ∷ []) (first_act ∷ third_act ∷ []) (InPart 2 3)
   unfolding same_run same_instance read_on fold_case folding value_in rows chars
   not-second-go = refl
 
-  not-first-go : PartGoes (false ∷ true ∷ true ∷ []) (second_put ∷ third_put ∷ []) (InPart 2 3)
+  not-first-go : PartGoes (false ∷ true ∷ true ∷ []) (second_act ∷ third_act ∷ []) (InPart 2 3)
   unfolding same_run same_instance read_on fold_case folding value_in rows chars
   not-first-go = refl
 
@@ -145,15 +145,15 @@ module _ (bytes : List ℕ) (stamp : ℕ) where
       abbrev Never : Choice → Type 0
       Never choice = NeverBy (always choice) mode from
 
-      by-choice : (choice : Choice) (puts : List Put) (decision : Decision) →
-          GoesAs choice puts decision → Never choice
-      by-choice choice puts decision goes =
+      by-choice : (choice : Choice) (acts : List Act) (decision : Decision) →
+          GoesAs choice acts decision → Never choice
+      by-choice choice acts decision goes =
           let t = subst (λ z. AlikeWork (bytes_in tree) AnyPath (λ (o p : Outcome). o ≡ p)
           (work_by (always choice) (record over_tree { mode = mode }) scope from) z) goes
           (work-twin (record over_tree { mode = mode }) Clean AnyPath (looks-same tree AnyPath)
           (always choice) (always choice) (λ bucket l s u h e. refl) scope from [] alike) in
           let x = ends-so (bytes_in tree) tools run
-          (work_by (always choice) (record over_tree { mode = mode }) scope from) puts
+          (work_by (always choice) (record over_tree { mode = mode }) scope from) acts
           (outcome_as decision) from [] t in (
             x.0,
             x.1,
@@ -163,17 +163,17 @@ module _ (bytes : List ℕ) (stamp : ℕ) where
 
       by-part : (marks : List Bool) → ArePart marks sources → Never (Part (kept marks sources))
       by-part = of-part (λ marks. Never (Part (kept marks sources)))
-          (by-choice (Part (kept (true ∷ false ∷ false ∷ []) sources)) (first_put ∷ []) (InPart 1 3)
+          (by-choice (Part (kept (true ∷ false ∷ false ∷ []) sources)) (first_act ∷ []) (InPart 1 3)
           first-goes)
-          (by-choice (Part (kept (false ∷ true ∷ false ∷ []) sources)) (second_put ∷ [])
+          (by-choice (Part (kept (false ∷ true ∷ false ∷ []) sources)) (second_act ∷ [])
           (InPart 1 3) second-goes)
-          (by-choice (Part (kept (false ∷ false ∷ true ∷ []) sources)) (third_put ∷ []) (InPart 1 3)
+          (by-choice (Part (kept (false ∷ false ∷ true ∷ []) sources)) (third_act ∷ []) (InPart 1 3)
           third-goes)
-          (by-choice (Part (kept (true ∷ true ∷ false ∷ []) sources)) (first_put ∷ second_put ∷ [])
+          (by-choice (Part (kept (true ∷ true ∷ false ∷ []) sources)) (first_act ∷ second_act ∷ [])
           (InPart 2 3) not-third-go)
-          (by-choice (Part (kept (true ∷ false ∷ true ∷ []) sources)) (first_put ∷ third_put ∷ [])
+          (by-choice (Part (kept (true ∷ false ∷ true ∷ []) sources)) (first_act ∷ third_act ∷ [])
           (InPart 2 3) not-second-go)
-          (by-choice (Part (kept (false ∷ true ∷ true ∷ []) sources)) (second_put ∷ third_put ∷ [])
+          (by-choice (Part (kept (false ∷ true ∷ true ∷ []) sources)) (second_act ∷ third_act ∷ [])
           (InPart 2 3) not-first-go)
 
       abbrev items_in : Option (List ℕ × List Item) → List Item
@@ -182,7 +182,7 @@ module _ (bytes : List ℕ) (stamp : ℕ) where
 
       whichever : (choice : Choice) → MayChoose tools run over_tree lists choice → Never choice
       whichever RunAll may =
-          by-choice RunAll (first_put ∷ second_put ∷ third_put ∷ []) Ran all-go
+          by-choice RunAll (first_act ∷ second_act ∷ third_act ∷ []) Ran all-go
       whichever Skip may = by-choice Skip [] UpToDate none-go
       whichever Nothing may = absurd (apart may)
         where

@@ -27,10 +27,12 @@ use Rattle.caseless.specs.Caseless.{default_case_fold as fold_case}
 use Rattle.ucd_case.specs.CaseFolding.{full_folding as folding}
 use Rattle.ucd_table.specs.Rows.{value_in}
 use Rattle.ucd_case.specs.FullFoldingRows.{full_folding_rows as rows}
+use Rattle.msb_values.specs.Acts.{act_path}
+use Rattle.msb_values.specs.declared.act.Act.{Act}
+use Rattle.msb_values.specs.declared.act.Act.TheVariants.{Remove}
 use Rattle.msb_values.specs.declared.item.Item.{Item}
 use Rattle.msb_values.specs.declared.mode.Mode.TheVariants.{Clean}
 use Rattle.msb_values.specs.declared.note.Note.{Note}
-use Rattle.msb_values.specs.declared.put.Put.{Put}
 use Rattle.msb_expression.specs.Machine.{run as read_on}
 use Rattle.result_cache.specs.Lists.{In}
 use Rattle.result_cache.specs.Same.{same_run, same_instance}
@@ -57,13 +59,13 @@ use Rattle.build_declared.specs.Written.{since, is_one_of}
 use Rattle.declared_witness.proofs.Choices.{never-large}
 use Rattle.declared_witness.proofs.Computed.{clean-whole, steady}
 use Rattle.declared_witness.proofs.Derivations.{clean-each}
-use Rattle.declared_witness.proofs.Facts.{EachPath, at-one, written-to, of-part}
+use Rattle.declared_witness.proofs.Facts.{EachPath, at-one, acted-on, of-part}
 use Rattle.declared_witness.proofs.Pieces.{
   lists,
   piece,
   clean_run,
   state_in,
-  puts_in,
+  acts_in,
   EndsWell,
   pieces-so,
   whole,
@@ -76,9 +78,9 @@ use Rattle.declared_witness.specs.ThreeCopies.{
   files_with,
   world,
   run,
-  first_put,
-  second_put,
-  third_put,
+  first_act,
+  second_act,
+  third_act,
   clean_record,
   clean_journal,
   clean_given,
@@ -87,22 +89,28 @@ use Rattle.declared_witness.specs.ThreeCopies.{
 abbrev pub outputs : List (List ℕ)
 outputs = lists.outputs
 
--- what the whole writes, the newest first
-abbrev pub all_puts : List Put
-all_puts = third_put ∷ second_put ∷ first_put ∷ []
+-- what the whole does, the newest first
+abbrev pub all_acts : List Act
+all_acts = third_act ∷ second_act ∷ first_act ∷ []
 
-abbrev paths_of : List Put → List (List ℕ)
-paths_of puts = map (λ (put : Put). put.path) puts
+abbrev paths_of : List Act → List (List ℕ)
+paths_of acts = map act_path acts
 
-abbrev IsWritten : List (List ℕ) → List ℕ → Type 0
-IsWritten paths path = is_one_of path paths ≡ true
+abbrev IsListed : List (List ℕ) → List ℕ → Type 0
+IsListed paths path = is_one_of path paths ≡ true
 
-all-written : (path : List ℕ) → is_some (last_bytes all_puts path) ≡ is_one_of path outputs
+all-written : (path : List ℕ) → is_some (last_bytes all_acts path) ≡ is_one_of path outputs
 all-written path = elim (tells (is_one_of path outputs)) [
-  | inl e ↦ at-one (λ z. is_some (last_bytes all_puts z) ≡ true) outputs
+  | inl e ↦ at-one (λ z. is_some (last_bytes all_acts z) ≡ true) outputs
       (refl, (refl, (refl, tt))) path e ∙ sym e
-  | inr n ↦ ap is_some (written-to all_puts outputs (refl, (refl, (refl, tt))) path n) ∙ sym n
+  | inr n ↦ ap is_some (acted-on all_acts outputs (refl, (refl, (refl, tt))) path n) ∙ sym n
 ]
+
+none-removed : (path : List ℕ) → In (Remove path) all_acts → ⊥
+none-removed path (inl e) = absurd (cc)
+none-removed path (inr (inl e)) = absurd (cc)
+none-removed path (inr (inr (inl e))) = absurd (cc)
+none-removed path (inr (inr (inr i))) = absurd i
 
 module _ (bytes : List ℕ) (stamp : ℕ) (tools : List ℕ → ToolInput → ToolAnswer) where
   abbrev over_tree : Run
@@ -115,14 +123,14 @@ module _ (bytes : List ℕ) (stamp : ℕ) (tools : List ℕ → ToolInput → To
   Ends = Option (End (Result State Stopped))
 
   -- what the piece comes to where it succeeds
-  pub puts-so : (t : State) (puts : List Put) → SucceedsWith tools run over_tree piece t puts →
-      all_puts ≡ puts
+  pub acts-so : (t : State) (acts : List Act) → SucceedsWith tools run over_tree piece t acts →
+      all_acts ≡ acts
   unfolding same_run same_instance read_on fold_case folding value_in rows chars
-  puts-so t puts e = ap puts_in e
+  acts-so t acts e = ap acts_in e
 
-  state-so : (t : State) (puts : List Put) → SucceedsWith tools run over_tree piece t puts →
+  state-so : (t : State) (acts : List Act) → SucceedsWith tools run over_tree piece t acts →
       whole_state ≡ t
-  state-so t puts e = ap state_in e
+  state-so t acts e = ap state_in e
 
   no-outputs : (c : Called) → In c (calls_of tools run over_tree
       (children_of target.element) piece.from piece.before) →
@@ -134,87 +142,87 @@ module _ (bytes : List ℕ) (stamp : ℕ) (tools : List ℕ → ToolInput → To
 
   -- ---- parts
 
-  -- a part that has written these files
-  module _ (marks : List Bool) (puts : List Put) where
+  -- a part that has done these acts
+  module _ (marks : List Bool) (acts : List Act) where
     abbrev of_marks : List (List ℕ)
     of_marks = kept marks outputs
 
     abbrev PartSays : Type 0
     PartSays = EndsWell (part bytes stamp tools marks)
-        × (puts_in (part bytes stamp tools marks) ≡ puts)
+        × (acts_in (part bytes stamp tools marks) ≡ acts)
         × ((state_in (part bytes stamp tools marks)).notes ≡ [])
         × ((state_in (part bytes stamp tools marks)).changes ≡ whole_state.changes)
         × ((state_in (part bytes stamp tools marks)).items ≡ whole_state.items)
 
     part-by : PartSays →
-        EachPath (λ path. last_bytes (since [] puts) path ≡ last_bytes (since [] all_puts) path)
+        EachPath (λ path. last_bytes (since [] acts) path ≡ last_bytes (since [] all_acts) path)
         of_marks →
-        EachPath (IsWritten of_marks) (paths_of (since [] puts)) →
-        PartIsDeclared tools run over_tree piece whole_state all_puts sources marks
+        EachPath (IsListed of_marks) (paths_of (since [] acts)) →
+        PartIsDeclared tools run over_tree piece whole_state all_acts sources marks
     part-by says same own = record {
       after = state_in (part bytes stamp tools marks);
-      written = puts_in (part bytes stamp tools marks);
+      acts = acts_in (part bytes stamp tools marks);
       succeeds = says.0;
-      bytes = λ path e. ap (λ (ps : List Put). last_bytes (since [] ps) path) says.1
-          ∙ at-one (λ z. last_bytes (since [] puts) z ≡ last_bytes (since [] all_puts) z) of_marks
+      bytes = λ path e. ap (λ (ps : List Act). last_bytes (since [] ps) path) says.1
+          ∙ at-one (λ z. last_bytes (since [] acts) z ≡ last_bytes (since [] all_acts) z) of_marks
           same path e;
-      no_other = λ path e. ap (λ (ps : List Put). last_bytes (since [] ps) path) says.1
-          ∙ written-to (since [] puts) of_marks own path e;
+      no_other = λ path e. ap (λ (ps : List Act). last_bytes (since [] ps) path) says.1
+          ∙ acted-on (since [] acts) of_marks own path e;
       never_large = λ note i. absurd (subst (λ (notes : List Note). In note notes) says.2 i);
       changes = λ there. (says.3, says.4);
     }
 
   abbrev PartIsSo : List Bool → Type 0
   PartIsSo marks =
-      PartIsDeclared tools run over_tree piece whole_state all_puts sources marks
+      PartIsDeclared tools run over_tree piece whole_state all_acts sources marks
 
-  first-says : PartSays (true ∷ false ∷ false ∷ []) (first_put ∷ [])
+  first-says : PartSays (true ∷ false ∷ false ∷ []) (first_act ∷ [])
   unfolding same_run same_instance read_on fold_case folding value_in rows chars
   first-says = (refl, refl, refl, refl, refl)
 
   first-is : PartIsSo (true ∷ false ∷ false ∷ [])
   first-is = part-by (true ∷ false ∷ false ∷ [])
-      (first_put ∷ []) first-says (refl, tt) (refl, tt)
+      (first_act ∷ []) first-says (refl, tt) (refl, tt)
 
-  second-says : PartSays (false ∷ true ∷ false ∷ []) (second_put ∷ [])
+  second-says : PartSays (false ∷ true ∷ false ∷ []) (second_act ∷ [])
   unfolding same_run same_instance read_on fold_case folding value_in rows chars
   second-says = (refl, refl, refl, refl, refl)
 
   second-is : PartIsSo (false ∷ true ∷ false ∷ [])
   second-is = part-by (false ∷ true ∷ false ∷ [])
-      (second_put ∷ []) second-says (refl, tt) (refl, tt)
+      (second_act ∷ []) second-says (refl, tt) (refl, tt)
 
-  third-says : PartSays (false ∷ false ∷ true ∷ []) (third_put ∷ [])
+  third-says : PartSays (false ∷ false ∷ true ∷ []) (third_act ∷ [])
   unfolding same_run same_instance read_on fold_case folding value_in rows chars
   third-says = (refl, refl, refl, refl, refl)
 
   third-is : PartIsSo (false ∷ false ∷ true ∷ [])
   third-is = part-by (false ∷ false ∷ true ∷ [])
-      (third_put ∷ []) third-says (refl, tt) (refl, tt)
+      (third_act ∷ []) third-says (refl, tt) (refl, tt)
 
-  not-third-says : PartSays (true ∷ true ∷ false ∷ []) (second_put ∷ first_put ∷ [])
+  not-third-says : PartSays (true ∷ true ∷ false ∷ []) (second_act ∷ first_act ∷ [])
   unfolding same_run same_instance read_on fold_case folding value_in rows chars
   not-third-says = (refl, refl, refl, refl, refl)
 
   not-third-is : PartIsSo (true ∷ true ∷ false ∷ [])
   not-third-is = part-by (true ∷ true ∷ false ∷ [])
-      (second_put ∷ first_put ∷ []) not-third-says (refl, (refl, tt)) (refl, (refl, tt))
+      (second_act ∷ first_act ∷ []) not-third-says (refl, (refl, tt)) (refl, (refl, tt))
 
-  not-second-says : PartSays (true ∷ false ∷ true ∷ []) (third_put ∷ first_put ∷ [])
+  not-second-says : PartSays (true ∷ false ∷ true ∷ []) (third_act ∷ first_act ∷ [])
   unfolding same_run same_instance read_on fold_case folding value_in rows chars
   not-second-says = (refl, refl, refl, refl, refl)
 
   not-second-is : PartIsSo (true ∷ false ∷ true ∷ [])
   not-second-is = part-by (true ∷ false ∷ true ∷ [])
-      (third_put ∷ first_put ∷ []) not-second-says (refl, (refl, tt)) (refl, (refl, tt))
+      (third_act ∷ first_act ∷ []) not-second-says (refl, (refl, tt)) (refl, (refl, tt))
 
-  not-first-says : PartSays (false ∷ true ∷ true ∷ []) (third_put ∷ second_put ∷ [])
+  not-first-says : PartSays (false ∷ true ∷ true ∷ []) (third_act ∷ second_act ∷ [])
   unfolding same_run same_instance read_on fold_case folding value_in rows chars
   not-first-says = (refl, refl, refl, refl, refl)
 
   not-first-is : PartIsSo (false ∷ true ∷ true ∷ [])
   not-first-is = part-by (false ∷ true ∷ true ∷ [])
-      (third_put ∷ second_put ∷ []) not-first-says (refl, (refl, tt)) (refl, (refl, tt))
+      (third_act ∷ second_act ∷ []) not-first-says (refl, (refl, tt)) (refl, (refl, tt))
 
   part-so : (marks : List Bool) → ArePart marks sources → PartIsSo marks
   part-so = of-part PartIsSo first-is second-is third-is not-third-is not-second-is not-first-is
@@ -223,17 +231,17 @@ module _ (bytes : List ℕ) (stamp : ℕ) (tools : List ℕ → ToolInput → To
   items_in None = []
   items_in (Some typed) = typed.1
 
-  parts-so : (t : State) (puts : List Put) → SucceedsWith tools run over_tree piece t puts →
+  parts-so : (t : State) (acts : List Act) → SucceedsWith tools run over_tree piece t acts →
       (items : List Item) → ByItems piece items → (marks : List Bool) → ArePart marks items →
-      PartIsDeclared tools run over_tree piece t puts items marks
-  parts-so t puts e items by marks some =
+      PartIsDeclared tools run over_tree piece t acts items marks
+  parts-so t acts e items by marks some =
       let same : sources ≡ items = ap items_in by.typed in
-      subst (λ (z : State). PartIsDeclared tools run over_tree piece z puts items marks)
-      (state-so t puts e)
-      (subst (λ (z : List Put). PartIsDeclared tools run over_tree piece whole_state z items marks)
-      (puts-so t puts e)
+      subst (λ (z : State). PartIsDeclared tools run over_tree piece z acts items marks)
+      (state-so t acts e)
+      (subst (λ (z : List Act). PartIsDeclared tools run over_tree piece whole_state z items marks)
+      (acts-so t acts e)
       (subst (λ (z : List Item).
-      PartIsDeclared tools run over_tree piece whole_state all_puts z marks) same
+      PartIsDeclared tools run over_tree piece whole_state all_acts z marks) same
       (part-so marks (subst (λ (z : List Item). ArePart marks z) (sym same) some))))
 
   -- ---- the piece, the run and the world
@@ -241,9 +249,11 @@ module _ (bytes : List ℕ) (stamp : ℕ) (tools : List ℕ → ToolInput → To
   piece-is : PieceIsDeclared tools run over_tree piece
   piece-is = record {
     returns_given = no-outputs;
-    writes_outputs = λ t puts e path.
-        subst (λ (z : List Put). is_some (last_bytes (since [] z) path) ≡ is_one_of path outputs)
-        (puts-so t puts e) (all-written path);
+    writes_outputs = λ t acts e path.
+        subst (λ (z : List Act). is_some (last_bytes (since [] z) path) ≡ is_one_of path outputs)
+        (acts-so t acts e) (all-written path);
+    removes_none = λ t acts e path i. none-removed path
+        (subst (λ (z : List Act). In (Remove path) (since [] z)) (sym (acts-so t acts e)) i);
     parts = parts-so;
   }
 

@@ -1,4 +1,4 @@
--- The builds of the worked set as derivations: one request, one run, and what it writes.
+-- The builds of the worked set as derivations: one request, one run, and what it does.
 use Rattle.std.proofs.Common.{◌≡◌, ℕ, List, [], refl, ap, sym, subst}
 use Rattle.std.specs.Prelude.{Ok, codes}
 use Rattle.std.specs.Str.{chars}
@@ -23,7 +23,7 @@ use Rattle.build_incremental.specs.Each.{
   each_over,
   each_made,
   each_ended,
-  each_wrote,
+  each_acted,
 }
 use Rattle.task_trait.specs.declared.tools.ToolAnswer.{ToolAnswer}
 use Rattle.task_trait.specs.declared.tools.ToolInput.{ToolInput}
@@ -72,7 +72,7 @@ module _ (tools : List ℕ → ToolInput → ToolAnswer)
         (evaluated_walk (files_with bytes stamp) Clean) clean_journal
     unfolding same_run same_instance read_on visit order fold_case folding value_in rows chars
     clean-walk bytes stamp q = each_made {m = clean_record} (λ i. absurd i) refl
-        (each_wrote (each_wrote (each_wrote each_ended))) q each_over
+        (each_acted (each_acted (each_acted each_ended))) q each_over
 
     pub clean-each : (bytes : List ℕ) (stamp : ℕ) → Q site run [] clean_record →
         EachOfMeaning (world tools (files_with bytes stamp) Clean) Q J AnyKey result clean_journal
@@ -86,7 +86,7 @@ module _ (tools : List ℕ → ToolInput → ToolAnswer)
         Derives files Incremental (evaluated_walk files Incremental) part_journal
     unfolding same_run same_instance read_on visit order fold_case folding value_in rows chars
     part-walk q =
-        each_made {m = part_record} (λ i. absurd i) refl (each_wrote each_ended) q each_over
+        each_made {m = part_record} (λ i. absurd i) refl (each_acted each_ended) q each_over
 
     pub part-each : Q site run [] part_record →
         EachOfMeaning (world tools files Incremental) Q J AnyKey result part_journal

@@ -1,4 +1,4 @@
--- Files that are written and paths that are listed, and parts of three items.
+-- Acts on files and paths that are listed, and parts of three items.
 use Rattle.std.proofs.Common.{
   ◌≡◌,
   ℕ,
@@ -26,10 +26,11 @@ use Rattle.std.proofs.Common.{
 use Rattle.std.specs.List.{list_any}
 use Rattle.std.specs.Str.{bytes_eq}
 use Rattle.std.proofs.lemmas.Slice.Eq.{bytes_eq-Decides}
-use Rattle.msb_values.specs.declared.put.Put.{Put}
+use Rattle.msb_values.specs.Acts.{act_path, act_bytes}
+use Rattle.msb_values.specs.declared.act.Act.{Act}
 use Rattle.result_cache.specs.declared.record.Record.{Record}
 use Rattle.result_cache.specs.declared.run.RunId.{RunId}
-use Rattle.result_cache.specs.Journal.{Journal, wrote, add, record_of}
+use Rattle.result_cache.specs.Journal.{Journal, acted, add, record_of}
 use Rattle.result_cache.specs.Lists.{this_or}
 use Rattle.result_cache.proofs.RunTests.{tells, clash, or_cases}
 use Rattle.build_meaning.specs.Walk.{Outcome}
@@ -37,7 +38,7 @@ use Rattle.build_incremental.specs.Alike.{AlikeFound, AlikeJournals}
 use Rattle.build_incremental.specs.Alone.{last_bytes}
 use Rattle.task_trait.specs.declared.tools.ToolAnswer.{ToolAnswer}
 use Rattle.task_trait.specs.declared.tools.ToolInput.{ToolInput}
-use Rattle.target_body.specs.Work.{Work, done, writes, uses, calls}
+use Rattle.target_body.specs.Work.{Work, done, does, uses, calls}
 use Rattle.build_declared.specs.Ends.{End, end_of}
 use Rattle.build_declared.specs.Sublists.{ArePart}
 use Rattle.build_declared.specs.Written.{AnyPath, is_one_of}
@@ -59,16 +60,16 @@ at-one P (x ∷ xs) h path e = elim (or_cases (bytes_eq path x) (list_any (bytes
   | inr r ↦ at-one P xs h.1 path r
 ]
 
--- what is written to these paths alone is written to no other
-pub written-to : (puts : List Put) (paths : List (List ℕ)) →
-    EachPath (λ path. is_one_of path paths ≡ true) (map (λ (put : Put). put.path) puts) →
-    (path : List ℕ) → is_one_of path paths ≡ false → last_bytes puts path ≡ None
-written-to [] paths h path e = refl
-written-to (put ∷ puts) paths h path e = elim (tells (bytes_eq put.path path)) [
+-- acts that are on these paths alone are on no other
+pub acted-on : (acts : List Act) (paths : List (List ℕ)) →
+    EachPath (λ path. is_one_of path paths ≡ true) (map act_path acts) →
+    (path : List ℕ) → is_one_of path paths ≡ false → last_bytes acts path ≡ None
+acted-on [] paths h path e = refl
+acted-on (act ∷ acts) paths h path e = elim (tells (bytes_eq (act_path act) path)) [
   | inl q ↦ absurd (clash (is_one_of path paths)
-      (subst (λ z. is_one_of z paths ≡ true) ((bytes_eq-Decides put.path path).0 q) h.0) e)
-  | inr n ↦ ap (λ b. this_or b (last_bytes puts path) put.bytes) n
-      ∙ written-to puts paths h.1 path e
+      (subst (λ z. is_one_of z paths ≡ true) ((bytes_eq-Decides (act_path act) path).0 q) h.0) e)
+  | inr n ↦ ap (λ b. this_or b (last_bytes acts path) (act_bytes act)) n
+      ∙ acted-on acts paths h.1 path e
 ]
 
 -- different texts are not equal
@@ -77,10 +78,10 @@ differ x y d e = clash (bytes_eq x y) ((bytes_eq-Decides x y).1 e) d
 
 -- ---- parts of the run
 
--- it writes these files and comes to this end
-abbrev pub steps_of : List Put → Outcome → Work Outcome
+-- it does these acts and comes to this end
+abbrev pub steps_of : List Act → Outcome → Work Outcome
 steps_of [] outcome = done outcome
-steps_of (put ∷ puts) outcome = writes put (λ journal. steps_of puts outcome)
+steps_of (act ∷ acts) outcome = does act (λ journal. steps_of acts outcome)
 
 module _ (files : List ℕ → Option (List ℕ)) where
   same-found : (m : Option Record) → AlikeFound m m
@@ -91,26 +92,26 @@ module _ (files : List ℕ → Option (List ℕ)) where
   alike-self j = record {
     same = λ path. refl;
     records = λ r. same-found (record_of j r);
-    only = λ r n put i. tt;
+    only = λ r n act i. tt;
   }
 
   module _ (tools : List ℕ → ToolInput → ToolAnswer) (id : RunId) where
     -- a run that goes as one that does so has an end of the same outcome
-    pub ends-so : (v : Work Outcome) (puts : List Put) (outcome : Outcome) (j : Journal)
-        (before : List Put) →
-        AlikeWork files AnyPath (λ (o p : Outcome). o ≡ p) v (steps_of puts outcome) →
+    pub ends-so : (v : Work Outcome) (acts : List Act) (outcome : Outcome) (j : Journal)
+        (before : List Act) →
+        AlikeWork files AnyPath (λ (o p : Outcome). o ≡ p) v (steps_of acts outcome) →
         (e : End Outcome) × (end_of tools id v j before ≡ Some e) × (e.value ≡ outcome)
     ends-so (done o) [] outcome j before h =
-        (record { value = o; journal = j; puts = before }, refl, h)
-    ends-so (done o) (put ∷ puts) outcome j before h = absurd h
-    ends-so (writes put go) [] outcome j before h = absurd h
-    ends-so (writes put go) (other ∷ puts) outcome j before h =
-        let next : Journal = add j (wrote id (length before) put) in
-        ends-so (go next) puts outcome next (put ∷ before) (h.1 next next (alike-self next))
+        (record { value = o; journal = j; acts = before }, refl, h)
+    ends-so (done o) (act ∷ acts) outcome j before h = absurd h
+    ends-so (does act go) [] outcome j before h = absurd h
+    ends-so (does act go) (other ∷ acts) outcome j before h =
+        let next : Journal = add j (acted id (length before) act) in
+        ends-so (go next) acts outcome next (act ∷ before) (h.1 next next (alike-self next))
     ends-so (uses name input go) [] outcome j before h = absurd h
-    ends-so (uses name input go) (put ∷ puts) outcome j before h = absurd h
+    ends-so (uses name input go) (act ∷ acts) outcome j before h = absurd h
     ends-so (calls key keys go) [] outcome j before h = absurd h
-    ends-so (calls key keys go) (put ∷ puts) outcome j before h = absurd h
+    ends-so (calls key keys go) (act ∷ acts) outcome j before h = absurd h
 
 -- ---- parts of three items
 

@@ -50,7 +50,7 @@ use Rattle.declared_witness.proofs.Pieces.{
   clean_run,
   by-items,
   state_in,
-  puts_in,
+  acts_in,
   pieces-so,
   whole,
 }
@@ -85,11 +85,11 @@ module _ (tools : List ℕ → ToolInput → ToolAnswer) where
 
   first-same : Holds (file (codes "o/1.o") (codes "one") 7)
   unfolding same_run same_instance read_on fold_case folding value_in rows chars
-  first-same = (state_in all_of_it, puts_in all_of_it, refl, refl)
+  first-same = (state_in all_of_it, acts_in all_of_it, refl, refl)
 
   third-same : Holds (file (codes "o/3.o") (codes "three") 7)
   unfolding same_run same_instance read_on fold_case folding value_in rows chars
-  third-same = (state_in all_of_it, puts_in all_of_it, refl, refl)
+  third-same = (state_in all_of_it, acts_in all_of_it, refl, refl)
 
   abbrev pair : List ℕ → List ℕ → Pairing
   pair input output = record { output = output; inputs = input ∷ [] }

@@ -9,7 +9,7 @@ use Rattle.ucd_case.specs.CaseFolding.{full_folding as folding}
 use Rattle.ucd_table.specs.Rows.{value_in}
 use Rattle.ucd_case.specs.FullFoldingRows.{full_folding_rows as rows}
 use Rattle.msb_values.specs.declared.mode.Mode.TheVariants.{Incremental, Clean}
-use Rattle.msb_values.specs.declared.put.Put.{Put}
+use Rattle.msb_values.specs.declared.act.Act.{Act}
 use Rattle.msb_expand.specs.declared.lens.Bucket.{Bucket}
 use Rattle.msb_expression.specs.Machine.{run as read_on}
 use Rattle.result_cache.specs.declared.record.Record.{Record}
@@ -65,16 +65,16 @@ abbrev pub state_in : Option (End (Result State Stopped)) → State
 state_in None = begins []
 state_in (Some end) = state_of end.value
 
-abbrev pub puts_in : Option (End (Result State Stopped)) → List Put
-puts_in None = []
-puts_in (Some end) = end.puts
+abbrev pub acts_in : Option (End (Result State Stopped)) → List Act
+acts_in None = []
+acts_in (Some end) = end.acts
 
 -- it ends well
 abbrev pub EndsWell : Option (End (Result State Stopped)) → Type 0
 EndsWell x = x ≡ Some (record {
   value = Ok (state_in x);
   journal = (state_in x).journal;
-  puts = puts_in x;
+  acts = acts_in x;
 })
 
 -- whatever the object of the second source holds

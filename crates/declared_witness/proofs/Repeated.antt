@@ -28,9 +28,9 @@ use Rattle.ucd_case.specs.CaseFolding.{full_folding as folding}
 use Rattle.ucd_table.specs.Rows.{value_in}
 use Rattle.ucd_case.specs.FullFoldingRows.{full_folding_rows as rows}
 use Rattle.msb_values.specs.declared.mode.Mode.TheVariants.{Incremental, Clean}
-use Rattle.msb_values.specs.declared.put.Put.{Put}
+use Rattle.msb_values.specs.declared.act.Act.{Act}
 use Rattle.msb_expression.specs.Machine.{run as read_on}
-use Rattle.file_store.specs.Commits.{AreWritten}
+use Rattle.file_store.specs.Commits.{AreDone}
 use Rattle.file_store.specs.Files.{file_at}
 use Rattle.file_store.specs.Writes.{IsWritten}
 use Rattle.file_store.specs.declared.tree.File.{File}
@@ -61,7 +61,7 @@ use Rattle.build_declared.specs.Repeated.{
 use Rattle.build_declared.specs.UpToDate.{IsUpToDate}
 use Rattle.build_declared.specs.Written.{since}
 use Rattle.declared_witness.proofs.Computed.{clean-whole, steady}
-use Rattle.declared_witness.proofs.Declared.{all_puts, puts-so}
+use Rattle.declared_witness.proofs.Declared.{all_acts, acts-so}
 use Rattle.declared_witness.proofs.Derivations.{clean-each}
 use Rattle.declared_witness.proofs.Pieces.{
   lists,
@@ -84,7 +84,6 @@ use Rattle.declared_witness.specs.ThreeCopies.{
   tree_left,
   build,
   run,
-  second_put,
   clean_record,
   clean_journal,
   clean_given,
@@ -112,9 +111,12 @@ below path stamp (f ∷ fs) h q n = elim (tells (bytes_eq f.path q)) [
       (sym e) (below path stamp fs h.1 q n)
 ]
 
-others : (q : List ℕ) → q ≢ second_put.path → file_at q files_left ≡ file_at q files
-others q n = elim (tells (bytes_eq (codes "o/2.o") q)) [
-  | inl e ↦ absurd (n (sym ((bytes_eq-Decides (codes "o/2.o") q).0 e)))
+abbrev second_path : List ℕ
+second_path = codes "o/2.o"
+
+others : (q : List ℕ) → q ≢ second_path → file_at q files_left ≡ file_at q files
+others q n = elim (tells (bytes_eq second_path q)) [
+  | inl e ↦ absurd (n (sym ((bytes_eq-Decides second_path q).0 e)))
   | inr e ↦ rw e refl
 ]
 
@@ -130,18 +132,18 @@ one = omega arith
 seven : 7 < 10
 seven = omega arith
 
-second-written : IsWritten second_put.path second_put.bytes files files_left
+second-written : IsWritten second_path (codes "two") files files_left
 second-written = record {
   here = (
     refl,
-    below second_put.path 10 files_left
+    below second_path 10 files_left
         (inr five, (inr nine, (inr five, (inr one, (inr seven, (inl refl, (inr seven, tt))))))),
   );
   others = others;
 }
 
-pub written : AreWritten (commit_list part_journal) files files_left
-written = (files_left, second-written, refl)
+pub done : AreDone (commit_list part_journal) files files_left
+done = (files_left, second-written, refl)
 
 -- ---- the clean build over it
 
@@ -157,7 +159,7 @@ module _ (tools : List ℕ → ToolInput → ToolAnswer) where
   abbrev whole_left : State
   whole_left = state_in (whole (codes "two") 10 tools)
 
-  left-succeeds : SucceedsWith tools run (clean_run (codes "two") 10) piece whole_left all_puts
+  left-succeeds : SucceedsWith tools run (clean_run (codes "two") 10) piece whole_left all_acts
   unfolding same_run same_instance read_on fold_case folding value_in rows chars
   left-succeeds = refl
 
@@ -170,12 +172,12 @@ module _ (tools : List ℕ → ToolInput → ToolAnswer) where
     outputs = refl;
     by_items = λ items by. (items, by);
     by_pairs = λ items by. (items, by);
-    writes = λ t puts e. (
+    writes = λ t acts e. (
       whole_left,
-      all_puts,
+      all_acts,
       left-succeeds,
-      λ output i. ap (λ (ps : List Put). last_bytes (since [] ps) output)
-          (puts-so (codes "old") 7 tools t puts e),
+      λ output i. ap (λ (ps : List Act). last_bytes (since [] ps) output)
+          (acts-so (codes "old") 7 tools t acts e),
     );
   }
 

@@ -24,14 +24,15 @@ use Rattle.caseless.specs.Caseless.{default_case_fold as fold_case}
 use Rattle.ucd_case.specs.CaseFolding.{full_folding as folding}
 use Rattle.ucd_table.specs.Rows.{value_in}
 use Rattle.ucd_case.specs.FullFoldingRows.{full_folding_rows as rows}
+use Rattle.msb_values.specs.Acts.{act_path}
+use Rattle.msb_values.specs.declared.act.Act.{Act}
 use Rattle.msb_values.specs.declared.mode.Mode.{Mode}
 use Rattle.msb_values.specs.declared.mode.Mode.TheVariants.{Incremental}
-use Rattle.msb_values.specs.declared.put.Put.{Put}
 use Rattle.msb_expression.specs.Machine.{run as read_on}
 use Rattle.file_store.specs.declared.tree.File.{File}
 use Rattle.result_cache.specs.declared.record.Record.{Record}
 use Rattle.result_cache.specs.declared.run.RunId.{RunId}
-use Rattle.result_cache.specs.Journal.{wrote}
+use Rattle.result_cache.specs.Journal.{acted}
 use Rattle.result_cache.specs.Lists.{In}
 use Rattle.result_cache.specs.Same.{same_run, same_instance}
 use Rattle.std.specs.Str.{chars}
@@ -50,13 +51,13 @@ use Rattle.build_declared.specs.Settled.{pieces_at, FreeRunsKeepOff, Succeeds, S
 use Rattle.declared_witness.proofs.Computed.{part-whole, steady}
 use Rattle.declared_witness.proofs.Derivations.{part-each}
 use Rattle.declared_witness.proofs.Facts.{differ}
-use Rattle.declared_witness.proofs.Pieces.{lists, piece, state_in, puts_in, settled-pieces}
+use Rattle.declared_witness.proofs.Pieces.{lists, piece, state_in, acts_in, settled-pieces}
 use Rattle.declared_witness.specs.ThreeCopies.{
   target,
   files,
   build,
   run,
-  second_put,
+  second_act,
   part_record,
   part_journal,
   part_given,
@@ -90,16 +91,16 @@ module _ (tools : List ℕ → ToolInput → ToolAnswer) where
   abbrev decided : Option (End (Result State Stopped))
   decided = end_of_piece tools run the_run piece (choice_of the_run piece.lists piece.from)
 
-  abbrev SucceedsSo : Occurrence Site → Piece → List Put → Type 0
-  SucceedsSo o p puts = Succeeds tools files Incremental o.place.target o p puts
+  abbrev SucceedsSo : Occurrence Site → Piece → List Act → Type 0
+  SucceedsSo o p acts = Succeeds tools files Incremental o.place.target o p acts
 
-  second-copied : SucceedsSo body piece (second_put ∷ [])
+  second-copied : SucceedsSo body piece (second_act ∷ [])
   unfolding same_run same_instance read_on fold_case folding value_in rows chars
   second-copied = (state_in decided, refl)
 
-  puts-so : (puts : List Put) → SucceedsSo body piece puts → second_put ∷ [] ≡ puts
+  acts-so : (acts : List Act) → SucceedsSo body piece acts → second_act ∷ [] ≡ acts
   unfolding same_run same_instance read_on fold_case folding value_in rows chars
-  puts-so puts h = ap puts_in h.1
+  acts-so acts h = ap acts_in h.1
 
   abbrev Exists : List ℕ → Type 0
   Exists input = IsSome (views.content
@@ -111,42 +112,42 @@ module _ (tools : List ℕ → ToolInput → ToolAnswer) where
   exist input (inr (inr (inl e))) = subst Exists e refl
   exist input (inr (inr (inr i))) = absurd i
 
-  -- it writes one file
-  one-put : (id : RunId) (number : ℕ) (put : Put) → In (wrote id number put) part_journal →
-      (run ≡ id) × (0 ≡ number) × (second_put ≡ put)
-  one-put id number put (inl e) = absurd (cc)
-  one-put id number put (inr (inl e)) =
-      let p : run ≡ id = cc in let q : 0 ≡ number = cc in let r : second_put ≡ put = cc in (p, q, r)
-  one-put id number put (inr (inr i)) = absurd i
+  -- it does one act, the writing of an output
+  one-act : (id : RunId) (number : ℕ) (act : Act) → In (acted id number act) part_journal →
+      (run ≡ id) × (0 ≡ number) × (second_act ≡ act)
+  one-act id number act (inl e) = absurd (cc)
+  one-act id number act (inr (inl e)) =
+      let p : run ≡ id = cc in let q : 0 ≡ number = cc in let r : second_act ≡ act = cc in (p, q, r)
+  one-act id number act (inr (inr i)) = absurd i
 
-  not-input : In second_put.path lists.inputs → ⊥
-  not-input (inl e) = differ (codes "1.c") second_put.path refl e
-  not-input (inr (inl e)) = differ (codes "2.c") second_put.path refl e
-  not-input (inr (inr (inl e))) = differ (codes "3.c") second_put.path refl e
+  not-input : In (act_path second_act) lists.inputs → ⊥
+  not-input (inl e) = differ (codes "1.c") (act_path second_act) refl e
+  not-input (inr (inl e)) = differ (codes "2.c") (act_path second_act) refl e
+  not-input (inr (inr (inl e))) = differ (codes "3.c") (act_path second_act) refl e
   not-input (inr (inr (inr i))) = absurd i
 
   abbrev StoodSo : Occurrence Site → Piece → RunId → ℕ → Type 0
   StoodSo o p id number = Stood tools files Incremental (body ∷ []) o p id number
 
   abbrev StoodInputs : Occurrence Site → Piece → Type 0
-  StoodInputs o p = (id : RunId) (number : ℕ) (put : Put) → In (wrote id number put) part_journal →
-      In put.path p.lists.inputs → StoodSo o p id number
+  StoodInputs o p = (id : RunId) (number : ℕ) (act : Act) → In (acted id number act) part_journal →
+      In (act_path act) p.lists.inputs → StoodSo o p id number
 
   stood : StoodInputs body piece
-  stood id number put i j = absurd (not-input
-      (subst (λ (z : Put). In z.path lists.inputs) (sym (one-put id number put i).2) j))
+  stood id number act i j = absurd (not-input
+      (subst (λ (z : Act). In (act_path z) lists.inputs) (sym (one-act id number act i).2) j))
 
   abbrev OwnOutputs : Occurrence Site → Piece → Type 0
-  OwnOutputs o p = (puts : List Put) → SucceedsSo o p puts →
-      (id : RunId) (number : ℕ) (put : Put) → In (wrote id number put) part_journal →
-      In put.path p.lists.outputs → StoodSo o p id number
-      ⊎ ((id ≡ o.run) × (length p.before ≤ number) × (number < length puts))
+  OwnOutputs o p = (acts : List Act) → SucceedsSo o p acts →
+      (id : RunId) (number : ℕ) (act : Act) → In (acted id number act) part_journal →
+      In (act_path act) p.lists.outputs → StoodSo o p id number
+      ⊎ ((id ≡ o.run) × (length p.before ≤ number) × (number < length acts))
 
   own : OwnOutputs body piece
-  own puts h id number put i j =
-      let one = one-put id number put i in
-      let count : 1 ≡ length puts = ap length (puts-so puts h) in
-      inr (sym one.0, least number, below number (length puts) one.1 count)
+  own acts h id number act i j =
+      let one = one-act id number act i in
+      let count : 1 ≡ length acts = ap length (acts-so acts h) in
+      inr (sym one.0, least number, below number (length acts) one.1 count)
     where
       least : (n : ℕ) → 0 ≤ n
       least n = omega arith
@@ -158,14 +159,14 @@ module _ (tools : List ℕ → ToolInput → ToolAnswer) where
   pub none-free : (tree : List File) (mode : Mode) (made : Record) →
       pieces_at tools tree mode (body_of made) ≡ piece ∷ [] →
       FreeRunsKeepOff tools tree mode (body_of made ∷ [])
-  none-free tree mode made so o other (inl e) j none p q put w of =
+  none-free tree mode made so o other (inl e) j none p q act w of =
       let g : piece ∷ [] ≡ [] = sym so
       ∙ (ap (λ (z : Occurrence Site). pieces_at tools tree mode z) e ∙ none) in
       absurd (some g)
     where
       some : ◌≡◌ {A = List Piece} (piece ∷ []) [] → ⊥
       some h = cc
-  none-free tree mode made so o other (inr i) j none p q put w of = absurd i
+  none-free tree mode made so o other (inr i) j none p q act w of = absurd i
 
   pub settles : IsSettledBuild tools (build Incremental) part_given
   settles = record {
@@ -174,8 +175,8 @@ module _ (tools : List ℕ → ToolInput → ToolAnswer) where
     demand = body ∷ [];
     bodies = part-each tools (IsAmong (body ∷ [])) Anyhow (inl refl);
     settled = record {
-      succeeds = of-bodies (λ o p. (puts : List Put) × SucceedsSo o p puts)
-          (second_put ∷ [], second-copied);
+      succeeds = of-bodies (λ o p. (acts : List Act) × SucceedsSo o p acts)
+          (second_act ∷ [], second-copied);
       inputs_exist = of-bodies (λ o p. (input : List ℕ) → In input p.lists.inputs →
           IsSome (views.content (record { files = files; journal = p.from.journal }) input)) exist;
       inputs_stood = of-bodies StoodInputs stood;

@@ -14,10 +14,11 @@ use Rattle.std.specs.Prelude.{
   codes,
   refl,
 }
+use Rattle.msb_values.specs.declared.act.Act.{Act}
+use Rattle.msb_values.specs.declared.act.Act.TheVariants.{Write}
 use Rattle.msb_values.specs.declared.change.Change.TheVariants.{AddItems}
 use Rattle.msb_values.specs.declared.item.Item.{Item}
 use Rattle.msb_values.specs.declared.mode.Mode.{Mode}
-use Rattle.msb_values.specs.declared.put.Put.{Put}
 use Rattle.msb_values.specs.declared.scope.Scope.{Scope}
 use Rattle.msb_elements.specs.Nodes.{Node, node, no_nodes, more}
 use Rattle.file_store.specs.declared.tree.File.{File}
@@ -29,11 +30,11 @@ use Rattle.result_cache.specs.declared.record.Decision.{Decision}
 use Rattle.result_cache.specs.declared.record.Decision.TheVariants.{Ran, Part}
 use Rattle.result_cache.specs.declared.record.Record.{Record}
 use Rattle.result_cache.specs.declared.record.Segment.{Segment}
-use Rattle.result_cache.specs.declared.record.Segment.TheVariants.{Write}
+use Rattle.result_cache.specs.declared.record.Segment.TheVariants.{File as OnFile}
 use Rattle.result_cache.specs.declared.request.RequestKey.{RequestKey}
 use Rattle.result_cache.specs.declared.request.RequestResult.{RequestResult}
 use Rattle.result_cache.specs.declared.run.RunId.{RunId}
-use Rattle.result_cache.specs.Journal.{Journal, wrote, ended}
+use Rattle.result_cache.specs.Journal.{Journal, acted, ended}
 use Rattle.build_meaning.specs.Meaning.{Given, requested, built}
 use Rattle.build_incremental.specs.Demand.{Occurrence}
 use Rattle.build_incremental.specs.Placed.{PlacedWorld}
@@ -179,16 +180,16 @@ run = record { instance = record { path = project; globals = [] }; target = code
 abbrev pub site : Site
 site = record { target = Some target; scope = scope }
 
-abbrev pub first_put : Put
-first_put = record { path = codes "o/1.o"; bytes = codes "one" }
+abbrev pub first_act : Act
+first_act = Write (record { path = codes "o/1.o"; bytes = codes "one" })
 
-abbrev pub second_put : Put
-second_put = record { path = codes "o/2.o"; bytes = codes "two" }
+abbrev pub second_act : Act
+second_act = Write (record { path = codes "o/2.o"; bytes = codes "two" })
 
-abbrev pub third_put : Put
-third_put = record { path = codes "o/3.o"; bytes = codes "three" }
+abbrev pub third_act : Act
+third_act = Write (record { path = codes "o/3.o"; bytes = codes "three" })
 
--- the record of a run that was decided so and wrote this
+-- the record of a run that was decided so and did this
 abbrev pub recorded_as : Decision → List Segment → Record
 recorded_as decision segments = record {
   ok = true;
@@ -201,18 +202,18 @@ recorded_as decision segments = record {
 
 -- a clean build copies all of them
 abbrev pub clean_record : Record
-clean_record = recorded_as Ran (Write first_put ∷ Write second_put ∷ Write third_put ∷ [])
+clean_record = recorded_as Ran (OnFile first_act ∷ OnFile second_act ∷ OnFile third_act ∷ [])
 
 abbrev pub clean_journal : Journal
-clean_journal = ended run clean_record ∷ wrote run 2 third_put ∷ wrote run 1 second_put
-    ∷ wrote run 0 first_put ∷ []
+clean_journal = ended run clean_record ∷ acted run 2 third_act ∷ acted run 1 second_act
+    ∷ acted run 0 first_act ∷ []
 
 -- an incremental build copies the second one
 abbrev pub part_record : Record
-part_record = recorded_as (Part 1 3) (Write second_put ∷ [])
+part_record = recorded_as (Part 1 3) (OnFile second_act ∷ [])
 
 abbrev pub part_journal : Journal
-part_journal = ended run part_record ∷ wrote run 0 second_put ∷ []
+part_journal = ended run part_record ∷ acted run 0 second_act ∷ []
 
 abbrev pub result : RequestResult
 result = record {

@@ -5,7 +5,7 @@
 ghost use Rattle.std.specs.Prelude.{◌≡◌, ℕ, List, Some};
 ghost use Rattle.msb_values.specs.declared.mode.Mode.{Mode};
 ghost use Rattle.msb_values.specs.declared.mode.Mode.TheVariants.{Incremental};
-ghost use Rattle.file_store.specs.Commits.{AreWritten};
+ghost use Rattle.file_store.specs.Commits.{AreDone};
 ghost use Rattle.build_meaning.specs.Meaning.{meaning};
 ghost use Rattle.msb_files.specs.FinalTree.{commit_list};
 ghost use Rattle.task_trait.specs.declared.tools.ToolAnswer.{ToolAnswer};
@@ -36,7 +36,7 @@ pub fn three_copies_keep_the_premises()
         IsTrustworthy tools (build mode) clean_given }
     ensures settled { (tools : List ℕ → ToolInput → ToolAnswer) →
         IsSettledBuild tools (build Incremental) part_given }
-    ensures written { AreWritten (commit_list part_journal) files files_left }
+    ensures done { AreDone (commit_list part_journal) files files_left }
     ensures repeated { (tools : List ℕ → ToolInput → ToolAnswer) →
         IsRepeatedBuild tools (build Incremental) tree_left clean_given clean_given }
     ensures declared { (tools : List ℕ → ToolInput → ToolAnswer) →

@@ -2,7 +2,7 @@ use Rattle.std.specs.Prelude.{codes}
 use Rattle.declared_witness.proofs.Computed.{part-means}
 use Rattle.declared_witness.proofs.Declared.{declared}
 use Rattle.declared_witness.proofs.Fresh.{fresh}
-use Rattle.declared_witness.proofs.Repeated.{written, repeats, up-to-date}
+use Rattle.declared_witness.proofs.Repeated.{done, repeats, up-to-date}
 use Rattle.declared_witness.proofs.Settled.{settles}
 use Rattle.declared_witness.proofs.three_copies_keep_the_premises.Goals as goal
 
@@ -16,8 +16,8 @@ returns-clause-trustworthy c tools mode =
 pub returns-clause-settled : goal.returns-clause-settled
 returns-clause-settled c tools = settles tools
 
-pub returns-clause-written : goal.returns-clause-written
-returns-clause-written c = written
+pub returns-clause-done : goal.returns-clause-done
+returns-clause-done c = done
 
 pub returns-clause-repeated : goal.returns-clause-repeated
 returns-clause-repeated c tools = repeats tools
