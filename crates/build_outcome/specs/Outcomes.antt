@@ -1,4 +1,4 @@
--- What comes of a build: its status, what is printed, and the files that are written. (MSBuild command-line reference)
+-- What comes of a build: its status, what is printed, and what is done to files. (MSBuild command-line reference)
 use Rattle.std.specs.Prelude.{◌≡◌, ◌⊎◌, ℕ, Bool, true, false, List, [], Option, None, Some}
 use Rattle.result_cache.specs.declared.request.RequestResult.{RequestResult}
 use Rattle.result_cache.specs.Journal.{Journal}
@@ -27,7 +27,7 @@ IsStatus status = (status ≡ 0) ⊎ (status ≡ 1) ⊎ (status ≡ 4)
 abbrev pub built : Bool → RequestResult → Journal → Outcome
 built low result journal = record { status = status_of result.ok; text = shown_text result journal low; commit = commit_list journal }
 
--- what comes of a build that is stopped, where this text says why: nothing is written
+-- what comes of a build that is stopped, where this text says why: nothing is done to files
 abbrev pub stopped : List ℕ → Outcome
 stopped text = record { status = 4; text = text; commit = [] }
 

@@ -1,4 +1,4 @@
-//! What the program prints and writes once the end of a build is told, for any walker, and how it ends.
+//! What the program prints, writes and removes once the end of a build is told, for any walker, and how it ends.
 //! (MSBuild command-line reference.)
 //!
 //! `specs/` says what an outcome is by the legal history that leads to it. The laws run no code: their contracts are what is

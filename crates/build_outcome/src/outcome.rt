@@ -5,7 +5,7 @@ ghost use Rattle.build_outcome.specs.Outcomes.{status_of, built, stopped, IsOutc
 use crate::replayed::replayed;
 use build_report::{shown, shown_circular, shown_too_deep, shown_too_many};
 use build_scheduler::{Core, End, Walker};
-use msb_values::{List, NoMemory, Put, Text8};
+use msb_values::{Act, List, NoMemory, Text8};
 use result_cache::{RequestResult, Table};
 use std::alloc::Global;
 
@@ -15,8 +15,8 @@ pub struct Outcome {
     pub status: u8,
     /// What is printed.
     pub text: Text8,
-    /// The files to write, in order; each path is there once.
-    pub commit: List<Put>,
+    /// The acts to do, in order; each path is there once. (MSBuild targets; Delete task.)
+    pub commit: List<Act>,
 }
 
 // A drop that is written out is proved here alone.
@@ -71,7 +71,7 @@ fn status_of(ok: bool) -> u8
     if ok { 0 } else { 1 }
 }
 
-/// The outcome of a build that was stopped: nothing is written.
+/// The outcome of a build that was stopped: nothing is written or removed.
 fn stopped(alloc: Global, text: Text8) -> Outcome
     ensures { result ≡ stopped text }
 {

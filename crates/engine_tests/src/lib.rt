@@ -16,6 +16,8 @@ mod orders;
 #[cfg(test)]
 mod random;
 #[cfg(test)]
+mod removals;
+#[cfg(test)]
 mod runs;
 #[cfg(test)]
 mod stores;

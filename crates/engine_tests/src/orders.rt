@@ -6,7 +6,7 @@ use crate::runs::{Outside, is_number, is_so, is_text, outside_of, status, status
 use build_world::World;
 use file_store::Tree;
 use msb_program::Gate;
-use msb_values::{List, Mode, NoMemory, Pairs, Put, Text};
+use msb_values::{Act, List, Mode, NoMemory, Pairs, Text};
 use std::alloc::Global;
 use std::process::Abort;
 use std::str;
@@ -107,7 +107,7 @@ fn ends_so<R: Abort>(rt: &R, watched: &Watched, world: &World, status: u8, on: &
         is_so(rt, outcome.text.as_bytes() == on.sink.bytes(), "text");
         is_so(
             rt,
-            are_written(outcome.commit.as_slice(), on.store.tree()),
+            are_done(outcome.commit.as_slice(), on.store.tree()),
             "files",
         );
         let count = world.tree.files.len().saturating_add(outcome.commit.len());
@@ -130,13 +130,14 @@ fn is_circle(text: &[u8]) -> bool {
     head == Some("circular request") && first.is_some() && first == lines.last()
 }
 
-fn are_written(puts: &[Put], tree: &Tree) -> bool {
-    for put in puts {
-        let is_written = match tree.find(put.path.as_str()) {
-            Some(file) => file.bytes.as_bytes() == put.bytes.as_bytes(),
-            None => false,
+fn are_done(acts: &[Act], tree: &Tree) -> bool {
+    for act in acts {
+        let is_done = match (act.bytes(), tree.find(act.path())) {
+            (Some(bytes), Some(file)) => file.bytes.as_bytes() == bytes,
+            (None, None) => true,
+            _ => false,
         };
-        if !is_written {
+        if !is_done {
             return false;
         }
     }

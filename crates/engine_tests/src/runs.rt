@@ -27,6 +27,14 @@ pub fn is_so<R: Abort>(rt: &R, holds: bool, line: &str) {
     assert!(*rt; holds, "{line}");
 }
 
+/// The tree has this file with this text.
+pub fn has_file<R: Abort>(rt: &R, tree: &Tree, path: &str, text: &str) {
+    match tree.find(path) {
+        Some(file) => is_text(rt, file.bytes.as_bytes(), text, path),
+        None => is_so(rt, false, path),
+    }
+}
+
 /// The tree of these files, which stand in byte order of their paths.
 pub fn tree(alloc: Global, files: &[(&str, &str)]) -> Result<Tree, Fail> {
     let mut list = List::new(alloc);

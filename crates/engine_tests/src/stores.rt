@@ -1,5 +1,7 @@
 //! Each call of a store, and the write of a sink, fails in turn.
-use crate::runs::{Outside, is_number, is_so, is_text, outside_of, status, status_alone, tree};
+use crate::runs::{
+    Outside, has_file, is_number, is_so, is_text, outside_of, status, status_alone, tree,
+};
 use file_store::{MemSink, Sink, Store, Tree};
 use std::alloc::Global;
 use std::process::Abort;
@@ -9,88 +11,91 @@ use std::thread::Threads;
 use task_trait::{Counted, NoTools};
 use trial_set::make;
 
-/// A project that calls itself, and one that calls two others, of which one calls the other.
-const FILES: [(&str, &str); 4] = [
-    (
-        "a.proj",
-        r#"{"e":"Project","c":[{"e":"Target","a":{"Name":"Build"},"c":[
-{"e":"WriteLinesToFile","a":{"File":"a","Lines":"a"}},{"e":"MSBuild","a":{"Projects":"a.proj"}}]}]}"#,
-    ),
-    (
-        "b.proj",
-        r#"{"e":"Project","c":[{"e":"Target","a":{"Name":"Build"},"c":[
-{"e":"MSBuild","a":{"Projects":"d.proj;c.proj","BuildInParallel":"true"}},
-{"e":"WriteLinesToFile","a":{"File":"b","Lines":"b","Overwrite":"true"}}]}]}"#,
-    ),
-    (
-        "c.proj",
-        r#"{"e":"Project","c":[{"e":"Target","a":{"Name":"Build"},"c":[
-{"e":"WriteLinesToFile","a":{"File":"c","Lines":"c","Overwrite":"true"}}]}]}"#,
-    ),
-    (
-        "d.proj",
-        r#"{"e":"Project","c":[{"e":"Target","a":{"Name":"Build"},"c":[
-{"e":"MSBuild","a":{"Projects":"c.proj"}},
-{"e":"WriteLinesToFile","a":{"File":"d","Lines":"d","Overwrite":"true"}}]}]}"#,
-    ),
+/// The words of a build that calls three projects, and of one that calls itself.
+const BUILD: &str = "build app/app.proj --nodes 8";
+
+const CIRCLE: &str = "build app/app.proj --target Circle --nodes 8";
+
+const LIBRARY: &str = r#"{"e":"Project","c":[{"e":"Import","a":{"Project":"../common.props"}},
+{"e":"ItemGroup","c":[{"e":"Src","a":{"Include":"*.c"}}]}]}"#;
+
+const APP: &str = r#"{"e":"Project","a":{"DefaultTargets":"Link"},"c":[
+{"e":"Import","a":{"Project":"../common.props"}},
+{"e":"Target","a":{"Name":"Link"},"c":[
+{"e":"MSBuild","a":{"Projects":"../a/a.proj;../b/b.proj;../c/c.proj","BuildInParallel":"true"},
+"c":[{"e":"Output","a":{"TaskParameter":"TargetOutputs","ItemName":"O"}}]},
+{"e":"WriteLinesToFile","a":{"File":"$(Out)/app.txt","Lines":"@(O)","Overwrite":"true"}}]},
+{"e":"Target","a":{"Name":"Circle"},"c":[
+{"e":"WriteLinesToFile","a":{"File":"a","Lines":"a"}},
+{"e":"MSBuild","a":{"Projects":"app.proj","Targets":"Circle"}}]}]}"#;
+
+const COMMON: &str = r#"{"e":"Project","c":[
+{"e":"PropertyGroup","c":[{"e":"Out","t":"$(MSBuildThisFileDirectory)out"}]},
+{"e":"Target","a":{"Name":"Build","Inputs":"@(Src)","Outputs":"@(Src->'$(Out)/%(Filename).o')"},
+"c":[{"e":"Copy",
+"a":{"SourceFiles":"@(Src)","DestinationFiles":"@(Src->'$(Out)/%(Filename).o')"}}]}]}"#;
+
+const FILES: [(&str, &str); 9] = [
+    ("a/a.proj", LIBRARY),
+    ("a/a1.c", "int a1;\n"),
+    ("a/a2.c", "int a2;\n"),
+    ("app/app.proj", APP),
+    ("b/b.c", "int b;\n"),
+    ("b/b.proj", LIBRARY),
+    ("c/c.c", "int c;\n"),
+    ("c/c.proj", LIBRARY),
+    ("common.props", COMMON),
 ];
 
-/// The files that `b.proj` writes, in order.
-const WRITTEN: [(&str, &str); 3] = [("c", "c\n"), ("d", "d\n"), ("b", "b\n")];
+/// The files that the build writes, in order.
+const WRITTEN: [(&str, &str); 5] = [
+    ("out/a1.o", "int a1;\n"),
+    ("out/a2.o", "int a2;\n"),
+    ("out/b.o", "int b;\n"),
+    ("out/c.o", "int c;\n"),
+    ("out/app.txt", "/out/a1.o\n/out/a2.o\n/out/b.o\n/out/c.o\n"),
+];
 
-const REPORT: &str =
-    "c.proj : build ran\nd.proj : build ran\nb.proj : build ran\nreturned 0\nbuild succeeded\n";
+const REPORT: &str = "a/a.proj : build ran
+b/b.proj : build ran
+c/c.proj : build ran
+app/app.proj : link ran
+returned 0
+build succeeded
+";
 
 const TRIAL: &str = "trial 7 size 2 nodes 2\nruns 3\nfiles 2\nbytes 17\nequal\n";
 
-/// Words, the call of the store that fails (its listing, its reads, and then its writes), the write of the sink that does, the
-/// status, what is printed, and how many files are written. No call has the number 9.
+/// Words, the call of the store that fails (0 is its listing, 1 to 9 are its reads, and 10 to 14 its writes), the write of the sink
+/// that does, the status, what is printed, and how many files are written.
 type Row = (&'static str, u64, Option<u64>, u64, &'static str, u64);
 
-const ROWS: [Row; 17] = [
-    ("build b.proj --nodes 8", 9, None, 0, REPORT, 3),
-    ("build b.proj --nodes 8", 0, None, 5, "store fault\n", 0),
-    (
-        "build b.proj --nodes 8",
-        1,
-        None,
-        5,
-        "store fault a.proj\n",
-        0,
-    ),
-    (
-        "build b.proj --nodes 8",
-        2,
-        None,
-        5,
-        "store fault b.proj\n",
-        0,
-    ),
-    (
-        "build b.proj --nodes 8",
-        3,
-        None,
-        5,
-        "store fault c.proj\n",
-        0,
-    ),
-    (
-        "build b.proj --nodes 8",
-        4,
-        None,
-        5,
-        "store fault d.proj\n",
-        0,
-    ),
-    ("build b.proj --nodes 8", 5, None, 5, "store fault c\n", 0),
-    ("build b.proj --nodes 8", 6, None, 5, "store fault d\n", 1),
-    ("build b.proj --nodes 8", 7, None, 5, "store fault b\n", 2),
-    ("build b.proj --nodes 8", 9, Some(0), 6, "", 3),
-    ("build b.proj --nodes 8", 0, Some(0), 5, "", 0),
-    ("build b.proj --nodes 8", 7, Some(0), 5, "", 2),
-    ("build a.proj --nodes 8", 9, Some(0), 4, "", 0),
-    ("build no.proj", 9, Some(0), 3, "", 0),
-    ("build", 9, Some(0), 2, "", 0),
+/// No call of the store has this number.
+const NO_CALL: u64 = 15;
+
+const ROWS: [Row; 24] = [
+    (BUILD, NO_CALL, None, 0, REPORT, 5),
+    (BUILD, 0, None, 5, "store fault\n", 0),
+    (BUILD, 1, None, 5, "store fault a/a.proj\n", 0),
+    (BUILD, 2, None, 5, "store fault a/a1.c\n", 0),
+    (BUILD, 3, None, 5, "store fault a/a2.c\n", 0),
+    (BUILD, 4, None, 5, "store fault app/app.proj\n", 0),
+    (BUILD, 5, None, 5, "store fault b/b.c\n", 0),
+    (BUILD, 6, None, 5, "store fault b/b.proj\n", 0),
+    (BUILD, 7, None, 5, "store fault c/c.c\n", 0),
+    (BUILD, 8, None, 5, "store fault c/c.proj\n", 0),
+    (BUILD, 9, None, 5, "store fault common.props\n", 0),
+    (BUILD, 10, None, 5, "store fault out/a1.o\n", 0),
+    (BUILD, 11, None, 5, "store fault out/a2.o\n", 1),
+    (BUILD, 12, None, 5, "store fault out/b.o\n", 2),
+    (BUILD, 13, None, 5, "store fault out/c.o\n", 3),
+    (BUILD, 14, None, 5, "store fault out/app.txt\n", 4),
+    (BUILD, NO_CALL, Some(0), 6, "", 5),
+    (BUILD, 0, Some(0), 5, "", 0),
+    (BUILD, 14, Some(0), 5, "", 4),
+    (CIRCLE, NO_CALL, Some(0), 4, "", 0),
+    ("build no.proj", NO_CALL, Some(0), 3, "", 0),
+    ("build", NO_CALL, Some(0), 2, "", 0),
     ("trial 7 --size 2 --nodes 2", 0, None, 0, TRIAL, 0),
     ("trial 7 --size 2 --nodes 2", 0, Some(0), 6, "", 0),
 ];
@@ -143,17 +148,7 @@ fn has_written<R: Abort>(rt: &R, tree: &Tree, count: u64, line: &str) {
         line,
     );
     for (path, text) in WRITTEN.iter().take(count as usize) {
-        match tree.find(path) {
-            Some(file) => is_text(rt, file.bytes.as_bytes(), text, line),
-            None => is_so(rt, false, path),
-        }
-    }
-}
-
-fn has_file<R: Abort>(rt: &R, tree: &Tree, path: &str, text: &str) {
-    match tree.find(path) {
-        Some(file) => is_text(rt, file.bytes.as_bytes(), text, path),
-        None => is_so(rt, false, path),
+        has_file(rt, tree, path, text);
     }
 }
 

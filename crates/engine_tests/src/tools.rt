@@ -6,7 +6,7 @@ ghost use Rattle.task_trait.specs.declared.tools.ToolAnswer.TheVariants.{Made, U
 use crate::runs::{is_number, is_so, is_text, outside_of, status, status_alone, tree};
 use file_store::Tree;
 use msb_program::Gate;
-use msb_values::{Copied, Item, List, Name, NoMemory, Note, Pairs, Put, Text, Text8};
+use msb_values::{Act, Copied, Item, List, Name, NoMemory, Note, Pairs, Put, Shared, Text, Text8};
 use std::alloc::{AllocError, Global};
 use std::fmt::Write;
 use std::str;
@@ -70,14 +70,14 @@ fn two_nodes_work_at_once(rt: HostRuntime) -> Result<(), Fail> {
 struct Echo;
 
 impl Tools for Echo {
-    ghost answer = { λ name input. elim (bytes_eq name (codes "echo")) [ true ↦ Made (record { ok = true; outputs = input.params; files = []; notes = [] }) | false ↦ Unknown ] };
+    ghost answer = { λ name input. elim (bytes_eq name (codes "echo")) [ true ↦ Made (record { ok = true; outputs = input.params; acts = []; notes = [] }) | false ↦ Unknown ] };
 
     fn call(&self, alloc: Global, name: &Name, input: &ToolInput) -> Result<ToolAnswer, NoMemory> {
         if name.key() == "echo" {
             return Ok(ToolAnswer::Made(TaskOutput {
                 ok: true,
                 outputs: input.params.copy()?,
-                files: List::new(alloc),
+                acts: List::new(alloc),
                 notes: List::new(alloc),
             }));
         }
@@ -185,15 +185,17 @@ fn push_files(shown: &mut String, files: &[FileIn]) -> Result<(), Fail> {
     Ok(())
 }
 
-/// Whether a tool succeeds, the paths at which it writes three bytes each, how much its run has written before, and what is taken:
-/// whether it succeeded, how many files, and the last note.
+/// Whether a tool succeeds, the paths at which it writes three bytes each, those behind a minus, which it removes, how much its
+/// run has written before, and what is taken: whether it succeeded, how many acts, and the last note.
 type Taken = (bool, &'static str, u64, &'static str);
 
-const TAKEN: [Taken; 12] = [
+const TAKEN: [Taken; 14] = [
     (true, "a,b.c/...", 67_108_858, "true 2 note"),
     (false, "a,a b/ü", 0, "false 2 note"),
     (true, "a,b/c", 67_108_859, "false 1 tool: too large b/c"),
     (true, "a,./b,c", 0, "false 1 tool: bad path ./b"),
+    (true, "a,-b,-a", 67_108_861, "true 3 note"),
+    (true, "a,-./b,c", 0, "false 1 tool: bad path ./b"),
     (true, "/a", 67_108_864, "false 0 tool: bad path /a"),
     (true, "", 0, "false 0 tool: bad path "),
     (true, "a/", 0, "false 0 tool: bad path a/"),
@@ -221,24 +223,27 @@ fn made(alloc: Global, ok: bool, paths: &str) -> Result<TaskOutput, NoMemory> {
     Ok(TaskOutput {
         ok,
         outputs: List::new(alloc),
-        files: puts(alloc, paths)?,
+        acts: acts(alloc, paths)?,
         notes,
     })
 }
 
-fn puts(alloc: Global, paths: &str) -> Result<List<Put>, NoMemory> {
-    let mut puts = List::new(alloc);
+fn acts(alloc: Global, paths: &str) -> Result<List<Act>, NoMemory> {
+    let mut acts = List::new(alloc);
     for path in paths.split(',') {
-        puts.push(put(alloc, path)?)?;
+        acts.push(act(alloc, path)?)?;
     }
-    Ok(puts)
+    Ok(acts)
 }
 
-fn put(alloc: Global, path: &str) -> Result<Put, NoMemory> {
-    Ok(Put {
+fn act(alloc: Global, path: &str) -> Result<Act, NoMemory> {
+    if let Some(removed) = path.strip_prefix('-') {
+        return Ok(Act::Remove(Text::of(alloc, removed)?));
+    }
+    Ok(Act::Write(Put {
         path: Text::of(alloc, path)?,
-        bytes: Text8::of(alloc, b"abc")?,
-    })
+        bytes: Shared::new(alloc, Text8::of(alloc, b"abc")?)?,
+    }))
 }
 
 fn shown(alloc: Global, output: &TaskOutput) -> Result<String, AllocError> {
@@ -247,5 +252,5 @@ fn shown(alloc: Global, output: &TaskOutput) -> Result<String, AllocError> {
         Some(Note::Fail(text)) => text.as_str(),
         _ => "another note",
     };
-    format!(in alloc; "{} {} {note}", output.ok, output.files.len())
+    format!(in alloc; "{} {} {note}", output.ok, output.acts.len())
 }

@@ -4,7 +4,8 @@ use Rattle.std.specs.Bool.{Decides}
 use Rattle.std.specs.Fmt.{decimal}
 use Rattle.std.specs.List.{sum_by}
 use Rattle.msb_values.specs.declared.mode.Mode.TheVariants.{Incremental}
-use Rattle.msb_values.specs.declared.put.Put.{Put}
+use Rattle.msb_values.specs.declared.act.Act.{Act}
+use Rattle.task_trait.specs.Tools.{act_size}
 use Rattle.task_trait.specs.declared.tools.ToolAnswer.TheVariants.{Unknown}
 use Rattle.build_world.specs.declared.world.World.{World as Given}
 use Rattle.trial_set.specs.Sets.{files_of}
@@ -29,13 +30,13 @@ pub record IsSetOf (options : Options) (given : Given) : Type 0 where
 abbrev pub no_tools : Answering
 no_tools name input = Unknown
 
--- both builds print and write the same
+-- both builds print the same, and do the same to files
 abbrev pub AreEqual : Outcome → Outcome → Type 0
 AreEqual one other = (one.text ≡ other.text) × (one.commit ≡ other.commit)
 
--- how many bytes the files have in all
-abbrev pub bytes_in : List Put → ℕ
-bytes_in puts = sum_by (λ put. length put.bytes) puts
+-- how many bytes the acts write in all
+abbrev pub bytes_in : List Act → ℕ
+bytes_in acts = sum_by act_size acts
 
 -- what the words ask for
 abbrev pub first_line : Options → List ℕ
@@ -55,7 +56,8 @@ trial_text options one equal =
     ++ line (codes "bytes " ++ decimal (bytes_in one.outcome.commit))
     ++ last_line equal
 
--- what is told of two builds: the last line is `equal` exactly where they print and write the same
+-- what is told of two builds: the last line is `equal` exactly where they print
+-- the same and do the same to files
 pub record IsTold (options : Options) (one : Tried) (other : Outcome) (text : List ℕ) : Type 0 where
   pub equal : Bool
   pub decides : Decides equal (AreEqual one.outcome other)

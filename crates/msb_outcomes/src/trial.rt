@@ -5,8 +5,9 @@ ghost use Rattle.std.specs.Bool.{Decides};
 ghost use Rattle.std.specs.Cmp.Lexicographic.{pointwise};
 ghost use Rattle.std.specs.Fmt.{decimal};
 ghost use Rattle.std.specs.List.{list_all, zip};
-ghost use Rattle.result_cache.specs.SameRecords.{same_put};
+ghost use Rattle.result_cache.specs.SameRecords.{same_act, same_put};
 ghost use Rattle.build_report.specs.Line.{line};
+ghost use Rattle.task_trait.specs.Tools.{act_size};
 ghost use Rattle.build_engine.specs.Tried.{IsTried};
 ghost use Rattle.request_machine.specs.Worlds.{world_of};
 ghost use Rattle.msb_outcomes.specs.Trials.{AreEqual, IsSetOf, IsTold, IsTrial, bytes_in, first_line, last_line, trial_text};
@@ -16,7 +17,7 @@ use crate::on_nodes::built_on;
 use build_engine::{Tried, build_and_count};
 use build_outcome::Outcome;
 use build_world::World;
-use msb_values::{List, Mode, Named, NoMemory, Put, Text, Text8};
+use msb_values::{Act, List, Mode, Named, NoMemory, Put, Text, Text8};
 use msb_words::Options;
 use request_machine::{Walk, root_key};
 use std::alloc::Global;
@@ -121,17 +122,26 @@ fn last_line(equal: bool) -> &'static str
     if equal { "equal\n" } else { "different\n" }
 }
 
-fn bytes_in(puts: &[Put]) -> Result<usize, NoMemory>
-    ensures { IfOk result (λ bytes. bytes ≡ bytes_in puts.now) }
+fn bytes_in(acts: &[Act]) -> Result<usize, NoMemory>
+    ensures { IfOk result (λ bytes. bytes ≡ bytes_in acts.now) }
 {
     let mut bytes: usize = 0;
-    for put in puts {
-        bytes = bytes.checked_add(put.bytes.len()).ok_or(NoMemory)?;
+    for act in acts {
+        bytes = bytes.checked_add(size_of(act)).ok_or(NoMemory)?;
     }
     Ok(bytes)
 }
 
-// Whether two builds print and write the same.
+fn size_of(act: &Act) -> usize
+    ensures { result ≡ act_size act.now }
+{
+    match act {
+        Act::Write(put) => put.bytes.get().len(),
+        Act::Remove(_) => 0,
+    }
+}
+
+// Whether two builds print the same, and do the same to files.
 fn are_equal(one: &Outcome, other: &Outcome) -> bool
     ensures { Decides result (AreEqual one.now other.now) }
 {
@@ -139,20 +149,30 @@ fn are_equal(one: &Outcome, other: &Outcome) -> bool
         && are_same(one.commit.as_slice(), other.commit.as_slice())
 }
 
-fn are_same(one: &[Put], other: &[Put]) -> bool
-    ensures { result ≡ pointwise same_put one.now other.now }
+fn are_same(one: &[Act], other: &[Act]) -> bool
+    ensures { result ≡ pointwise same_act one.now other.now }
 {
     one.len() == other.len() && pairs_are_same(one, other)
 }
 
-fn pairs_are_same(one: &[Put], other: &[Put]) -> bool
-    ensures { result ≡ list_all (λ p. same_put p.0 p.1) (zip one.now other.now) }
+fn pairs_are_same(one: &[Act], other: &[Act]) -> bool
+    ensures { result ≡ list_all (λ p. same_act p.0 p.1) (zip one.now other.now) }
 {
     one.iter().zip(other).all(|(a, b)| is_same(a, b))
 }
 
-fn is_same(a: &Put, b: &Put) -> bool
+fn is_same(a: &Act, b: &Act) -> bool
+    ensures { result ≡ same_act a.now b.now }
+{
+    match (a, b) {
+        (Act::Write(a), Act::Write(b)) => is_same_put(a, b),
+        (Act::Remove(a), Act::Remove(b)) => a == b,
+        _ => false,
+    }
+}
+
+fn is_same_put(a: &Put, b: &Put) -> bool
     ensures { result ≡ same_put a.now b.now }
 {
-    a.path == b.path && a.bytes.as_bytes() == b.bytes.as_bytes()
+    a.path == b.path && a.bytes.get().as_bytes() == b.bytes.get().as_bytes()
 }

@@ -17,7 +17,7 @@ use Rattle.std.proofs.Common.{
   subst,
   ◌∙◌,
 }
-use Rattle.file_store.specs.Commits.{AreWrittenTo, HasContents}
+use Rattle.file_store.specs.Commits.{AreDoneTo, HasContents}
 use Rattle.file_store.specs.declared.tree.File.{File}
 use Rattle.result_cache.specs.declared.request.RequestResult.{RequestResult}
 use Rattle.result_cache.specs.Journal.{Journal}
@@ -96,11 +96,11 @@ module _ (tools : Answering) (words : List (List ℕ)) (l : Loading) (s : Saving
 
     part_saved : (place : ℕ) → SavedTo s meant.commit place → SavedPart s clean.journal
     part_saved place saved =
-        told_so (AreWrittenTo place meant.commit)
+        told_so (AreDoneTo place meant.commit)
         (λ before after. IsOldOrFinal before clean.journal after) s.before s.after
-        (λ before after is written.
-        part_is_clean before out clean (gives_of before is) place after written)
-        saved.written
+        (λ before after is done.
+        part_is_clean before out clean (gives_of before is) place after done)
+        saved.done
 
     kept_part : Kept s → SavedPart s clean.journal
     kept_part kept =

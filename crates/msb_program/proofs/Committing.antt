@@ -1,7 +1,8 @@
 -- How an outcome ends whose commit failed.
 use Rattle.std.proofs.Common.{◌≡◌, ◌⊎◌, ◌++◌, ◌≤◌, ℕ, slice_get, Some, IsSomeAnd, inl, inr, sym, subst, codes, arith}
 use Rattle.msb_laws.specs.Faults.{Rose}
-use Rattle.msb_values.specs.declared.put.Put.{Put}
+use Rattle.msb_values.specs.Acts.{act_path}
+use Rattle.msb_values.specs.declared.act.Act.{Act}
 use Rattle.build_report.specs.Line.{line}
 use Rattle.build_engine.specs.Statuses.{IsCompletion, IsRefusal}
 use Rattle.msb_program.specs.Endings.{Saving, SavedTo, Printing, Printed, Silent, Ends}
@@ -14,9 +15,9 @@ completion_of status low (inr (inr four_is)) = absurd (omega arith)
 
 module _ (o : Outcome) (before after : ℕ) (s : Saving) (p : Printing) (completion : IsCompletion o.status) where
   -- the store failed at a place
-  pub failed_ends : (status place : ℕ) (put : Put) → slice_get o.commit place ≡ Some put → SavedTo s o.commit place → Rose before after
-      → ((status ≡ 5) × Printed p (line (codes "store fault " ++ put.path))) ⊎ ((status ≡ 7) × Silent p) → Ends o before after s p status
-  failed_ends status place put is saved rose (inl told) =
-      inr (inr (inr (inl (told.0, record { completion = completion; place = place; saved = saved; rose = rose; printed = subst (λ entry. IsSomeAnd entry (λ one. Printed p (line (codes "store fault " ++ one.path)))) (sym is) told.1 }))))
-  failed_ends status place put is saved rose (inr memory) =
+  pub failed_ends : (status place : ℕ) (act : Act) → slice_get o.commit place ≡ Some act → SavedTo s o.commit place → Rose before after
+      → ((status ≡ 5) × Printed p (line (codes "store fault " ++ act_path act))) ⊎ ((status ≡ 7) × Silent p) → Ends o before after s p status
+  failed_ends status place act is saved rose (inl told) =
+      inr (inr (inr (inl (told.0, record { completion = completion; place = place; saved = saved; rose = rose; printed = subst (λ entry. IsSomeAnd entry (λ one. Printed p (line (codes "store fault " ++ act_path one)))) (sym is) told.1 }))))
+  failed_ends status place act is saved rose (inr memory) =
       inr (inr (inr (inr (memory.0, memory.1, record { completion = completion; place = place; saved = saved }))))

@@ -1,11 +1,12 @@
 -- What a status says where the world of the build is whole and steady.
 use Rattle.std.proofs.Common.{◌≡◌, ◌⊎◌, ℕ, List, [], true, false, ◌≤◌, Bool, Option, Some, None, Result, Ok, Err, IfSome, inl, inr, refl, ap, sym, subst, ◌∙◌, arith}
 use Rattle.std.proofs.Math.Logic.{∥∥₁_elim}
-use Rattle.std.specs.Coded.{Coded, Coded-set, code_by, coded×, coded_list, coded_ℕ, coded_bool}
+use Rattle.std.specs.Coded.{Coded, Coded-set, code_by, coded×, coded_list, coded_option, coded_ℕ, coded_bool}
 use Rattle.msb_laws.specs.Faults.{Rose}
 use Rattle.msb_values.specs.declared.key.InstanceKey.{InstanceKey}
 use Rattle.msb_values.specs.declared.mode.Mode.{Mode}
-use Rattle.msb_values.specs.declared.put.Put.{Put}
+use Rattle.msb_values.specs.declared.act.Act.{Act}
+use Rattle.msb_values.specs.declared.act.Act.TheVariants.{Write, Remove}
 use Rattle.file_store.specs.Entries.{entries_of}
 use Rattle.file_store.specs.Files.{are_in_order, file_at}
 use Rattle.file_store.specs.Limits.{limit_fault}
@@ -37,12 +38,29 @@ use Rattle.msb_outcomes.proofs.Working.{build_is_asked}
 bytes_code : Coded (List ℕ)
 bytes_code = coded_list coded_ℕ
 
-put_code : Coded Put
-put_code = code_by (List ℕ × List ℕ) (coded× bytes_code bytes_code) (λ put. (put.path, put.bytes)) (λ x. record { path = x.0; bytes = x.1 }) (λ _. refl)
+-- a path, with the bytes that it then has
+act_parts : Act → List ℕ × Option (List ℕ)
+act_parts (Write put) = (put.path, Some put.bytes)
+act_parts (Remove path) = (path, None)
+
+act_of_parts : List ℕ × Option (List ℕ) → Act
+act_of_parts x = elim x.1 [
+  | None ↦ Remove x.0
+  | Some bytes ↦ Write (record { path = x.0; bytes = bytes })
+]
+
+same_act : (act : Act) → act_of_parts (act_parts act) ≡ act
+unfolding act_parts act_of_parts
+same_act (Write put) = refl
+same_act (Remove path) = refl
+
+act_code : Coded Act
+act_code = code_by (List ℕ × Option (List ℕ)) (coded× bytes_code (coded_option bytes_code))
+    act_parts act_of_parts same_act
 
 outcome_code : Coded Outcome
 outcome_code =
-    code_by (ℕ × (List ℕ × List Put)) (coded× coded_ℕ (coded× bytes_code (coded_list put_code))) (λ o. (o.status, (o.text, o.commit)))
+    code_by (ℕ × (List ℕ × List Act)) (coded× coded_ℕ (coded× bytes_code (coded_list act_code))) (λ o. (o.status, (o.text, o.commit)))
     (λ x. record { status = x.0; text = x.1.0; commit = x.1.1 }) (λ _. refl)
 
 -- a tree is its files

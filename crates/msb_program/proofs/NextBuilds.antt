@@ -18,7 +18,7 @@ use Rattle.std.proofs.Common.{
   ◌∙◌,
 }
 use Rattle.std.proofs.Math.Logic.{∥∥₁_map}
-use Rattle.file_store.specs.Commits.{AreWritten}
+use Rattle.file_store.specs.Commits.{AreDone}
 use Rattle.file_store.specs.declared.tree.File.{File}
 use Rattle.file_store.specs.declared.tree.Tree.{Tree}
 use Rattle.result_cache.specs.declared.request.RequestResult.{RequestResult}
@@ -87,29 +87,29 @@ module _ (tools : Answering) (words : List (List ℕ)) (l : Loading) (s : Saving
 
   module _ (same : s.before ≡ l.told) (left : Tree) (again : Given ToolInput RequestResult)
       (means : MeansRepeated tools words l.told left again) where
-    -- the list was written that the build means
-    written : s.after ≡ Some left.files → HasSaved status →
-        AreWritten (commit_list means.out.journal) means.given.tree.files left.files
-    written left_is saved =
+    -- the list was done that the build means
+    done : s.after ≡ Some left.files → HasSaved status →
+        AreDone (commit_list means.out.journal) means.given.tree.files left.files
+    done left_is saved =
         let meant : Outcome =
         built means.build.options.low means.out.value means.out.journal in
-        told_both (AreWritten (commit_list means.out.journal)) s.before s.after
+        told_both (AreDone (commit_list means.out.journal)) s.before s.after
         means.given.tree.files left.files
         (same ∙ given_told words l.told means.given means.build) left_is
         (saved_of meant (answers_of means.given means.build means.out means.settled.whole
-        means.settled.steady) saved).written
+        means.settled.steady) saved).done
 
     -- the tree that is left is one over which the next build may be trusted
     pub stays_fresh : s.after ≡ Some left.files → HasSaved status →
         StaysFresh tools means.given left again
     stays_fresh left_is saved = record {
       fresh = stays-fresh tools means.given left means.clean means.out again means.trusted
-          means.settled (written left_is saved) means.repeated;
+          means.settled (done left_is saved) means.repeated;
       no_older = stays-no-older tools means.given left means.clean means.out again
-          means.trusted means.settled (written left_is saved) means.repeated;
+          means.trusted means.settled (done left_is saved) means.repeated;
       up_to_date = record {
         no_older = stays-no-older tools means.given left means.clean means.out again
-            means.trusted means.settled (written left_is saved) means.repeated;
+            means.trusted means.settled (done left_is saved) means.repeated;
         demand = means.repeated.later;
         bodies = means.repeated.later_bodies;
         keep_off = means.repeated.repeated.free;

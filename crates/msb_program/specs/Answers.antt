@@ -1,4 +1,4 @@
--- What a status of the program says of its words, of the files that the store tells, and of what was written and printed.
+-- What a status of the program says of its words, of the files that the store tells, and of what was done to files and printed.
 use Rattle.std.specs.Prelude.{◌≡◌, ◌⊎◌, ℕ, List, true, Option, Some, None, IfSome, codes}
 use Rattle.msb_laws.specs.Faults.{Rose}
 use Rattle.file_store.specs.Entries.{entries_of}
@@ -80,7 +80,7 @@ IsPastLimit words l s p = (fault : LoadFault) × OfListing l.told (λ listing. l
 abbrev pub IsStatus : ℕ → Type 0
 IsStatus status = (status ≡ 0) ⊎ (status ≡ 1) ⊎ (status ≡ 2) ⊎ (status ≡ 3) ⊎ (status ≡ 4) ⊎ (status ≡ 5) ⊎ (status ≡ 6) ⊎ (status ≡ 7) ⊎ (status ≡ 8)
 
--- the words ask for a trial, and P holds of a text that it may print; no file is written
+-- the words ask for a trial, and P holds of a text that it may print; no file is written or removed
 pub record HasTrial (words : List (List ℕ)) (s : Saving) (P : List ℕ → Type 0) : Type 0 where
   pub options : Options
   pub asked : options_in words ≡ Some options
@@ -102,11 +102,11 @@ module _ (tools : Answering) where
     pub is : IsOutcomeOf tools options files outcome
     pub holds : P outcome
 
-  -- 0: what the words ask for was done, its files were written, and its text was printed whole
+  -- 0: what the words ask for was done, its acts were done, and its text was printed whole
   abbrev pub IsDone : List (List ℕ) → Option (List File) → Saving → Printing → Type 0
   IsDone words told s p = HasOutcome words told (λ o. (o.status ≡ 0) × EndsWhole s p o) ⊎ HasTrial words s (PrintedAll p)
 
-  -- 1: the request failed, its files were written, and its text was printed whole
+  -- 1: the request failed, its acts were done, and its text was printed whole
   abbrev pub IsFailed : List (List ℕ) → Option (List File) → Saving → Printing → Type 0
   IsFailed words told s p = HasOutcome words told (λ o. (o.status ≡ 1) × EndsWhole s p o)
 
@@ -118,7 +118,7 @@ module _ (tools : Answering) where
   abbrev pub IsStopped : List (List ℕ) → Option (List File) → Saving → Printing → Type 0
   IsStopped words told s p = HasOutcome words told (λ o. (o.status ≡ 4) × EndsRefused s p o)
 
-  -- 5: the store's count of faults rose, in the load, or as the files of an outcome were written
+  -- 5: the store's count of faults rose, in the load, or as the acts of an outcome were done
   abbrev pub IsStoreFailure : List (List ℕ) → Loading → Saving → Printing → Type 0
   IsStoreFailure words l s p = IsLoadFailure words l s p ⊎ HasOutcome words l.told (EndsUnwritten l.faults_before l.faults_after s p)
 

@@ -31,11 +31,11 @@ pub record MeansClean (tools : Answering) (words : List (List ℕ)) (told : Opti
   pub steady : (out : Given ToolInput RequestResult) →
       meaning (world_of tools given) ≡ Some out → IsSteady out.demand
 
--- each path has the bytes that a build with this journal leaves there
+-- each path has what a build with this journal leaves there
 abbrev pub SavedFinal : Saving → Journal → Type 0
 SavedFinal s journal = IfSome s.before (λ files. IsSomeAnd s.after (IsFinalTree files journal))
 
--- each path has the bytes that it had, or those that a build with this journal leaves there
+-- each path has the bytes that it had, or what a build with this journal leaves there
 abbrev pub IsOldOrFinal : List File → Journal → List File → Type 0
 IsOldOrFinal before journal after = (path : List ℕ) →
     (bytes_in after path ≡ bytes_in before path)

@@ -1,10 +1,11 @@
--- How an outcome ends: what becomes of the files of its commit list, and of its text.
+-- How an outcome ends: what becomes of the acts of its commit list, and of its text.
 use Rattle.std.specs.Prelude.{◌≡◌, ◌⊎◌, ◌++◌, ◌<◌, ℕ, List, length, slice_get, Option, IfSome, IsSomeAnd, Result, Ok, Err, codes}
 use Rattle.msb_laws.specs.Faults.{Rose}
 use Rattle.msb_laws.specs.Gains.{Appends, AppendsFront, Prints}
 use Rattle.msb_values.specs.declared.errors.NoMemory.{NoMemory}
-use Rattle.msb_values.specs.declared.put.Put.{Put}
-use Rattle.file_store.specs.Commits.{AreWritten, AreWrittenTo, HasContents}
+use Rattle.msb_values.specs.Acts.{act_path}
+use Rattle.msb_values.specs.declared.act.Act.{Act}
+use Rattle.file_store.specs.Commits.{AreDone, AreDoneTo, HasContents}
 use Rattle.file_store.specs.declared.tree.File.{File}
 use Rattle.build_report.specs.Line.{line}
 use Rattle.msb_outcomes.specs.Outcomes.{Answering, IsOutcomeOf}
@@ -24,15 +25,16 @@ saving before after = record { before = before; after = after }
 abbrev pub Kept : Saving → Type 0
 Kept s = s.after ≡ s.before
 
--- the whole list was written in order, and every path has the bytes that come of that
-pub record SavedAll (s : Saving) (list : List Put) : Type 0 where
-  pub written : IfSome s.before (λ files. IsSomeAnd s.after (AreWritten list files))
+-- the whole list was done in order, and every path has what comes of that
+pub record SavedAll (s : Saving) (list : List Act) : Type 0 where
+  pub done : IfSome s.before (λ files. IsSomeAnd s.after (AreDone list files))
   pub contents : IfSome s.before (λ files. IsSomeAnd s.after (HasContents list files))
 
--- those before a place of the list were written, and the one there was or was not
-pub record SavedTo (s : Saving) (list : List Put) (place : ℕ) : Type 0 where
+-- Those before a place of the list were done, and the one there was or was not: its path has the old
+-- or the new bytes, or for a removal the old bytes or no file.
+pub record SavedTo (s : Saving) (list : List Act) (place : ℕ) : Type 0 where
   pub within : place < length list
-  pub written : IfSome s.before (λ files. IsSomeAnd s.after (AreWrittenTo place list files))
+  pub done : IfSome s.before (λ files. IsSomeAnd s.after (AreDoneTo place list files))
 
 -- a sink's count of faults and the bytes that it tells, before and after the call
 pub record Printing : Type 0 where
@@ -60,30 +62,31 @@ Printed p text = Prints p.faults_before p.faults_after p.before p.after text
 abbrev pub Silent : Printing → Type 0
 Silent p = p.after ≡ p.before
 
--- all its files were written, and its text was printed whole
+-- all its acts were done, and its text was printed whole
 abbrev pub EndsWhole : Saving → Printing → Outcome → Type 0
 EndsWhole s p o = SavedAll s o.commit × PrintedAll p o.text
 
--- no file was written, and its text was printed
+-- no file was written or removed, and its text was printed
 abbrev pub EndsRefused : Saving → Printing → Outcome → Type 0
 EndsRefused s p o = Kept s × Printed p o.text
 
--- all its files were written, and then the sink failed
+-- all its acts were done, and then the sink failed
 pub record EndsUnprinted (s : Saving) (p : Printing) (o : Outcome) : Type 0 where
   pub completion : IsCompletion o.status
   pub saved : SavedAll s o.commit
   pub rose : Rose p.faults_before p.faults_after
   pub printed : PrintedFront p o.text
 
--- its files were written to a place where the store failed, whose path was printed
+-- its acts were done to a place where the store failed, whose path was printed
 pub record EndsUnwritten (faults_before faults_after : ℕ) (s : Saving) (p : Printing) (o : Outcome) : Type 0 where
   pub completion : IsCompletion o.status
   pub place : ℕ
   pub saved : SavedTo s o.commit place
   pub rose : Rose faults_before faults_after
-  pub printed : IsSomeAnd (slice_get o.commit place) (λ put. Printed p (line (codes "store fault " ++ put.path)))
+  pub printed : IsSomeAnd (slice_get o.commit place)
+      (λ act. Printed p (line (codes "store fault " ++ act_path act)))
 
--- its files were written to a place where no memory was found, or where that the store failed could not be told
+-- its acts were done to a place where no memory was found, or where that the store failed could not be told
 pub record EndsHalfway (s : Saving) (o : Outcome) : Type 0 where
   pub completion : IsCompletion o.status
   pub place : ℕ

@@ -50,7 +50,7 @@ pub record StaysFresh (tools : Answering) (given : World) (left : Tree)
   pub no_older : IsNoOlder tools left.files (clean_over tools given left) again.value again.journal
   pub up_to_date : IsUpToDate tools (over left given) again
 
--- with these statuses all files of the build were written
+-- with these statuses all acts of the build were done
 abbrev pub HasSaved : ℕ → Type 0
 HasSaved status = (status ≡ 0) ⊎ (status ≡ 1) ⊎ (status ≡ 6)
 

@@ -12,7 +12,7 @@ use Rattle.msb_program.specs.declared.top.Prepared.{Prepared}
 use Rattle.msb_program.specs.declared.top.Prepared.TheVariants.{Ended, Ready, Trial}
 use Rattle.msb_outcomes.specs.declared.work.Work.{Work}
 
--- the words ask for this trial; nothing was written or printed
+-- the words ask for this trial; no file was touched, and nothing printed
 pub record IsTrialAsked (words : List (List ℕ)) (s : Saving) (p : Printing) (options : Options) : Type 0 where
   pub asked : options_in words ≡ Some options
   pub nodes : (0 < options.nodes) × (options.nodes ≤ 64)
@@ -21,7 +21,7 @@ pub record IsTrialAsked (words : List (List ℕ)) (s : Saving) (p : Printing) (o
   pub silent : Silent p
   pub unfailing : p.faults_after ≡ p.faults_before
 
--- the words ask for this work over loaded files; nothing was written or printed
+-- the words ask for this work over loaded files; no file was touched, and nothing printed
 pub record IsReady (words : List (List ℕ)) (l : Loading) (s : Saving) (p : Printing) (options : Options) (work : Work) : Type 0 where
   pub asked : options_in words ≡ Some options
   pub project : HasProject options

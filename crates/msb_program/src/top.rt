@@ -38,7 +38,8 @@ const USAGE: &str =
 /// `words` are those after the program's name. The answer is the program's status: 0 where it was done, 1 where the
 /// build failed, 2 where the words are outside the grammar, 3 where the project is refused, 4 where its build is, 5
 /// where the store failed, 6 where the sink failed and nothing else did, 7 for want of memory, and 8 where the files
-/// pass a limit. Files are written with status 0, 1 and 6, and those up to some place of the list with 5 and 7.
+/// pass a limit. Files are written and removed with status 0, 1 and 6, and up to some place of the list
+/// with 5 and 7.
 ///
 /// A build takes as many nodes as the words tell, each in a thread of its own, and waits for them; over one node it starts no
 /// thread. A trial builds its set so too, and touches neither the store nor the tools. (MSBuild command-line reference,
@@ -223,7 +224,7 @@ fn work_left(alloc: Global, options: Options, tree: Tree) -> Prepared
     }
 }
 
-// Ends what was made: its files are written, and then its text is printed.
+// Ends what was made: its acts are done, and then its text is printed.
 fn end<S: Store, K: Sink>(
     alloc: Global,
     made: Result<Outcome, NoMemory>,
@@ -249,7 +250,7 @@ fn end_trial<K: Sink>(made: Result<Text8, NoMemory>, sink: &mut K) -> u8
     }
 }
 
-// Writes the files of an outcome, and then prints its text; a refusal is printed alone.
+// Does the acts of an outcome, and then prints its text; a refusal is printed alone.
 fn commit_and_print<S: Store, K: Sink>(
     alloc: Global,
     outcome: &Outcome,
@@ -266,13 +267,17 @@ fn commit_and_print<S: Store, K: Sink>(
     match commit(alloc, store, &outcome.commit) {
         Ok(()) => tell(sink, outcome.status, outcome.text.as_bytes()),
         Err(CommitFault::Writing(place)) => {
-            print_write_fault(alloc, &outcome.commit.as_slice()[place as usize].path, sink)
+            print_write_fault(
+                alloc,
+                outcome.commit.as_slice()[place as usize].path(),
+                sink,
+            )
         }
         Err(CommitFault::Memory(_)) => 7,
     }
 }
 
-// Prints the text of an outcome whose files are written.
+// Prints the text of an outcome whose acts are done.
 fn tell<K: Sink>(sink: &mut K, status: u8, text: &[u8]) -> u8
     ensures { ((result ≡ status) × PrintedAll (printing (K.fault_count sink.old) (K.fault_count sink.new) (K.told sink.old) (K.told sink.new)) text.now) ⊎ ((result ≡ 6) × Rose (K.fault_count sink.old) (K.fault_count sink.new) × PrintedFront (printing (K.fault_count sink.old) (K.fault_count sink.new) (K.told sink.old) (K.told sink.new)) text.now) }
 {
@@ -289,8 +294,8 @@ fn print<K: Sink>(sink: &mut K, text: &[u8])
     let _ = sink.write(text);
 }
 
-// Prints which file the store failed to write.
-fn print_write_fault<K: Sink>(alloc: Global, path: &Text, sink: &mut K) -> u8
+// Prints which file the store failed to write or to remove.
+fn print_write_fault<K: Sink>(alloc: Global, path: &str, sink: &mut K) -> u8
     ensures { ((result ≡ 5) × Printed (printing (K.fault_count sink.old) (K.fault_count sink.new) (K.told sink.old) (K.told sink.new)) (line (codes "store fault " ++ path.now))) ⊎ ((result ≡ 7) × Silent (printing (K.fault_count sink.old) (K.fault_count sink.new) (K.told sink.old) (K.told sink.new))) }
 {
     match path_line(alloc, "store fault ", path) {
@@ -322,19 +327,18 @@ fn fault_text(alloc: Global, fault: &LoadFault) -> Result<String, NoMemory>
 {
     match fault {
         LoadFault::Listing => Ok(String::from_str(alloc, "store fault\n")?),
-        LoadFault::Reading(path) => path_line(alloc, "store fault ", path),
+        LoadFault::Reading(path) => path_line(alloc, "store fault ", path.as_str()),
         LoadFault::Files(number) => Ok(format!(in alloc; "too large: {number} files\n")?),
         LoadFault::Bytes(total) => Ok(format!(in alloc; "too large: {total} bytes\n")?),
-        LoadFault::Large(path) => path_line(alloc, "too large: ", path),
-        LoadFault::BadPath(path) => path_line(alloc, "bad path: ", path),
+        LoadFault::Large(path) => path_line(alloc, "too large: ", path.as_str()),
+        LoadFault::BadPath(path) => path_line(alloc, "bad path: ", path.as_str()),
         LoadFault::Memory => Err(NoMemory),
     }
 }
 
-fn path_line(alloc: Global, words: &str, path: &Text) -> Result<String, NoMemory>
+fn path_line(alloc: Global, words: &str, path: &str) -> Result<String, NoMemory>
     ensures { IfOk result (λ text. string_bytes text ≡ line (words.now ++ path.now)) }
 {
-    let path = path.as_str();
     Ok(format!(in alloc; "{words}{path}\n")?)
 }
 

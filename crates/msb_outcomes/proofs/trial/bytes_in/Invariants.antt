@@ -2,5 +2,5 @@ use Rattle.std.proofs.Common.{◌≡◌, ◌+◌, drop}
 use Rattle.msb_outcomes.specs.Trials.{bytes_in}
 use Rattle.msb_outcomes.proofs.trial.bytes_in.Given as goal
 
-abbrev pub invariant-loop-put : goal.invariant-loop-put
-invariant-loop-put l = l.bytes + bytes_in (drop l.put-index l.puts) ≡ bytes_in l.puts
+abbrev pub invariant-loop-act : goal.invariant-loop-act
+invariant-loop-act l = l.bytes + bytes_in (drop l.act-index l.acts) ≡ bytes_in l.acts
