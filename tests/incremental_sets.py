@@ -9,10 +9,10 @@ of some changes of its files; the changes are drawn until that code tells that t
 and fresh. Each time the builds on 1 and on 8 nodes have to leave the files, the status and the
 returned items of a clean build. Where the set is also settled and repeated, what was left has to be
 fresh again and up to date, and the next build has to skip each piece and to write nothing of them.
-At last come sets that break one rule each: the code has to tell the rule, and an incremental build
-to leave something else than a clean one. Each set that fails prints a line `FAIL SET: what
-differs`; the last line is `N passed, M failed`. The status is 0 where nothing failed, 1 elsewhere,
-and 2 for wrong words.
+The same is looked at for an ordinary set of projects that share an import. At last come sets that
+break one rule each: the code has to tell the rule, and an incremental build to leave something else
+than a clean one. Each set that fails prints a line `FAIL SET: what differs`; the last line is `N
+passed, M failed`. The status is 0 where nothing failed, 1 elsewhere, and 2 for wrong words.
 """
 
 import os
@@ -29,11 +29,13 @@ from random import Random
 
 sys.dont_write_bytecode = True
 
-from increments.builds import NOTHING, SKIP, Build, File, Put, Record, Tree, View  # noqa: E402
+from increments.builds import NOTHING, SKIP, Act, Build, File, Record, Tree, View  # noqa: E402
 from increments.premises import (  # noqa: E402
     DECLARED, is_declared, is_fresh, is_repeated, is_settled, is_up_to_date,
 )
-from increments.sets import ROOT, Broken, broken_sets, changed, random_set  # noqa: E402
+from increments.sets import (  # noqa: E402
+    ROOT, Broken, broken_sets, changed, ordinary_set, random_set, with_text,
+)
 
 USAGE = "incremental_sets.py PROGRAM [SETS]"
 SECONDS = 60
@@ -103,11 +105,11 @@ def run_words(printed: list[str]) -> Words:
     return {(one[1], one[2]): one[3].split(", ") for one in found if one is not None}
 
 
-def built(program: Path, tree: Tree, words: tuple[str, ...]) -> Built:
+def built(program: Path, tree: Tree, words: tuple[str, ...], root: str = ROOT) -> Built:
     """Build a tree in a fresh folder."""
     with tempfile.TemporaryDirectory(prefix="msb-set-", dir=SHARED) as name:
         lay_out(name, tree)
-        run = subprocess.run([program, "build", ROOT, *words], cwd=name, timeout=SECONDS,
+        run = subprocess.run([program, "build", root, *words], cwd=name, timeout=SECONDS,
                              stdin=subprocess.DEVNULL, capture_output=True, check=False)
         left = read_back(name)
     printed = run.stdout.decode("utf-8", "backslashreplace").splitlines()
@@ -193,6 +195,8 @@ class Set:
         if step > 0:
             self.seen.update(word.split()[0] for found in left[0].words.values() for word in found)
             self.seen["failed builds"] += not clean.result.ok
+            self.seen["builds that remove"] += any(
+                isinstance(entry, Act) and entry.text is None for entry in clean.journal.values())
         after = left[step % len(left)].tree
         return wrong or self.wrong_second(clean, first, after), after
 
@@ -236,10 +240,47 @@ def not_skipped(again: Build, second: Built) -> str | None:
         words = second.words.get((o.body.run[0], o.body.run[1].lower()), [])
         if o.pieces and (words.count(SKIP) != len(o.pieces) or {*words} - {SKIP, NOTHING}):
             return f"second: {o.body.run}: {words} for {len(o.pieces)} pieces"
-    free = {put.path for o in again.demand if not o.pieces for put in o.record.segments
-            if isinstance(put, Put)}
+    free = {act.path for o in again.demand if not o.pieces for act in o.record.segments
+            if isinstance(act, Act)}
     written = second.written - free
     return f"second: wrote {sorted(written)}" if written else None
+
+
+# ---- The ordinary set ---------------------------------------------------------------------------
+
+ORDINARY, CHANGED = "app/app.proj", "a/a2.c"
+EXPECTED = {"first": ["ran"], "changed": ["partial 1 of 2"]}  # of the project with two sources
+
+
+def wrong_ordinary(program: Path) -> str | None:
+    """What is wrong with the set of projects that share an import: all premises hold of it, also
+    after a change of a source, and its builds do what they promise."""
+    tree = {path: File(text, 1) for path, text in ordinary_set().items()}
+    for step, words in EXPECTED.items():
+        first = Build(tree, ORDINARY, clean=False)
+        if meant_words(first)["a/a.proj", "build"] != words:
+            return f"ordinary, {step}: wanted {words}, meant {meant_words(first)}"
+        left = built(program, tree, NODES[0], ORDINARY).tree
+        if wrong := wrong_ordinary_step(program, tree, first, left):
+            return f"ordinary, {step}: {wrong}"
+        tree = with_text(CHANGED, "changed\n")(left)
+    return None
+
+
+def wrong_ordinary_step(program: Path, tree: Tree, first: Build, left: Tree) -> str | None:
+    """What is wrong with its premises, its builds on 1 and 8 nodes, or the build after them."""
+    clean, again = Build(tree, ORDINARY, clean=True), Build(left, ORDINARY, clean=True)
+    if not (holds(clean) and is_settled(first)):
+        return "not declared, not fresh or not settled"
+    for words in (CLEAN, *NODES):
+        made = built(program, tree, words, ORDINARY)
+        if wrong := difference(" ".join(words), made.outcome, meant(clean)):
+            return wrong
+        if words != CLEAN and made.words != meant_words(first):
+            return f"{words}: wanted {meant_words(first)}, got {made.words}"
+    if not (is_repeated(clean, again) and holds(again) and is_up_to_date(again)):
+        return "not repeated, or what a build left is not up to date"
+    return not_skipped(again, built(program, left, NODES[0], ORDINARY))
 
 
 # ---- Sets that break a rule ---------------------------------------------------------------------
@@ -266,8 +307,8 @@ def wrong_broken(program: Path, broken: Broken) -> str | None:
 def shows_too_little(seen: Counter[str], sets: int) -> str | None:
     """Tells where hardly any build was of a kind that is to be tried."""
     least = {"up": sets, "ran": sets, "partial": sets // 10, "nothing": sets // 50,
-             "failed builds": sets // 50, "second builds": sets, "premises fail": sets // 10,
-             "differ there": sets // 20}
+             "failed builds": sets // 50, "second builds": sets, "builds that remove": sets // 10,
+             "premises fail": sets // 10, "differ there": sets // 20}
     few = {kind: seen[kind] for kind, number in least.items() if seen[kind] < number}
     return f"too few builds of a kind: {few}" if few else None
 
@@ -278,6 +319,7 @@ def run_all(program: Path, count: int) -> int:
     with ThreadPoolExecutor(os.cpu_count() or 1) as pool:
         wrong = list(pool.map(Set.wrong, sets))
     wrong += [wrong_broken(program, broken) for broken in broken_sets()]
+    wrong.append(wrong_ordinary(program))
     seen = sum((one.seen for one in sets), Counter())
     wrong.append(shows_too_little(seen, count))
     for line in filter(None, wrong):

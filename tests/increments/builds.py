@@ -1,22 +1,22 @@
 """What a build of a small set of projects means: a recursion on one node that shares nothing.
 
 A run is the body of a target of a project; a request runs the targets of a project in their order;
-a journal has what the runs before have written, and their records. A clean build runs each bucket
+a journal has what the runs before have done to files, and their records. A clean build runs each bucket
 that has something to do, an incremental one what is out of date. It knows DependsOnTargets,
-ItemGroups, and the tasks Copy, WriteLinesToFile, CreateItem and MSBuild, and no error texts.
+ItemGroups, and the tasks Copy, WriteLinesToFile, ReadLinesFromFile, Delete, CreateItem and MSBuild,
+and no error texts.
 (Target element; Target build order; MSBuild task; How to build incrementally.)
 """
 
 from __future__ import annotations
 
-import json
 from collections.abc import Callable
 from dataclasses import dataclass, field, replace
 from typing import NamedTuple, Union
 
 from increments.texts import (
     REFERENCE, Bucket, Element, Item, Items, Scope, Values, attribute, buckets, children,
-    included, listed, path_in, with_files, with_items,
+    included, listed, path_in, read_project, with_files, with_items,
 )
 
 # ---- Files, records and journals ----------------------------------------------------------------
@@ -36,11 +36,11 @@ Change = tuple[str, Items]  # items that are added to a type
 
 
 @dataclass(frozen=True)
-class Put:
-    """A file that a run has written."""
+class Act:
+    """What a run has done to a file: the text that it has written, none where it removed it."""
 
     path: str
-    text: str
+    text: str | None
 
 
 @dataclass(frozen=True)
@@ -54,18 +54,18 @@ class Called:
 @dataclass(frozen=True)
 class Record:
     """What others see of a run: whether it succeeded, what was decided of its buckets, the items
-    that it returns, what it changes, and what it wrote and called, in order."""
+    that it returns, what it changes, and what it did to files and called, in order."""
 
     ok: bool
     words: tuple[str, ...]
     items: Items
     changes: tuple[Change, ...]
-    segments: tuple[Put | Called, ...]
+    segments: tuple[Act | Called, ...]
 
 
-# A write of a run by its number, or the end of the run, which has none; in order, each once.
+# An act of a run by its number, or the end of the run, which has none; in order, each once.
 Mark = tuple[Run, Union[int, None]]
-Journal = dict[Mark, Union[Put, Record]]
+Journal = dict[Mark, Union[Act, Record]]
 
 
 @dataclass(frozen=True)
@@ -82,23 +82,23 @@ def merged(journal: Journal, other: Journal) -> Journal:
     return journal | {mark: entry for mark, entry in other.items() if mark not in journal}
 
 
-def writes(journal: Journal, path: str) -> dict[Mark, Put]:
-    """What a journal has written to a path."""
+def acts_on(journal: Journal, path: str) -> dict[Mark, Act]:
+    """What a journal has done to a path."""
     return {mark: entry for mark, entry in journal.items()
-            if isinstance(entry, Put) and entry.path == path}
+            if isinstance(entry, Act) and entry.path == path}
 
 
 def content(tree: Tree, journal: Journal, path: str) -> str | None:
-    """The text of a path: as it was last written, else as the tree has it."""
-    written = list(writes(journal, path).values())
-    if written:
-        return written[-1].text
+    """The text of a path: what the last act left there, else what the tree has."""
+    acts = list(acts_on(journal, path).values())
+    if acts:
+        return acts[-1].text
     return tree[path].text if path in tree else None
 
 
-def last_text(puts: tuple[Put, ...], path: str) -> str | None:
-    """What was last written to a path."""
-    return next((put.text for put in reversed(puts) if put.path == path), None)
+def last_text(acts: tuple[Act, ...], path: str) -> str | None:
+    """What the last act left at a path."""
+    return next((act.text for act in reversed(acts) if act.path == path), None)
 
 
 # ---- What is decided of a bucket ----------------------------------------------------------------
@@ -132,8 +132,9 @@ Choice = Union[str, Part]
 
 def is_old(tree: Tree, journal: Journal, given: str, made: str) -> bool:
     """A pair of an input and an output is out of date where one of them is not there or was
-    written in this build, or where the input's stamp is greater."""
-    if writes(journal, given) or writes(journal, made) or given not in tree or made not in tree:
+    written or removed in this build, or where the input's stamp is greater."""
+    acted = acts_on(journal, given) or acts_on(journal, made)
+    if acted or given not in tree or made not in tree:
         return True
     return tree[given].stamp > tree[made].stamp
 
@@ -171,11 +172,11 @@ Params = dict[str, Items]  # by the names of parameters, in lower case
 
 @dataclass(frozen=True)
 class Answer:
-    """What a task gives: whether it succeeded, its outputs, and the files that it writes."""
+    """What a task gives: whether it succeeded, its outputs, and what it does to files."""
 
     ok: bool
     outputs: Params = field(default_factory=dict)
-    puts: tuple[Put, ...] = ()
+    acts: tuple[Act, ...] = ()
 
 
 @dataclass(frozen=True)
@@ -200,9 +201,10 @@ class View:
         return content(self.tree, self.journal, path_in(self.project, name))
 
     def paths(self) -> list[str]:
-        """The paths of all files."""
-        written = {put.path for put in self.journal.values() if isinstance(put, Put)}
-        return sorted(written.union(self.tree))
+        """The paths of all files that there are."""
+        acted = {act.path for act in self.journal.values() if isinstance(act, Act)}
+        return sorted(path for path in acted.union(self.tree)
+                      if content(self.tree, self.journal, path) is not None)
 
 
 def copied(view: View, params: Params) -> Answer:
@@ -211,15 +213,15 @@ def copied(view: View, params: Params) -> Answer:
     if sources and len(sources) != len(destinations):
         return Answer(False)
     done: list[Item] = []
-    puts: list[Put] = []
+    acts: list[Act] = []
     for source, destination in zip(sources, destinations):
         text = view.text(source.identity)
         if text is None:
             break
-        puts.append(Put(path_in(view.project, destination.identity), text))
+        acts.append(Act(path_in(view.project, destination.identity), text))
         done.append(Item(destination.identity, source.metadata))
     outputs = {"destinationfiles": tuple(done), "copiedfiles": tuple(done)}
-    return Answer(len(done) == len(sources), outputs, tuple(puts))
+    return Answer(len(done) == len(sources), outputs, tuple(acts))
 
 
 def lines_written(view: View, params: Params) -> Answer:
@@ -227,9 +229,9 @@ def lines_written(view: View, params: Params) -> Answer:
     name = params["file"][0].identity
     lines = "".join(f"{line.identity}\n" for line in params.get("lines", ()))
     if [item.identity for item in params.get("overwrite", ())] == ["true"]:
-        return Answer(True, {}, (Put(path_in(view.project, name), lines),))
+        return Answer(True, {}, (Act(path_in(view.project, name), lines),))
     present = view.text(name) or ""
-    return Answer(True, {}, (Put(path_in(view.project, name), present + lines),) if lines else ())
+    return Answer(True, {}, (Act(path_in(view.project, name), present + lines),) if lines else ())
 
 
 def created(view: View, params: Params) -> Answer:
@@ -237,8 +239,24 @@ def created(view: View, params: Params) -> Answer:
     return Answer(True, {"include": with_files(params["include"], view.project, view.paths())})
 
 
+def lines_read(view: View, params: Params) -> Answer:
+    """ReadLinesFromFile: the lines of a file that are not blank, trimmed; none where it is not
+    there."""
+    lines = (view.text(params["file"][0].identity) or "").split("\n")
+    return Answer(True, {"lines": tuple(Item(line.strip()) for line in lines if line.strip())})
+
+
+def deleted(view: View, params: Params) -> Answer:
+    """Delete: each file that is there is removed, and all are told."""
+    there = dict.fromkeys(path_in(view.project, item.identity) for item in params["files"]
+                          if view.text(item.identity) is not None)
+    acts = tuple(Act(path, None) for path in there)
+    return Answer(True, {"deletedfiles": params["files"]}, acts)
+
+
 TASKS: dict[str, Callable[[View, Params], Answer]] = {
-    "Copy": copied, "WriteLinesToFile": lines_written, "CreateItem": created}
+    "Copy": copied, "WriteLinesToFile": lines_written, "ReadLinesFromFile": lines_read,
+    "Delete": deleted, "CreateItem": created}
 
 
 def outputs_of(element: Element, given: Params) -> list[Change]:
@@ -269,7 +287,7 @@ class State(NamedTuple):
     words: tuple[str, ...] = ()
     items: Items = ()
     changes: tuple[Change, ...] = ()
-    segments: tuple[Put | Called, ...] = ()
+    segments: tuple[Act | Called, ...] = ()
     calls: tuple[TaskCall, ...] = ()
 
     def task_scope(self) -> Scope:
@@ -285,10 +303,10 @@ class State(NamedTuple):
                 state = state._replace(part=(kind, state.part[1] + items))
         return state
 
-    def wrote(self, run: Run, put: Put) -> State:
-        """With a file that the run has written."""
-        journal = self.journal | {(run, len(self.segments)): put}
-        return self._replace(journal=journal, segments=(*self.segments, put))
+    def acted(self, run: Run, act: Act) -> State:
+        """With what the run has done to a file."""
+        journal = self.journal | {(run, len(self.segments)): act}
+        return self._replace(journal=journal, segments=(*self.segments, act))
 
     def record(self) -> Record:
         """What the record says."""
@@ -310,8 +328,8 @@ class Piece:
         return self.body.alone(lambda body: body.bucket_end(
             self.bucket, self.lists, choice, self.begins))
 
-    def puts_since(self, end: State) -> tuple[Put, ...]:
-        """What it has written at its end."""
+    def acts_since(self, end: State) -> tuple[Act, ...]:
+        """What it has done to files at its end."""
         return end.segments[len(self.begins.segments):]
 
 
@@ -415,12 +433,12 @@ class Body:
         return changes
 
     def answered(self, task: str, params: Params, state: State) -> tuple[State, Answer]:
-        """A task's answer, once its files are written or its requests have come back."""
+        """A task's answer, once its acts are done or its requests have come back."""
         if task == "MSBuild":
             return self.requested(params, state)
         answer = TASKS[task](View(self.run[0], self.tree, state.journal), params)
-        for put in answer.puts:
-            state = state.wrote(self.run, put)
+        for act in answer.acts:
+            state = state.acted(self.run, act)
         return state, answer
 
     def requested(self, params: Params, state: State) -> tuple[State, Answer]:
@@ -481,7 +499,7 @@ class Build:
     def request(self, above: tuple[Run, ...], journal: Journal,
                 project: str) -> tuple[Result, Journal]:
         """The default targets of a project, each behind those that it depends on."""
-        root = json.loads(self.tree[project].text)
+        root = read_project(self.tree, project)
         scope = evaluated(self.tree, project, root)
         asked = attribute(root, "DefaultTargets").split(";")
         returned, runs = [], []

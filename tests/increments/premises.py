@@ -11,8 +11,8 @@ from functools import lru_cache
 from itertools import product
 
 from increments.builds import (
-    RUN, SKIP, Build, Choice, Journal, Lists, Mark, Occurrence, Part, Piece, Put, Run, State,
-    all_of, content, last_text, writes,
+    RUN, SKIP, Act, Build, Choice, Journal, Lists, Mark, Occurrence, Part, Piece, Run, State,
+    acts_on, all_of, content, last_text,
 )
 from increments.texts import Items, children
 
@@ -68,8 +68,9 @@ def runs_make_one_record(clean: Build) -> bool:
 
 
 def pieces_write_their_outputs(clean: Build) -> bool:
-    """A target with Inputs and Outputs writes its Outputs and nothing else."""
-    return all({put.path for put in piece.puts_since(whole)} == set(piece.lists.outputs)
+    """A target with Inputs and Outputs writes its Outputs and nothing else, and removes nothing."""
+    return all({act.path for act in piece.acts_since(whole)} == set(piece.lists.outputs)
+               and all(act.text is not None for act in piece.acts_since(whole))
                for piece, whole in succeeded(clean))
 
 
@@ -101,30 +102,30 @@ def part_makes_the_same(piece: Piece, whole: State, items: Items, marks: list[bo
     part = piece.end(Part(items))
     if part is None or not part.ok:
         return False
-    written, all_written = piece.puts_since(part), piece.puts_since(whole)
+    acts, all_acts = piece.acts_since(part), piece.acts_since(whole)
     own = {path for path, mark in zip(piece.lists.outputs, marks) if mark}
     others = {path for path, mark in zip(piece.lists.outputs, marks) if not mark}
     there = all(text_at(piece, path) is not None for path in others)
-    return ({put.path for put in written} == own
-            and all(last_text(written, path) == last_text(all_written, path) for path in own)
+    return ({act.path for act in acts} == own
+            and all(last_text(acts, path) == last_text(all_acts, path) for path in own)
             and (not there or (part.changes, part.items) == (whole.changes, whole.items)))
 
 
 def no_file_is_too_large(clean: Build) -> bool:
     """No task of a run with a piece fails because a file is too large, whichever of its pieces are
     skipped or run in part."""
-    sizes = [[len(put.text.encode()) for put in end.segments] for o in clean.demand if o.pieces
-             for end in ways(o) if end is not None]
+    sizes = [[len((act.text or "").encode()) for act in end.segments]
+             for o in clean.demand if o.pieces for end in ways(o) if end is not None]
     return all(size <= FILE_LIMIT for run in sizes for size in run) and all(
         sum(run) <= RUN_LIMIT for run in sizes)
 
 
 def one_run_writes_each_path(clean: Build) -> bool:
-    """Where calls made at once write one path, one run has written it."""
+    """Where calls made at once write or remove one path, one run has done so."""
     return all(
-        len(writers(so_far, begin, path) | writers(left, begin, path)) == 1
+        len(actors(so_far, begin, path) | actors(left, begin, path)) == 1
         for begin, so_far, left in clean.joins
-        for path in written_since(so_far, begin) & written_since(left, begin))
+        for path in acted_since(so_far, begin) & acted_since(left, begin))
 
 
 DECLARED = (runs_make_one_record, pieces_write_their_outputs, pieces_call_nothing,
@@ -133,7 +134,7 @@ DECLARED = (runs_make_one_record, pieces_write_their_outputs, pieces_call_nothin
 
 def is_declared(clean: Build) -> bool:
     """The clean build makes each run with one record and keeps the rules for targets with Inputs
-    and Outputs; no file is too large; and calls made at once write no path by two runs."""
+    and Outputs; no file is too large; and calls made at once act on no path by two runs."""
     return all(holds(clean) for holds in DECLARED)
 
 
@@ -170,13 +171,13 @@ def piece_is_fresh(piece: Piece) -> bool:
         return True
     whole, tree = whole_end(piece), piece.body.tree
     return whole is not None and whole.ok and all(
-        last_text(piece.puts_since(whole), output) == tree[output].text
+        last_text(piece.acts_since(whole), output) == tree[output].text
         for output, told in zip(piece.lists.outputs, trusted) if told)
 
 
 def is_up_to_date(clean: Build) -> bool:
     """Each output of a piece is in the tree, as each input is that it is paired with, none of them
-    with a greater stamp; and runs without a piece write no input and no output of a piece."""
+    with a greater stamp; and runs without a piece write or remove no input or output of one."""
     tree = clean.tree
     return free_runs_keep_off(clean) and all(
         path in tree and output in tree and tree[path].stamp <= tree[output].stamp
@@ -187,9 +188,9 @@ def is_up_to_date(clean: Build) -> bool:
 
 
 def is_settled(build: Build) -> bool:
-    """Every piece succeeds, and its inputs exist. Whatever the build writes to an input of a piece
-    had been written when the piece began, at each place where its run is made; whatever it writes
-    to an output had been too, or the piece itself has written it. Runs without a piece write
+    """Every piece succeeds, and its inputs exist. Whatever the build does to an input of a piece
+    had been done when the piece began, at each place where its run is made; whatever it does to an
+    output had been too, or the piece itself has done it. Runs without a piece write or remove
     neither. The build makes each run with one record."""
     return runs_make_one_record(build) and free_runs_keep_off(build) and all(
         piece_is_settled(build, o, piece) for o in build.demand for piece in o.pieces)
@@ -209,23 +210,23 @@ def piece_is_settled(build: Build, occurrence: Occurrence, piece: Piece) -> bool
     own = [(run, number) for number in range(begins, len(end.segments))]
     return (all(content(build.tree, before, path) is not None for path in piece.lists.inputs)
             and all(stood(mark) for path in piece.lists.inputs
-                    for mark in writes(build.journal, path))
+                    for mark in acts_on(build.journal, path))
             and all(stood(mark) or mark in own for path in piece.lists.outputs
-                    for mark in writes(build.journal, path)))
+                    for mark in acts_on(build.journal, path)))
 
 
 def free_runs_keep_off(build: Build) -> bool:
-    """Runs without a piece write no input and no output of a piece."""
+    """Runs without a piece write or remove no input and no output of a piece."""
     kept = {path for piece in build.pieces() for path in piece.lists.inputs + piece.lists.outputs}
-    return not any(put.path in kept for o in build.demand if not o.pieces
-                   for put in o.record.segments if isinstance(put, Put))
+    return not any(act.path in kept for o in build.demand if not o.pieces
+                   for act in o.record.segments if isinstance(act, Act))
 
 
 def is_repeated(clean: Build, again: Build) -> bool:
     """Over the tree that the build left, the clean build makes each run with one record. It makes
     the same runs with pieces, with the same records. Their pieces have the same inputs and outputs,
     paired in the same way, and leave the same bytes at each output. Its runs without a piece write
-    no input and no output of a piece."""
+    or remove no input and no output of a piece."""
     first, second = made(clean), made(again)
     return (first == second and len(first) == len({run for run, *_ in first})
             and runs_make_one_record(again) and free_runs_keep_off(again))
@@ -241,7 +242,7 @@ def left(piece: Piece) -> tuple:
     whole, lists = whole_end(piece), piece.lists
     texts = None
     if whole is not None and whole.ok:
-        texts = tuple(last_text(piece.puts_since(whole), path) for path in lists.outputs)
+        texts = tuple(last_text(piece.acts_since(whole), path) for path in lists.outputs)
     return lists.inputs, lists.outputs, lists.one_by_one(), texts
 
 
@@ -259,12 +260,12 @@ def text_at(piece: Piece, path: str) -> str | None:
     return content(piece.body.tree, piece.begins.journal, path)
 
 
-def written_since(journal: Journal, begin: Journal) -> set[str]:
-    """The paths that a journal has written since it was an earlier one."""
+def acted_since(journal: Journal, begin: Journal) -> set[str]:
+    """The paths that a journal has written or removed since it was an earlier one."""
     return {entry.path for mark, entry in journal.items()
-            if isinstance(entry, Put) and mark not in begin}
+            if isinstance(entry, Act) and mark not in begin}
 
 
-def writers(journal: Journal, begin: Journal, path: str) -> set[Run]:
-    """The runs that have written a path since."""
-    return {run for run, number in writes(journal, path) if (run, number) not in begin}
+def actors(journal: Journal, begin: Journal, path: str) -> set[Run]:
+    """The runs that have written or removed a path since."""
+    return {run for run, number in acts_on(journal, path) if (run, number) not in begin}

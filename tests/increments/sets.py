@@ -52,6 +52,11 @@ def lines(path: str, text: str) -> Element:
     return element("WriteLinesToFile", {"File": path, "Lines": text, "Overwrite": "true"})
 
 
+def delete(files: str, *outputs: Element) -> Element:
+    """A Delete task."""
+    return element("Delete", {"Files": files}, *outputs)
+
+
 def calls(projects: list[str], at_once: bool, *outputs: Element) -> Element:
     """A task that calls projects."""
     words = {"Projects": ";".join(projects), "BuildInParallel": str(at_once).lower()}
@@ -77,6 +82,16 @@ def bundling() -> Element:
     copies, listing = "@(C->'sets/%(Group)/%(Filename).s')", "sets/%(C.Group).txt"
     words = {"Inputs": "@(C)", "Outputs": f"{copies};{listing}", "Returns": "@(O)"}
     return target("Bundle", words, copy("@(C)", copies), lines(listing, "@(C)"))
+
+
+def sweeping(draw: Random) -> list[Element]:
+    """Targets that remove files and write what they have removed, or the lines of a list, again."""
+    gone = draw.choice(["old.txt", "old.txt;lost.txt", "swept.txt;old.txt", "out/all.txt"])
+    sweep = target("Sweep", {}, delete(gone, output("DeletedFiles", "D")),
+                   *draw.choice([[], [lines("swept.txt", "@(D)")]]))
+    read = element("ReadLinesFromFile", {"File": draw.choice(["names.txt", "old.txt"])},
+                   output("Lines", "L"))
+    return draw.choice([[sweep], [target("Names", {}, read, lines("listed.txt", "@(L)")), sweep]])
 
 
 def linking(also: list[str]) -> Element:
@@ -105,7 +120,8 @@ def sources(draw: Random, folder: str) -> tuple[list[Element], Texts]:
 def library(draw: Random, folder: str, base: str | None) -> Library:
     """A project with some of these targets, which may call a base first. A base leaves a list."""
     groups, files = sources(draw, folder)
-    files |= {f"{folder}/flags.txt": "-O\n", f"{folder}/seed.txt": "seed\n"}
+    files |= {f"{folder}/flags.txt": "-O\n", f"{folder}/seed.txt": "seed\n",
+              f"{folder}/names.txt": " one \n\ntwo\n", f"{folder}/old.txt": "old\n"}
     targets, also = [compiling(draw)], []
     if draw.random() < 0.3:
         words = {"Inputs": "seed.txt", "Outputs": "made/seed.c"}
@@ -122,6 +138,8 @@ def library(draw: Random, folder: str, base: str | None) -> Library:
     result = "out/all.txt" if folder == "base" or draw.random() < 0.6 else None
     if result is not None:
         targets.append(linking(also))
+    if draw.random() < 0.4:
+        targets += sweeping(draw)
     order = ";".join(one["a"]["Name"] for one in targets)
     everything = target("All", {"DependsOnTargets": order, "Returns": "@(O)"})
     files[f"{folder}/p.proj"] = project("All", *groups, *targets, everything)
@@ -155,12 +173,40 @@ def random_set(draw: Random) -> Texts:
     return files
 
 
+# ---- An ordinary set ----------------------------------------------------------------------------
+
+
+def ordinary_set() -> Texts:
+    """A shared file that projects import: it has a property with the folder in which the file
+    stands, and the target that copies each project's sources, which a pattern names. A fourth
+    project calls the three at once and writes the list of what they return."""
+    made = "@(Src->'$(Out)/%(Filename).o')"
+    out = {"e": "Out", "t": "$(MSBuildThisFileDirectory)out"}
+    build = target("Build", {"Inputs": "@(Src)", "Outputs": made, "Returns": "@(Made)"},
+                   copy("@(Src)", made), items("Made", made))
+    shared = element("Project", None, element("PropertyGroup", None, out), build)
+    brought = element("Import", {"Project": "../common.props"})
+    part = json.dumps(element("Project", None, brought, items("Src", "*.c")))
+    called = items("Lib", "../a/a.proj;../b/b.proj;../c/c.proj")
+    task = element("MSBuild", {"Projects": "@(Lib)", "BuildInParallel": "true"},
+                   output("TargetOutputs", "O"))
+    link = target("Link", {}, task, lines("$(Out)/app.txt", "@(O)"))
+    return {
+        "common.props": json.dumps(shared), "app/app.proj": project("Link", brought, called, link),
+        **{f"{name}/{name}.proj": part for name in "abc"},
+        **{f"{path}.c": f"{path}\n" for path in ("a/a1", "a/a2", "b/b", "c/c")},
+    }
+
+
 # ---- Changes ------------------------------------------------------------------------------------
+
+
+GIVEN = ("flags.txt", "seed.txt", "names.txt", "old.txt")
 
 
 def is_source(path: str) -> bool:
     """Whether a file is given, and is no project."""
-    return "/src/" in path or path.endswith(("flags.txt", "seed.txt"))
+    return "/src/" in path or path.endswith(GIVEN)
 
 
 def is_made(path: str) -> bool:
@@ -170,12 +216,13 @@ def is_made(path: str) -> bool:
 
 def changed_once(draw: Random, tree: Tree, stamp: int) -> Tree:
     """A tree where a file is changed, added, removed or touched."""
-    act = draw.choice(["change", "change", "add", "drop", "touch", "touch made", "remove", "old"])
+    act = draw.choice(["change", "change", "add", "drop", "touch", "touch made", "edit made",
+                       "remove", "old"])
     if act == "add":
         folders = sorted(folder_of(path) for path in tree if path.endswith("/p.proj"))
         name = f"{draw.choice('ab')}{draw.randint(5, 9)}"
         return tree | {f"{draw.choice(folders)}src/{name}.c": File("added\n", stamp)}
-    kept = is_made if act in ("touch made", "remove", "old") else is_source
+    kept = is_made if act in ("touch made", "edit made", "remove", "old") else is_source
     files = sorted(filter(kept, tree))
     if not files:
         return tree
@@ -239,6 +286,9 @@ def broken_sets() -> list[Broken]:
         Broken("an input that is not listed", ["is_fresh"],
                one | {"version.txt": "1\n", ROOT: making(version, Outputs="out.txt;version.out")},
                with_text("version.txt", "2\n")),
+        Broken("a file that is removed beside the outputs", ["pieces_write_their_outputs"],
+               one | {"old.txt": "old\n", ROOT: making(made, delete("old.txt"))},
+               with_text("old.txt", "again\n")),
         Broken("a call from a target with Inputs", ["pieces_call_nothing", "is_fresh"],
                one | {"lib.proj": called, "lib.txt": "one\n",
                       ROOT: making(made, calls(["lib.proj"], False))},

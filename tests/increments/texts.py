@@ -1,10 +1,12 @@
 """What the texts of small projects denote: names, patterns, references to items, transforms.
 
 It reads what the sets of incremental_sets.py use, from the same files as the program: entries of a
-list that are a name, a pattern with `*` in one segment, `@(X)` or `@(X->'..')`, and `%(X.M)` for
-the value by which an element is batched. (MSBuild items; MSBuild transforms; MSBuild batching.)
+list that are a name, a pattern with `*` in one segment, `@(X)` or `@(X->'..')`, `%(X.M)` for the
+value by which an element is batched, and `$(P)`, where no target changes a property. (MSBuild
+items; MSBuild transforms; MSBuild batching; MSBuild properties; Import element.)
 """
 
+import json
 import posixpath
 import re
 from collections.abc import Iterable
@@ -16,6 +18,7 @@ Element = dict[str, Any]  # an element of a project file
 
 REFERENCE = re.compile(r"@\((\w+)(?:->'([^']*)')?\)")
 METADATA = re.compile(r"%\((?:(\w+)\.)?(\w+)\)")
+PROPERTY = re.compile(r"\$\((\w+)\)")
 
 
 @dataclass(frozen=True)
@@ -63,8 +66,49 @@ def folder_of(project: str) -> str:
 
 
 def path_in(project: str, name: str) -> str:
-    """The path of a file that a project names."""
-    return posixpath.normpath(folder_of(project) + name)
+    """The path of a file that a project names; a name with `/` ahead begins at the tree's root."""
+    folder = "" if name.startswith("/") else folder_of(project)
+    return posixpath.normpath(folder + name.lstrip("/"))
+
+
+# ---- Properties and imports ---------------------------------------------------------------------
+
+
+def with_imports(tree: dict[str, Any], path: str) -> list[tuple[str, Element]]:
+    """The children of a project file, those of the files that it imports in their places, each
+    with the file in which it stands."""
+    found: list[tuple[str, Element]] = []
+    for child in children(json.loads(tree[path].text)):
+        if child["e"] == "Import":
+            found += with_imports(tree, path_in(path, child["a"]["Project"]))
+        else:
+            found.append((path, child))
+    return found
+
+
+def with_properties(element: Element, properties: dict[str, str]) -> Element:
+    """An element with the values of properties in all its texts."""
+    def value(text: str) -> str:
+        return PROPERTY.sub(lambda found: properties.get(found[1], ""), text)
+    attributes = {name: value(text) for name, text in element.get("a", {}).items()}
+    inner = [with_properties(child, properties) for child in children(element)]
+    return element | {"a": attributes, "c": inner} | (
+        {"t": value(element["t"])} if "t" in element else {})
+
+
+def read_project(tree: dict[str, Any], path: str) -> Element:
+    """A project as one element, with what it imports and the values of its properties. Without
+    DefaultTargets its first target is the default."""
+    properties: dict[str, str] = {}
+    found = with_imports(tree, path)
+    for place, child in found:
+        here = properties | {"MSBuildThisFileDirectory": f"/{folder_of(place)}"}
+        for one in children(child) if child["e"] == "PropertyGroup" else []:
+            properties[one["e"]] = with_properties(one, here).get("t", "")
+    inside = [with_properties(child, properties) for _, child in found]
+    first = [child["a"]["Name"] for child in inside if child["e"] == "Target"][:1]
+    defaults = attribute(json.loads(tree[path].text), "DefaultTargets") or ";".join(first)
+    return {"e": "Project", "a": {"DefaultTargets": defaults}, "c": inside}
 
 
 def filled(text: str, values: Values) -> str:
