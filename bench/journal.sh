@@ -19,7 +19,7 @@ cat > "$work/crates/journal_bench/src/main.rt" <<'PROGRAM'
 
 use file_store::Tree;
 use msb_files::{FileView, Journal};
-use msb_values::{Copied, InstanceKey, List, Name, NoMemory, Pairs, Put, Text, Text8};
+use msb_values::{Act, Copied, InstanceKey, List, Name, NoMemory, Pairs, Put, Shared, Text, Text8};
 use result_cache::RunId;
 use std::alloc::Global;
 use std::io;
@@ -43,13 +43,14 @@ fn put(alloc: Global, number: u32) -> Result<Put, NoMemory> {
     let path = format!(in alloc; "out/part{}/file{number}.o", number % 100)?;
     Ok(Put {
         path: Text::from(path),
-        bytes: Text8::of(alloc, &[7; 1_000])?,
+        bytes: Shared::new(alloc, Text8::of(alloc, &[7; 1_000])?)?,
     })
 }
 
 // Each run writes four files.
 fn write(alloc: Global, journal: &mut Journal, number: u32) -> Result<(), NoMemory> {
-    journal.wrote(alloc, &run(alloc, number / 4)?, (number % 4) as u64, put(alloc, number)?)
+    let act = Act::Write(put(alloc, number)?);
+    journal.acted(alloc, &run(alloc, number / 4)?, (number % 4) as u64, act)
 }
 
 fn journal(alloc: Global, first: u32, end: u32) -> Result<Journal, NoMemory> {
