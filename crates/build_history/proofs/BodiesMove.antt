@@ -1,5 +1,5 @@
 -- What an event does to the bodies that requests are in.
-use Rattle.std.proofs.Common.{◌≡◌, ◌⊎◌, inl, inr, ℕ, ◌&&◌, ◌||◌, Bool, true, false, List, [], ◌∷◌, ◌++◌, length, map, Option, None, Some, refl, ap, sym, ◌∙◌, subst, append-nil, append_assoc}
+use Rattle.std.proofs.Common.{◌≡◌, ◌⊎◌, inl, inr, ℕ, ◌&&◌, ◌||◌, ◌==◌, Bool, true, false, List, [], ◌∷◌, ◌++◌, length, map, Option, None, Some, refl, ap, sym, ◌∙◌, subst, append-nil, append_assoc}
 use Rattle.msb_laws.specs.Asking.{and_then}
 use Rattle.msb_laws.specs.Traverse.{traverse}
 use Rattle.result_cache.specs.declared.run.RunId.{RunId}
@@ -12,7 +12,7 @@ use Rattle.result_cache.specs.Table.{FinishedRun, Records, found, is_begun}
 use Rattle.result_cache.specs.Replay.{replay, replay_all}
 use Rattle.result_cache.proofs.RunTests.{and_then-some}
 use Rattle.build_meaning.specs.declared.event.Event.{Event}
-use Rattle.build_meaning.specs.declared.event.Event.TheVariants.{Assign, Claim, Request, Result, Done}
+use Rattle.build_meaning.specs.declared.event.Event.TheVariants.{Assign, Claim, Request, Result, Done, Retire}
 use Rattle.build_meaning.specs.declared.event.ClaimKind.{ClaimKind}
 use Rattle.build_meaning.specs.declared.event.ClaimKind.TheVariants.{Go, Use, Wait}
 use Rattle.build_meaning.specs.Lists.{at, put, numbered_from}
@@ -25,6 +25,7 @@ use Rattle.build_meaning.specs.Cycle.{is_in_cycle}
 use Rattle.build_meaning.specs.Step.{only_if, whose, in_body, goes_on, waiting, may_wait, claimed, with_children, is_within_limits, woken_if, woken_at, woken, finished, results_of, answered, resume_at, resume_caller, step_of, step}
 use Rattle.build_meaning.proofs.ListPlaces.{at-put, at-put_same, at-put_else, at-front, at-append, at-map, at-traverse, traverse-at}
 use Rattle.build_meaning.proofs.EventsKeepLawful.{only_if-some, unless-some, some-is, request_of}
+use Rattle.build_meaning.proofs.RetiredRequests.{IsRetire}
 use Rattle.build_history.specs.Uses.{body_at}
 
 -- tools are only added to those that a body has used
@@ -76,7 +77,7 @@ module _ {I A : Type 0} where
   pub record Moved (s t : State I A) (event : Event) : Type 0 where
     pub mine : RequestState I A
     pub there : at t.requests (whose event) ≡ Some mine
-    pub unready : IsReady mine.status → ⊥
+    pub unready : IsReady mine.status → IsRetire event
     pub own : Own s t event mine
     pub others : (n : ℕ) (b : RequestState I A) → (n ≡ whose event → ⊥) → at t.requests n ≡ Some b → Other s n b
     pub begun : (r : RunId) → is_begun r t.begun ≡ false → is_begun r s.begun ≡ false
@@ -85,7 +86,7 @@ module _ {I A : Type 0} where
   put-others s id z n b d h = elim (at-put s.requests id z n b h) [ inl x ↦ absurd (d x.0) | inr y ↦ y.1 ]
 
   -- one request is put
-  put-moved : (s t : State I A) (event : Event) (q z : RequestState I A) → at s.requests (whose event) ≡ Some q → t.requests ≡ put s.requests (whose event) z → (IsReady z.status → ⊥) → Own s t event z →
+  put-moved : (s t : State I A) (event : Event) (q z : RequestState I A) → at s.requests (whose event) ≡ Some q → t.requests ≡ put s.requests (whose event) z → (IsReady z.status → IsRetire event) → Own s t event z →
       ((r : RunId) → is_begun r t.begun ≡ false → is_begun r s.begun ≡ false) → Moved s t event
   put-moved s t event q z e m u own g = record {
     mine = z;
@@ -265,6 +266,12 @@ module _ {I A : Type 0} (w : World I A) where
             | inr else ↦ resumed-moved s m t event a z y.0 y.0.status v f else.0 y.1 refl y.2
           ]
   step_of-moved s t (Done id) o j runs _ e h = absurd (cc)
+  step_of-moved s t (Retire id node) o j runs (assigned by a) e h =
+      let q : RequestState I A = request_of o j runs (assigned by a) in
+      let z : RequestState I A = request_of o j runs (ready a) in
+      moved-same s (with_request s id z) t (Retire id node) (put-moved s (with_request s id z) (Retire id node) q z e refl (λ r. tt) (goes q e refl refl) (λ r1 g. g))
+      (only_if-some (by == node) (with_request s id z) t h).1
+  step_of-moved s t (Retire id node) o j runs _ e h = absurd (cc)
 
   pub step-moved : (s t : State I A) (event : Event) → step w s event ≡ Some t → Moved s t event
   step-moved s t event h =

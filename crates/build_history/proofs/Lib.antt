@@ -3,3 +3,5 @@ pub mod JournalsReplayed
 pub mod BodiesMove
 pub mod UsesTold
 pub mod UsesMeant
+pub mod PlacesMeant
+pub mod PlacesGive

@@ -1,5 +1,5 @@
 -- Each event keeps that the journal of a request is its first one with its runs replayed by the table.
-use Rattle.std.proofs.Common.{◌≡◌, ℕ, ◌+◌, ◌<◌, Bool, true, false, ◌&&◌, inl, inr, List, ◌∷◌, ◌++◌, length, map, Option, None, Some, refl, ap, sym, ◌∙◌, subst, arith}
+use Rattle.std.proofs.Common.{◌≡◌, ℕ, ◌+◌, ◌<◌, ◌==◌, Bool, true, false, ◌&&◌, inl, inr, List, ◌∷◌, ◌++◌, length, map, Option, None, Some, refl, ap, sym, ◌∙◌, subst, arith}
 use Rattle.msb_laws.specs.Asking.{and_then}
 use Rattle.msb_laws.specs.Traverse.{traverse}
 use Rattle.result_cache.specs.declared.run.RunId.{RunId}
@@ -8,7 +8,7 @@ use Rattle.result_cache.specs.declared.request.RequestResult.{RequestResult}
 use Rattle.result_cache.specs.declared.record.Record.{Record}
 use Rattle.result_cache.specs.Same.{same_run, same_keys}
 use Rattle.build_meaning.specs.declared.event.Event.{Event}
-use Rattle.build_meaning.specs.declared.event.Event.TheVariants.{Assign, Claim, Request, Result, Done}
+use Rattle.build_meaning.specs.declared.event.Event.TheVariants.{Assign, Claim, Request, Result, Done, Retire}
 use Rattle.build_meaning.specs.declared.event.ClaimKind.{ClaimKind}
 use Rattle.build_meaning.specs.declared.event.ClaimKind.TheVariants.{Go, Use, Wait}
 use Rattle.build_meaning.specs.Lists.{at, put, numbered_from}
@@ -21,7 +21,7 @@ use Rattle.build_meaning.specs.SoFar.{nothing_yet, with_calls, recorded, result_
 use Rattle.build_meaning.specs.Stop.{ends, asks, run_on}
 use Rattle.build_meaning.specs.State.{Within, Place, walking, within, Status, ready, assigned, waits, calling, done, Origin, RequestState, State, with_request, new_request}
 use Rattle.build_meaning.specs.Cycle.{is_in_cycle}
-use Rattle.build_meaning.specs.Step.{only_if, assign_at, in_body, goes_on, waiting, may_wait, claimed, claim_at, with_children, is_within_limits, request_at, woken_if, woken_at, woken, finished, result_at, result_in, results_of, answered, resume_at, resume_caller, done_at, whose, step_of}
+use Rattle.build_meaning.specs.Step.{only_if, assign_at, in_body, goes_on, waiting, may_wait, claimed, claim_at, with_children, is_within_limits, request_at, woken_if, woken_at, woken, finished, result_at, result_in, results_of, answered, resume_at, resume_caller, done_at, retire_at, whose, step_of}
 use Rattle.result_cache.proofs.RunTests.{and_then-some}
 use Rattle.result_cache.proofs.ReplayRelation.{new, Reps, none, reps-map, Recorded}
 use Rattle.build_meaning.proofs.BuildingReplays.{reps-run, reps-calls}
@@ -123,6 +123,13 @@ module _ {I A : Type 0} (w : World I A) (B : ℕ → Origin → Journal → Type
       let z : RequestState I A = request_of o j runs (assigned node p) in
       subst (λ (u : State I A). AllRan u) (some-is (with_request s id z) t h) (put-ran B s.table s.requests id (request_of o j runs (ready p)) z e refl (λ base x. x) v)
   assign-ran s id node o j runs _ t v e h = absurd (cc)
+
+  retire-ran : (s : State I A) (id node : ℕ) (o : Origin) (j : Journal) (runs : List RunId) (st : Status I A) (t : State I A) → AllRan s →
+      at s.requests id ≡ Some (request_of o j runs st) → retire_at w s id node o j runs st ≡ Some t → AllRan t
+  retire-ran s id node o j runs (assigned by p) t v e h =
+      let z : RequestState I A = request_of o j runs (ready p) in
+      subst (λ (u : State I A). AllRan u) (only_if-some (by == node) (with_request s id z) t h).1 (put-ran B s.table s.requests id (request_of o j runs (assigned by p)) z e refl (λ base x. x) v)
+  retire-ran s id node o j runs _ t v e h = absurd (cc)
 
   claimed-ran : (s : State I A) (id node : ℕ) (o : Origin) (j : Journal) (runs : List RunId) (r : RunId) (b : Body I A) (go : Record → Journal → Walk I A) (kind : ClaimKind) (t : State I A) → Lawful s → AllRan s →
       at s.requests id ≡ Some (request_of o j runs (assigned node (walking (wants r b go)))) → claimed w s id node o j runs r b go kind ≡ Some t → AllRan t
@@ -274,3 +281,4 @@ module _ {I A : Type 0} (w : World I A) (B : ℕ → Origin → Journal → Type
   step_of-ran s (Request id keys) q t l v n e h = request-ran s id keys q.origin q.journal q.runs q.status t v n e h
   step_of-ran s (Result id run) q t l v n e h = finish-ran s id run q.origin q.journal q.runs q.status t l v e h
   step_of-ran s (Done id) q t l v n e h = done-ran s id q.origin q.journal q.runs q.status t l v e h
+  step_of-ran s (Retire id node) q t l v n e h = retire-ran s id node q.origin q.journal q.runs q.status t v e h

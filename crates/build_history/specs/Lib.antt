@@ -1,2 +1,3 @@
 pub mod Began
+pub mod Places
 pub mod Uses

@@ -1,5 +1,5 @@
 -- A request that is with a node stays as it is through the events of others.
-use Rattle.std.proofs.Common.{◌≡◌, ℕ, ◌&&◌, List, [], ◌∷◌, length, map, Option, None, Some, refl, ap, sym, ◌∙◌, subst}
+use Rattle.std.proofs.Common.{◌≡◌, ℕ, ◌&&◌, ◌==◌, List, [], ◌∷◌, length, map, Option, None, Some, refl, ap, sym, ◌∙◌, subst}
 use Rattle.msb_laws.specs.Asking.{and_then}
 use Rattle.msb_laws.specs.Traverse.{traverse}
 use Rattle.result_cache.specs.declared.run.RunId.{RunId}
@@ -7,7 +7,7 @@ use Rattle.result_cache.specs.declared.request.RequestResult.{RequestResult}
 use Rattle.result_cache.specs.declared.record.Record.{Record}
 use Rattle.result_cache.specs.Same.{same_run, same_keys}
 use Rattle.build_meaning.specs.declared.event.Event.{Event}
-use Rattle.build_meaning.specs.declared.event.Event.TheVariants.{Assign, Claim, Request, Result, Done}
+use Rattle.build_meaning.specs.declared.event.Event.TheVariants.{Assign, Claim, Request, Result, Done, Retire}
 use Rattle.build_meaning.specs.declared.event.ClaimKind.{ClaimKind}
 use Rattle.build_meaning.specs.declared.event.ClaimKind.TheVariants.{Go, Use, Wait}
 use Rattle.build_meaning.specs.Lists.{at, put, numbered_from}
@@ -109,6 +109,9 @@ module _ {I A : Type 0} (w : World I A) (id node : ℕ) (q : RequestState I A) (
       let z : RequestState I A = request_of o j runs (done (result_of reply runs)) in
       back_to-there (with_request s other z) t o.parent (put-there s (with_request s other z) other z n e refl) h
   step_of-there s t (Done other) o j runs _ n e h = absurd (cc)
+  step_of-there s t (Retire other m) o j runs (assigned k a) n e h =
+      let z : RequestState I A = request_of o j runs (ready a) in put-there s t other z n e (only_if-some (k == m) (with_request s other z) t h).1
+  step_of-there s t (Retire other m) o j runs _ n e h = absurd (cc)
 
   all-there : (events : List Event) (s t : State I A) → AreOfOthers id events → There s → after_all w s events ≡ Some t → There t
   all-there [] s t n e h = subst (λ (v : State I A). There v) (some-is s t h) e

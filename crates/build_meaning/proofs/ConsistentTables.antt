@@ -1,5 +1,5 @@
 -- The table of every legal history is consistent.
-use Rattle.std.proofs.Common.{◌≡◌, ℕ, suc, Bool, true, false, ◌&&◌, ◌⊎◌, inl, inr, List, [], ◌∷◌, ◌++◌, length, map, Option, None, Some, refl, ap, sym, ◌∙◌, subst, append_assoc}
+use Rattle.std.proofs.Common.{◌≡◌, ℕ, suc, Bool, true, false, ◌&&◌, ◌==◌, ◌⊎◌, inl, inr, List, [], ◌∷◌, ◌++◌, length, map, Option, None, Some, refl, ap, sym, ◌∙◌, subst, append_assoc}
 use Rattle.msb_laws.specs.Asking.{and_then}
 use Rattle.msb_laws.specs.Traverse.{traverse}
 use Rattle.result_cache.specs.declared.run.RunId.{RunId}
@@ -8,7 +8,7 @@ use Rattle.result_cache.specs.declared.request.RequestResult.{RequestResult}
 use Rattle.result_cache.specs.declared.record.Record.{Record}
 use Rattle.result_cache.specs.Same.{same_run, same_keys}
 use Rattle.build_meaning.specs.declared.event.Event.{Event}
-use Rattle.build_meaning.specs.declared.event.Event.TheVariants.{Assign, Claim, Request, Result, Done}
+use Rattle.build_meaning.specs.declared.event.Event.TheVariants.{Assign, Claim, Request, Result, Done, Retire}
 use Rattle.build_meaning.specs.declared.event.ClaimKind.{ClaimKind}
 use Rattle.build_meaning.specs.declared.event.ClaimKind.TheVariants.{Go, Use, Wait}
 use Rattle.build_meaning.specs.Lists.{at, put, numbered_from, Paired}
@@ -21,7 +21,7 @@ use Rattle.build_meaning.specs.SoFar.{SoFar, nothing_yet, with_act, with_tool, w
 use Rattle.build_meaning.specs.Stop.{ends, asks, run_on}
 use Rattle.build_meaning.specs.State.{Within, Place, walking, within, Status, ready, assigned, waits, calling, done, Origin, RequestState, State, with_request, new_request, start}
 use Rattle.build_meaning.specs.Cycle.{is_in_cycle}
-use Rattle.build_meaning.specs.Step.{only_if, assign_at, in_body, goes_on, waiting, may_wait, claimed, claim_at, with_children, is_within_limits, request_at, woken_if, woken_at, woken, finished, result_at, result_in, results_of, answered, resume_at, resume_caller, done_at, whose, step_of, step, after_all}
+use Rattle.build_meaning.specs.Step.{only_if, assign_at, in_body, goes_on, waiting, may_wait, claimed, claim_at, with_children, is_within_limits, request_at, woken_if, woken_at, woken, finished, result_at, result_in, results_of, answered, resume_at, resume_caller, done_at, retire_at, whose, step_of, step, after_all}
 use Rattle.build_meaning.specs.History.{IsHistory}
 use Rattle.build_meaning.specs.ByTable.{walk_by, request_by, calls_by, body_by, BegunIn, IsConsistent}
 use Rattle.result_cache.proofs.RunTests.{same_run-true, and_then-some}
@@ -229,6 +229,14 @@ module _ {I A : Type 0} (w : World I A) where
         subst (λ (u : State I A). Next u starts) (some-is (with_request s id z) t h) (put-traced events event s starts id (request_of o j runs (ready p)) z v e
         (λ a x. record { status = place-later s.table events event starts starts (λ i g h. h) a.key a.journal j runs p x.status }))
     assign-traced s starts id node o j runs _ t v e h = absurd (cc)
+
+    retire-traced : (s : State I A) (starts : List Start) (id node : ℕ) (o : Origin) (j : Journal) (runs : List RunId) (st : Status I A) (t : State I A) → Traced events s starts →
+        at s.requests id ≡ Some (request_of o j runs st) → retire_at w s id node o j runs st ≡ Some t → Next t starts
+    retire-traced s starts id node o j runs (assigned by p) t v e h =
+        let z : RequestState I A = request_of o j runs (ready p) in
+        subst (λ (u : State I A). Next u starts) (only_if-some (by == node) (with_request s id z) t h).1 (put-traced events event s starts id (request_of o j runs (assigned by p)) z v e
+        (λ a x. record { status = place-later s.table events event starts starts (λ i g h. h) a.key a.journal j runs p x.status }))
+    retire-traced s starts id node o j runs _ t v e h = absurd (cc)
 
     claimed-traced : (s : State I A) (starts : List Start) (id node : ℕ) (o : Origin) (j : Journal) (runs : List RunId) (r : RunId) (b : Body I A) (go : Record → Journal → Walk I A) (kind : ClaimKind) (t : State I A) → event ≡ Claim id r kind → IsHistory w events s →
         Lawful s → Traced events s starts → at s.requests id ≡ Some (request_of o j runs (assigned node (walking (wants r b go)))) → claimed w s id node o j runs r b go kind ≡ Some t → Next t starts
@@ -497,6 +505,7 @@ module _ {I A : Type 0} (w : World I A) where
   step_of-traced events s starts (Request id keys) q t hist l v e h = let y = request-traced events (Request id keys) s starts id keys q.origin q.journal q.runs q.status t v e h in (starts ++ y.0, y.1)
   step_of-traced events s starts (Result id run) q t hist l v e h = (starts, result-traced events (Result id run) s starts id run q.origin q.journal q.runs q.status t l v e h)
   step_of-traced events s starts (Done id) q t hist l v e h = (starts, done-traced events (Done id) s starts id q.origin q.journal q.runs q.status t l v e h)
+  step_of-traced events s starts (Retire id node) q t hist l v e h = (starts, retire-traced events (Retire id node) s starts id node q.origin q.journal q.runs q.status t v e h)
 
   pub after-more : (events : List Event) (event : Event) (s t u : State I A) → after_all w s events ≡ Some t → step w t event ≡ Some u → after_all w s (events ++ event ∷ []) ≡ Some u
   after-more [] event s t u h g = ap (λ o. and_then o (λ next. after_all w next [])) (subst (λ (x : State I A). step w x event ≡ Some u) (sym (some-is s t h)) g)

@@ -23,18 +23,18 @@ use Rattle.result_cache.proofs.JournalEntries.{none-had}
 abbrev pub Comes : {I T : Type 0} → Option (Given I T) → T → Journal → Type 0
 Comes {I} {T} o v k = (y : Given I T) × (o ≡ Some y) × (y.value ≡ v) × (y.journal ≡ k)
 
-then-comes : {I S T : Type 0} (first : Option (Given I S)) (next : S → Journal → Option (Given I T)) (v : S) (j : Journal) (u : T) (k : Journal) → Comes first v j → Comes (next v j) u k → Comes (followed first next) u k
+pub then-comes : {I S T : Type 0} (first : Option (Given I S)) (next : S → Journal → Option (Given I T)) (v : S) (j : Journal) (u : T) (k : Journal) → Comes first v j → Comes (next v j) u k → Comes (followed first next) u k
 then-comes first next v j u k (x, e, p, q) (y, f, a, b) =
     let g : next x.value x.journal ≡ Some y = ap (λ s. next s x.journal) p ∙ (ap (next v) q ∙ f) in
     (after x.demand y, ap (λ o. and_then o (λ x. and_then (next x.value x.journal) (λ y. Some (after x.demand y)))) e ∙ ap (λ o. and_then o (λ y. Some (after x.demand y))) g, a, b)
 
-also-comes : {I T : Type 0} (d : Demanded I) (o : Option (Given I T)) (v : T) (k : Journal) → Comes o v k → Comes (containing d o) v k
+pub also-comes : {I T : Type 0} (d : Demanded I) (o : Option (Given I T)) (v : T) (k : Journal) → Comes o v k → Comes (containing d o) v k
 also-comes d o v k (y, e, p, q) = (after (d ∷ []) y, ap (containing d) e, p, q)
 
-just : {I T : Type 0} (v : T) (k : Journal) (demand : List (Demanded I)) → Comes (Some (record { value = v; journal = k; demand = demand })) v k
+pub just : {I T : Type 0} (v : T) (k : Journal) (demand : List (Demanded I)) → Comes (Some (record { value = v; journal = k; demand = demand })) v k
 just v k demand = (record { value = v; journal = k; demand = demand }, refl, refl, refl)
 
-not-in : (r : RunId) (path : List RunId) → (In r path → ⊥) → is_in r path ≡ false
+pub not-in : (r : RunId) (path : List RunId) → (In r path → ⊥) → is_in r path ≡ false
 not-in r path n = elim (tells (is_in r path)) [ inl h ↦ absurd (n (in-is_in r path h)) | inr h ↦ h ]
 
 module _ {I A : Type 0} (w : World I A) (D : Demanded I → Type 0) where

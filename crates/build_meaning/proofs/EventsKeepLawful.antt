@@ -1,5 +1,5 @@
 -- Each event keeps a state lawful.
-use Rattle.std.proofs.Common.{◌≡◌, ℕ, zero, suc, Bool, true, false, ◌&&◌, inl, inr, List, [], ◌∷◌, ◌++◌, length, map, Option, None, Some, refl, ap, sym, ◌∙◌, subst}
+use Rattle.std.proofs.Common.{◌≡◌, ℕ, zero, suc, Bool, true, false, ◌&&◌, ◌==◌, inl, inr, List, [], ◌∷◌, ◌++◌, length, map, Option, None, Some, refl, ap, sym, ◌∙◌, subst}
 use Rattle.msb_laws.specs.Asking.{and_then}
 use Rattle.msb_laws.specs.Traverse.{traverse}
 use Rattle.result_cache.specs.declared.run.RunId.{RunId}
@@ -8,7 +8,7 @@ use Rattle.result_cache.specs.declared.request.RequestResult.{RequestResult}
 use Rattle.result_cache.specs.declared.record.Record.{Record}
 use Rattle.result_cache.specs.Same.{same_run, same_keys, is_in}
 use Rattle.build_meaning.specs.declared.event.Event.{Event}
-use Rattle.build_meaning.specs.declared.event.Event.TheVariants.{Assign, Claim, Request, Result, Done}
+use Rattle.build_meaning.specs.declared.event.Event.TheVariants.{Assign, Claim, Request, Result, Done, Retire}
 use Rattle.build_meaning.specs.declared.event.ClaimKind.{ClaimKind}
 use Rattle.build_meaning.specs.declared.event.ClaimKind.TheVariants.{Go, Use, Wait}
 use Rattle.build_meaning.specs.Lists.{at, put, numbered_from}
@@ -22,7 +22,7 @@ use Rattle.build_meaning.specs.SoFar.{SoFar, nothing_yet, with_act, with_tool, w
 use Rattle.build_meaning.specs.Stop.{ends, asks, run_on}
 use Rattle.build_meaning.specs.State.{Within, Place, walking, within, Status, ready, assigned, waits, calling, done, Origin, RequestState, State, with_request, new_request, start}
 use Rattle.build_meaning.specs.Cycle.{is_in_cycle}
-use Rattle.build_meaning.specs.Step.{only_if, unless, assign_at, in_body, goes_on, waiting, may_wait, claimed, claim_at, with_children, is_within_limits, request_at, woken_if, woken_at, woken, finished, result_at, result_in, results_of, answered, resume_at, resume_caller, done_at, whose, step_of, step, after_all}
+use Rattle.build_meaning.specs.Step.{only_if, unless, assign_at, in_body, goes_on, waiting, may_wait, claimed, claim_at, with_children, is_within_limits, request_at, woken_if, woken_at, woken, finished, result_at, result_in, results_of, answered, resume_at, resume_caller, done_at, retire_at, whose, step_of, step, after_all}
 use Rattle.result_cache.proofs.RunTests.{clash, tells, or_right, or_neither, same_run-true, same_run-eq, and_then-some}
 use Rattle.result_cache.proofs.JournalEntries.{Has, has-in, has-add, has-added, HasAll-mono, HasAll-append, HasAll-in, in-add}
 use Rattle.result_cache.proofs.ReplayRelation.{Rep, puts, Reps, none, also, reps-map, rep_all, reps_all, rep-keeps, reps-keep, closed-empty, closed-add, rep-closed, reps-closed, Recorded}
@@ -229,6 +229,14 @@ module _ {I A : Type 0} (w : World I A) where
       subst (λ (u : State I A). Lawful u) (some-is (with_request s id z) t h) (put-lawful s id z v (record { journal = l.journal; status = l.status }))
   assign-lawful s id node o j runs _ t v e h = absurd (cc)
 
+  retire-lawful : (s : State I A) (id node : ℕ) (o : Origin) (j : Journal) (runs : List RunId) (st : Status I A) (t : State I A) → Lawful s →
+      at s.requests id ≡ Some (request_of o j runs st) → retire_at w s id node o j runs st ≡ Some t → Lawful t
+  retire-lawful s id node o j runs (assigned by p) t v e h =
+      let z : RequestState I A = request_of o j runs (ready p) in
+      let l = v.each id (request_of o j runs (assigned by p)) e in
+      subst (λ (u : State I A). Lawful u) (only_if-some (by == node) (with_request s id z) t h).1 (put-lawful s id z v (record { journal = l.journal; status = l.status }))
+  retire-lawful s id node o j runs _ t v e h = absurd (cc)
+
   -- a run is begun
   pub unbegun-unfinished : (s : State I A) → Lawful s → (r : RunId) → is_begun r s.begun ≡ false → found s.table r ≡ None
   unbegun-unfinished s v r n = go (found s.table r) refl
@@ -430,6 +438,7 @@ module _ {I A : Type 0} (w : World I A) where
   step_of-lawful s (Request id keys) q t v e h = request-lawful s id keys q.origin q.journal q.runs q.status t v e h
   step_of-lawful s (Result id run) q t v e h = result-lawful s id run q.origin q.journal q.runs q.status t v e h
   step_of-lawful s (Done id) q t v e h = done-lawful s id q.origin q.journal q.runs q.status t v e h
+  step_of-lawful s (Retire id node) q t v e h = retire-lawful s id node q.origin q.journal q.runs q.status t v e h
 
   pub step-lawful : (s : State I A) (event : Event) (t : State I A) → Lawful s → step w s event ≡ Some t → Lawful t
   step-lawful s event t v h =

@@ -7,6 +7,7 @@ pub mod PairedLists
 pub mod RequestsStand
 pub mod GrowingTables
 pub mod OrderlyHistories
+pub mod RetiredRequests
 pub mod MeaningAgreed
 pub mod ReplayCircles
 pub mod NeedsOfRuns

@@ -1,5 +1,5 @@
 -- What a body does next, and its end, are new in its journal.
-use Rattle.std.proofs.Common.{◌≡◌, ℕ, zero, suc, ◌+◌, ◌<◌, ◌≤◌, Bool, true, false, ◌&&◌, ◌⊎◌, inl, inr, List, [], ◌∷◌, ◌++◌, length, map, Option, None, Some, refl, ap, sym, ◌∙◌, subst, arith}
+use Rattle.std.proofs.Common.{◌≡◌, ℕ, zero, suc, ◌+◌, ◌<◌, ◌≤◌, Bool, true, false, ◌&&◌, ◌==◌, ◌⊎◌, inl, inr, List, [], ◌∷◌, ◌++◌, length, map, Option, None, Some, refl, ap, sym, ◌∙◌, subst, arith}
 use Rattle.msb_laws.specs.Asking.{and_then}
 use Rattle.msb_laws.specs.Traverse.{traverse}
 use Rattle.result_cache.specs.declared.run.RunId.{RunId}
@@ -10,7 +10,7 @@ use Rattle.result_cache.specs.declared.record.Segment.{Segment}
 use Rattle.result_cache.specs.declared.record.Segment.TheVariants.{File, Call}
 use Rattle.result_cache.specs.Same.{same_run, same_keys}
 use Rattle.build_meaning.specs.declared.event.Event.{Event}
-use Rattle.build_meaning.specs.declared.event.Event.TheVariants.{Assign, Claim, Request, Result, Done}
+use Rattle.build_meaning.specs.declared.event.Event.TheVariants.{Assign, Claim, Request, Result, Done, Retire}
 use Rattle.build_meaning.specs.declared.event.ClaimKind.{ClaimKind}
 use Rattle.build_meaning.specs.declared.event.ClaimKind.TheVariants.{Go, Use, Wait}
 use Rattle.result_cache.specs.Lists.{In}
@@ -24,7 +24,7 @@ use Rattle.build_meaning.specs.SoFar.{SoFar, nothing_yet, with_act, with_tool, w
 use Rattle.build_meaning.specs.Stop.{Stop, ends, asks, run_on}
 use Rattle.build_meaning.specs.State.{Within, Place, walking, within, Status, ready, assigned, waits, calling, done, Origin, RequestState, State, with_request, new_request, start}
 use Rattle.build_meaning.specs.Cycle.{is_in_cycle}
-use Rattle.build_meaning.specs.Step.{only_if, assign_at, in_body, goes_on, waiting, may_wait, claimed, claim_at, with_children, is_within_limits, request_at, woken_if, woken_at, woken, finished, result_at, results_of, answered, resume_at, resume_caller, done_at, whose, step_of, step, after_all}
+use Rattle.build_meaning.specs.Step.{only_if, assign_at, in_body, goes_on, waiting, may_wait, claimed, claim_at, with_children, is_within_limits, request_at, woken_if, woken_at, woken, finished, result_at, results_of, answered, resume_at, resume_caller, done_at, retire_at, whose, step_of, step, after_all}
 use Rattle.build_meaning.specs.History.{IsHistory}
 use Rattle.result_cache.proofs.RunTests.{clash, tells, and_then-some}
 use Rattle.result_cache.proofs.JournalEntries.{Has, has-add, has-added, of-add}
@@ -198,6 +198,13 @@ module _ {I A : Type 0} (w : World I A) where
       subst (λ (u : State I A). AllKnown u) (some-is (with_request s id z) t h) (put-known s s.begun id z v (record { acted_by = k.acted_by; before = k.before }))
   assign-known s id node o j runs _ t v e h = absurd (cc)
 
+  retire-known : (s : State I A) (id node : ℕ) (o : Origin) (j : Journal) (runs : List RunId) (st : Status I A) (t : State I A) → AllKnown s → at s.requests id ≡ Some (request_of o j runs st) → retire_at w s id node o j runs st ≡ Some t → AllKnown t
+  retire-known s id node o j runs (assigned by p) t v e h =
+      let z : RequestState I A = request_of o j runs (ready p) in
+      let k = v id (request_of o j runs (assigned by p)) e in
+      subst (λ (u : State I A). AllKnown u) (only_if-some (by == node) (with_request s id z) t h).1 (put-known s s.begun id z v (record { acted_by = k.acted_by; before = k.before }))
+  retire-known s id node o j runs _ t v e h = absurd (cc)
+
   run_on-keeps : (r : RunId) (b : Body I A) (j : Journal) (so_far : SoFar I) (m : Mark) → Has m j → Has m (run_on w.tools r b j so_far).journal
   run_on-keeps r (makes outcome) j so_far m h = h
   run_on-keeps r (does p go) j so_far m h =
@@ -355,6 +362,7 @@ module _ {I A : Type 0} (w : World I A) where
   step_of-known s (Request id keys) q t l v e h = request-known s id keys q.origin q.journal q.runs q.status t l v e h
   step_of-known s (Result id run) q t l v e h = result-known s id run q.origin q.journal q.runs q.status t l v e h
   step_of-known s (Done id) q t l v e h = done-known s id q.origin q.journal q.runs q.status t l v e h
+  step_of-known s (Retire id node) q t l v e h = retire-known s id node q.origin q.journal q.runs q.status t v e h
 
   start-known : AllKnown (start w)
   start-known zero q h = subst (λ (u : RequestState I A). Known [] 0 u) (some-is (new_request w None [] [] w.root) q h) (record { acted_by = λ s n a. absurd (cc); before = λ r i. absurd i })

@@ -1,5 +1,5 @@
 -- In every legal history open children are among their parents' calls, and no run needs itself.
-use Rattle.std.proofs.Common.{◌≡◌, ℕ, zero, suc, ◌+◌, ◌<◌, Bool, true, false, ◌&&◌, ◌⊎◌, inl, inr, List, [], ◌∷◌, ◌++◌, length, map, Option, None, Some, refl, ap, sym, ◌∙◌, subst, arith}
+use Rattle.std.proofs.Common.{◌≡◌, ℕ, zero, suc, ◌+◌, ◌<◌, Bool, true, false, ◌&&◌, ◌==◌, ◌⊎◌, inl, inr, List, [], ◌∷◌, ◌++◌, length, map, Option, None, Some, refl, ap, sym, ◌∙◌, subst, arith}
 use Rattle.std.proofs.lemmas.List.{length-map}
 use Rattle.msb_laws.specs.Asking.{and_then}
 use Rattle.msb_laws.specs.Traverse.{traverse}
@@ -9,7 +9,7 @@ use Rattle.result_cache.specs.declared.request.RequestResult.{RequestResult}
 use Rattle.result_cache.specs.declared.record.Record.{Record}
 use Rattle.result_cache.specs.Same.{same_run, same_keys}
 use Rattle.build_meaning.specs.declared.event.Event.{Event}
-use Rattle.build_meaning.specs.declared.event.Event.TheVariants.{Assign, Claim, Request, Result, Done}
+use Rattle.build_meaning.specs.declared.event.Event.TheVariants.{Assign, Claim, Request, Result, Done, Retire}
 use Rattle.build_meaning.specs.declared.event.ClaimKind.{ClaimKind}
 use Rattle.build_meaning.specs.declared.event.ClaimKind.TheVariants.{Go, Use, Wait}
 use Rattle.result_cache.specs.Lists.{In, this_or}
@@ -23,7 +23,7 @@ use Rattle.build_meaning.specs.SoFar.{nothing_yet, with_calls, runs_of, recorded
 use Rattle.build_meaning.specs.Stop.{ends, asks, run_on}
 use Rattle.build_meaning.specs.State.{Within, Place, walking, within, Status, ready, assigned, waits, calling, done, Origin, RequestState, State, with_request, new_request, start}
 use Rattle.build_meaning.specs.Cycle.{holds, needed, Needs, is_in_cycle, leads_to}
-use Rattle.build_meaning.specs.Step.{only_if, assign_at, in_body, goes_on, waiting, may_wait, claimed, claim_at, with_children, is_within_limits, request_at, woken_if, woken_at, woken, finished, result_at, result_in, results_of, answered, resume_at, resume_caller, done_at, whose, step_of, step, after_all}
+use Rattle.build_meaning.specs.Step.{only_if, assign_at, in_body, goes_on, waiting, may_wait, claimed, claim_at, with_children, is_within_limits, request_at, woken_if, woken_at, woken, finished, result_at, result_in, results_of, answered, resume_at, resume_caller, done_at, retire_at, whose, step_of, step, after_all}
 use Rattle.result_cache.proofs.RunTests.{clash, or_cases, same_run-true, same_run-eq, and_then-some}
 use Rattle.build_meaning.proofs.ListPlaces.{at-put, at-put_same, at-put_other, at-put_else, at-append, at-front, at-back, at-map, at-less, map-at, put-length, in-numbered, numbered-in, at-traverse, traverse-at, traverse-none, traverse-all}
 use Rattle.build_meaning.proofs.RunPaths.{Path, last_one, step_on, path-mono, circle-found}
@@ -234,6 +234,13 @@ module _ {I A : Type 0} (w : World I A) where
       subst (λ (u : State I A). Kindred u) (some-is (with_request s id (request_of o j runs (assigned node p))) t h)
       (same-kin s id (request_of o j runs (ready p)) (request_of o j runs (assigned node p)) v e refl)
   assign-kindred s id node o j runs _ t v e h = absurd (cc)
+
+  retire-kindred : (s : State I A) (id node : ℕ) (o : Origin) (j : Journal) (runs : List RunId) (st : Status I A) (t : State I A) → Kindred s →
+      at s.requests id ≡ Some (request_of o j runs st) → retire_at w s id node o j runs st ≡ Some t → Kindred t
+  retire-kindred s id node o j runs (assigned by p) t v e h =
+      subst (λ (u : State I A). Kindred u) (only_if-some (by == node) (with_request s id (request_of o j runs (ready p))) t h).1
+      (same-kin s id (request_of o j runs (assigned by p)) (request_of o j runs (ready p)) v e refl)
+  retire-kindred s id node o j runs _ t v e h = absurd (cc)
 
   begin-kindred : (s : State I A) (id node : ℕ) (o : Origin) (j : Journal) (runs : List RunId) (r : RunId) (b : Body I A) (go : Record → Journal → Walk I A) → Lawful s → Kindred s →
       at s.requests id ≡ Some (request_of o j runs (assigned node (walking (wants r b go)))) → is_begun r s.begun ≡ false →
@@ -614,6 +621,7 @@ module _ {I A : Type 0} (w : World I A) where
   step_of-kindred s (Request id keys) q t l v lt e h = request-kindred s id keys q.origin q.journal q.runs q.status t v e h
   step_of-kindred s (Result id run) q t l v lt e h = result-kindred s id run q.origin q.journal q.runs q.status t v e h
   step_of-kindred s (Done id) q t l v lt e h = done-kindred s id q.origin q.journal q.runs q.status t v e h
+  step_of-kindred s (Retire id node) q t l v lt e h = retire-kindred s id node q.origin q.journal q.runs q.status t v e h
 
   pub start-kindred : Kindred (start w)
   start-kindred = record {

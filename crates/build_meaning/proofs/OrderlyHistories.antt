@@ -1,5 +1,5 @@
 -- Every legal history is orderly.
-use Rattle.std.proofs.Common.{◌≡◌, ℕ, Bool, true, false, ◌&&◌, inl, inr, List, [], ◌∷◌, map, Option, None, Some, refl, ap, sym, ◌∙◌, subst}
+use Rattle.std.proofs.Common.{◌≡◌, ℕ, Bool, true, false, ◌&&◌, ◌==◌, inl, inr, List, [], ◌∷◌, map, Option, None, Some, refl, ap, sym, ◌∙◌, subst}
 use Rattle.msb_laws.specs.Asking.{and_then}
 use Rattle.msb_laws.specs.Traverse.{traverse}
 use Rattle.result_cache.specs.declared.run.RunId.{RunId}
@@ -8,7 +8,7 @@ use Rattle.result_cache.specs.declared.request.RequestResult.{RequestResult}
 use Rattle.result_cache.specs.declared.record.Record.{Record}
 use Rattle.result_cache.specs.Same.{same_run, same_keys, is_in}
 use Rattle.build_meaning.specs.declared.event.Event.{Event}
-use Rattle.build_meaning.specs.declared.event.Event.TheVariants.{Assign, Claim, Request, Result, Done}
+use Rattle.build_meaning.specs.declared.event.Event.TheVariants.{Assign, Claim, Request, Result, Done, Retire}
 use Rattle.build_meaning.specs.declared.event.ClaimKind.{ClaimKind}
 use Rattle.build_meaning.specs.declared.event.ClaimKind.TheVariants.{Go, Use, Wait}
 use Rattle.result_cache.specs.Lists.{In, this_or}
@@ -22,7 +22,7 @@ use Rattle.build_meaning.specs.SoFar.{nothing_yet, with_calls, runs_of, recorded
 use Rattle.build_meaning.specs.Stop.{ends, asks, run_on}
 use Rattle.build_meaning.specs.State.{Within, walking, within, Status, ready, assigned, calling, done, Origin, RequestState, ToolsUsed, State, with_request, start}
 use Rattle.build_meaning.specs.Cycle.{is_in_cycle}
-use Rattle.build_meaning.specs.Step.{only_if, assign_at, in_body, goes_on, waiting, may_wait, claimed, claim_at, with_children, is_within_limits, request_at, woken, finished, result_at, results_of, answered, resume_at, resume_caller, done_at, whose, step_of, step, after_all}
+use Rattle.build_meaning.specs.Step.{only_if, assign_at, in_body, goes_on, waiting, may_wait, claimed, claim_at, with_children, is_within_limits, request_at, woken, finished, result_at, results_of, answered, resume_at, resume_caller, done_at, retire_at, whose, step_of, step, after_all}
 use Rattle.build_meaning.specs.History.{IsHistory}
 use Rattle.build_meaning.specs.Orderly.{begun_by, finished_by, AreDistinct, IsOrderly, RecordsStay}
 use Rattle.result_cache.proofs.RunTests.{clash, same_run-eq, or_cases, same_run-true, and_then-some}
@@ -63,6 +63,12 @@ module _ {I A : Type 0} (w : World I A) where
       let e = some-is (with_request s id (request_of o j runs (assigned node p))) t h in
       same_lists (Assign id node) s t refl refl (ap (λ (u : State I A). u.begun) e) (ap (λ (u : State I A). u.table) e) (ap (λ (u : State I A). u.tools_used) e)
   assign-changes s id node o j runs _ t h = absurd (cc)
+
+  retire-changes : (s : State I A) (id node : ℕ) (o : Origin) (j : Journal) (runs : List RunId) (st : Status I A) (t : State I A) → retire_at w s id node o j runs st ≡ Some t → Changes (Retire id node) s t
+  retire-changes s id node o j runs (assigned by p) t h =
+      let e = (only_if-some (by == node) (with_request s id (request_of o j runs (ready p))) t h).1 in
+      same_lists (Retire id node) s t refl refl (ap (λ (u : State I A). u.begun) e) (ap (λ (u : State I A). u.table) e) (ap (λ (u : State I A). u.tools_used) e)
+  retire-changes s id node o j runs _ t h = absurd (cc)
 
   claimed-changes : (s : State I A) (id node : ℕ) (o : Origin) (j : Journal) (runs : List RunId) (r : RunId) (b : Body I A) (go : Record → Journal → Walk I A) (kind : ClaimKind) (t : State I A) →
       claimed w s id node o j runs r b go kind ≡ Some t → Changes (Claim id r kind) s t
@@ -149,6 +155,7 @@ module _ {I A : Type 0} (w : World I A) where
   step_of-changes s (Request id keys) q t v e h = request-changes s id keys q.origin q.journal q.runs q.status t h
   step_of-changes s (Result id run) q t v e h = result-changes s id run q.origin q.journal q.runs q.status t v e h
   step_of-changes s (Done id) q t v e h = done-changes s id q.origin q.journal q.runs q.status t h
+  step_of-changes s (Retire id node) q t v e h = retire-changes s id node q.origin q.journal q.runs q.status t h
 
   begun_one : (event : Event) (events : List Event) (runs : List RunId) → begun_by (event ∷ events) runs ≡ begun_by events (begun_by (event ∷ []) runs)
   begun_one (Claim id run Go) events runs = refl

@@ -1,5 +1,5 @@
 -- Where each request of a history of a steady world stands: what is left of it gives what the meaning gives at its place.
-use Rattle.std.proofs.Common.{◌≡◌, ℕ, suc, Bool, true, false, ◌&&◌, inl, inr, List, [], ◌∷◌, ◌++◌, length, map, Option, None, Some, refl, ap, sym, ◌∙◌, subst, append_assoc}
+use Rattle.std.proofs.Common.{◌≡◌, ℕ, suc, Bool, true, false, ◌&&◌, ◌==◌, inl, inr, List, [], ◌∷◌, ◌++◌, length, map, Option, None, Some, refl, ap, sym, ◌∙◌, subst, append_assoc}
 use Rattle.msb_laws.specs.Asking.{and_then}
 use Rattle.msb_laws.specs.Traverse.{traverse}
 use Rattle.msb_values.specs.declared.act.Act.{Act}
@@ -9,7 +9,7 @@ use Rattle.result_cache.specs.declared.request.RequestResult.{RequestResult}
 use Rattle.result_cache.specs.declared.record.Record.{Record}
 use Rattle.result_cache.specs.Same.{same_run, same_keys}
 use Rattle.build_meaning.specs.declared.event.Event.{Event}
-use Rattle.build_meaning.specs.declared.event.Event.TheVariants.{Assign, Claim, Request, Result, Done}
+use Rattle.build_meaning.specs.declared.event.Event.TheVariants.{Assign, Claim, Request, Result, Done, Retire}
 use Rattle.build_meaning.specs.declared.event.ClaimKind.{ClaimKind}
 use Rattle.build_meaning.specs.declared.event.ClaimKind.TheVariants.{Go, Use, Wait}
 use Rattle.result_cache.specs.Lists.{In, this_or}
@@ -24,7 +24,7 @@ use Rattle.build_meaning.specs.Meaning.{Demanded, requested, built}
 use Rattle.build_meaning.specs.Stop.{ends, asks, run_on}
 use Rattle.build_meaning.specs.State.{Within, walking, within, Status, ready, assigned, waits, calling, done, Origin, RequestState, ToolsUsed, State, with_request, new_request, start}
 use Rattle.build_meaning.specs.Cycle.{is_in_cycle}
-use Rattle.build_meaning.specs.Step.{only_if, assign_at, in_body, goes_on, waiting, may_wait, claimed, claim_at, with_children, is_within_limits, request_at, woken_if, woken_at, woken, finished, result_at, result_in, results_of, answered, resume_at, resume_caller, done_at, whose, step_of, step, after_all}
+use Rattle.build_meaning.specs.Step.{only_if, assign_at, in_body, goes_on, waiting, may_wait, claimed, claim_at, with_children, is_within_limits, request_at, woken_if, woken_at, woken, finished, result_at, result_in, results_of, answered, resume_at, resume_caller, done_at, retire_at, whose, step_of, step, after_all}
 use Rattle.result_cache.proofs.RunTests.{clash, same_run-true, and_then-some}
 use Rattle.result_cache.proofs.JournalEntries.{had-in, in-has, has-in}
 use Rattle.result_cache.proofs.ReplayRelation.{Rep, old, new, Reps, none, rep-map, reps-map, rep-one, reps-one, Closed, reps-closed, Recorded}
@@ -134,6 +134,15 @@ module _ {I A : Type 0} (w : World I A) (D : Demanded I → Type 0) (one : (r : 
       subst (λ (u : State I A). Standing u goals) q (put-stands s goals id (request_of o j runs (ready p)) z v e (subst (λ (u : State I A). Lawful u) (sym q) l)
       (λ g x. record { asked = x.asked; stands = x.stands }))
   assign-stands s goals id node o j runs _ t v l e h = absurd (cc)
+
+  retire-stands : (s : State I A) (goals : List Goal) (id node : ℕ) (o : Origin) (j : Journal) (runs : List RunId) (st : Status I A) (t : State I A) → Standing s goals → Lawful t →
+      at s.requests id ≡ Some (request_of o j runs st) → retire_at w s id node o j runs st ≡ Some t → Standing t goals
+  retire-stands s goals id node o j runs (assigned by p) t v l e h =
+      let z : RequestState I A = request_of o j runs (ready p) in
+      let q : with_request s id z ≡ t = (only_if-some (by == node) (with_request s id z) t h).1 in
+      subst (λ (u : State I A). Standing u goals) q (put-stands s goals id (request_of o j runs (assigned by p)) z v e (subst (λ (u : State I A). Lawful u) (sym q) l)
+      (λ g x. record { asked = x.asked; stands = x.stands }))
+  retire-stands s goals id node o j runs _ t v l e h = absurd (cc)
 
   claimed-stands : (s : State I A) (goals : List Goal) (id node : ℕ) (o : Origin) (j : Journal) (runs : List RunId) (r : RunId) (b : Body I A) (go : Record → Journal → Walk I A) (kind : ClaimKind) (t : State I A) → Standing s goals → Lawful t →
       at s.requests id ≡ Some (request_of o j runs (assigned node (walking (wants r b go)))) → claimed w s id node o j runs r b go kind ≡ Some t → Standing t goals
@@ -336,7 +345,7 @@ module _ {I A : Type 0} (w : World I A) (D : Demanded I → Type 0) (one : (r : 
   result_in-goal goals path j runs (done r) g res x h = x.0 ∙ some-is r res h
   result_in-goal goals path j runs _ g res x h = absurd (cc)
 
-  results_of-match : (all : List Goal) (requests : List (RequestState I A)) (goals : List Goal) → Paired (Stands w D all) requests goals → (ids : List ℕ) (results reply : List RequestResult) →
+  pub results_of-match : (all : List Goal) (requests : List (RequestState I A)) (goals : List Goal) → Paired (Stands w D all) requests goals → (ids : List ℕ) (results reply : List RequestResult) →
       Match goals ids results → results_of w requests ids ≡ Some reply → reply ≡ results
   results_of-match all requests goals v [] [] reply m h = let e : [] ≡ reply = some-is [] reply h in sym e
   results_of-match all requests goals v (id ∷ ids) (res ∷ results) reply m h =
@@ -385,7 +394,7 @@ module _ {I A : Type 0} (w : World I A) (D : Demanded I → Type 0) (one : (r : 
       let y = and_then-some (at s.requests id) (λ q. resume_at w s id q q.status) t h in
       back_at-stands s goals id y.0 y.0.status t v l y.1 refl y.2
 
-  gives_so : (path : List RunId) (j : Journal) (runs : List RunId) (reply : Reply) (res : RequestResult) (k : Journal) → OfWalk w D path j runs (gives reply) res k → (res ≡ result_of reply runs) × (k ≡ j)
+  pub gives_so : (path : List RunId) (j : Journal) (runs : List RunId) (reply : Reply) (res : RequestResult) (k : Journal) → OfWalk w D path j runs (gives reply) res k → (res ≡ result_of reply runs) × (k ≡ j)
   gives_so path j runs reply res k over = (refl, refl)
 
   done-stands : (s : State I A) (goals : List Goal) (id : ℕ) (o : Origin) (j : Journal) (runs : List RunId) (st : Status I A) (t : State I A) → Standing s goals → Lawful t →
@@ -404,6 +413,7 @@ module _ {I A : Type 0} (w : World I A) (D : Demanded I → Type 0) (one : (r : 
   step_of-stands s goals (Request id keys) q t root z v e h = request-stands s goals id keys q.origin q.journal q.runs q.status t v (step_of-lawful w s (Request id keys) q t v.lawful e h) e h root z
   step_of-stands s goals (Result id run) q t root z v e h = (goals, result-stands s goals id run q.origin q.journal q.runs q.status t v (step_of-lawful w s (Result id run) q t v.lawful e h) e h, z)
   step_of-stands s goals (Done id) q t root z v e h = (goals, done-stands s goals id q.origin q.journal q.runs q.status t v (step_of-lawful w s (Done id) q t v.lawful e h) e h, z)
+  step_of-stands s goals (Retire id node) q t root z v e h = (goals, retire-stands s goals id node q.origin q.journal q.runs q.status t v (step_of-lawful w s (Retire id node) q t v.lawful e h) e h, z)
 
   all-stand : (events : List Event) (s t : State I A) (root : Goal) → Keeps root s → after_all w s events ≡ Some t → Keeps root t
   all-stand [] s t root v h = subst (λ (u : State I A). Keeps root u) (some-is s t h) v

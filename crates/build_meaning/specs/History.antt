@@ -1,10 +1,11 @@
 -- Legal histories: events that lead from the start of a world to a state.
-use Rattle.std.specs.Prelude.{ℕ, ◌≡◌, List, [], ◌∷◌, Some}
+use Rattle.std.specs.Prelude.{ℕ, suc, ◌≡◌, ◌<◌, List, [], ◌∷◌, Some}
 use Rattle.result_cache.specs.declared.run.RunId.{RunId}
 use Rattle.result_cache.specs.declared.request.RequestResult.{RequestResult}
 use Rattle.result_cache.specs.Journal.{Journal}
 use Rattle.result_cache.specs.Table.{Records, found}
 use Rattle.build_meaning.specs.declared.event.Event.{Event}
+use Rattle.build_meaning.specs.declared.event.Event.TheVariants.{Retire}
 use Rattle.build_meaning.specs.Lists.{at}
 use Rattle.build_meaning.specs.World.{World}
 use Rattle.build_meaning.specs.State.{done, RequestState, State, start}
@@ -13,6 +14,17 @@ use Rattle.build_meaning.specs.Step.{whose, after_all}
 -- the events lead from the start of the world to this state
 abbrev pub IsHistory : {I A : Type 0} → World I A → List Event → State I A → Type 0
 IsHistory w events s = after_all w (start w) events ≡ Some s
+
+-- how many nodes have retired
+abbrev pub retires : List Event → ℕ
+retires [] = 0
+retires (Retire id node ∷ events) = suc (retires events)
+retires (event ∷ events) = retires events
+
+-- so many nodes have these events, and one of them has not retired. Events are added alone, so a node has retired only where
+-- another one was active
+abbrev pub AreOfNodes : ℕ → List Event → Type 0
+AreOfNodes nodes events = retires events < nodes
 
 -- the root is done with this result, and this is its journal then
 pub record EndsWith {I A : Type 0} (s : State I A) (result : RequestResult) (journal : Journal) : Type 0 where

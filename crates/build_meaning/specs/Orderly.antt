@@ -6,7 +6,7 @@ use Rattle.build_meaning.specs.declared.event.Event.{Event}
 use Rattle.build_meaning.specs.declared.event.Event.TheVariants.{Claim, Result}
 use Rattle.build_meaning.specs.declared.event.ClaimKind.TheVariants.{Go}
 use Rattle.result_cache.specs.Lists.{In}
-use Rattle.build_meaning.specs.Lists.{at}
+use Rattle.build_meaning.specs.Lists.{at, Paired}
 use Rattle.result_cache.specs.Journal.{Journal, ended}
 use Rattle.result_cache.specs.Table.{FinishedRun, found, BegunRun}
 use Rattle.result_cache.specs.Replay.{IsClosed, replay}
@@ -40,3 +40,16 @@ pub record IsOrderly {I A : Type 0} (events : List Event) (s : State I A) : Type
 abbrev pub RecordsStay : {I A : Type 0} → State I A → State I A → Type 0
 RecordsStay before now = (run : RunId) (made : Record) → found before.table run ≡ Some made →
     (found now.table run ≡ Some made) × ((journal : Journal) → replay now.table run journal ≡ replay before.table run journal)
+
+-- a request that comes from where it came from, with the journal and the runs that it had
+pub record HasSameRuns {I A : Type 0} (before now : RequestState I A) : Type 0 where
+  pub origin : now.origin ≡ before.origin
+  pub journal : now.journal ≡ before.journal
+  pub runs : now.runs ≡ before.runs
+
+-- the same requests have begun the same runs, the same records are there and the same uses of tools, and each request has the same runs
+pub record SameRuns {I A : Type 0} (before now : State I A) : Type 0 where
+  pub begun : now.begun ≡ before.begun
+  pub table : now.table ≡ before.table
+  pub tools_used : now.tools_used ≡ before.tools_used
+  pub requests : Paired HasSameRuns before.requests now.requests

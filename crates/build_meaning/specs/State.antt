@@ -61,6 +61,10 @@ pub record State (I A : Type 0) : Type 0 where
 abbrev pub with_request : {I A : Type 0} → State I A → ℕ → RequestState I A → State I A
 with_request s id q = record { requests = put s.requests id q; begun = s.begun; table = s.table; tools_used = s.tools_used }
 
+-- the request, where it stands so
+abbrev pub with_status : {I A : Type 0} → RequestState I A → Status I A → RequestState I A
+with_status q status = record { origin = q.origin; journal = q.journal; runs = q.runs; status = status }
+
 -- a new request, ready at its beginning
 abbrev pub new_request : {I A : Type 0} → World I A → Option ℕ → List RunId → Journal → RequestKey → RequestState I A
 new_request w parent path journal key = record {

@@ -1,5 +1,5 @@
 -- One event of a scheduler, and the state after it where it is possible.
-use Rattle.std.specs.Prelude.{ℕ, Bool, true, false, ◌&&◌, nat_le, nat_lt, List, [], ◌∷◌, ◌++◌, length, map, Option, None, Some}
+use Rattle.std.specs.Prelude.{ℕ, Bool, true, false, ◌&&◌, ◌==◌, nat_le, nat_lt, List, [], ◌∷◌, ◌++◌, length, map, Option, None, Some}
 use Rattle.msb_laws.specs.Asking.{and_then}
 use Rattle.msb_laws.specs.Traverse.{traverse}
 use Rattle.msb_values.specs.declared.key.InstanceKey.{InstanceKey}
@@ -9,7 +9,7 @@ use Rattle.result_cache.specs.declared.request.RequestResult.{RequestResult}
 use Rattle.result_cache.specs.declared.record.Record.{Record}
 use Rattle.result_cache.specs.Same.{same_run, same_keys}
 use Rattle.build_meaning.specs.declared.event.Event.{Event}
-use Rattle.build_meaning.specs.declared.event.Event.TheVariants.{Assign, Claim, Request, Result, Done}
+use Rattle.build_meaning.specs.declared.event.Event.TheVariants.{Assign, Claim, Request, Result, Done, Retire}
 use Rattle.build_meaning.specs.declared.event.ClaimKind.{ClaimKind}
 use Rattle.build_meaning.specs.declared.event.ClaimKind.TheVariants.{Go, Use, Wait}
 use Rattle.build_meaning.specs.Lists.{at, put, numbered_from}
@@ -42,6 +42,7 @@ whose (Claim id run kind) = id
 whose (Request id keys) = id
 whose (Result id run) = id
 whose (Done id) = id
+whose (Retire id node) = id
 
 module _ {I A : Type 0} (w : World I A) where
   -- Assign: a request that is ready goes to a node
@@ -49,6 +50,13 @@ module _ {I A : Type 0} (w : World I A) where
   assign_at s id node origin journal runs (ready place) =
       Some (with_request s id (record { origin = origin; journal = journal; runs = runs; status = assigned node place }))
   assign_at s id node origin journal runs status = None
+
+  -- Retire: a request goes back from the node that has it, and is ready as it was
+  abbrev pub retire_at : State I A → ℕ → ℕ → Origin → Journal → List RunId → Status I A → Option (State I A)
+  retire_at s id node origin journal runs (assigned by place) =
+      only_if (by == node)
+      (with_request s id (record { origin = origin; journal = journal; runs = runs; status = ready place }))
+  retire_at s id node origin journal runs status = None
 
   -- the request whose body has stopped
   abbrev pub in_body : (Place I A → Status I A) → Origin → List RunId → RunId → (Record → Journal → Walk I A) → Stopped I A → RequestState I A
@@ -193,6 +201,7 @@ module _ {I A : Type 0} (w : World I A) where
   step_of s (Request id keys) q = request_at s id keys q.origin q.journal q.runs q.status
   step_of s (Result id run) q = result_at s id run q.origin q.journal q.runs q.status
   step_of s (Done id) q = done_at s id q.origin q.journal q.runs q.status
+  step_of s (Retire id node) q = retire_at s id node q.origin q.journal q.runs q.status
 
   -- the state after an event, where it is possible
   abbrev pub step : State I A → Event → Option (State I A)

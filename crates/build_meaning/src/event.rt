@@ -24,6 +24,8 @@ pub enum Event {
     Result(u64, RunId),
     /// The request is over.
     Done(u64),
+    /// The node of the second number has no memory for the request, which is ready again. It takes no other.
+    Retire(u64, u32),
 }
 
 // A drop that is written out is proved here alone.
@@ -35,6 +37,7 @@ impl Drop for Event {
             Event::Result(_, _) => {}
             Event::Claim(_, _, _) => {}
             Event::Done(_) => {}
+            Event::Retire(_, _) => {}
         }
     }
 }

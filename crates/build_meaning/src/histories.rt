@@ -5,21 +5,23 @@ ghost use Rattle.std.specs.Bool.{Decides};
 ghost use Rattle.result_cache.specs.declared.run.RunId.{RunId};
 ghost use Rattle.result_cache.specs.declared.record.Record.{Record};
 ghost use Rattle.build_meaning.specs.declared.event.Event.{Event};
+ghost use Rattle.build_meaning.specs.declared.event.Event.TheVariants.{Assign, Retire};
 ghost use Rattle.build_meaning.specs.Lists.{at};
 ghost use Rattle.result_cache.specs.Journal.{Journal, end_of, act_of, has};
 ghost use Rattle.result_cache.specs.Table.{found, is_begun};
 ghost use Rattle.build_meaning.specs.World.{World};
 ghost use Rattle.build_meaning.specs.Walk.{Walk, wants, Body};
 ghost use Rattle.build_meaning.specs.Stop.{Stop};
-ghost use Rattle.build_meaning.specs.State.{Within, Place, walking, within, assigned, RequestState, State};
+ghost use Rattle.build_meaning.specs.State.{Within, Place, walking, within, assigned, RequestState, State, with_request, with_status};
 ghost use Rattle.build_meaning.specs.ByTable.{IsConsistent};
 ghost use Rattle.build_meaning.specs.Cycle.{ShowsCycle, is_in_cycle};
-ghost use Rattle.build_meaning.specs.Step.{waiting, after_all};
+ghost use Rattle.build_meaning.specs.Step.{waiting, step, after_all};
 ghost use Rattle.build_meaning.specs.History.{IsHistory, AreOfOthers};
-ghost use Rattle.build_meaning.specs.Orderly.{IsOrderly, RecordsStay};
+ghost use Rattle.build_meaning.specs.Orderly.{IsOrderly, RecordsStay, SameRuns};
 ghost use Rattle.build_meaning.specs.Progress.{GoesOn, IsNeverStuck};
 
-/// In every legal history each run is begun and finished at most once, and each journal is closed.
+/// In every legal history, also where nodes have retired, each run is begun and finished at most once, and each journal is
+/// closed.
 pub fn every_history_is_orderly<I, A>()
     ensures { (w : World I A) (events : List Event) (s : State I A) → IsHistory w events s → IsOrderly events s }
 {}
@@ -54,6 +56,18 @@ pub fn assigned_stays<I, A>()
     ensures { (w : World I A) (s t : State I A) (events : List Event) (id node : ℕ) (q : RequestState I A) (place : Place I A) →
         at s.requests id ≡ Some q → q.status ≡ assigned node place → AreOfOthers id events → after_all w s events ≡ Some t →
         at t.requests id ≡ Some q }
+{}
+
+/// A Retire changes no run: what was begun, finished and known stays, and a run stays begun by its request. On the node to
+/// which the request is assigned then, it goes on where it stood.
+pub fn retire_keeps_runs<I, A>()
+    ensures runs { (w : World I A) (s t : State I A) (id node : ℕ) →
+        step w s (Retire id node) ≡ Some t → SameRuns s t }
+    ensures goes_on { (w : World I A) (s t : State I A) (id node other : ℕ)
+        (q : RequestState I A) (place : Place I A) →
+        step w s (Retire id node) ≡ Some t → at s.requests id ≡ Some q →
+        q.status ≡ assigned node place →
+        step w t (Assign id other) ≡ Some (with_request s id (with_status q (assigned other place))) }
 {}
 
 /// In every legal history some request may go on until the root is done.

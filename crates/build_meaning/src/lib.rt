@@ -15,6 +15,7 @@ pub use event::{ClaimKind, Event};
 pub use histories::{
     assigned_stays, cycles_are_shown, entries_are_new, every_history_goes_on,
     every_history_is_orderly, every_table_is_consistent, never_stuck, records_stay,
+    retire_keeps_runs,
 };
 pub use meanings::{
     building_is_replaying, derivation_is_the_meaning, replaying_is_merging, single_is_steady,

@@ -1,8 +1,11 @@
 -- Events that take the least ready request, one after another.
-use Rattle.std.proofs.Common.{◌≡◌, ◌≤◌, ◌<◌, ◌+◌, List, [], ◌∷◌, ◌++◌, length, ap, sym, ◌∙◌, subst, arith, append_assoc}
+use Rattle.std.proofs.Common.{◌≡◌, ◌≤◌, ◌<◌, ◌+◌, List, [], ◌∷◌, ◌++◌, length, refl, ap, sym, ◌∙◌, subst, arith, append_assoc}
 use Rattle.std.proofs.lemmas.List.{append-nil, append_cancel_left, length-append}
 use Rattle.build_meaning.specs.declared.event.Event.{Event}
+use Rattle.build_meaning.specs.declared.event.Event.TheVariants.{Assign, Claim, Request, Result, Done, Retire}
 use Rattle.build_meaning.specs.World.{World}
+use Rattle.build_meaning.specs.History.{retires}
+use Rattle.build_meaning.proofs.RetiredRequests.{retires-append}
 use Rattle.build_plain.specs.Driven.{TakesLeast, AssignsLeast, Drives, Continues}
 
 module _ {I A : Type 0} (w : World I A) where
@@ -32,6 +35,20 @@ module _ {I A : Type 0} (w : World I A) where
   -- whatever the events that came are called
   pub least-of : (before events : List Event) → Drives w before events → (more : List Event) → events ≡ before ++ more → AssignsLeast w before more
   least-of before events x more e = subst (λ es. AssignsLeast w before es) (append_cancel_left before x.more more (sym x.is ∙ e)) x.least
+
+  -- the node has not retired
+  least-none : (before more : List Event) → AssignsLeast w before more → retires more ≡ 0
+  least-none before [] h = refl
+  least-none before (Retire id node ∷ more) h = absurd h.0
+  least-none before (Assign id node ∷ more) h = least-none (before ++ Assign id node ∷ []) more h.1
+  least-none before (Claim id run kind ∷ more) h = least-none (before ++ Claim id run kind ∷ []) more h.1
+  least-none before (Request id keys ∷ more) h = least-none (before ++ Request id keys ∷ []) more h.1
+  least-none before (Result id run ∷ more) h = least-none (before ++ Result id run ∷ []) more h.1
+  least-none before (Done id ∷ more) h = least-none (before ++ Done id ∷ []) more h.1
+
+  pub none-retired : (before events : List Event) → Drives w before events → retires before ≡ 0 → retires events ≡ 0
+  none-retired before events x none =
+      ap retires x.is ∙ (let a = retires-append before x.more in let b = least-none before x.more x.least in omega arith)
 
   pub continues-of : (before events : List Event) → Drives w before events → Continues before events
   continues-of before events x = (x.more, x.is)

@@ -4,3 +4,4 @@ pub mod OwnTurns
 pub mod RequestsMove
 pub mod Turns
 pub mod Using
+pub mod Fronts

@@ -1,5 +1,5 @@
 -- Which requests are with a node after an event: those of before, and that of the event, unless it leaves its node.
-use Rattle.std.proofs.Common.{◌≡◌, ◌≤◌, ◌⊎◌, inl, inr, ℕ, ◌&&◌, Bool, true, false, List, ◌∷◌, length, map, Option, None, Some, refl, ap, sym, ◌∙◌, subst, arith}
+use Rattle.std.proofs.Common.{◌≡◌, ◌≤◌, ◌⊎◌, inl, inr, ℕ, ◌&&◌, ◌==◌, Bool, true, false, List, ◌∷◌, length, map, Option, None, Some, refl, ap, sym, ◌∙◌, subst, arith}
 use Rattle.std.proofs.lemmas.List.{length-append}
 use Rattle.msb_laws.specs.Asking.{and_then}
 use Rattle.msb_laws.specs.Traverse.{traverse}
@@ -13,7 +13,7 @@ use Rattle.result_cache.specs.Table.{FinishedRun, Records, found, is_begun}
 use Rattle.result_cache.specs.Replay.{replay, replay_all}
 use Rattle.result_cache.proofs.RunTests.{and_then-some}
 use Rattle.build_meaning.specs.declared.event.Event.{Event}
-use Rattle.build_meaning.specs.declared.event.Event.TheVariants.{Assign, Claim, Request, Result, Done}
+use Rattle.build_meaning.specs.declared.event.Event.TheVariants.{Assign, Claim, Request, Result, Done, Retire}
 use Rattle.build_meaning.specs.declared.event.ClaimKind.{ClaimKind}
 use Rattle.build_meaning.specs.declared.event.ClaimKind.TheVariants.{Go, Use, Wait}
 use Rattle.build_meaning.specs.Lists.{at, put, numbered_from}
@@ -32,6 +32,7 @@ abbrev pub Leaves : Event → Type 0
 Leaves (Claim id run Wait) = Unit {0}
 Leaves (Request id keys) = Unit {0}
 Leaves (Done id) = Unit {0}
+Leaves (Retire id node) = Unit {0}
 Leaves event = ⊥
 
 module _ {I A : Type 0} where
@@ -163,6 +164,10 @@ module _ {I A : Type 0} (w : World I A) where
       let z : RequestState I A = request_of o j runs (done (result_of reply runs)) in
       caller-moves s (with_request s id z) t (Done id) o.parent (put-moves s (with_request s id z) (Done id) z refl (λ l n. n)) h
   step_of-moves s t (Done id) o j runs _ h = absurd (cc)
+  step_of-moves s t (Retire id m) o j runs (assigned by a) h =
+      let z : RequestState I A = request_of o j runs (ready a) in
+      put-moves s t (Retire id m) z (ap (λ (u : State I A). u.requests) (sym (only_if-some (by == m) (with_request s id z) t h).1)) (λ l n. n)
+  step_of-moves s t (Retire id m) o j runs _ h = absurd (cc)
 
   pub step-moves : (s t : State I A) (event : Event) → step w s event ≡ Some t → Moves s t event
   step-moves s t event h =

@@ -10,7 +10,7 @@ use Rattle.build_meaning.specs.World.{World}
 use Rattle.build_meaning.specs.SoFar.{ToolUse}
 use Rattle.build_meaning.specs.State.{Place, walking, within, assigned, Origin, RequestState, ToolsUsed, State, start}
 use Rattle.build_meaning.specs.Step.{whose, step}
-use Rattle.build_meaning.specs.History.{IsHistory}
+use Rattle.build_meaning.specs.History.{IsHistory, retires}
 use Rattle.build_meaning.proofs.ParentsAndChildren.{same_some, none_some}
 use Rattle.build_meaning.proofs.EventsKeepLawful.{some-is}
 use Rattle.build_history.specs.Uses.{RunUse, uses_of, by_run, tools_of, body_in, body_at, new_uses, uses_in}
@@ -130,11 +130,11 @@ module _ {I A : Type 0} (w : World I A) where
         ∙ ((history-told w before s h).unbegun y.run unbegun ∙ sym (tools-none p.place (sym (ap (λ (z : RequestState I A). body_at z.status) q_is) ∙ none)))
     known-own o node p there (finishes q y was u f none k) x d = none_some (body_at (moved.mine).status) x d none
 
-    known-ready : (place : Place I A) → IsBehind w before (whose event) place → (IsGo event → ⊥) → Own s t event (moved.mine) → (x : ToolsUsed I) → body_at (moved.mine).status ≡ Some x → uses_of x.run (uses_in w before) ≡ tools_in place
-    known-ready place behind unbegun (rests none f) x d = none_some (body_at (moved.mine).status) x d none
-    known-ready place behind unbegun (goes q was same f) x d = sym (behind s q x h was (sym same ∙ d))
-    known-ready place behind unbegun (begins q y go was none f n k) x d = absurd (unbegun go)
-    known-ready place behind unbegun (finishes q y was u f none k) x d = none_some (body_at (moved.mine).status) x d none
+    known-ready : (place : Place I A) → retires before ≡ 0 → IsBehind w before (whose event) place → (IsGo event → ⊥) → Own s t event (moved.mine) → (x : ToolsUsed I) → body_at (moved.mine).status ≡ Some x → uses_of x.run (uses_in w before) ≡ tools_in place
+    known-ready place first behind unbegun (rests none f) x d = none_some (body_at (moved.mine).status) x d none
+    known-ready place first behind unbegun (goes q was same f) x d = sym (behind s q x first h was (sym same ∙ d))
+    known-ready place first behind unbegun (begins q y go was none f n k) x d = absurd (unbegun go)
+    known-ready place first behind unbegun (finishes q y was u f none k) x d = none_some (body_at (moved.mine).status) x d none
 
   -- the request of an event goes on: what its walk will use by its answer is what the event notes
   pub goes-uses : (before after : List Event) (event : Event) (id : ℕ) (table records : Records) (walk : Seen I A) (answer : Answer) → whose event ≡ id → after ≡ before ++ event ∷ [] →
@@ -150,15 +150,15 @@ module _ {I A : Type 0} (w : World I A) where
       (moved before after event was.state is.state was.history is.history e).own))))
 
   -- it is handed to the node, with a walk that has used what the history has of it
-  pub ready-uses : (before after : List Event) (event : Event) (id : ℕ) (records : Records) (walk : Seen I A) (answer : Answer) → whose event ≡ id → (IsGo event → ⊥) → after ≡ before ++ event ∷ [] →
+  pub ready-uses : (before after : List Event) (event : Event) (id : ℕ) (records : Records) (walk : Seen I A) (answer : Answer) → whose event ≡ id → (IsGo event → ⊥) → after ≡ before ++ event ∷ [] → retires before ≡ 0 →
       ∥ IsLegal w before ∥₁ → ∥ IsBehind w before id walk.position.place ∥₁ → ∥ IsOut w after records id walk answer ∥₁ → ∥ Uses w before after [] (due w records walk answer) ∥₁
-  ready-uses before after event id records walk answer mine unbegun e legal behind out = ∥∥₁_elim legal ∥∥₁_prop (λ l. ∥∥₁_elim behind ∥∥₁_prop (λ b. ∥∥₁_map out (λ x.
+  ready-uses before after event id records walk answer mine unbegun e first legal behind out = ∥∥₁_elim legal ∥∥₁_prop (λ l. ∥∥₁_elim behind ∥∥₁_prop (λ b. ∥∥₁_map out (λ x.
       let is = x.stands in
       let here : at is.state.requests (whose event) ≡ Some (placed is.origin x.next (assigned is.node)) = ap (at is.state.requests) mine ∙ is.there in
       let behind_it : IsBehind w before (whose event) walk.position.place = subst (λ n. IsBehind w before n walk.position.place) (sym mine) b in
       subst (λ (next : Option (Position I A)). Uses w before after [] (due_to walk.position.place next)) (sym x.goes)
       (placed-uses before after event l.0 is.state l.1 is.history e (tools_in walk.position.place) is.origin is.node x.next here
-      (known-ready before after event l.0 is.state l.1 is.history e walk.position.place behind_it unbegun
+      (known-ready before after event l.0 is.state l.1 is.history e walk.position.place first behind_it unbegun
       (moved before after event l.0 is.state l.1 is.history e).own)))))
 
   -- its walk is put away

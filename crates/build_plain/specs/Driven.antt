@@ -2,7 +2,7 @@
 use Rattle.std.specs.Prelude.{◌≡◌, ◌<◌, ℕ, List, [], ◌∷◌, ◌++◌, length, Option, None, Some}
 use Rattle.result_cache.specs.Table.{Records}
 use Rattle.build_meaning.specs.declared.event.Event.{Event}
-use Rattle.build_meaning.specs.declared.event.Event.TheVariants.{Assign}
+use Rattle.build_meaning.specs.declared.event.Event.TheVariants.{Assign, Retire}
 use Rattle.build_meaning.specs.World.{World}
 use Rattle.build_meaning.specs.State.{State}
 use Rattle.build_meaning.specs.History.{IsHistory}
@@ -37,12 +37,14 @@ IsLegal {I} {A} w events = (s : State I A) × IsHistory w events s
 abbrev pub Continues : List Event → List Event → Type 0
 Continues before events = (more : List Event) × (events ≡ before ++ more)
 
--- where the event hands a request to a node, no request is with a node, it is the least one that is ready, and the node is the first
+-- where the event hands a request to a node, no request is with a node, it is the least one that is ready, and the node is the first; and the node
+-- doesn't retire
 abbrev pub TakesLeast : {I A : Type 0} → World I A → List Event → Event → Type 0
 TakesLeast w before (Assign id node) = NoneAssigned w before × IsLeastReady w before (Some id) × (node ≡ 0)
+TakesLeast w before (Retire id node) = ⊥
 TakesLeast w before event = Unit {0}
 
--- among the events that come after these, each that hands a request to the node takes the least ready one
+-- among the events that come after these, each that hands a request to the node takes the least ready one, and the node doesn't retire
 abbrev pub AssignsLeast : {I A : Type 0} → World I A → List Event → List Event → Type 0
 AssignsLeast w before [] = Unit {0}
 AssignsLeast w before (event ∷ more) = TakesLeast w before event × AssignsLeast w (before ++ event ∷ []) more

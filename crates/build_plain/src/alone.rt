@@ -1,5 +1,7 @@
 ghost use Rattle.std.specs.Prelude.{◌≡◌, ◌+◌, ◌^◌, ◌<◌, ◌++◌, [], None, Some, IfOk, IsSome, OnOk, length};
+ghost use mathlib.Core.List.{IsPrefix};
 ghost use Rattle.build_meaning.specs.declared.event.Event.{Event};
+ghost use Rattle.build_meaning.specs.History.{retires};
 ghost use Rattle.build_plain.specs.declared.alone.Turn.TheVariants.{Over};
 ghost use Rattle.build_plain.specs.Used.{UnlessMemory, Uses, due, due_in};
 ghost use Rattle.build_plain.specs.Driven.{AssignsLeast, Continues, Drives, HasGrown, IsFree, IsLegal, IsTurn, NoneAssigned, OnlyAssigned, end_of};
@@ -22,9 +24,11 @@ pub(crate) enum Turn<W> {
     Over,
 }
 
-/// Builds on one node until the core's end is told: the least ready request is assigned each time, and its walk is advanced until
-/// it waits, calls or is over. Want of memory, a cycle of runs and a limit that is passed end the build. Unless it wanted memory,
-/// the tools that were used at the place are those that the history has, in its order. (MSBuild task; Building projects in
+/// Builds on one node until the core's end is told: the least ready request is assigned each time, and
+/// its walk is advanced until it waits, calls or is over. Want of memory, a cycle of runs and a limit
+/// that is passed end the build; the node doesn't retire. Unless it wanted memory, or a node had
+/// retired before, the tools that were used at the place are those that the history has, in its order.
+/// After want of memory, too, they begin with those of before. (MSBuild task; Building projects in
 /// parallel.)
 pub fn build_alone<W: Walker>(core: &mut Core<W>, place: &mut W::Place)
     requires { NoneAssigned (W.world_of core.old.world) core.old.history.events }
@@ -34,7 +38,10 @@ pub fn build_alone<W: Walker>(core: &mut Core<W>, place: &mut W::Place)
     ensures least { (more : List Event) → core.new.history.events ≡ core.old.history.events ++ more → AssignsLeast (W.world_of core.old.world) core.old.history.events more }
     ensures end { IsSome core.new.end }
     ensures free { IsFree (W.world_of core.new.world) core.new.history.events core.new.end }
-    ensures uses { UnlessMemory core.new.end ∥ Uses (W.world_of core.old.world) core.old.history.events core.new.history.events (W.used place.old) (W.used place.new) ∥₁ }
+    ensures uses { retires core.old.history.events ≡ 0 → UnlessMemory core.new.end
+        ∥ Uses (W.world_of core.old.world) core.old.history.events core.new.history.events
+        (W.used place.old) (W.used place.new) ∥₁ }
+    ensures front { IsPrefix (W.used place.old) (W.used place.new) }
 {
     while core.end().is_none() {
         take_turn(core, place);
@@ -50,7 +57,10 @@ fn take_turn<W: Walker>(core: &mut Core<W>, place: &mut W::Place)
     ensures free { IsFree (W.world_of core.old.world) core.new.history.events core.new.end }
     ensures grows { length core.old.history.events < length core.new.history.events }
     ensures few { length core.old.history.events < 2 ^ 63 }
-    ensures uses { UnlessMemory core.new.end ∥ Uses (W.world_of core.old.world) core.old.history.events core.new.history.events (W.used place.old) (W.used place.new) ∥₁ }
+    ensures uses { retires core.old.history.events ≡ 0 → UnlessMemory core.new.end
+        ∥ Uses (W.world_of core.old.world) core.old.history.events core.new.history.events
+        (W.used place.old) (W.used place.new) ∥₁ }
+    ensures front { IsPrefix (W.used place.old) (W.used place.new) }
 {
     few_events(core);
     match core.ready() {
@@ -71,6 +81,7 @@ fn work<W: Walker>(core: &mut Core<W>, place: &mut W::Place, id: u64, walk: W, a
     ensures drives { Drives (W.world_of core.old.world) core.old.history.events core.new.history.events }
     ensures free { IsFree (W.world_of core.old.world) core.new.history.events core.new.end }
     ensures uses { UnlessMemory core.new.end ∥ Uses (W.world_of core.old.world) core.old.history.events core.new.history.events (W.used place.old ++ due (W.world_of core.old.world) core.old.table.finished (seen_by W.world W.position W.asked W.learnt walk) answer) (W.used place.new) ∥₁ }
+    ensures front { IsPrefix (W.used place.old) (W.used place.new) }
 {
     let mut turn = Turn::GoesOn(walk, answer);
     while let Turn::GoesOn(walk, answer) = turn {
@@ -95,6 +106,7 @@ fn step<W: Walker>(
     ensures grows { HasGrown core.old.history.events core.new.history.events result }
     ensures few { length core.old.history.events < 2 ^ 63 }
     ensures uses { UnlessMemory core.new.end ∥ Uses (W.world_of core.old.world) core.old.history.events core.new.history.events (W.used place.old ++ due (W.world_of core.old.world) core.old.table.finished (seen_by W.world W.position W.asked W.learnt walk) answer) (W.used place.new ++ due_in (seen_by W.world W.position W.asked W.learnt) (W.world_of core.old.world) core.new.table.finished result) ∥₁ }
+    ensures front { IsPrefix (W.used place.old) (W.used place.new) }
 {
     few_events(core);
     let mut walk = walk;
@@ -129,6 +141,7 @@ fn go_on<W: Walker>(
     ensures known { ArePartOf (W.learnt walk.new) table.now.finished }
     ensures used { OnOk result (W.used place.new ≡ W.used place.old ++ used_between (W.position walk.old).place (W.position walk.new).place) }
     ensures world { W.world walk.new ≡ W.world walk.old }
+    ensures front { IsPrefix (W.used place.old) (W.used place.new) }
 {
     walk.learn(table, answer)?;
     walk.advance(place, answer)

@@ -42,18 +42,18 @@ module _ {W I A : Type 0} (seen : W → Seen I A) (w : World I A) (log after : L
   assigned-step : (x : Shown seen w log origins slots making table end) (r : ReadyThere x) → step w x.state (Assign id node) ≡ Some (with_request x.state id (placed r.0.origin r.1.position (assigned node)))
   assigned-step x r = ap (λ o. and_then o (step_of w x.state (Assign id node))) (r.2 ∙ ap Some r.1.is)
 
-  pub assigned-shown : {outs : List (Slot W)} → at slots id ≡ Some (Ready walk answer) → outs ≡ put slots id Assigned → after.events ≡ log.events ++ Assign id node ∷ [] → log.room ≡ after.room + 1 → Shown seen w log origins slots making table end →
+  pub assigned-shown : {outs : List (Slot W)} → at slots id ≡ Some (Ready walk answer) → outs ≡ put slots id (Assigned node) → after.events ≡ log.events ++ Assign id node ∷ [] → log.room ≡ after.room + 1 → Shown seen w log origins slots making table end →
       Shown seen w after origins outs making table end
   assigned-shown e out ev room x =
       let r = ready-there x e in
       let z : RequestState I A = placed r.0.origin r.1.position (assigned node) in
       let t : State I A = with_request x.state id z in
       let st : r.0.status ≡ ready r.1.position.place = ap (λ (q : RequestState I A). q.status) r.1.is in
-      subst (λ (after_slots : List (Slot W)). Shown seen w after origins after_slots making table end) (sym out) (shown-put seen w (Assign id node) id r.0 z t Assigned x r.2 (assigned-step x r) refl refl refl (ap result_in st) refl ev
+      subst (λ (after_slots : List (Slot W)). Shown seen w after origins after_slots making table end) (sym out) (shown-put seen w (Assign id node) id r.0 z t (Assigned node) x r.2 (assigned-step x r) refl refl refl (ap result_in st) refl ev
       (let k : owed r.0.status ≡ suc (owed_in r.1.position.place) = ap owed st in omega arith)
       (x.bodies ∙ sym (map-put making_of x.state.requests id r.0 z r.2 (sym (ap run_at st)))) refl x.begun
       (λ n b d f. record { begun = λ run body go by h g. g; told = λ keys ids y go h. map-alike _ _ ids (result-put x.state.requests id r.0 z r.2 (sym (ap result_in st))) })
-      (record { node = node; place = r.1.position.place; is = refl }))
+      (record { place = r.1.position.place; is = refl }))
 
   pub assigned-out : at slots id ≡ Some (Ready walk answer) → after.events ≡ log.events ++ Assign id node ∷ [] → Shown seen w log origins slots making table end →
       IsOut w after.events table.finished id (seen walk) answer

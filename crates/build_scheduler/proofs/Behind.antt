@@ -13,10 +13,11 @@ use Rattle.build_meaning.specs.World.{World}
 use Rattle.build_meaning.specs.Walk.{Body}
 use Rattle.build_meaning.specs.State.{Within, ready, assigned, waits, calling, done, RequestState, ToolsUsed, State, start, new_request}
 use Rattle.build_meaning.specs.Step.{whose, step, after_all}
-use Rattle.build_meaning.specs.History.{IsHistory}
+use Rattle.build_meaning.specs.History.{IsHistory, retires}
 use Rattle.build_meaning.proofs.ListPlaces.{at-put, at-put_else, at-front, at-map}
 use Rattle.build_meaning.proofs.ParentsAndChildren.{same_some, none_some, same_or_not}
 use Rattle.build_meaning.proofs.EventsKeepLawful.{some-is, step-lawful}
+use Rattle.build_meaning.proofs.RetiredRequests.{none-before, none-now}
 use Rattle.build_history.specs.Uses.{body_at, uses_of, uses_in}
 use Rattle.build_history.proofs.BodiesMove.{IsReady, Other, step-moved}
 use Rattle.build_history.proofs.UsesTold.{added, kept-other, event-uses, history-told}
@@ -57,7 +58,7 @@ module _ {W : Type 0} where
 
   woken-walk : (id : ℕ) (slot : Slot W) (walk : W) (answer : Answer) → woken_by id slot ≡ Ready walk answer → walk_in slot ≡ Some walk
   woken-walk id (Ready a b) walk answer e = ap walk_in e
-  woken-walk id Assigned walk answer e = absurd (cc)
+  woken-walk id (Assigned node) walk answer e = absurd (cc)
   woken-walk id (Waiting a by) walk answer e = go (by == id) e
     where
       go : (b : Bool) → woken_if b a by ≡ Ready walk answer → Some a ≡ Some walk
@@ -74,7 +75,7 @@ module _ {W : Type 0} where
 
   told-walk : (calls : Calls W) (place : ℕ) (told : RequestResult) (slot : Slot W) → IsTold calls place told slot → (walk : W) (answer : Answer) → slot ≡ Ready walk answer → Some calls.walk ≡ Some walk
   told-walk calls place told (Ready a b) v walk answer e = ap Some (sym v.0) ∙ ap walk_in e
-  told-walk calls place told Assigned v walk answer e = absurd v
+  told-walk calls place told (Assigned node) v walk answer e = absurd v
   told-walk calls place told (Waiting a by) v walk answer e = absurd v
   told-walk calls place told (Calling a) v walk answer e = absurd (cc)
   told-walk calls place told Done v walk answer e = absurd v
@@ -97,7 +98,7 @@ module _ {W I A : Type 0} (seen : W → Seen I A) (w : World I A) where
 
   ready-slot : (s : State I A) (count : ℕ) (slot : Slot W) (q : RequestState I A) → ShowsSlot w s count seen slot q → IsReady q.status → (walk : W) → walk_in slot ≡ Some walk → (answer : Answer) × (slot ≡ Ready walk answer)
   ready-slot s count (Ready a b) q v r walk e = (b, ap (λ x. Ready x b) (some-is a walk e))
-  ready-slot s count Assigned q v r walk e = absurd (subst IsReady v.is r)
+  ready-slot s count (Assigned node) q v r walk e = absurd (subst IsReady v.is r)
   ready-slot s count (Waiting a by) q v r walk e = absurd (subst IsReady v.is r)
   ready-slot s count (Calling a) q v r walk e = absurd (subst IsReady v.is r)
   ready-slot s count Done q v r walk e = absurd (subst IsReady v.is r)
@@ -109,7 +110,7 @@ module _ {W I A : Type 0} (seen : W → Seen I A) (w : World I A) where
   calling-slot : (s : State I A) (count : ℕ) (slot : Slot W) (q : RequestState I A) (keys : List RequestKey) (ids : List ℕ) (x : Within I A) (go : List RequestResult → Journal → Body I A) → ShowsSlot w s count seen slot q → q.status ≡ calling keys ids x go →
       (walk : W) → walk_in slot ≡ Some walk → tools_in (seen walk).position.place ≡ x.so_far.tools
   calling-slot s count (Ready a b) q keys ids x go v e walk f = absurd (subst IsReady e (slot-ready s count a b q v))
-  calling-slot s count Assigned q keys ids x go v e walk f = absurd (let p : assigned v.node v.place ≡ calling keys ids x go = sym v.is ∙ e in cc)
+  calling-slot s count (Assigned node) q keys ids x go v e walk f = absurd (let p : assigned node v.place ≡ calling keys ids x go = sym v.is ∙ e in cc)
   calling-slot s count (Waiting a by) q keys ids x go v e walk f = absurd (let p : waits v.run v.body v.go ≡ calling keys ids x go = sym v.is ∙ e in cc)
   calling-slot s count (Calling a) q keys ids x go v e walk f =
       let same : v.inside ≡ x = same_inside (v.key ∷ v.keys) keys (numbered_from a.first (v.key ∷ v.keys)) ids v.inside x v.go go (sym v.is ∙ e) in
@@ -133,7 +134,8 @@ module _ {W I A : Type 0} (seen : W → Seen I A) (w : World I A) where
     is_step = last-step log.events event (start w) x.state y.state x.history (subst (λ es. IsHistory w es y.state) e y.history)
 
     after-event : (kept : AreKept slots outs (whose event)) → AreBehind seen w log.events slots → AreBehind seen w after.events outs
-    after-event kept behind id walk answer out s q b h at_q in_b =
+    after-event kept behind id walk answer out s q b none h at_q in_b =
+        let unretired : retires (log.events ++ event ∷ []) ≡ 0 = ap retires (sym e) ∙ none in
         let same_state : s ≡ y.state = one_state w after.events s y.state h y.history in
         let here : at y.state.requests id ≡ Some q = subst (λ (z : State I A). at z.requests id ≡ Some q) same_state at_q in
         let v = paired-other (ShowsSlot w y.state (length after.events) seen) outs y.state.requests id q y.each here in
@@ -144,21 +146,21 @@ module _ {W I A : Type 0} (seen : W → Seen I A) (w : World I A) where
         let told = history-told w log.events x.state x.history in
         let grown : uses_in w after.events ≡ added (uses_in w log.events) m.mine = ap (uses_in w) e ∙ event-uses w log.events event x.state y.state x.history is_step in
         elim (same_or_not id (whose event)) [
-          | inl d ↦ absurd (m.unready (subst (λ (z : RequestState I A). IsReady z.status) (same_some (at y.state.requests id) q m.mine here (ap (at y.state.requests) d ∙ m.there)) r))
+          | inl d ↦ absurd (none-now log.events event unretired (m.unready (subst (λ (z : RequestState I A). IsReady z.status) (same_some (at y.state.requests id) q m.mine here (ap (at y.state.requests) d ∙ m.there)) r)))
           | inr d ↦
-              by_other id walk answer q b (kept id walk answer) d out here in_b r behind (m.others id q d here)
+              by_other id walk answer q b (none-before log.events (event ∷ []) unretired) (kept id walk answer) d out here in_b r behind (m.others id q d here)
               ∙ sym (ap (uses_of b.run) grown ∙ kept-other x.state y.state event (uses_in w log.events) ls lt m told id q b d here in_b)
         ]
       where
-        by_other : (id : ℕ) (walk : W) (answer : Answer) (q : RequestState I A) (b : ToolsUsed I) → ((slot : Slot W) → (id ≡ whose event → ⊥) → at outs id ≡ Some (Ready walk answer) → at slots id ≡ Some slot → walk_in slot ≡ Some walk) →
+        by_other : (id : ℕ) (walk : W) (answer : Answer) (q : RequestState I A) (b : ToolsUsed I) → retires log.events ≡ 0 → ((slot : Slot W) → (id ≡ whose event → ⊥) → at outs id ≡ Some (Ready walk answer) → at slots id ≡ Some slot → walk_in slot ≡ Some walk) →
             (id ≡ whose event → ⊥) → at outs id ≡ Some (Ready walk answer) → at y.state.requests id ≡ Some q → body_at q.status ≡ Some b → IsReady q.status → AreBehind seen w log.events slots → Other x.state id q →
             tools_in (seen walk).position.place ≡ uses_of b.run (uses_in w log.events)
-        by_other id walk answer q b k d out here in_b r behind (inl same) =
+        by_other id walk answer q b none k d out here in_b r behind (inl same) =
             let v = paired-other (ShowsSlot w x.state (length log.events) seen) slots x.state.requests id q x.each same in
             let z = ready-slot x.state (length log.events) v.0 q v.1 r walk (k v.0 d out v.2) in
-            behind id walk z.0 (v.2 ∙ ap Some z.1) x.state q b x.history same in_b
-        by_other id walk answer q b k d out here in_b r behind (inr (inl none)) = none_some (body_at q.status) b in_b none
-        by_other id walk answer q b k d out here in_b r behind (inr (inr z)) =
+            behind id walk z.0 (v.2 ∙ ap Some z.1) x.state q b none x.history same in_b
+        by_other id walk answer q b none k d out here in_b r behind (inr (inl in_none)) = none_some (body_at q.status) b in_b in_none
+        by_other id walk answer q b none k d out here in_b r behind (inr (inr z)) =
             let v = paired-other (ShowsSlot w x.state (length log.events) seen) slots x.state.requests id z.caller x.each z.was in
             let before : ToolsUsed I = record { run = z.before.run; tools = z.before.so_far.tools } in
             let was : uses_of z.before.run (uses_in w log.events) ≡ z.before.so_far.tools =
@@ -179,10 +181,10 @@ module _ {W I A : Type 0} (seen : W → Seen I A) (w : World I A) where
 
   -- the root is in no body at its beginning
   pub behind-start : {events : List Event} {slots : List (Slot W)} (walk : W) → events ≡ [] → slots ≡ Ready walk First ∷ [] → AreBehind seen w events slots
-  behind-start {events} {slots} walk e f zero ready_one answer out s q b h at_q in_b =
+  behind-start {events} {slots} walk e f zero ready_one answer out s q b unretired h at_q in_b =
       let first : s ≡ start w = some-is s (start w) (sym (subst (λ es. IsHistory w es s) e h)) in
       let here : at (start w).requests 0 ≡ Some q = subst (λ (z : State I A). at z.requests 0 ≡ Some q) first at_q in
       let none : body_at q.status ≡ None = ap (λ (z : RequestState I A). body_at z.status) (sym (some-is (new_request w None [] [] w.root) q here)) in
       none_some (body_at q.status) b in_b none
-  behind-start {events} {slots} walk e f (suc id) ready_one answer out s q b h at_q in_b =
+  behind-start {events} {slots} walk e f (suc id) ready_one answer out s q b unretired h at_q in_b =
       absurd (let p : None ≡ Some (Ready ready_one answer) = sym (ap (λ xs. at xs (suc id)) f) ∙ out in cc)

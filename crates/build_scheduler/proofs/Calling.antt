@@ -172,7 +172,7 @@ module _ {W I A : Type 0} (seen : W → Seen I A) (w : World I A) (log after : L
   new-ready count key (Ready child Go) o k = absurd k
   new-ready count key (Ready child Use) o k = absurd k
   new-ready count key (Ready child (Results results)) o k = absurd k
-  new-ready count key Assigned o k = absurd k
+  new-ready count key (Assigned node) o k = absurd k
   new-ready count key (Waiting child by) o k = absurd k
   new-ready count key (Calling open_calls) o k = absurd k
   new-ready count key Done o k = absurd k

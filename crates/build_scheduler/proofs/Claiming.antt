@@ -124,14 +124,14 @@ module _ {W I A : Type 0} (seen : W → Seen I A) (w : World I A) (log after : L
       let z : RequestState I A = placed c.there.origin (begun_position x c) (assigned c.there.node) in
       let t : State I A = begun_state x c in
       let f_now : found x.state.table run ≡ None = ap (λ t. found t run) (sym x.finished) ∙ f in
-      subst (λ (xs : List (Slot W)). Shown seen w after origins xs bodies runs end) (put-there slots id Assigned c.there.at_slots)
-      (shown-put seen w (Claim id run Go) id q z t Assigned x c.there.at_state (begun-step x c f u) refl refl refl refl refl ev
+      subst (λ (xs : List (Slot W)). Shown seen w after origins xs bodies runs end) (put-there slots id (Assigned c.there.node) c.there.at_slots)
+      (shown-put seen w (Claim id run Go) id q z t (Assigned c.there.node) x c.there.at_state (begun-step x c f u) refl refl refl refl refl ev
       (let k : owed q.status ≡ 1 = ap owed (wanting_status x c) in omega arith)
       (bo ∙ (ap (λ xs. put xs id (Some run)) x.bodies ∙ sym (map-puts making_of x.state.requests id z)))
       fin
       (beg ∙ (ap (λ xs. record { run = run; by = id } ∷ xs) x.begun ∙ ap (λ o. begun_if o (record { run = run; by = id }) (unfinished x.state.table x.state.begun)) (sym f_now)))
       (λ n b d e. others-alike x z q c.there.at_state refl f u b)
-      (record { node = c.there.node; place = (begun_position x c).place; is = refl }))
+      (record { place = (begun_position x c).place; is = refl }))
 
   pub begun-out : IsOwn w log.events table.finished id (seen walk) → ask_of (seen walk).position ≡ Want run → found table.finished run ≡ None → request_of table.begun run ≡ None →
       after.events ≡ log.events ++ Claim id run Go ∷ [] → {runs : Records} → runs ≡ table.finished → Shown seen w log origins slots making table end → IsOut w after.events runs id (seen walk) Goes
@@ -188,12 +188,12 @@ module _ {W I A : Type 0} (seen : W → Seen I A) (w : World I A) (log after : L
       let y = taken-of x f in
       let q : RequestState I A = placed c.there.origin (seen walk).position (assigned c.there.node) in
       let z : RequestState I A = placed c.there.origin (taken_position x c y) (assigned c.there.node) in
-      subst (λ (xs : List (Slot W)). Shown seen w after origins xs making table end) (put-there slots id Assigned c.there.at_slots)
-      (shown-put seen w (Claim id run Use) id q z (taken_state x c y) Assigned x c.there.at_state (taken-step x c y) refl refl refl refl refl ev
+      subst (λ (xs : List (Slot W)). Shown seen w after origins xs making table end) (put-there slots id (Assigned c.there.node) c.there.at_slots)
+      (shown-put seen w (Claim id run Use) id q z (taken_state x c y) (Assigned c.there.node) x c.there.at_state (taken-step x c y) refl refl refl refl refl ev
       (let k : owed q.status ≡ 1 = ap owed (wanting_status x c) in omega arith)
       (x.bodies ∙ sym (map-put making_of x.state.requests id q z c.there.at_state (sym (ap run_at (wanting_status x c))))) refl x.begun
       (λ n b d e. record { begun = λ other body go by h g. g; told = λ keys ids y go h. map-alike _ _ ids (result-put x.state.requests id q z c.there.at_state refl) })
-      (record { node = c.there.node; place = (taken_position x c y).place; is = refl }))
+      (record { place = (taken_position x c y).place; is = refl }))
 
   pub taken-out : IsOwn w log.events table.finished id (seen walk) → ask_of (seen walk).position ≡ Want run → IsSome (found table.finished run) → after.events ≡ log.events ++ Claim id run Use ∷ [] →
       Shown seen w log origins slots making table end → IsOut w after.events table.finished id (seen walk) Uses

@@ -205,7 +205,7 @@ module _ {W I A : Type 0} (seen : W → Seen I A) (w : World I A) {log : Logged}
       go : (o : Option (Slot W)) → at slots c ≡ o → waits_for m o ≡ true → WaitsFor c m
       go None h t = absurd (cc)
       go (Some (Ready walk answer)) h t = absurd (cc)
-      go (Some Assigned) h t = absurd (cc)
+      go (Some (Assigned node)) h t = absurd (cc)
       go (Some (Waiting walk by)) h t =
           let q = Paired-some (ShowsSlot w x.state (length log.events) seen) slots x.state.requests c (Waiting walk by) x.each h in
           let at_c = kins-at x.state.requests c q.0 q.2 in
@@ -224,7 +224,7 @@ module _ {W I A : Type 0} (seen : W → Seen I A) (w : World I A) {log : Logged}
   slot-waits : (slot : Slot W) (q : RequestState I A) (run : RunId) (body : Body I A) (go : Record → Journal → Walk I A) → ShowsSlot w x.state (length log.events) seen slot q → q.status ≡ waits run body go →
       (walk : W) × (by : ℕ) × (slot ≡ Waiting walk by) × (request_of (unfinished x.state.table x.state.begun) run ≡ Some by)
   slot-waits (Ready walk answer) q run body go h e = absurd (let a : waits run body go ≡ ready h.position.place = sym e ∙ ap (λ (q : RequestState I A). q.status) h.is in cc)
-  slot-waits Assigned q run body go h e = absurd (let a : waits run body go ≡ assigned h.node h.place = sym e ∙ h.is in cc)
+  slot-waits (Assigned node) q run body go h e = absurd (let a : waits run body go ≡ assigned node h.place = sym e ∙ h.is in cc)
   slot-waits (Waiting walk by) q run body go h e =
       let a : h.run ≡ run = some-is h.run run (sym (ap waits_of h.is) ∙ ap waits_of e) in
       (walk, by, refl, ap (request_of (unfinished x.state.table x.state.begun)) (sym a) ∙ h.begun)

@@ -140,7 +140,7 @@ module _ {W I A : Type 0} (seen : W → Seen I A) (w : World I A) (log after : L
   calling-slot : (slot : Slot W) (q : RequestState I A) (keys : List RequestKey) (ids : List ℕ) (y : Within I A) (go : List RequestResult → Journal → Body I A) → q.status ≡ calling keys ids y go → ShowsSlot w x.state (length log.events) seen slot q →
       (calls : Calls W) × (slot ≡ Calling calls) × ShowsCalling w x.state (length log.events) (seen calls.walk) calls.first calls.«open» calls.results.items q
   calling-slot (Ready walk answer) q keys ids y go st s = absurd (let a : calling keys ids y go ≡ ready s.position.place = sym st ∙ ap (λ (q : RequestState I A). q.status) s.is in cc)
-  calling-slot Assigned q keys ids y go st s = absurd (let a : calling keys ids y go ≡ assigned s.node s.place = sym st ∙ s.is in cc)
+  calling-slot (Assigned node) q keys ids y go st s = absurd (let a : calling keys ids y go ≡ assigned node s.place = sym st ∙ s.is in cc)
   calling-slot (Waiting walk by) q keys ids y go st s = absurd (let a : calling keys ids y go ≡ waits s.run s.body s.go = sym st ∙ s.is in cc)
   calling-slot (Calling calls) q keys ids y go st s = (calls, refl, s)
   calling-slot Over q keys ids y go st s = absurd (let a : calling keys ids y go ≡ done s.result = sym st ∙ s.is in cc)
@@ -304,7 +304,7 @@ module _ {W I A : Type 0} (seen : W → Seen I A) (w : World I A) (log after : L
         few_more = one-more log.events after.events (Done id) ev
 
         go : (slot : Slot W) → IsTold c.calls (id - c.calls.first) told slot → {outs : List (Slot W)} → outs ≡ put (put slots id Over) caller slot → Shown seen w after origins outs making table end
-        go Assigned t os = absurd t
+        go (Assigned node) t os = absurd t
         go (Waiting walk by) t os = absurd t
         go Over t os = absurd t
         go (Calling next) t os =
@@ -356,7 +356,7 @@ module _ {W I A : Type 0} (seen : W → Seen I A) (w : World I A) (log after : L
 has_open-prop : {W : Type 0} (id : ℕ) (o : Option (Slot W)) → IsProp (HasOpen id o)
 has_open-prop id None = λ a b. absurd a
 has_open-prop id (Some (Ready walk answer)) = λ a b. absurd a
-has_open-prop id (Some Assigned) = λ a b. absurd a
+has_open-prop id (Some (Assigned node)) = λ a b. absurd a
 has_open-prop id (Some (Waiting walk by)) = λ a b. absurd a
 has_open-prop id (Some (Calling calls)) = hlevel props
 has_open-prop id (Some Over) = λ a b. absurd a
@@ -389,7 +389,7 @@ module _ {W I A : Type 0} (seen : W → Seen I A) (w : World I A) {log : Logged}
         let d : owed_by x.state.requests ≤ log.room = x.room in omega arith))
 
     pub over-slot : id < length slots
-    over-slot = ∥∥₁_elim shown (λ p q. le_prop p q) (λ x. ∥∥₁_elim asked (λ p q. le_prop p q) (λ a. at-less slots id Assigned (there-of seen w x id a.position a.stands).at_slots))
+    over-slot = ∥∥₁_elim shown (λ p q. le_prop p q) (λ x. ∥∥₁_elim asked (λ p q. le_prop p q) (λ a. at-less slots id _ (there-of seen w x id a.position a.stands).at_slots))
 
     pub over-there : id < length origins
     over-there = ∥∥₁_elim shown (λ p q. le_prop p q) (λ x. ∥∥₁_elim asked (λ p q. le_prop p q) (λ a.
@@ -445,4 +445,4 @@ module _ {W I A : Type 0} (seen : W → Seen I A) (w : World I A) {log : Logged}
 
     pub over-indexed : {outs : List (Slot W)} {ready : Numbered} {waiting : List Numbered} → outs ≡ put slots id Over → ∥ Indexed slots ready waiting ∥₁ → ∥ Indexed outs ready waiting ∥₁
     over-indexed {outs} {ready} {waiting} os indexed = ∥∥₁_elim shown ∥∥₁_prop (λ x. ∥∥₁_map₂ asked indexed (λ a y.
-        subst (λ (xs : List (Slot W)). Indexed xs ready waiting) (sym os) (same-indexed slots ready waiting id Assigned Over (there-of seen w x id a.position a.stands).at_slots refl (λ by. refl) y)))
+        subst (λ (xs : List (Slot W)). Indexed xs ready waiting) (sym os) (let h = there-of seen w x id a.position a.stands in same-indexed slots ready waiting id (Assigned h.node) Over h.at_slots refl (λ by. refl) y)))

@@ -76,6 +76,6 @@ module _ {W I A : Type 0} (seen : W → Seen I A) (w : World I A) {log : Logged}
         unready slots + length calls ≤ ready.room → ready.room ≡ next.room + count → ((m : ℕ) → among m next.numbers ≡ ((nat_le first m && nat_lt m (first + count)) || among m ready.numbers)) →
         Shown seen w log origins slots making table end → IsOwn w log.events table.finished id (seen walk) → Indexed slots ready waiting → Indexed outs next lists
     entered-indexed ready next waiting lists {outs} first count f c e ws spare room numbers x o y =
-        called-indexed seen (seen walk) slots children.slots.items ready next waiting lists outs id e.calls calls (there-of seen w x id (seen walk).position o.stands).at_slots n.slots e.entered (ws ∙ ap (λ l. waiting ++ l) n.waiting)
+        called-indexed seen (seen walk) slots children.slots.items ready next waiting lists outs id (there-of seen w x id (seen walk).position o.stands).node e.calls calls (there-of seen w x id (seen walk).position o.stands).at_slots n.slots e.entered (ws ∙ ap (λ l. waiting ++ l) n.waiting)
         spare (room ∙ ap (λ k. next.room + k) c) (subst (λ k. (m : ℕ) → among m next.numbers ≡ ((nat_le (length slots) m && nat_lt m (length slots + k)) || among m ready.numbers)) c
         (subst (λ k. (m : ℕ) → among m next.numbers ≡ ((nat_le k m && nat_lt m (k + count)) || among m ready.numbers)) f numbers)) y

@@ -219,9 +219,9 @@ module _ {W I A : Type 0} (seen : W → Seen I A) (w : World I A) (log after : L
           begun = λ r b go by h i. absurd (let c : ready s.position.place ≡ waits r b go = sym st ∙ h in cc);
           told = λ keys ids y go h. map-alike _ _ ids (told-after requests k);
         }) s)
-    slot-woken requests k count l n Assigned q z a s g =
-        let same : q ≡ z = unwoken w records_after finished_run q z (assigned s.node s.place) s.is refl g in
-        subst (λ b. ShowsSlot w (state_after requests) count seen Assigned b) same (record { node = s.node; place = s.place; is = s.is })
+    slot-woken requests k count l n (Assigned node) q z a s g =
+        let same : q ≡ z = unwoken w records_after finished_run q z (assigned node s.place) s.is refl g in
+        subst (λ b. ShowsSlot w (state_after requests) count seen (Assigned node) b) same (record { place = s.place; is = s.is })
     slot-woken requests k count l n (Calling calls) q z a s g =
         let same : q ≡ z = unwoken w records_after finished_run q z _ s.is refl g in
         subst (λ b. ShowsSlot w (state_after requests) count seen (Calling calls) b) same (slot-later w seen x.state (state_after requests) (length log.events) count (later requests count l) (Calling calls) q (record {
@@ -296,9 +296,9 @@ module _ {W I A : Type 0} (seen : W → Seen I A) (w : World I A) (log after : L
       each = subst (λ (xs : List (Slot W)). Paired (ShowsSlot w (state_after requests) (length after.events) seen) xs requests) (sym os)
           (paired-traverse (ShowsSlot w x.state (length log.events) seen) (ShowsSlot w (state_after requests) (length after.events) seen) (woken_by id) (woken w records_after e.inside.run finished_run.made) slots
           (put x.state.requests id next_request) requests
-          (subst (λ (xs : List (Slot W)). Paired (ShowsSlot w x.state (length log.events) seen) xs (put x.state.requests id next_request)) (put-there slots id Assigned h.at_slots)
-          (paired-puts (ShowsSlot w x.state (length log.events) seen) (ShowsSlot w x.state (length log.events) seen) slots x.state.requests id Assigned next_request (λ n a b d g s. s)
-          (record { node = h.node; place = next_position.place; is = refl }) x.each)) k
+          (subst (λ (xs : List (Slot W)). Paired (ShowsSlot w x.state (length log.events) seen) xs (put x.state.requests id next_request)) (put-there slots id (Assigned h.node) h.at_slots)
+          (paired-puts (ShowsSlot w x.state (length log.events) seen) (ShowsSlot w x.state (length log.events) seen) slots x.state.requests id (Assigned h.node) next_request (λ n a b d g s. s)
+          (record { place = next_position.place; is = refl }) x.each)) k
           (slot-woken requests k (length after.events) (let c = one-more log.events after.events (Result id e.inside.run) ev in omega arith)));
       bodies = bs ∙ (ap (λ ms. put ms id None) x.bodies ∙ (sym (map-puts making_of x.state.requests id next_request)
           ∙ sym (map-traverse making_of (woken w records_after e.inside.run finished_run.made) (λ a b g. (kept-woken w records_after finished_run a b g).run) (put x.state.requests id next_request) requests k)));
@@ -391,7 +391,7 @@ module _ {W I A : Type 0} (seen : W → Seen I A) (w : World I A) (log after : L
   pub finish-slots : Asks w log.events id (Finished run made) → Shown seen w log origins slots making table end → (id < length making) × (id < length slots)
   finish-slots a x =
       let h = there-of seen w x id a.position a.stands in
-      (at-less making id (Some run) (finish-making a x), at-less slots id Assigned h.at_slots)
+      (at-less making id (Some run) (finish-making a x), at-less slots id (Assigned h.node) h.at_slots)
 
 run-prop : (r s : RunId) → IsProp (r ≡ s)
 run-prop r s = hlevel props

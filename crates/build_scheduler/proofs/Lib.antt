@@ -11,6 +11,7 @@ pub mod Finishing
 pub mod GrowingAnswers
 pub mod HistoryFacts
 pub mod InstanceCounts
+pub mod LogRoom
 pub mod Looking
 pub mod Nesting
 pub mod NewRequests
@@ -19,6 +20,7 @@ pub mod OneRequest
 pub mod OwnWalks
 pub mod ReadyRequests
 pub mod Refusing
+pub mod Retiring
 pub mod RisingNumbers
 pub mod Rooms
 pub mod SlotNumbers

@@ -45,7 +45,7 @@ module _ {W I A : Type 0} (seen : W → Seen I A) (caller : Seen I A) where
     where
       one : (x : Slot W) → IsChildSlot seen caller x call → (is_ready (Some x) ≡ true) × ((by : ℕ) → waits_for by (Some x) ≡ false)
       one (Ready walk answer) k = (refl, λ by. refl)
-      one Assigned k = absurd k
+      one (Assigned node) k = absurd k
       one (Waiting walk by) k = absurd k
       one (Calling calls) k = absurd k
       one Done k = absurd k
@@ -63,15 +63,15 @@ module _ {W I A : Type 0} (seen : W → Seen I A) (caller : Seen I A) where
   unready-append (x ∷ xs) ys = let h = unready-append xs ys in omega arith
 
   -- the lists after the calls are made
-  pub called-indexed : (slots children : List (Slot W)) (ready next : Numbered) (waiting lists : List Numbered) (outs : List (Slot W)) (id : ℕ) (open_calls : Calls W) (calls : List RequestKey) → at slots id ≡ Some Assigned → Paired (IsChildSlot seen caller) children calls →
+  pub called-indexed : (slots children : List (Slot W)) (ready next : Numbered) (waiting lists : List Numbered) (outs : List (Slot W)) (id node : ℕ) (open_calls : Calls W) (calls : List RequestKey) → at slots id ≡ Some (Assigned node) → Paired (IsChildSlot seen caller) children calls →
       outs ≡ put slots id (Calling open_calls) ++ children → lists ≡ waiting ++ map empty_set calls → unready slots + length calls ≤ ready.room → ready.room ≡ next.room + length calls →
       ((n : ℕ) → among n next.numbers ≡ ((nat_le (length slots) n && nat_lt n (length slots + length calls)) || among n ready.numbers)) → Indexed slots ready waiting → Indexed outs next lists
-  called-indexed slots children ready next waiting lists outs id open_calls calls e ch os ws spare room f x = subst (λ (xs : List (Slot W)). Indexed xs next lists) (sym os) (subst (λ ls. Indexed (put slots id (Calling open_calls) ++ children) next ls) (sym ws) (record {
+  called-indexed slots children ready next waiting lists outs id node open_calls calls e ch os ws spare room f x = subst (λ (xs : List (Slot W)). Indexed xs next lists) (sym os) (subst (λ ls. Indexed (put slots id (Calling open_calls) ++ children) next ls) (sym ws) (record {
     listed = λ n. f n ∙ all n;
     room =
         let a = unready-append (put slots id (Calling open_calls)) children in
         let b = children-unready children calls ch in
-        let c = unready-put slots id Assigned (Calling open_calls) e in omega arith;
+        let c = unready-put slots id (Assigned node) (Calling open_calls) e in omega arith;
     lists =
         let a = length-append waiting (map empty_set calls) in
         let b = length-append (put slots id (Calling open_calls)) children in
@@ -99,7 +99,7 @@ module _ {W I A : Type 0} (seen : W → Seen I A) (caller : Seen I A) where
       ]
 
       put_waits : (by n : ℕ) → waits_for by (at slots n) ≡ waits_for by (at (put slots id (Calling open_calls)) n)
-      put_waits by = at-cases slots id Assigned (Calling open_calls) (λ n o. waits_for by (at slots n) ≡ waits_for by o) e (ap (waits_for by) e) (λ n d. refl)
+      put_waits by = at-cases slots id (Assigned node) (Calling open_calls) (λ n o. waits_for by (at slots n) ≡ waits_for by o) e (ap (waits_for by) e) (λ n d. refl)
 
       put_none : (n : ℕ) → at (put slots id (Calling open_calls)) n ≡ None → length slots ≤ n
       put_none n h = elim (cases_order n (length slots)) [
@@ -128,7 +128,7 @@ module _ {W I A : Type 0} (seen : W → Seen I A) (caller : Seen I A) where
       ]
         where
           put_ready : (m : ℕ) → is_ready (at slots m) ≡ is_ready (at (put slots id (Calling open_calls)) m)
-          put_ready = at-cases slots id Assigned (Calling open_calls) (λ m o. is_ready (at slots m) ≡ is_ready o) e (ap is_ready e) (λ m d. refl)
+          put_ready = at-cases slots id (Assigned node) (Calling open_calls) (λ m o. is_ready (at slots m) ≡ is_ready o) e (ap is_ready e) (λ m d. refl)
 
           back : (i : ℕ) → n ≡ length slots + i → (o : Option (Slot W)) → at children i ≡ o → ((nat_le (length slots) n && nat_lt n (length slots + length calls)) || among n ready.numbers) ≡ is_ready o
           back i q (Some slot) g =

@@ -84,12 +84,12 @@ pub record There {W I A : Type 0} (slots : List (Slot W)) (state : State I A) (i
   pub origin : Asked
   pub node : ℕ
   pub at_state : at state.requests id ≡ Some (placed origin p (assigned node))
-  pub at_slots : at slots id ≡ Some Assigned
+  pub at_slots : at slots id ≡ Some (Assigned node)
 
 module _ {W I A : Type 0} (seen : W → Seen I A) (w : World I A) where
-  slot-assigned : (s : State I A) (count : ℕ) (slot : Slot W) (origin : Asked) (p : Position I A) (node : ℕ) → ShowsSlot w s count seen slot (placed origin p (assigned node)) → slot ≡ Assigned
+  slot-assigned : (s : State I A) (count : ℕ) (slot : Slot W) (origin : Asked) (p : Position I A) (node : ℕ) → ShowsSlot w s count seen slot (placed origin p (assigned node)) → slot ≡ Assigned node
   slot-assigned s count (Ready walk answer) origin p node h = absurd (let a : assigned node p.place ≡ ready h.position.place = ap (λ (q : RequestState I A). q.status) h.is in cc)
-  slot-assigned s count Assigned origin p node h = refl
+  slot-assigned s count (Assigned by) origin p node h = let a : assigned node p.place ≡ assigned by h.place = h.is in let same : by ≡ node = cc in ap Assigned same
   slot-assigned s count (Waiting walk by) origin p node h = absurd (let a : assigned node p.place ≡ waits h.run h.body h.go = h.is in cc)
   slot-assigned s count (Calling calls) origin p node h = absurd (let a = h.is in cc)
   slot-assigned s count Over origin p node h = absurd (let a : assigned node p.place ≡ done h.result = h.is in cc)

@@ -20,7 +20,7 @@ module _ {W I A : Type 0} (seen : W → Seen I A) (w : World I A) where
   -- a slot of a ready request is ready
   pub slot-ready : (s : State I A) (count : ℕ) (slot : Slot W) (q : RequestState I A) (place : Place I A) → ShowsSlot w s count seen slot q → q.status ≡ ready place → is_ready (Some slot) ≡ true
   slot-ready s count (Ready walk answer) q place h e = refl
-  slot-ready s count Assigned q place h e = absurd (let a : ready place ≡ assigned h.node h.place = sym e ∙ h.is in cc)
+  slot-ready s count (Assigned node) q place h e = absurd (let a : ready place ≡ assigned node h.place = sym e ∙ h.is in cc)
   slot-ready s count (Waiting walk by) q place h e = absurd (let a : ready place ≡ waits h.run h.body h.go = sym e ∙ h.is in cc)
   slot-ready s count (Calling calls) q place h e = absurd (let a = sym e ∙ h.is in cc)
   slot-ready s count Done q place h e = absurd (let a : ready place ≡ done h.result = sym e ∙ h.is in cc)
@@ -36,7 +36,7 @@ module _ {W I A : Type 0} (seen : W → Seen I A) (w : World I A) where
     where
       go : (o : Option (Slot W)) → at slots id ≡ o → is_ready o ≡ true → IsReady w log.events id
       go None e h = absurd (cc)
-      go (Some Assigned) e h = absurd (cc)
+      go (Some (Assigned node)) e h = absurd (cc)
       go (Some (Waiting walk by)) e h = absurd (cc)
       go (Some (Calling calls)) e h = absurd (cc)
       go (Some Done) e h = absurd (cc)

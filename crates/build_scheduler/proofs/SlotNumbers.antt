@@ -49,14 +49,14 @@ module _ {W : Type 0} where
   }
 
   -- a ready slot goes out
-  pub out-indexed : (slots : List (Slot W)) (ready after : Numbered) (waiting : List Numbered) (id : ℕ) (walk : W) (answer : _) {outs : List (Slot W)} → at slots id ≡ Some (Ready walk answer) →
-      outs ≡ put slots id Assigned → ((n : ℕ) → among n after.numbers ≡ (not (id == n) && among n ready.numbers)) → after.room ≡ ready.room + 1 → Indexed slots ready waiting → Indexed outs after waiting
-  out-indexed slots ready after waiting id walk answer e out f r h = subst (λ after_slots. Indexed after_slots after waiting) (sym out) (record {
-    listed = at-cases slots id (Ready walk answer) Assigned (λ n o. among n after.numbers ≡ is_ready o) e
+  pub out-indexed : (slots : List (Slot W)) (ready after : Numbered) (waiting : List Numbered) (id : ℕ) (walk : W) (answer : _) (node : ℕ) {outs : List (Slot W)} → at slots id ≡ Some (Ready walk answer) →
+      outs ≡ put slots id (Assigned node) → ((n : ℕ) → among n after.numbers ≡ (not (id == n) && among n ready.numbers)) → after.room ≡ ready.room + 1 → Indexed slots ready waiting → Indexed outs after waiting
+  out-indexed slots ready after waiting id walk answer node e out f r h = subst (λ after_slots. Indexed after_slots after waiting) (sym out) (record {
+    listed = at-cases slots id (Ready walk answer) (Assigned node) (λ n o. among n after.numbers ≡ is_ready o) e
         (f id ∙ ap (λ b. not b && among id ready.numbers) (eq-eqb id id refl)) (λ n d. f n ∙ (ap (λ b. not b && among n ready.numbers) (not-equal id n (λ q. d (sym q))) ∙ h.listed n));
-    room = let k = unready-put slots id (Ready walk answer) Assigned e in let b : unready slots ≤ ready.room = h.room in omega arith;
-    lists = h.lists ∙ sym (put-length slots id Assigned);
-    waits = λ by. at-cases slots id (Ready walk answer) Assigned (λ n o. among n (numbers_of (at waiting by)) ≡ waits_for by o) e (h.waits by id ∙ ap (waits_for by) e) (λ n d. h.waits by n);
+    room = let k = unready-put slots id (Ready walk answer) (Assigned node) e in let b : unready slots ≤ ready.room = h.room in omega arith;
+    lists = h.lists ∙ sym (put-length slots id (Assigned node));
+    waits = λ by. at-cases slots id (Ready walk answer) (Assigned node) (λ n o. among n (numbers_of (at waiting by)) ≡ waits_for by o) e (h.waits by id ∙ ap (waits_for by) e) (λ n d. h.waits by n);
   })
 
 module _ {W : Type 0} (id : ℕ) where
@@ -71,7 +71,7 @@ module _ {W : Type 0} (id : ℕ) where
   waits-then : (o : Option (Slot W)) → waits_for id o ≡ true → IsWaiting o
   waits-then None h = absurd (cc)
   waits-then (Some (Ready walk answer)) h = absurd (cc)
-  waits-then (Some Assigned) h = absurd (cc)
+  waits-then (Some (Assigned node)) h = absurd (cc)
   waits-then (Some (Waiting walk by)) h = tt
   waits-then (Some (Calling calls)) h = absurd (cc)
   waits-then (Some Done) h = absurd (cc)
@@ -79,7 +79,7 @@ module _ {W : Type 0} (id : ℕ) where
   waits-not_ready : (o : Option (Slot W)) → waits_for id o ≡ true → is_ready o ≡ false
   waits-not_ready None h = refl
   waits-not_ready (Some (Ready walk answer)) h = absurd (cc)
-  waits-not_ready (Some Assigned) h = refl
+  waits-not_ready (Some (Assigned node)) h = refl
   waits-not_ready (Some (Waiting walk by)) h = refl
   waits-not_ready (Some (Calling calls)) h = refl
   waits-not_ready (Some Done) h = refl
@@ -128,7 +128,7 @@ module _ {W : Type 0} (id : ℕ) where
     where
       same : (x : Slot W) → waits_for id (Some x) ≡ false → woken_by id x ≡ x
       same (Ready walk answer) h = refl
-      same Assigned h = refl
+      same (Assigned node) h = refl
       same (Waiting walk by) h = ap (λ t. woken_if t walk by) h
       same (Calling calls) h = refl
       same Done h = refl
@@ -169,7 +169,7 @@ module _ {W : Type 0} (id : ℕ) where
 
   none-left : (x : Slot W) → waits_for id (Some (woken_by id x)) ≡ false
   none-left (Ready walk answer) = refl
-  none-left Assigned = refl
+  none-left (Assigned node) = refl
   none-left (Waiting walk by) = go (by == id) refl
     where
       go : (t : Bool) → (by == id) ≡ t → waits_for id (Some (woken_if t walk by)) ≡ false
@@ -180,7 +180,7 @@ module _ {W : Type 0} (id : ℕ) where
 
   others-left : (by : ℕ) → (by ≡ id → ⊥) → (x : Slot W) → waits_for by (Some x) ≡ waits_for by (Some (woken_by id x))
   others-left by d (Ready walk answer) = refl
-  others-left by d Assigned = refl
+  others-left by d (Assigned node) = refl
   others-left by d (Waiting walk other) = go (other == id) refl
     where
       go : (t : Bool) → (other == id) ≡ t → (other == by) ≡ waits_for by (Some (woken_if t walk other))
@@ -214,7 +214,7 @@ unlisted-prop n ready = hlevel props
 told-waits : {W : Type 0} (calls : Calls W) (place : ℕ) (told : RequestResult) (slot : Slot W) → IsTold calls place told slot → (by : ℕ) → waits_for by (Some slot) ≡ false
 told-waits calls place told (Ready walk answer) h by = refl
 told-waits calls place told (Calling next) h by = refl
-told-waits calls place told Assigned h by = absurd h
+told-waits calls place told (Assigned node) h by = absurd h
 told-waits calls place told (Waiting walk other) h by = absurd h
 told-waits calls place told Done h by = absurd h
 

@@ -85,7 +85,7 @@ module _ {I A : Type 0} (w : World I A) where
   pub slot-later : {W : Type 0} (seen : W → Seen I A) (s t : State I A) (count after : ℕ) → Later s t count after → (slot : Slot W) (q : RequestState I A) → Alike s t q →
       ShowsSlot w s count seen slot q → ShowsSlot w t after seen slot q
   slot-later seen s t count after l (Ready walk answer) q a h = record { position = h.position; goes = goes-later s t count after l (seen walk) answer h.position h.goes; is = h.is }
-  slot-later seen s t count after l Assigned q a h = record { node = h.node; place = h.place; is = h.is }
+  slot-later seen s t count after l (Assigned node) q a h = record { place = h.place; is = h.is }
   slot-later seen s t count after l (Waiting walk by) q a h = record {
     run = h.run;
     body = h.body;

@@ -355,11 +355,11 @@ room-there [] by h = absurd (omega arith)
 room-there (x ∷ waiting) zero h = omega arith
 room-there (x ∷ waiting) (suc by) h = let l : by < length waiting = room-there waiting by h in omega arith
 
-pub waits-indexed : {W : Type 0} {slots outs : List (Slot W)} {ready_ones : Numbered} {waiting mid lists : List Numbered} (id : ℕ) (walk : W) (by : ℕ) → at slots id ≡ Some Assigned → HaveNumbers waiting mid → IsListed mid lists by id → outs ≡ put slots id (Waiting walk by) →
+pub waits-indexed : {W : Type 0} {slots outs : List (Slot W)} {ready_ones : Numbered} {waiting mid lists : List Numbered} (id : ℕ) (walk : W) (by node : ℕ) → at slots id ≡ Some (Assigned node) → HaveNumbers waiting mid → IsListed mid lists by id → outs ≡ put slots id (Waiting walk by) →
     Indexed slots ready_ones waiting → Indexed outs ready_ones lists
-waits-indexed {W} {slots} {outs} {ready_ones} {waiting} {mid} {lists} id walk by e h l out x = subst (λ (xs : List (Slot W)). Indexed xs ready_ones lists) (sym out) (record {
-  listed = at-cases slots id Assigned (Waiting walk by) (λ n o. among n ready_ones.numbers ≡ is_ready o) e (x.listed id ∙ ap is_ready e) (λ n d. x.listed n);
-  room = let k = unready-put slots id Assigned (Waiting walk by) e in let b : unready slots ≤ ready_ones.room = x.room in omega arith;
+waits-indexed {W} {slots} {outs} {ready_ones} {waiting} {mid} {lists} id walk by node e h l out x = subst (λ (xs : List (Slot W)). Indexed xs ready_ones lists) (sym out) (record {
+  listed = at-cases slots id (Assigned node) (Waiting walk by) (λ n o. among n ready_ones.numbers ≡ is_ready o) e (x.listed id ∙ ap is_ready e) (λ n d. x.listed n);
+  room = let k = unready-put slots id (Assigned node) (Waiting walk by) e in let b : unready slots ≤ ready_ones.room = x.room in omega arith;
   lists = l.lists ∙ (h.lists ∙ (x.lists ∙ sym (put-length slots id (Waiting walk by))));
   waits = λ other. elim (same_or_not other by) [
     | inl p ↦ subst (λ b. (n : ℕ) → among n (numbers_of (at lists b)) ≡ waits_for b (at (put slots id (Waiting walk by)) n)) (sym p) mine
@@ -371,11 +371,11 @@ waits-indexed {W} {slots} {outs} {ready_ones} {waiting} {mid} {lists} id walk by
     before b n = ap (among n) (h.numbers b) ∙ x.waits b n
 
     mine : (n : ℕ) → among n (numbers_of (at lists by)) ≡ waits_for by (at (put slots id (Waiting walk by)) n)
-    mine = at-cases slots id Assigned (Waiting walk by) (λ n o. among n (numbers_of (at lists by)) ≡ waits_for by o) e
+    mine = at-cases slots id (Assigned node) (Waiting walk by) (λ n o. among n (numbers_of (at lists by)) ≡ waits_for by o) e
         (l.mine id ∙ (ap (λ b. b || among id (numbers_of (at mid by))) (eq-eqb id id refl) ∙ sym (eq-eqb by by refl)))
         (λ n d. l.mine n ∙ (ap (λ b. b || among n (numbers_of (at mid by))) (not-equal id n (λ q. d (sym q))) ∙ before by n))
 
     others : (other : ℕ) → (other ≡ by → ⊥) → (n : ℕ) → among n (numbers_of (at lists other)) ≡ waits_for other (at (put slots id (Waiting walk by)) n)
-    others other d = at-cases slots id Assigned (Waiting walk by) (λ n o. among n (numbers_of (at lists other)) ≡ waits_for other o) e
+    others other d = at-cases slots id (Assigned node) (Waiting walk by) (λ n o. among n (numbers_of (at lists other)) ≡ waits_for other o) e
         (ap (among id) (l.others other d) ∙ (before other id ∙ (ap (waits_for other) e ∙ sym (not-equal by other (λ q. d (sym q))))))
         (λ n q. ap (among n) (l.others other d) ∙ before other n)

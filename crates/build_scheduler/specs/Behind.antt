@@ -5,7 +5,7 @@ use Rattle.build_meaning.specs.declared.event.Event.{Event}
 use Rattle.build_meaning.specs.Lists.{at}
 use Rattle.build_meaning.specs.World.{World}
 use Rattle.build_meaning.specs.State.{Place, RequestState, ToolsUsed, State}
-use Rattle.build_meaning.specs.History.{IsHistory}
+use Rattle.build_meaning.specs.History.{IsHistory, retires}
 use Rattle.build_history.specs.Uses.{body_at, uses_of, uses_in}
 use Rattle.build_scheduler.specs.declared.walker.Answer.{Answer}
 use Rattle.build_scheduler.specs.declared.slot.Slot.{Slot}
@@ -13,10 +13,11 @@ use Rattle.build_scheduler.specs.declared.slot.Slot.TheVariants.{Ready, Assigned
 use Rattle.build_scheduler.specs.Own.{Seen}
 use Rattle.build_scheduler.specs.Position.{tools_in}
 
--- where the request is in a body after these events, a walk at this place has used what the history has of the body
+-- where no node has retired and the request is in a body after these events, a walk at this place
+-- has used what the history has of the body; a walk that was given back uses tools again
 abbrev pub IsBehind : {I A : Type 0} → World I A → List Event → ℕ → Place I A → Type 0
 IsBehind {I} {A} w events id place =
-    (s : State I A) (q : RequestState I A) (x : ToolsUsed I) → IsHistory w events s → at s.requests id ≡ Some q → body_at q.status ≡ Some x →
+    (s : State I A) (q : RequestState I A) (x : ToolsUsed I) → retires events ≡ 0 → IsHistory w events s → at s.requests id ≡ Some q → body_at q.status ≡ Some x →
     tools_in place ≡ uses_of x.run (uses_in w events)
 
 -- each walk that is ready
@@ -27,7 +28,7 @@ AreBehind {W} seen w events slots =
 -- the walk that is in a slot
 abbrev pub walk_in : {W : Type 0} → Slot W → Option W
 walk_in (Ready walk answer) = Some walk
-walk_in Assigned = None
+walk_in (Assigned node) = None
 walk_in (Waiting walk by) = Some walk
 walk_in (Calling calls) = Some calls.walk
 walk_in Done = None

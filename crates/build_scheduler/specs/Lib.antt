@@ -14,5 +14,6 @@ pub mod Own
 pub mod Position
 pub mod Ready
 pub mod Requests
+pub mod Retired
 pub mod Shown
 pub mod Slots

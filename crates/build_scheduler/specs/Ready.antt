@@ -25,6 +25,15 @@ pub record IsAssigned {I A : Type 0} (w : World I A) (events : List Event) (id :
   pub there : at state.requests id ≡ Some request
   pub is : request.status ≡ assigned node place
 
+-- after these events the request is with this node
+pub record IsAssignedTo {I A : Type 0} (w : World I A) (events : List Event) (id node : ℕ) : Type 0 where
+  pub state : State I A
+  pub request : RequestState I A
+  pub place : Place I A
+  pub history : IsHistory w events state
+  pub there : at state.requests id ≡ Some request
+  pub is : request.status ≡ assigned node place
+
 -- it is the least request that is ready, or none is
 abbrev pub IsLeastReady : {I A : Type 0} → World I A → List Event → Option ℕ → Type 0
 IsLeastReady w events None = (id : ℕ) → ∥ IsReady w events id ∥₁ → ⊥

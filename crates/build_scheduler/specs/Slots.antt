@@ -105,9 +105,8 @@ module _ {I A : Type 0} (w : World I A) (s : State I A) (count : ℕ) where
     pub goes : Goes walk answer position
     pub is : q ≡ placed q.origin position ready
 
-  -- a request with a node
-  pub record ShowsAssigned (q : RequestState I A) : Type 0 where
-    pub node : ℕ
+  -- a request with this node
+  pub record ShowsAssigned (node : ℕ) (q : RequestState I A) : Type 0 where
     pub place : Place I A
     pub is : q.status ≡ assigned node place
 
@@ -137,7 +136,12 @@ module _ {I A : Type 0} (w : World I A) (s : State I A) (count : ℕ) where
 
   abbrev pub ShowsSlot : {W : Type 0} → (W → Seen I A) → Slot W → RequestState I A → Type 0
   ShowsSlot seen (Ready walk answer) q = ShowsReady (seen walk) answer q
-  ShowsSlot seen Assigned q = ShowsAssigned q
+  ShowsSlot seen (Assigned node) q = ShowsAssigned node q
   ShowsSlot seen (Waiting walk by) q = ShowsWaiting (seen walk) by q
   ShowsSlot seen (Calling calls) q = ShowsCalling (seen calls.walk) calls.first calls.«open» calls.results.items q
   ShowsSlot seen Done q = ShowsDone q
+
+-- a node has the request of the slot
+abbrev pub IsWithNode : {W : Type 0} → Option (Slot W) → Type 0
+IsWithNode (Some (Assigned node)) = Unit {0}
+IsWithNode slot = ⊥

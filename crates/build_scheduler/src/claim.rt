@@ -43,6 +43,7 @@ impl<W: Walker> Core<W> {
         ensures world { W.world_of self.new.world ≡ W.world_of self.old.world }
         ensures table { self.new.table.finished ≡ self.old.table.finished }
         ensures end { self.new.end ≡ self.old.end }
+        ensures nodes { self.new.history.nodes ≡ self.old.history.nodes }
         ensures claimed { IsClaimed (seen_by W.world W.position W.asked W.learnt) (W.world_of self.old.world) self.old.history.events self.new.history.events
             self.new.table.finished id run.now walk result }
     {
@@ -62,6 +63,7 @@ impl<W: Walker> Core<W> {
         ensures world { W.world_of self.new.world ≡ W.world_of self.old.world }
         ensures table { self.new.table.finished ≡ self.old.table.finished }
         ensures end { self.new.end ≡ self.old.end }
+        ensures nodes { self.new.history.nodes ≡ self.old.history.nodes }
         ensures claimed { IsClaimed (seen_by W.world W.position W.asked W.learnt) (W.world_of self.old.world) self.old.history.events self.new.history.events
             self.new.table.finished id run.now walk result }
     {
@@ -81,6 +83,7 @@ impl<W: Walker> Core<W> {
         ensures world { W.world_of self.new.world ≡ W.world_of self.old.world }
         ensures table { self.new.table.finished ≡ self.old.table.finished }
         ensures end { self.new.end ≡ self.old.end }
+        ensures nodes { self.new.history.nodes ≡ self.old.history.nodes }
         ensures history { OnOk result (self.new.history.events ≡ self.old.history.events ++ Claim id run.now Begins ∷ []) }
         ensures out { OnOk result ∥ IsOut (W.world_of self.old.world) self.new.history.events self.new.table.finished id (seen_by W.world W.position W.asked W.learnt walk.now) Goes ∥₁ }
         ensures err { OnErr result (self.new.history.events ≡ self.old.history.events) }
@@ -102,6 +105,7 @@ impl<W: Walker> Core<W> {
         ensures world { W.world_of self.new.world ≡ W.world_of self.old.world }
         ensures table { self.new.table.finished ≡ self.old.table.finished }
         ensures end { self.new.end ≡ self.old.end }
+        ensures nodes { self.new.history.nodes ≡ self.old.history.nodes }
         ensures claimed { IsClaimed (seen_by W.world W.position W.asked W.learnt) (W.world_of self.old.world) self.old.history.events self.new.history.events
             self.new.table.finished id run.now walk result }
     {
@@ -123,6 +127,7 @@ impl<W: Walker> Core<W> {
         ensures world { W.world_of self.new.world ≡ W.world_of self.old.world }
         ensures table { self.new.table.finished ≡ self.old.table.finished }
         ensures end { self.new.end ≡ self.old.end }
+        ensures nodes { self.new.history.nodes ≡ self.old.history.nodes }
         ensures claimed { IsClaimed (seen_by W.world W.position W.asked W.learnt) (W.world_of self.old.world) self.old.history.events self.new.history.events
             self.new.table.finished id run.now walk result }
     {
@@ -146,6 +151,7 @@ impl<W: Walker> Core<W> {
         ensures world { W.world_of self.new.world ≡ W.world_of self.old.world }
         ensures table { self.new.table.finished ≡ self.old.table.finished }
         ensures end { self.new.end ≡ self.old.end }
+        ensures nodes { self.new.history.nodes ≡ self.old.history.nodes }
         ensures claimed { IsClaimed (seen_by W.world W.position W.asked W.learnt) (W.world_of self.old.world) self.old.history.events self.new.history.events
             self.new.table.finished id run.now walk result }
     {
@@ -163,6 +169,7 @@ impl<W: Walker> Core<W> {
         ensures world { W.world_of self.new.world ≡ W.world_of self.old.world }
         ensures table { self.new.table.finished ≡ self.old.table.finished }
         ensures end { self.new.end ≡ self.old.end }
+        ensures nodes { self.new.history.nodes ≡ self.old.history.nodes }
         ensures history { OnOk result (self.new.history.events ≡ self.old.history.events ++ Claim id run.now Takes ∷ []) }
         ensures out { OnOk result ∥ IsOut (W.world_of self.old.world) self.new.history.events self.new.table.finished id (seen_by W.world W.position W.asked W.learnt walk.now) Uses ∥₁ }
         ensures err { OnErr result (self.new.history.events ≡ self.old.history.events) }
@@ -177,6 +184,7 @@ impl<W: Walker> Core<W> {
 /// Takes room for a run that begins: for its event and that of its result, with the run's name for both.
 fn begin_room(history: &mut Log, run: &RunId) -> Result<(RunId, RunId), NoMemory>
     ensures events { history.new.events ≡ history.old.events }
+    ensures nodes { history.new.nodes ≡ history.old.nodes }
     ensures room { history.old.room ≤ history.new.room }
     ensures ok { OnOk result (history.new.room ≡ history.old.room + 2) }
     ensures claimed { IfOk result (λ runs. runs.0 ≡ run.now) }
@@ -198,6 +206,7 @@ fn wait_room(
 ) -> Result<RunId, NoMemory>
     requires { by < length waiting.old.items }
     ensures events { history.new.events ≡ history.old.events }
+    ensures nodes { history.new.nodes ≡ history.old.nodes }
     ensures room { history.old.room ≤ history.new.room }
     ensures ok { OnOk result (history.new.room ≡ history.old.room + 2) }
     ensures same { HaveNumbers waiting.old.items waiting.new.items }

@@ -3,7 +3,7 @@ ghost use Rattle.build_meaning.specs.declared.event.Event.TheVariants.{Done};
 ghost use Rattle.build_meaning.specs.Lists.{at, put};
 ghost use Rattle.build_scheduler.specs.declared.walker.Ask.TheVariants.{Done as IsOver};
 ghost use Rattle.build_scheduler.specs.declared.slot.End.TheVariants.{Root};
-ghost use Rattle.build_scheduler.specs.declared.slot.Slot.TheVariants.{Assigned, Calling};
+ghost use Rattle.build_scheduler.specs.declared.slot.Slot.TheVariants.{Calling, Done as Over};
 ghost use Rattle.build_scheduler.specs.Calls.{HasOpen, HasParent, IsCalling, IsResumed};
 ghost use Rattle.build_scheduler.specs.Numbers.{among};
 ghost use Rattle.build_scheduler.specs.Own.{Asks};
@@ -27,6 +27,7 @@ impl<W: Walker> Core<W> {
         ensures table { self.new.table ≡ self.old.table }
         ensures root { id ≡ 0 → self.new.end ≡ Some (Root told) }
         ensures others { (id ≡ 0 → ⊥) → self.new.end ≡ None }
+        ensures nodes { self.new.history.nodes ≡ self.old.history.nodes }
     {
         self.history.push(Event::Done(id));
         put_slot(&mut self.slots, id, Slot::Done);
@@ -70,7 +71,7 @@ fn resume<W: Drop>(
 fn take_calls<W: Drop>(slots: &mut Vec<Slot<W>>, caller: u64) -> Calls<W>
     requires { IsCalling (at slots.old.items caller) }
     ensures was { at slots.old.items caller ≡ Some (Calling result) }
-    ensures is { slots.new.items ≡ put slots.old.items caller Assigned }
+    ensures is { slots.new.items ≡ put slots.old.items caller Over }
 {
-    replace_slot(slots, caller, Slot::Assigned).into_calls()
+    replace_slot(slots, caller, Slot::Done).into_calls()
 }

@@ -13,6 +13,7 @@ mod numbers;
 mod opening;
 mod request;
 mod result;
+mod retire;
 mod scheduler;
 mod slot;
 mod walker;

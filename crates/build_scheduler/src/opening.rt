@@ -34,6 +34,7 @@ impl Opening {
     pub(crate) fn new(alloc: Global) -> Result<Opening, NoMemory>
         ensures events { IfOk result (λ opening. opening.history.events ≡ []) }
         ensures room { IfOk result (λ opening. opening.history.room ≡ 2) }
+        ensures nodes { IfOk result (λ opening. opening.history.nodes ≡ 1) }
         ensures ready { IfOk result (λ opening. (n : ℕ) → among n opening.ready.numbers ≡ (0 == n)) }
         ensures making { IfOk result (λ opening. opening.making.items ≡ None ∷ []) }
         ensures waiting { IfOk result (λ opening. opening.waiting.items ≡ (record { numbers = []; room = 0 }) ∷ []) }
@@ -69,8 +70,9 @@ impl Opening {
 fn empty_history(alloc: Global) -> Result<Log, NoMemory>
     ensures events { IfOk result (λ history. history.events ≡ []) }
     ensures room { IfOk result (λ history. history.room ≡ 2) }
+    ensures nodes { IfOk result (λ history. history.nodes ≡ 1) }
 {
-    let mut history = Log::new(alloc);
+    let mut history = Log::new(alloc)?;
     history.reserve(2)?;
     Ok(history)
 }

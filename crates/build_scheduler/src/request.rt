@@ -118,6 +118,7 @@ impl<W: Walker> Core<W> {
         ensures world { W.world_of self.new.world ≡ W.world_of self.old.world }
         ensures table { self.new.table ≡ self.old.table }
         ensures end { self.new.end ≡ self.old.end }
+        ensures nodes { self.new.history.nodes ≡ self.old.history.nodes }
         ensures requested { IsRequested (W.world_of self.old.world) self.old.history.events self.new.history.events id calls walk result }
     {
         match self.children(id, &walk, calls.as_slice()) {
@@ -138,6 +139,7 @@ impl<W: Walker> Core<W> {
         ensures world { W.world_of self.new.world ≡ W.world_of self.old.world }
         ensures table { self.new.table ≡ self.old.table }
         ensures end { self.new.end ≡ self.old.end }
+        ensures nodes { self.new.history.nodes ≡ self.old.history.nodes }
         ensures history { self.new.history.events ≡ self.old.history.events }
         ensures fault { IfErr result (λ fault. IsRefused (W.world_of self.old.world) self.old.history.events id calls.now fault) }
         ensures children { IfOk result (λ children. AreNew (seen_by W.world W.position W.asked W.learnt) (seen_by W.world W.position W.asked W.learnt walk.now) id calls.now self.new.origins.items children) }
@@ -175,6 +177,7 @@ impl<W: Walker> Core<W> {
         ensures world { W.world_of self.new.world ≡ W.world_of self.old.world }
         ensures table { self.new.table ≡ self.old.table }
         ensures end { self.new.end ≡ self.old.end }
+        ensures nodes { self.new.history.nodes ≡ self.old.history.nodes }
         ensures history { self.new.history.events ≡ self.old.history.events }
         ensures origins { self.new.origins.items ≡ self.old.origins.items }
         ensures origin_room { OnOk result (vec_len self.new.origins + count ≤ vec_capacity self.new.origins) }
@@ -218,6 +221,7 @@ impl<W: Walker> Core<W> {
         ensures world { W.world_of self.new.world ≡ W.world_of self.old.world }
         ensures table { self.new.table ≡ self.old.table }
         ensures end { self.new.end ≡ self.old.end }
+        ensures nodes { self.new.history.nodes ≡ self.old.history.nodes }
         ensures requested { IsRequested (W.world_of self.old.world) self.old.history.events self.new.history.events id calls walk result }
     {
         match self.instances.add(calls.as_slice()) {

@@ -27,6 +27,7 @@ impl<W: Walker> Core<W> {
         ensures history { self.new.history.events ≡ self.old.history.events ++ Result id run.now ∷ [] }
         ensures table { self.new.table.finished ≡ record { run = run.now; made = made } ∷ self.old.table.finished }
         ensures end { self.new.end ≡ self.old.end }
+        ensures nodes { self.new.history.nodes ≡ self.old.history.nodes }
         ensures out { (walk : W) → ∥ IsOwn (W.world_of self.old.world) self.old.history.events self.old.table.finished id (seen_by W.world W.position W.asked W.learnt walk) ∥₁ →
             ask_of (W.position walk) ≡ Finished run.now made →
             ∥ IsOut (W.world_of self.new.world) self.new.history.events self.new.table.finished id (seen_by W.world W.position W.asked W.learnt walk) Use ∥₁ }
@@ -84,7 +85,7 @@ fn wake_one<W: Drop>(slots: &mut Vec<Slot<W>>, ready: &mut Numbers, number: u64)
     ensures ready { (n : ℕ) → among n ready.new.numbers ≡ (number == n || among n ready.old.numbers) }
     ensures room { ready.old.room ≡ ready.new.room + 1 }
 {
-    let (walk, _) = replace_slot(slots, number, Slot::Assigned).into_waiting();
+    let (walk, _) = replace_slot(slots, number, Slot::Done).into_waiting();
     put_ready(slots, number, walk);
     ready.insert(number);
 }

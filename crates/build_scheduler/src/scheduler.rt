@@ -1,5 +1,6 @@
 ghost use Rattle.std.specs.Prelude.{◌≡◌, ◌+◌, ◌<◌, ◌≤◌, ◌++◌, map, ◌∷◌, [], IfOk, None, Some, true, length, option_copied};
 ghost use Rattle.build_meaning.specs.declared.event.Event.TheVariants.{Assign};
+ghost use Rattle.build_meaning.specs.History.{AreOfNodes};
 ghost use Rattle.build_meaning.specs.Meaning.{most_instances};
 ghost use Rattle.build_scheduler.specs.Behind.{AreBehind, IsBehind};
 ghost use Rattle.build_scheduler.specs.Ends.{IsEnd, IsStop, ShowsStop};
@@ -45,6 +46,7 @@ pub struct Core<W: Walker> {
     ghost legal: { ∥ Shown (seen_by W.world W.position W.asked W.learnt) (W.world_of world) history origins.items slots.items making.items table end ∥₁ },
     ghost indexed: { ∥ Indexed slots.items ready waiting.items ∥₁ },
     ghost counted: { ∥ AreCounted instances (map instance_asked origins.items) ∥₁ },
+    ghost active: { AreOfNodes history.nodes history.events },
     ghost few: { length instances ≤ most_instances },
     ghost nested: { ∥ AreNested origins.items ∥₁ },
     ghost stops: { ∥ ShowsStop (W.world_of world) history.events end ∥₁ },
@@ -80,6 +82,7 @@ impl<W: Walker> Core<W> {
         ensures history { IfOk result (λ core. core.history.events ≡ []) }
         ensures table { IfOk result (λ core. core.table.finished ≡ []) }
         ensures end { IfOk result (λ core. core.end ≡ None) }
+        ensures nodes { IfOk result (λ core. core.history.nodes ≡ 1) }
     {
         let instances = Instances::of(alloc, &root.instance)?;
         let opening = Opening::new(alloc)?;
@@ -113,8 +116,8 @@ impl<W: Walker> Core<W> {
         self.ready.least()
     }
 
-    /// Hands a ready request to a node: its walk, with its next answer. Where the request is in a body, the walk has used the
-    /// tools that the history has of it. This takes no memory.
+    /// Hands a ready request to a node: its walk, with its next answer. Where the request is in a body and no node has retired,
+    /// the walk has used the tools that the history has of it. This takes no memory.
     pub fn assign(&mut self, id: u64, node: u32) -> (W, Answer)
         requires running { self.old.end ≡ None }
         requires ready { ∥ IsReady (W.world_of self.old.world) self.old.history.events id ∥₁ }
@@ -122,12 +125,13 @@ impl<W: Walker> Core<W> {
         ensures history { self.new.history.events ≡ self.old.history.events ++ Assign id node ∷ [] }
         ensures table { self.new.table ≡ self.old.table }
         ensures end { self.new.end ≡ self.old.end }
+        ensures nodes { self.new.history.nodes ≡ self.old.history.nodes }
         ensures out { ∥ IsOut (W.world_of self.new.world) self.new.history.events self.new.table.finished id (seen_by W.world W.position W.asked W.learnt result.0) result.1 ∥₁ }
         ensures behind { ∥ IsBehind (W.world_of self.old.world) self.old.history.events id (W.position result.0).place ∥₁ }
     {
         self.ready.remove(id);
         self.history.push(Event::Assign(id, node));
-        take_ready(&mut self.slots, id)
+        take_ready(&mut self.slots, id, node)
     }
 
     /// Ends a build that can't go on. This takes no memory.
@@ -138,6 +142,7 @@ impl<W: Walker> Core<W> {
         ensures history { self.new.history.events ≡ self.old.history.events }
         ensures table { self.new.table ≡ self.old.table }
         ensures end { self.new.end ≡ Some end }
+        ensures nodes { self.new.history.nodes ≡ self.old.history.nodes }
     {
         self.end = Some(end);
     }
@@ -150,9 +155,10 @@ impl<W: Walker> Core<W> {
         self.end.as_ref()
     }
 
-    /// The events so far.
+    /// The events so far. One node at least has not retired.
     pub fn history(&self) -> &[Event]
-        ensures { result.now ≡ self.now.history.events }
+        ensures events { result.now ≡ self.now.history.events }
+        ensures active { AreOfNodes self.now.history.nodes result.now }
     {
         self.history.events()
     }
@@ -166,13 +172,13 @@ impl<W: Walker> Core<W> {
     }
 }
 
-/// Takes the walk of a ready request and its answer out of its slot.
-fn take_ready<W: Drop>(slots: &mut Vec<Slot<W>>, id: u64) -> (W, Answer)
+/// Takes the walk of a ready request and its answer out of its slot, for a node.
+fn take_ready<W: Drop>(slots: &mut Vec<Slot<W>>, id: u64, node: u32) -> (W, Answer)
     requires { is_ready (at slots.old.items id) ≡ true }
     ensures was { at slots.old.items id ≡ Some (Ready result.0 result.1) }
-    ensures is { slots.new.items ≡ put slots.old.items id Assigned }
+    ensures is { slots.new.items ≡ put slots.old.items id (Assigned node) }
 {
-    replace_slot(slots, id, Slot::Assigned).into_ready()
+    replace_slot(slots, id, Slot::Assigned(node)).into_ready()
 }
 
 /// Puts this into a slot, and gives what was there.

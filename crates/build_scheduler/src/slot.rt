@@ -26,8 +26,8 @@ impl Drop for Origin {
 pub enum Slot<W> {
     /// It may go to a node: its walk, with its next answer.
     Ready(W, Answer),
-    /// A node has it, and its walk.
-    Assigned,
+    /// The node of this number has it, and its walk.
+    Assigned(u32),
     /// It waits for the run that this request has begun.
     Waiting(W, u64),
     /// Some of its calls are open.
@@ -41,7 +41,7 @@ impl<W: Drop> Drop for Slot<W> {
     fn drop(self) {
         match self {
             Slot::Ready(_, _) => {}
-            Slot::Assigned => {}
+            Slot::Assigned(_) => {}
             Slot::Waiting(_, _) => {}
             Slot::Calling(_) => {}
             Slot::Done => {}
@@ -62,9 +62,21 @@ impl<W> Slot<W> {
 
 impl<W: Drop> Slot<W> {
     ghost use Rattle.std.specs.Prelude.{◌≡◌, Some, true};
-    ghost use Rattle.build_scheduler.specs.declared.slot.Slot.TheVariants.{Calling, Ready, Waiting};
+    ghost use Rattle.build_scheduler.specs.declared.slot.Slot.TheVariants.{Assigned, Calling, Ready, Waiting};
     ghost use Rattle.build_scheduler.specs.Calls.{IsCalling};
     ghost use Rattle.build_scheduler.specs.Shown.{IsWaiting, is_ready};
+    ghost use Rattle.build_scheduler.specs.Slots.{IsWithNode};
+
+    /// The node that has the request.
+    pub(crate) fn node(&self) -> u32
+        requires { IsWithNode (Some self.now) }
+        ensures { self.now ≡ Assigned result }
+    {
+        match self {
+            Slot::Assigned(node) => *node,
+            _ => unreachable!(),
+        }
+    }
 
     /// The walk of a request that is ready, and its answer.
     pub(crate) fn into_ready(self) -> (W, Answer)

@@ -1,4 +1,5 @@
-ghost use Rattle.std.specs.Prelude.{◌≡◌, ◌+◌, ◌^◌, ◌<◌, ◌++◌, ℕ, List, IfOk, IsSome, OnOk, OnErr, Some};
+ghost use Rattle.std.specs.Prelude.{◌≡◌, ◌+◌, ◌^◌, ◌<◌, ◌++◌, ℕ, List, IfOk, IsSome, OnOk, OnErr, None, Option, Some};
+ghost use mathlib.Core.List.{IsPrefix};
 ghost use Rattle.result_cache.specs.Table.{Records};
 ghost use Rattle.build_meaning.specs.World.{World};
 ghost use Rattle.build_meaning.specs.SoFar.{ToolUse};
@@ -77,6 +78,10 @@ pub trait Walker: Sized + Drop {
     /// The records that it has learnt, the last one first.
     ghost learnt: { Self → Records };
 
+    /// Where it stood before its last `advance`, and how often it had asked; None where it was not advanced since it was made or
+    /// put back.
+    ghost earlier: { Self → Option (Position Self.Input Self.Output × ℕ) };
+
     /// The tools that were used at a place, in order.
     ghost used: { Self.Place → List (ToolUse Self.Input) };
 
@@ -90,7 +95,8 @@ pub trait Walker: Sized + Drop {
         ensures world { IfOk result (λ child. Self.world child ≡ Self.world self.now) }
         ensures begins { IfOk result (λ child. Self.position child ≡ begins (Self.world self.now) key.now (Self.position self.now).journal) }
         ensures asked { IfOk result (λ child. Self.asked child ≡ 0) }
-        ensures learnt { IfOk result (λ child. ArePartOf (Self.learnt child) (Self.learnt self.now)) };
+        ensures learnt { IfOk result (λ child. ArePartOf (Self.learnt child) (Self.learnt self.now)) }
+        ensures earlier { IfOk result (λ child. Self.earlier child ≡ None) };
 
     /// Learns the records that an answer needs, through all levels of calls: the answer then takes the walk where it would by
     /// the whole table. Where there is no memory, the walk is as it was.
@@ -104,9 +110,11 @@ pub trait Walker: Sized + Drop {
         ensures err { OnErr result (Self.learnt self.new ≡ Self.learnt self.old) }
         ensures world { Self.world self.new ≡ Self.world self.old }
         ensures position { Self.position self.new ≡ Self.position self.old }
-        ensures asked { Self.asked self.new ≡ Self.asked self.old };
+        ensures asked { Self.asked self.new ≡ Self.asked self.old }
+        ensures earlier { Self.earlier self.new ≡ Self.earlier self.old };
 
-    /// Goes on with an answer to the next ask. Where there is no memory, the walk is as it was.
+    /// Goes on with an answer to the next ask. Where there is no memory, the walk is as it was, and the calls of tools begin with
+    /// those of before.
     fn advance(&mut self, place: &mut Self::Place, answer: &Answer) -> Result<Ask, NoMemory>
         requires fits { IsSome (answered (Self.world self.old) (Self.learnt self.old) (Self.position self.old) answer.now) }
         requires turn { IsInTurn (Self.asked self.old) answer.now }
@@ -115,8 +123,18 @@ pub trait Walker: Sized + Drop {
         ensures goes_on { OnOk result (answered (Self.world self.old) (Self.learnt self.old) (Self.position self.old) answer.now ≡ Some (Self.position self.new)) }
         ensures asked { OnOk result (Self.asked self.new ≡ Self.asked self.old + 1) }
         ensures used { OnOk result (Self.used place.new ≡ Self.used place.old ++ used_between (Self.position self.old).place (Self.position self.new).place) }
+        ensures earlier { OnOk result (Self.earlier self.new ≡ Some (Self.position self.old, Self.asked self.old)) }
         ensures stays { OnErr result (Self.position self.new ≡ Self.position self.old) }
         ensures asked_err { OnErr result (Self.asked self.new ≡ Self.asked self.old) }
+        ensures used_err { OnErr result (IsPrefix (Self.used place.old) (Self.used place.new)) }
+        ensures world { Self.world self.new ≡ Self.world self.old }
+        ensures learnt { Self.learnt self.new ≡ Self.learnt self.old };
+
+    /// Takes back the last `advance`: the walk stands as before it. This takes no memory.
+    fn back(&mut self)
+        requires advanced { IsSome (Self.earlier self.old) }
+        ensures stands { Self.earlier self.old ≡ Some (Self.position self.new, Self.asked self.new) }
+        ensures earlier { Self.earlier self.new ≡ None }
         ensures world { Self.world self.new ≡ Self.world self.old }
         ensures learnt { Self.learnt self.new ≡ Self.learnt self.old };
 }

@@ -2,7 +2,8 @@ use Rattle.std.proofs.Common.{refl, ap, sym, subst, ◌∙◌}
 use Rattle.std.specs.Prelude.{not, option_copied}
 use Rattle.build_scheduler.specs.Own.{seen_by}
 use Rattle.build_plain.specs.Driven.{Drives, IsFree}
-use Rattle.build_plain.proofs.Driving.{drives-more, drives-none, least-of}
+use Rattle.build_plain.proofs.Driving.{drives-more, drives-none, least-of, none-retired}
+use Rattle.build_plain.proofs.Fronts.{front-self, front-trans}
 use Rattle.build_plain.proofs.Using.{none-of, turns-uses, uses-none, unless-any}
 use Rattle.build_plain.proofs.OneAtATime.{free-of, legal-of}
 use Rattle.build_plain.proofs.alone.build_alone.Goals as goal
@@ -19,10 +20,11 @@ loop-core-preserved g c =
       drives = drives-more (m.world_of first.world) first.history.events before.history.events after.history.events c.loop-core.invariant.drives
           (subst (λ w. Drives w before.history.events after.history.events) same c.take_turn.ensures.drives);
       free = subst (λ w. IsFree w after.history.events after.end) same c.take_turn.ensures.free;
-      uses = turns-uses (seen_by m.world m.position m.asked m.learnt) (m.world_of first.world) (m.world_of before.world) first.history.events before.history.events after.history.events
+      uses = λ none. turns-uses (seen_by m.world m.position m.asked m.learnt) (m.world_of first.world) (m.world_of before.world) first.history.events before.history.events after.history.events
           (m.used c.args.place.now) (m.used c.loop-core.place) (m.used c.take_turn.new.place) before.end after.end same
           (sym c.end.ensures.end ∙ ap option_copied (none-of c.end.result (c.is_none.ensures ∙ ap not c.loop-core-test.true)))
-          c.loop-core.invariant.uses c.take_turn.ensures.uses;
+          (c.loop-core.invariant.uses none) (c.take_turn.ensures.uses (none-retired (m.world_of first.world) first.history.events before.history.events c.loop-core.invariant.drives none));
+      front = front-trans (m.used c.args.place.now) (m.used c.loop-core.place) (m.used c.take_turn.new.place) c.loop-core.invariant.front c.take_turn.ensures.front;
     }
 
 pub loop-core-init : goal.loop-core-init
@@ -33,7 +35,8 @@ loop-core-init g c =
       world = refl;
       drives = drives-none (m.world_of first.world) first.history.events first.history.events refl;
       free = free-of (m.world_of first.world) first.history.events first.end c.requires;
-      uses = unless-any first.end _ ∣ uses-none (m.world_of first.world) first.history.events first.history.events _ refl ∣₁;
+      uses = λ none. unless-any first.end _ ∣ uses-none (m.world_of first.world) first.history.events first.history.events _ refl ∣₁;
+      front = front-self (m.used c.args.place.now);
     }
 
 pub returns-clause-legal : goal.returns-clause-legal

@@ -1,4 +1,6 @@
 use Rattle.std.proofs.Common.{◌≡◌, ◌-◌, ◌^◌, length}
+use mathlib.Core.List.{IsPrefix}
+use Rattle.build_meaning.specs.History.{retires}
 use Rattle.build_plain.specs.Driven.{Drives, IsFree}
 use Rattle.build_plain.specs.Used.{UnlessMemory, Uses}
 use Rattle.build_plain.proofs.alone.build_alone.Given as goal
@@ -10,7 +12,8 @@ invariant-loop-core g l =
       world : m.world_of l.core.world ≡ m.world_of l.initial.core.world;
       drives : Drives (m.world_of l.initial.core.world) l.initial.core.history.events l.core.history.events;
       free : IsFree (m.world_of l.initial.core.world) l.core.history.events l.core.end;
-      uses : UnlessMemory l.core.end ∥ Uses (m.world_of l.initial.core.world) l.initial.core.history.events l.core.history.events (m.used l.initial.place) (m.used l.place) ∥₁;
+      uses : retires l.initial.core.history.events ≡ 0 → UnlessMemory l.core.end ∥ Uses (m.world_of l.initial.core.world) l.initial.core.history.events l.core.history.events (m.used l.initial.place) (m.used l.place) ∥₁;
+      front : IsPrefix (m.used l.initial.place) (m.used l.place);
     }
 
 abbrev pub decreases-loop-core : goal.decreases-loop-core

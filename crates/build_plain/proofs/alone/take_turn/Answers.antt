@@ -25,7 +25,7 @@ unreachable-requires g c =
     (subst (IsLeastReady (m.world_of core.world) core.history.events) c.in-None.is c.ready.ensures)
 
 pub returns-clause-uses : goal.returns-clause-uses
-returns-clause-uses g c =
+returns-clause-uses g c first =
     let m = g.W.Walker in
     let core = c.args.core.now in
     let mid = c.assign-walk.new.self in
@@ -35,7 +35,7 @@ returns-clause-uses g c =
     let walk = c.assign-walk.result.0 in
     let answer = c.assign-walk.result.1 in
     let out = subst (λ v. ∥ IsOut v mid.history.events mid.table.finished c.in-Some.id (seen walk) answer ∥₁) c.assign-walk.ensures.world c.assign-walk.ensures.out in
-    let handed = ready-uses w core.history.events mid.history.events (Assign c.in-Some.id 0) c.in-Some.id mid.table.finished (seen walk) answer refl (λ a. a) c.assign-walk.ensures.history
+    let handed = ready-uses w core.history.events mid.history.events (Assign c.in-Some.id 0) c.in-Some.id mid.table.finished (seen walk) answer refl (λ a. a) c.assign-walk.ensures.history first
     (legal-of seen w core.legal) c.assign-walk.ensures.behind out in
     turn-uses w (m.world_of mid.world) core.history.events mid.history.events after.history.events (m.used c.args.place.now) (due w mid.table.finished (seen walk) answer) (m.used c.work.new.place)
     after.end (due (m.world_of mid.world) mid.table.finished (seen walk) answer) c.assign-walk.ensures.world

@@ -3,6 +3,7 @@ use Rattle.build_scheduler.specs.Own.{seen_by}
 use Rattle.build_plain.specs.Driven.{Drives, IsTurn}
 use Rattle.build_plain.specs.Used.{due}
 use Rattle.build_plain.proofs.Driving.{drives-more, drives-none}
+use Rattle.build_plain.proofs.Fronts.{front-self, front-trans}
 use Rattle.build_plain.proofs.Using.{loop-uses, over-turn, uses-none, unless-any}
 use Rattle.build_plain.proofs.alone.work.Goals as goal
 
@@ -23,6 +24,7 @@ loop-turn-preserved g c =
           c.in-GoesOn.walk c.in-GoesOn.answer c.loop-turn.turn c.step-turn.result before.end after.end same
           (subst (λ turn. IsTurn (seen_by m.world m.position m.asked m.learnt) (m.world_of first.world) before.history.events before.table.finished before.end c.args.id turn) c.in-GoesOn.is c.loop-turn.invariant.turn).0
           c.in-GoesOn.is c.loop-turn.invariant.uses c.step-turn.ensures.uses;
+      front = front-trans (m.used c.args.place.now) (m.used c.loop-turn.place) (m.used c.step-turn.new.place) c.loop-turn.invariant.front c.step-turn.ensures.front;
     }
 
 pub loop-turn-init : goal.loop-turn-init
@@ -34,6 +36,7 @@ loop-turn-init g c =
       drives = drives-none (m.world_of first.world) first.history.events first.history.events refl;
       turn = (c.requires.running, c.requires.out, c.requires.only);
       uses = unless-any first.end _ ∣ uses-none (m.world_of first.world) first.history.events first.history.events _ refl ∣₁;
+      front = front-self (m.used c.args.place.now);
     }
 
 pub returns-clause-uses : goal.returns-clause-uses

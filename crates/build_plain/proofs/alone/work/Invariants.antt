@@ -1,4 +1,5 @@
 use Rattle.std.proofs.Common.{◌≡◌, ◌++◌, length}
+use mathlib.Core.List.{IsPrefix}
 use Rattle.build_scheduler.specs.Own.{seen_by}
 use Rattle.build_plain.specs.Driven.{Drives, IsTurn}
 use Rattle.build_plain.specs.Used.{UnlessMemory, Uses, due_in}
@@ -15,6 +16,7 @@ invariant-loop-turn g l =
       uses : UnlessMemory l.core.end ∥ Uses (m.world_of l.initial.core.world) l.initial.core.history.events l.core.history.events
           (m.used l.initial.place ++ due_in (seen_by m.world m.position m.asked m.learnt) (m.world_of l.initial.core.world) l.initial.core.table.finished l.initial.turn)
           (m.used l.place ++ due_in (seen_by m.world m.position m.asked m.learnt) (m.world_of l.initial.core.world) l.core.table.finished l.turn) ∥₁;
+      front : IsPrefix (m.used l.initial.place) (m.used l.place);
     }
 
 abbrev pub decreases-loop-turn : goal.decreases-loop-turn

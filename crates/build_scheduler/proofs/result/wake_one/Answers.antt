@@ -1,6 +1,6 @@
 use Rattle.std.proofs.Common.{Some, ◌∙◌, ap}
 use Rattle.build_meaning.specs.Lists.{put}
-use Rattle.build_scheduler.specs.declared.slot.Slot.TheVariants.{Ready, Assigned}
+use Rattle.build_scheduler.specs.declared.slot.Slot.TheVariants.{Ready, Done}
 use Rattle.build_scheduler.specs.declared.walker.Answer.TheVariants.{Use}
 use Rattle.build_scheduler.proofs.SlotNumbers.{put-put}
 use Rattle.build_scheduler.proofs.result.wake_one.Goals as goal
@@ -12,5 +12,5 @@ returns-clause-slots g c =
       walk = walk;
       by = c.into_waiting-walk.result.1;
       was = c.replace_slot.ensures.was ∙ ap Some c.into_waiting-walk.ensures;
-      is = c.put_ready.ensures ∙ (ap (λ xs. put xs c.args.number (Ready walk Use)) c.replace_slot.ensures.is ∙ put-put c.args.slots.now.items c.args.number Assigned (Ready walk Use));
+      is = c.put_ready.ensures ∙ (ap (λ xs. put xs c.args.number (Ready walk Use)) c.replace_slot.ensures.is ∙ put-put c.args.slots.now.items c.args.number Done (Ready walk Use));
     }

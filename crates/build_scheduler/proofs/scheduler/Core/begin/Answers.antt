@@ -6,6 +6,7 @@ use Rattle.build_meaning.specs.Lists.{put}
 use Rattle.build_scheduler.specs.Own.{seen_by}
 use Rattle.build_scheduler.proofs.Behind.{behind-event, behind-same, kept-same}
 use Rattle.build_scheduler.proofs.Claiming.{begun-shown, begun-out, shown-room, making-there}
+use Rattle.build_scheduler.proofs.LogRoom.{active-same}
 use Rattle.build_scheduler.proofs.Rooms.{room-shown}
 use Rattle.build_scheduler.proofs.Stopping.{none-stops}
 use Rattle.build_scheduler.proofs.scheduler.Core.begin.Goals as goal
@@ -19,6 +20,7 @@ invariant_of-self-in-Break-branch-2 g c =
           c.in_err-begin.ensures.finished c.in_err-begin.ensures.err x);
       indexed = self.indexed;
       counted = self.counted;
+      active = active-same self.history.events self.history.nodes c.in_ok-claimed.ensures.events c.in_ok-claimed.ensures.nodes self.active;
       few = self.few;
       nested = self.nested;
       stops = ∣ none-stops (m.world_of self.world) _ c.requires.running ∣₁;
@@ -45,6 +47,7 @@ invariant_of-self-2 g c =
       legal = legal;
       indexed = self.indexed;
       counted = self.counted;
+      active = c.push.ensures.active;
       few = self.few;
       nested = self.nested;
       stops = ∣ none-stops (m.world_of self.world) _ c.requires.running ∣₁;
@@ -70,6 +73,7 @@ invariant_of-self g c =
           c.begin_room.ensures.room refl refl refl x);
       indexed = self.indexed;
       counted = self.counted;
+      active = active-same self.history.events self.history.nodes c.begin_room.ensures.events c.begin_room.ensures.nodes self.active;
       few = self.few;
       nested = self.nested;
       stops = ∣ none-stops (m.world_of self.world) _ c.requires.running ∣₁;

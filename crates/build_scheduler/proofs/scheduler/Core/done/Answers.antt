@@ -9,8 +9,8 @@ use Rattle.build_scheduler.proofs.SlotNumbers.{resumed-indexed}
 use Rattle.build_scheduler.proofs.Stopping.{none-stops}
 use Rattle.build_scheduler.proofs.scheduler.Core.done.Goals as goal
 
-pub push-requires : goal.push-requires
-push-requires g c =
+pub push-requires-clause-room : goal.push-requires-clause-room
+push-requires-clause-room g c =
     let m = g.W.Walker in
     let self = c.args.self.now in
     over-room (seen_by m.world m.position m.asked m.learnt) (m.world_of self.world) c.args.id c.args.told self.legal c.requires.asks
@@ -36,6 +36,7 @@ invariant_of-self g c =
       legal = legal;
       indexed = over-indexed (seen_by m.world m.position m.asked m.learnt) (m.world_of self.world) c.args.id c.args.told self.legal c.requires.asks c.put_slot.ensures self.indexed;
       counted = self.counted;
+      active = c.push.ensures.active;
       few = self.few;
       nested = self.nested;
       stops = ∣ tt ∣₁;
@@ -71,6 +72,7 @@ invariant_of-self-in-Some g c =
       indexed = ∥∥₁_map (over-indexed (seen_by m.world m.position m.asked m.learnt) (m.world_of self.world) c.args.id c.args.told self.legal c.requires.asks c.put_slot.ensures self.indexed)
           (λ x. resumed-indexed c.put_slot.new.slots.items c.resume.new.slots.items self.ready c.resume.new.ready self.waiting.items c.in-Some.caller c.args.id c.args.told c.resume.ensures x);
       counted = self.counted;
+      active = c.push.ensures.active;
       few = self.few;
       nested = self.nested;
       stops = ∣ none-stops (m.world_of self.world) _ c.requires.running ∣₁;

@@ -30,8 +30,8 @@ list_new-requires-clause-absent g c =
     let n : vec_len self.slots ≡ length self.slots.items = search rules in
     absent-beyond self.slots.items self.ready self.waiting.items c.len.result (c.len.ensures ∙ n) self.indexed
 
-pub push-requires : goal.push-requires
-push-requires g c =
+pub push-requires-clause-room : goal.push-requires-clause-room
+push-requires-clause-room g c =
     let m = g.W.Walker in
     let self = c.args.self.now in
     spare-room (m.world_of self.world) self.history _ c.requires.spare
@@ -69,6 +69,7 @@ invariant_of-self-in-Ok g c =
           (c.len.ensures ∙ n) c.len-in-Ok.ensures e.slots e.waiting c.requires.ready_room c.list_new.ensures.room c.list_new.ensures.numbers x o y)));
       counted = ∥∥₁_map self.counted (λ k. entered-counted seen c.args.id c.args.walk c.args.calls c.args.children c.requires.children
           self.instances c.add.new.self added e.origins k);
+      active = c.push.ensures.active;
       few = c.in-Ok.ensures.1;
       nested = ∥∥₁_map self.nested (λ v. entered-nested seen c.args.id c.args.walk c.args.calls c.args.children c.requires.children e.origins v);
       stops = ∣ none-stops w _ c.requires.running ∣₁;

@@ -1,4 +1,5 @@
-use Rattle.std.proofs.Common.{◌∷◌, ◌==◌, ◌∙◌, [], ap, refl}
+use Rattle.std.proofs.Common.{◌∷◌, ◌==◌, ◌∙◌, [], ap, refl, sym, subst, arith}
+use Rattle.build_meaning.specs.History.{AreOfNodes, retires}
 use Rattle.build_scheduler.specs.Log.{Logged}
 use Rattle.build_scheduler.specs.Numbers.{Numbered, among}
 use Rattle.build_scheduler.specs.Own.{seen_by}
@@ -26,6 +27,7 @@ invariant_of-result g c =
           (ap (λ waiting. waiting.items) parts.waiting ∙ opening.waiting)
           refl (λ n. ap (λ (ready : Numbered). among n ready.numbers) parts.ready ∙ opening.ready n) ∣₁;
       counted = ∣ counted-root c.args.root c.in_ok-instances.ensures c.in_ok-origins.ensures ∣₁;
+      active = subst (λ (log : Logged). AreOfNodes log.nodes log.events) (sym parts.history) (let none = ap retires opening.events in let one = opening.nodes in omega arith);
       few = few-root c.args.root c.in_ok-instances.ensures;
       nested = ∣ nested-root c.args.root c.in_ok-origins.ensures ∣₁;
       stops = ∣ tt ∣₁;

@@ -7,6 +7,7 @@ use Rattle.build_scheduler.specs.Own.{seen_by}
 use Rattle.build_scheduler.proofs.Behind.{behind-event, behind-same, kept-put}
 use Rattle.build_scheduler.proofs.Entering.{slot-there}
 use Rattle.build_scheduler.proofs.OwnWalks.{there-of}
+use Rattle.build_scheduler.proofs.LogRoom.{active-same}
 use Rattle.build_scheduler.proofs.Rooms.{room-shown, room-indexed, room-stops}
 use Rattle.build_scheduler.proofs.Stopping.{none-stops}
 use Rattle.build_scheduler.proofs.Waiting.{begun-there, unlisted, waited-shown, waits-indexed}
@@ -42,8 +43,9 @@ invariant_of-self g c =
     record {
       legal = legal;
       indexed = ∥∥₁_elim self.legal ∥∥₁_prop (λ x. ∥∥₁_elim c.requires.own ∥∥₁_prop (λ o. ∥∥₁_map self.indexed (λ y.
-          waits-indexed c.args.id c.args.walk c.args.by (there-of seen w x c.args.id (m.position c.args.walk) o.stands).at_slots c.wait_room.ensures.same c.list_waiting.ensures c.put_slot.ensures y)));
+          waits-indexed c.args.id c.args.walk c.args.by (there-of seen w x c.args.id (m.position c.args.walk) o.stands).node (there-of seen w x c.args.id (m.position c.args.walk) o.stands).at_slots c.wait_room.ensures.same c.list_waiting.ensures c.put_slot.ensures y)));
       counted = self.counted;
+      active = c.push.ensures.active;
       few = self.few;
       nested = self.nested;
       stops = ∣ none-stops w _ c.requires.running ∣₁;
@@ -61,6 +63,7 @@ invariant_of-self-in-Err g c =
       legal = ∥∥₁_map self.legal (λ x. room-shown seen w c.wait_room.ensures.events c.wait_room.ensures.room refl refl refl x);
       indexed = ∥∥₁_map self.indexed (λ y. room-indexed refl refl (omega arith) c.wait_room.ensures.same y);
       counted = self.counted;
+      active = active-same self.history.events self.history.nodes c.wait_room.ensures.events c.wait_room.ensures.nodes self.active;
       few = self.few;
       nested = self.nested;
       stops = room-stops w self.end c.wait_room.ensures.events self.stops;

@@ -19,8 +19,8 @@ take_run-requires g c =
     let self = c.args.self.now in
     finishes-there (seen_by m.world m.position m.asked m.learnt) (m.world_of self.world) c.args.id c.args.run.now c.args.made self.legal c.requires.asks
 
-pub push-requires : goal.push-requires
-push-requires g c =
+pub push-requires-clause-room : goal.push-requires-clause-room
+push-requires-clause-room g c =
     let m = g.W.Walker in
     let self = c.args.self.now in
     finishes-room (seen_by m.world m.position m.asked m.learnt) (m.world_of self.world) c.args.id c.args.run.now c.args.made self.legal c.requires.asks
@@ -53,6 +53,7 @@ invariant_of-self g c =
       legal = legal;
       indexed = c.wake.ensures.indexed;
       counted = self.counted;
+      active = c.push.ensures.active;
       few = self.few;
       nested = self.nested;
       stops = ∣ none-stops (m.world_of self.world) _ c.requires.running ∣₁;

@@ -11,6 +11,7 @@ invariant_of-self g c =
       legal = ∥∥₁_map self.legal (λ x. stopped-shown (seen_by m.world m.position m.asked m.learnt) (m.world_of self.world) c.args.end c.requires.shown x);
       indexed = self.indexed;
       counted = self.counted;
+      active = self.active;
       few = self.few;
       nested = self.nested;
       stops = ∣ shows-stop (m.world_of self.world) self.history.events c.args.end c.requires.shown ∣₁;

@@ -5,6 +5,7 @@ use Rattle.build_meaning.specs.declared.event.ClaimKind.TheVariants.{Use}
 use Rattle.build_scheduler.specs.Own.{seen_by}
 use Rattle.build_scheduler.proofs.Behind.{behind-event, behind-same, kept-same}
 use Rattle.build_scheduler.proofs.Claiming.{taken-shown, taken-out}
+use Rattle.build_scheduler.proofs.LogRoom.{active-same}
 use Rattle.build_scheduler.proofs.Rooms.{room-kept, room-shown}
 use Rattle.build_scheduler.proofs.Stopping.{none-stops}
 use Rattle.build_scheduler.proofs.scheduler.Core.take_record.Goals as goal
@@ -21,6 +22,7 @@ invariant_of-self-2 g c =
       legal = legal;
       indexed = self.indexed;
       counted = self.counted;
+      active = c.push.ensures.active;
       few = self.few;
       nested = self.nested;
       stops = ∣ none-stops (m.world_of self.world) _ c.requires.running ∣₁;
@@ -45,6 +47,7 @@ invariant_of-self g c =
           (room-kept c.reserve.result self.history.room c.reserve.new.self.room 1 c.reserve.ensures.ok c.reserve.ensures.err) refl refl refl x);
       indexed = self.indexed;
       counted = self.counted;
+      active = active-same self.history.events self.history.nodes c.reserve.ensures.events c.reserve.ensures.nodes self.active;
       few = self.few;
       nested = self.nested;
       stops = ∣ none-stops (m.world_of self.world) _ c.requires.running ∣₁;

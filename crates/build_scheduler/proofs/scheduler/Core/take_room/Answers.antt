@@ -4,6 +4,7 @@ use Rattle.build_scheduler.specs.Instances.{AreCounted, instance_asked}
 use Rattle.build_scheduler.specs.Own.{seen_by}
 use Rattle.build_scheduler.specs.Shown.{AreNested}
 use Rattle.build_scheduler.proofs.Behind.{behind-same}
+use Rattle.build_scheduler.proofs.LogRoom.{active-same}
 use Rattle.build_scheduler.proofs.Rooms.{room-kept, room-shown, room-indexed, room-stops, same-numbers, spare-of, unready-room}
 use Rattle.build_scheduler.proofs.scheduler.Core.take_room.Goals as goal
 
@@ -16,10 +17,11 @@ invariant_of-self g c =
       legal = ∥∥₁_map self.legal (λ x. room-shown (seen_by m.world m.position m.asked m.learnt) (m.world_of self.world) refl (omega arith) r.origins r.slots r.making x);
       indexed = ∥∥₁_map self.indexed (λ x. room-indexed r.slots refl (omega arith) (same-numbers r.waiting) x);
       counted = subst (λ os. ∥ AreCounted self.instances (map instance_asked os) ∥₁) (sym r.origins) self.counted;
+      active = self.active;
       few = self.few;
       nested = subst (λ os. ∥ AreNested os ∥₁) (sym r.origins) self.nested;
       stops = self.stops;
-      behind = behind-same (seen_by m.world m.position m.asked m.learnt) (m.world_of self.world) refl r.slots self.behind;
+      behind = behind-same (seen_by m.world m.position m.asked m.learnt) (m.world_of self.world) {events = self.history.events} refl r.slots self.behind;
     }
 
 pub invariant_of-self-in-Break-branch-3 : goal.invariant_of-self-in-Break-branch-3
@@ -31,10 +33,11 @@ invariant_of-self-in-Break-branch-3 g c =
       legal = ∥∥₁_map self.legal (λ x. room-shown (seen_by m.world m.position m.asked m.learnt) (m.world_of self.world) refl (omega arith) r.origins r.slots r.making x);
       indexed = ∥∥₁_map self.indexed (λ x. room-indexed r.slots c.reserve.ensures.numbers (omega (arith, c.in_err-reserve.ensures.err)) (same-numbers r.waiting) x);
       counted = subst (λ os. ∥ AreCounted self.instances (map instance_asked os) ∥₁) (sym r.origins) self.counted;
+      active = self.active;
       few = self.few;
       nested = subst (λ os. ∥ AreNested os ∥₁) (sym r.origins) self.nested;
       stops = self.stops;
-      behind = behind-same (seen_by m.world m.position m.asked m.learnt) (m.world_of self.world) refl r.slots self.behind;
+      behind = behind-same (seen_by m.world m.position m.asked m.learnt) (m.world_of self.world) {events = self.history.events} refl r.slots self.behind;
     }
 
 pub invariant_of-self-2 : goal.invariant_of-self-2
@@ -46,6 +49,7 @@ invariant_of-self-2 g c =
       legal = ∥∥₁_map self.legal (λ x. room-shown (seen_by m.world m.position m.asked m.learnt) (m.world_of self.world) c.reserve-2.ensures.events (room-kept c.reserve-2.result self.history.room c.reserve-2.new.self.room c.in_ok-events.events c.reserve-2.ensures.ok c.reserve-2.ensures.err) r.origins r.slots r.making x);
       indexed = ∥∥₁_map self.indexed (λ x. room-indexed r.slots c.reserve.ensures.numbers (omega (arith, c.in_ok-reserve.ensures.ok)) (same-numbers r.waiting) x);
       counted = subst (λ os. ∥ AreCounted self.instances (map instance_asked os) ∥₁) (sym r.origins) self.counted;
+      active = active-same self.history.events self.history.nodes c.reserve-2.ensures.events c.reserve-2.ensures.nodes self.active;
       few = self.few;
       nested = subst (λ os. ∥ AreNested os ∥₁) (sym r.origins) self.nested;
       stops = room-stops (m.world_of self.world) self.end c.reserve-2.ensures.events self.stops;
