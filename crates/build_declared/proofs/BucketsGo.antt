@@ -21,8 +21,8 @@ use Rattle.task_trait.specs.declared.tools.ToolAnswer.{ToolAnswer}
 use Rattle.task_trait.specs.declared.tools.ToolInput.{ToolInput}
 use Rattle.target_body.specs.Work.{Work, unless_stopped, each_in_turn}
 use Rattle.target_body.specs.States.{Run, State, Stopped, state_at, state_of, entered, outcome_of}
-use Rattle.target_body.specs.Pieces.{lists_at, choice_of}
-use Rattle.build_declared.specs.Chosen.{all_of, bucket_by}
+use Rattle.target_body.specs.Pieces.{lists_at, choice_of, bucket_by}
+use Rattle.build_declared.specs.Chosen.{all_of}
 use Rattle.build_declared.specs.Written.{bytes_in, AnyPath}
 use Rattle.build_declared.specs.Ends.{End, end_of}
 use Rattle.build_declared.specs.Pieces.{Piece, piece_if, then_pieces, pieces_among}

@@ -48,8 +48,8 @@ use Rattle.target_incremental.specs.declared.decision.Choice.{Choice}
 use Rattle.target_incremental.specs.declared.decision.Choice.TheVariants.{Run as RunAll, Skip, Part}
 use Rattle.target_texts.specs.Lists.{Lists}
 use Rattle.target_body.specs.States.{Run, State, view_of}
-use Rattle.target_body.specs.Pieces.{choice_of}
-use Rattle.build_declared.specs.Chosen.{Chooser, all_or_nothing, all_of}
+use Rattle.target_body.specs.Pieces.{choice_of, Chooser}
+use Rattle.build_declared.specs.Chosen.{all_or_nothing, all_of}
 use Rattle.build_declared.specs.Declared.{MayChoose}
 use Rattle.build_declared.specs.Sublists.{kept_if, kept}
 

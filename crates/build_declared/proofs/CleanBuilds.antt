@@ -29,12 +29,13 @@ use Rattle.build_incremental.proofs.Whole.{whole-too}
 use Rattle.task_trait.specs.declared.tools.ToolAnswer.{ToolAnswer}
 use Rattle.task_trait.specs.declared.tools.ToolInput.{ToolInput}
 use Rattle.target_body.specs.Bodies.{body}
+use Rattle.target_body.specs.States.{run_at}
+use Rattle.request_machine.specs.Walk.{Site}
 use Rattle.build_declared.specs.Declared.{IsDeclared, DeclaredAt}
 use Rattle.build_declared.specs.Written.{bytes_in, AnyPath}
 use Rattle.build_declared.specs.Fresh.{IsFresh, FreshAt}
-use Rattle.build_declared.specs.Places.{Site, run_at}
+use Rattle.build_declared.specs.Builds.{world_by}
 use Rattle.build_declared.specs.Skipped.{TakesLists}
-use Rattle.build_declared.specs.Worlds.{world_by}
 use Rattle.build_declared.proofs.Sides.{sides}
 
 module _ (tools : List ℕ → ToolInput → ToolAnswer) (files : List File) where

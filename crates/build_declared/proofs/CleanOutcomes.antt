@@ -23,12 +23,11 @@ use Rattle.target_incremental.specs.declared.decision.Choice.TheVariants.{
   Nothing,
   Part,
 }
-use Rattle.target_body.specs.States.{entered}
+use Rattle.target_body.specs.States.{entered, run_at}
 use Rattle.build_declared.specs.Declared.{IsDeclared, MayChoose}
 use Rattle.build_declared.specs.Written.{bytes_in, AnyPath}
 use Rattle.build_declared.specs.Fresh.{IsFresh}
-use Rattle.build_declared.specs.Places.{run_at}
-use Rattle.build_declared.specs.Worlds.{world_by}
+use Rattle.build_declared.specs.Builds.{world_by}
 use Rattle.build_declared.proofs.Choices.{decided-may}
 use Rattle.build_declared.proofs.CleanBuilds.{incremental-is-clean}
 use Rattle.build_declared.proofs.PieceParts.{part-goes}

@@ -10,8 +10,8 @@ use Rattle.build_meaning.specs.Demand.{IsWhole}
 use Rattle.msb_files.specs.FinalTree.{IsFinalTree}
 use Rattle.task_trait.specs.declared.tools.ToolAnswer.{ToolAnswer}
 use Rattle.task_trait.specs.declared.tools.ToolInput.{ToolInput}
-use Rattle.request_machine.specs.Worlds.{root_of, world_of}
-use Rattle.build_declared.specs.Builds.{in_mode, instances_of}
+use Rattle.request_machine.specs.Worlds.{root_of, world_of, instances_of}
+use Rattle.build_declared.specs.Builds.{in_mode}
 use Rattle.build_declared.specs.Written.{bytes_in}
 use Rattle.build_declared.specs.Clean.{IsTrustworthy, GivesClean}
 use Rattle.build_declared.proofs.CleanOutcomes.{incremental-is-clean-so}

@@ -72,17 +72,20 @@ use Rattle.target_body.specs.States.{
   outcome_of,
   place_in,
   view_of,
+  run_at,
 }
-use Rattle.target_body.specs.Pieces.{lists_at, choice_of, decided, or_failed}
-use Rattle.build_declared.specs.Chosen.{
+use Rattle.target_body.specs.Pieces.{
+  lists_at,
+  choice_of,
+  decided,
+  or_failed,
   Chooser,
-  all_of,
-  all_or_nothing,
   chosen_or_run,
   bucket_by,
-  buckets_by,
-  work_by,
 }
+use Rattle.target_body.specs.Bodies.{buckets_by, work_by}
+use Rattle.request_machine.specs.Worlds.{body_at}
+use Rattle.build_declared.specs.Chosen.{all_of, all_or_nothing}
 use Rattle.build_declared.specs.Declared.{
   IsNotTooLarge,
   SucceedsWith,
@@ -104,9 +107,7 @@ use Rattle.build_declared.specs.Pieces.{
   pieces_of,
   end_of_piece,
 }
-use Rattle.build_declared.specs.Places.{run_at}
 use Rattle.build_declared.specs.Skipped.{TakesLists}
-use Rattle.build_declared.specs.Worlds.{body_if}
 use Rattle.build_declared.specs.Written.{bytes_in, AnyPath, since}
 use Rattle.build_declared.proofs.Alones.{some-same, end-bound, bound-end, alone-end}
 use Rattle.build_declared.proofs.BucketsGo.{
@@ -595,7 +596,7 @@ module _ (tools : List ℕ → ToolInput → ToolAnswer) (files : List File) (ta
     pub record RunFares (q : Piece) : Type 0 where
       pub outcome : Outcome
       pub total : List Act
-      pub ends : alone tools id (body_if files mode id (Some target) scope j) j []
+      pub ends : alone tools id (body_at files mode id (Some target) scope j) j []
           ≡ Some (outcome, total)
       pub counter : HasCounterpart tools id run scope j k a fw fc total
           (pieces_of tools id (choice_of run) run scope j) q

@@ -55,8 +55,15 @@ use Rattle.target_body.specs.States.{
   place_in,
 }
 use Rattle.target_body.specs.Returned.{items_if, returned}
-use Rattle.target_body.specs.Pieces.{lists_at, choice_of, decided, word_of, or_failed}
-use Rattle.build_declared.specs.Chosen.{all_of, all_or_nothing, chosen_or_run}
+use Rattle.target_body.specs.Pieces.{
+  lists_at,
+  choice_of,
+  decided,
+  word_of,
+  or_failed,
+  chosen_or_run,
+}
+use Rattle.build_declared.specs.Chosen.{all_of, all_or_nothing}
 use Rattle.build_declared.specs.Written.{bytes_in, AnyPath}
 use Rattle.build_declared.specs.Ends.{End, end_of}
 use Rattle.build_declared.specs.Pieces.{one_if, piece_if, pieces_among, then_pieces}

@@ -78,10 +78,10 @@ use Rattle.build_incremental.proofs.Pairs.{found-first}
 use Rattle.msb_files.specs.FinalTree.{commit_list}
 use Rattle.task_trait.specs.declared.tools.ToolAnswer.{ToolAnswer}
 use Rattle.task_trait.specs.declared.tools.ToolInput.{ToolInput}
+use Rattle.request_machine.specs.Walk.{Site}
 use Rattle.build_declared.specs.Declared.{IsDeclared, DeclaredAt}
 use Rattle.build_declared.specs.Fresh.{IsFresh, FreshAt}
-use Rattle.build_declared.specs.Places.{Site}
-use Rattle.build_declared.specs.Worlds.{world_by}
+use Rattle.build_declared.specs.Builds.{world_by}
 use Rattle.build_declared.specs.Written.{bytes_in, AnyPath}
 use Rattle.build_declared.proofs.CleanOutcomes.{pieces-go}
 use Rattle.build_declared.proofs.LastWrites.{RunAtLast}

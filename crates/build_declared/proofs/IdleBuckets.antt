@@ -57,8 +57,8 @@ use Rattle.target_incremental.specs.declared.decision.Choice.TheVariants.{
 use Rattle.target_texts.specs.Lists.{Lists}
 use Rattle.target_body.specs.Work.{Work, done, followed_by, unless_stopped, each_in_turn}
 use Rattle.target_body.specs.States.{Run, State, Stopped, entered, or_stop, state_at, state_of}
-use Rattle.target_body.specs.Pieces.{lists_at, choice_of, decided, or_failed}
-use Rattle.build_declared.specs.Chosen.{all_of, all_or_nothing, chosen_or_run}
+use Rattle.target_body.specs.Pieces.{lists_at, choice_of, decided, or_failed, chosen_or_run}
+use Rattle.build_declared.specs.Chosen.{all_of, all_or_nothing}
 use Rattle.build_declared.specs.Written.{bytes_in, AnyPath}
 use Rattle.build_declared.specs.Ends.{End, end_of}
 use Rattle.build_declared.specs.NoOlder.{PieceIsNoOlder}

@@ -135,8 +135,17 @@ use Rattle.target_body.specs.Children.{
   children,
 }
 use Rattle.target_body.specs.Returned.{items_if, returned}
-use Rattle.target_body.specs.Pieces.{lists_at, treated, on_old, word_of, decided, or_failed}
-use Rattle.build_declared.specs.Chosen.{Chooser, chosen_or_run, bucket_by}
+use Rattle.target_body.specs.Pieces.{
+  lists_at,
+  treated,
+  on_old,
+  word_of,
+  decided,
+  or_failed,
+  Chooser,
+  chosen_or_run,
+  bucket_by,
+}
 use Rattle.build_declared.specs.Ends.{End, end_of}
 use Rattle.build_declared.proofs.Alones.{some-same, end-bound, KeepsNotes, keeps-then, keeps-each}
 

@@ -57,7 +57,15 @@ use Rattle.target_incremental.specs.declared.decision.Choice.TheVariants.{
 }
 use Rattle.target_texts.specs.Lists.{Lists}
 use Rattle.target_texts.specs.Returned.{returns_of}
-use Rattle.target_body.specs.Pieces.{as_failed, choice_of, decided, lists_at, or_failed}
+use Rattle.target_body.specs.Pieces.{
+  as_failed,
+  choice_of,
+  decided,
+  lists_at,
+  or_failed,
+  bucket_by,
+  chosen_or_run,
+}
 use Rattle.target_body.specs.Returned.{items_if, returned}
 use Rattle.target_body.specs.States.{
   Run,
@@ -71,16 +79,12 @@ use Rattle.target_body.specs.States.{
   with_decision,
   with_items,
   with_notes,
+  run_at,
 }
 use Rattle.target_body.specs.Work.{Work, done, followed_by, unless_stopped, each_in_turn}
-use Rattle.build_declared.specs.Chosen.{
-  all_of,
-  all_or_nothing,
-  bucket_by,
-  buckets_by,
-  chosen_or_run,
-  work_by,
-}
+use Rattle.target_body.specs.Bodies.{buckets_by, work_by}
+use Rattle.request_machine.specs.Worlds.{body_at}
+use Rattle.build_declared.specs.Chosen.{all_of, all_or_nothing}
 use Rattle.build_declared.specs.Declared.{
   DeclaredBy,
   PieceIsDeclared,
@@ -98,8 +102,6 @@ use Rattle.build_declared.specs.Pieces.{
   pieces_in,
   then_pieces,
 }
-use Rattle.build_declared.specs.Places.{run_at}
-use Rattle.build_declared.specs.Worlds.{body_if}
 use Rattle.build_declared.specs.Written.{bytes_in, AnyPath, since}
 use Rattle.build_declared.proofs.Alones.{some-same, end-bound, bound-end, alone-end}
 use Rattle.build_declared.proofs.BucketsGo.{buckets-go, outcomes-alike}
@@ -356,7 +358,7 @@ module _ (tools : List ℕ → ToolInput → ToolAnswer) (files : List File) (ta
   pub record RunOwns (pieces : List Piece) : Type 0 where
     pub outcome : Outcome
     pub total : List Act
-    pub ends : alone tools id (body_if files mode id (Some target) scope j) j []
+    pub ends : alone tools id (body_at files mode id (Some target) scope j) j []
         ≡ Some (outcome, total)
     pub owned : ((q : Piece) → In q pieces →
         (u : State) × (more : List Act) × SucceedsWith tools id clean q u more) →

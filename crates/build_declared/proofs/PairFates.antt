@@ -67,8 +67,8 @@ use Rattle.target_incremental.specs.declared.decision.Choice.TheVariants.{
 }
 use Rattle.target_texts.specs.Lists.{Lists}
 use Rattle.target_body.specs.States.{Run, State, Stopped, entered, view_of}
-use Rattle.target_body.specs.Pieces.{choice_of, decided}
-use Rattle.build_declared.specs.Chosen.{Chooser, all_or_nothing}
+use Rattle.target_body.specs.Pieces.{choice_of, decided, Chooser}
+use Rattle.build_declared.specs.Chosen.{all_or_nothing}
 use Rattle.build_declared.specs.Declared.{MayChoose}
 use Rattle.build_declared.specs.Ends.{End, end_of}
 use Rattle.build_declared.specs.Fresh.{Pairing, pairs_of, WritesSame}

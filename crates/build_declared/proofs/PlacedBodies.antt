@@ -14,7 +14,7 @@ use Rattle.result_cache.specs.declared.run.RunId.{RunId}
 use Rattle.result_cache.specs.declared.request.RequestKey.{RequestKey}
 use Rattle.result_cache.specs.Journal.{Journal}
 use Rattle.build_meaning.specs.Walk.{Body, Reply}
-use Rattle.build_incremental.specs.Placed.{Placed}
+use Rattle.build_incremental.specs.Placed.{Placed, replies}
 use Rattle.build_incremental.proofs.BodyFacts.{HasBody}
 use Rattle.build_incremental.proofs.Demands.{Tells}
 use Rattle.task_trait.specs.declared.tools.ToolAnswer.{ToolAnswer}
@@ -28,9 +28,18 @@ use Rattle.request_machine.specs.Requests.{
   all_targets,
   has_no_targets,
 }
-use Rattle.request_machine.specs.Walk.{run_of, answer_of, after_run, nothing_ran}
-use Rattle.build_declared.specs.Places.{Site, or_replies, placed}
-use Rattle.build_declared.specs.Worlds.{body_if, bodies_in, placed_unless, placed_by, world_by}
+use Rattle.request_machine.specs.Walk.{
+  run_of,
+  answer_of,
+  after_run,
+  nothing_ran,
+  Site,
+  or_failed,
+  request_tree,
+  request_unless,
+}
+use Rattle.request_machine.specs.Worlds.{body_at, bodies_at, request_by}
+use Rattle.build_declared.specs.Builds.{places, world_by}
 
 -- what is said of each body that a request wants
 module _ (B : Site → RunId → Journal → Body ToolInput ToolAnswer → Type 0) (p : Project)
@@ -39,43 +48,43 @@ module _ (B : Site → RunId → Journal → Body ToolInput ToolAnswer → Type 
     B (record { target = target_at p name; scope = scope }) (run_of p.key name) j
     (bodies name scope j)) where
   or-tells : {X : Type 0} (x : Result X EvalFault) (next : X → Placed Site ToolInput ToolAnswer)
-      (j : Journal) → ((z : X) → Tells B (next z) j) → Tells B (or_replies x next) j
+      (j : Journal) → ((z : X) → Tells B (next z) j) → Tells B (or_failed replies x next) j
   or-tells (Ok z) next j h = h z
   or-tells (Err fault) next j h = tt
 
   pub placed-tells : (tree : Asking Question OrderAnswer End) (s : Standing) (j : Journal) →
-      Tells B (placed p key bodies tree s j) j
+      Tells B (request_tree places p key bodies tree s j) j
   placed-tells (ends end) s j = tt
   placed-tells (asks (condition name) go) s j =
       or-tells (holds_of p s.scope j (target_at p name))
-      (λ holds. placed p key bodies (go (Truth holds)) s j) j
+      (λ holds. request_tree places p key bodies (go (Truth holds)) s j) j
       (λ holds. placed-tells (go (Truth holds)) s j)
   placed-tells (asks (depends name) go) s j =
       or-tells (depends_of p s.scope (target_at p name))
-      (λ names. placed p key bodies (go (Names names)) s j) j
+      (λ names. request_tree places p key bodies (go (Names names)) s j) j
       (λ names. placed-tells (go (Names names)) s j)
   placed-tells (asks (body name) go) s j = (
     each name s.scope j,
     λ made then.
         let after : Standing = after_run s name made in
         or-tells (answer_of p made.ok after then name)
-        (λ answer. placed p key bodies (go answer) after then) then
+        (λ answer. request_tree places p key bodies (go answer) after then) then
         (λ answer. placed-tells (go answer) after then),
   )
 
 module _ (files : List File) (mode : Mode) where
   -- the body of a run at its place
   abbrev pub bodies_of : Site → RunId → Journal → Body ToolInput ToolAnswer
-  bodies_of site id journal = body_if files mode id site.target site.scope journal
+  bodies_of site id journal = body_at files mode id site.target site.scope journal
 
   unless-tells : (b : Bool) (p : Project) (key : RequestKey) (j : Journal) →
-      Tells (HasBody bodies_of) (placed_unless b files mode p key j) j
+      Tells (HasBody bodies_of) (request_unless places p key (bodies_at files mode p) b j) j
   unless-tells true p key j = tt
-  unless-tells false p key j = placed-tells (HasBody bodies_of) p key (bodies_in files mode p)
+  unless-tells false p key j = placed-tells (HasBody bodies_of) p key (bodies_at files mode p)
       (λ name scope j. refl) (order p.instance.rows (all_targets p.instance key)) (nothing_ran p) j
 
   by-tells : (key : RequestKey) (j : Journal) (x : Result Instance Reply) →
-      Tells (HasBody bodies_of) (placed_by files mode key j x) j
+      Tells (HasBody bodies_of) (request_by places files mode key j x) j
   by-tells key j (Err reply) = tt
   by-tells key j (Ok instance) =
       let p : Project = record { files = files; key = key.instance; instance = instance } in

@@ -64,18 +64,19 @@ use Rattle.target_body.specs.States.{
   or_stop,
   place_in,
   outcome_of,
+  run_at,
 }
-use Rattle.target_body.specs.Pieces.{lists_at, choice_of, decided, as_failed, or_failed}
-use Rattle.target_body.specs.Bodies.{body}
-use Rattle.build_declared.specs.Chosen.{
-  all_of,
-  all_or_nothing,
+use Rattle.target_body.specs.Pieces.{
+  lists_at,
+  choice_of,
+  decided,
+  as_failed,
+  or_failed,
   chosen_or_run,
   bucket_by,
-  buckets_by,
-  work_by,
-  body_by,
 }
+use Rattle.target_body.specs.Bodies.{body, buckets_by, work_by, body_by}
+use Rattle.build_declared.specs.Chosen.{all_of, all_or_nothing}
 use Rattle.build_declared.specs.Declared.{
   MayChoose,
   IsNotTooLarge,
@@ -87,7 +88,6 @@ use Rattle.build_declared.specs.Written.{bytes_in, AnyPath}
 use Rattle.build_declared.specs.Ends.{End, end_of}
 use Rattle.build_declared.specs.Fresh.{PieceIsFresh}
 use Rattle.build_declared.specs.Pieces.{Piece, one_if, piece_if, pieces_among, pieces_in}
-use Rattle.build_declared.specs.Places.{run_at}
 use Rattle.build_declared.specs.Skipped.{TakesLists}
 use Rattle.build_declared.proofs.Alones.{some-same, end-bound, bound-end, alone-end}
 use Rattle.build_declared.proofs.BucketsGo.{

@@ -147,16 +147,12 @@ use Rattle.target_body.specs.Pieces.{
   decided,
   as_failed,
   or_failed,
-}
-use Rattle.build_declared.specs.Written.{bytes_in}
-use Rattle.build_declared.specs.Chosen.{
   Chooser,
   chosen_or_run,
   bucket_by,
-  buckets_by,
-  work_by,
-  body_by,
 }
+use Rattle.target_body.specs.Bodies.{buckets_by, work_by, body_by}
+use Rattle.build_declared.specs.Written.{bytes_in}
 use Rattle.build_declared.proofs.Twins.{
   AlikeWork,
   bound,

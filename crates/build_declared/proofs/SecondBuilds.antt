@@ -59,9 +59,9 @@ use Rattle.task_trait.specs.declared.tools.ToolAnswer.{ToolAnswer}
 use Rattle.task_trait.specs.declared.tools.ToolInput.{ToolInput}
 use Rattle.target_texts.specs.Returned.{in_target}
 use Rattle.target_body.specs.Bodies.{body, buckets_at}
-use Rattle.target_body.specs.Pieces.{lists_at, choice_of}
-use Rattle.target_body.specs.States.{Run, State, Stopped, begun, entered, place_in}
-use Rattle.build_declared.specs.Chosen.{Chooser, bucket_by}
+use Rattle.target_body.specs.Pieces.{lists_at, choice_of, Chooser, bucket_by}
+use Rattle.target_body.specs.States.{Run, State, Stopped, begun, entered, place_in, run_at}
+use Rattle.request_machine.specs.Walk.{Site}
 use Rattle.build_declared.specs.Declared.{IsDeclared, clean_pieces}
 use Rattle.build_declared.specs.Ends.{End, end_of}
 use Rattle.build_declared.specs.Fresh.{IsFresh}
@@ -75,10 +75,9 @@ use Rattle.build_declared.specs.Pieces.{
   pieces_in,
   pieces_of,
 }
-use Rattle.build_declared.specs.Places.{Site, run_at}
+use Rattle.build_declared.specs.Builds.{world_by}
 use Rattle.build_declared.specs.Settled.{pieces_at, is_of, FreeRunsKeepOff}
 use Rattle.build_declared.specs.Skipped.{TakesLists, SkippedAt}
-use Rattle.build_declared.specs.Worlds.{world_by}
 use Rattle.build_declared.specs.Written.{bytes_in, AnyPath}
 use Rattle.build_declared.proofs.Choices.{clean-all}
 use Rattle.build_declared.proofs.CleanBuilds.{Known as KnownClean, Asked, all-known}

@@ -48,14 +48,14 @@ use Rattle.msb_items.specs.Places.{Place}
 use Rattle.target_texts.specs.Lists.{Lists, lists_by}
 use Rattle.target_texts.specs.Returned.{in_target}
 use Rattle.target_body.specs.Bodies.{body}
-use Rattle.target_body.specs.States.{Run, place_in}
+use Rattle.target_body.specs.States.{Run, place_in, run_at}
 use Rattle.target_body.specs.Pieces.{lists_at, choice_of}
 use Rattle.request_machine.specs.Requests.{Project, all_targets, target_at, has_no_targets}
-use Rattle.request_machine.specs.Walk.{run_of, nothing_ran}
+use Rattle.request_machine.specs.Walk.{run_of, nothing_ran, Site, request_unless}
+use Rattle.request_machine.specs.Worlds.{body_at, bodies_at, request_by}
 use Rattle.build_declared.specs.Written.{bytes_in}
-use Rattle.build_declared.specs.Places.{Site, run_at}
+use Rattle.build_declared.specs.Builds.{places, world_by}
 use Rattle.build_declared.specs.Skipped.{TakesLists}
-use Rattle.build_declared.specs.Worlds.{body_if, bodies_in, placed_unless, placed_by, world_by}
 use Rattle.build_declared.proofs.Looks.{looks-same}
 use Rattle.build_declared.proofs.PlacedWalks.{walks-go}
 use Rattle.build_declared.proofs.SameRuns.{body-twin, ChooseSame}
@@ -142,8 +142,8 @@ module _ (tools : List ℕ → ToolInput → ToolAnswer) (files : List File) (W 
   each-run : (o : Option UsedTarget) (scope : Scope) (id : RunId) (j k : Journal) →
       AlikeJournals (bytes_in files) W j k → (made : Record) →
       Q (record { target = o; scope = scope }) id k made → HasNotActed id j → HasNotActed id k →
-      AlikeRuns (bytes_in files) W tools id j k (body_if files Incremental id o scope j)
-      (body_if files Clean id o scope k) made (Q' (record { target = o; scope = scope }) id j)
+      AlikeRuns (bytes_in files) W tools id j k (body_at files Incremental id o scope j)
+      (body_at files Clean id o scope k) made (Q' (record { target = o; scope = scope }) id j)
   each-run None scope id j k a made q fw fc =
       let none : (target : UsedTarget) → None ≡ Some target → TakesLists target → ⊥ =
       λ target e t. absurd (cc) in
@@ -171,20 +171,21 @@ module _ (tools : List ℕ → ToolInput → ToolAnswer) (files : List File) (W 
 
     requests : (key : RequestKey) (j k : Journal) → AlikeJournals (bytes_in files) W j k →
         (x : Result Instance Reply) →
-        AlikeWalks (bytes_in files) W Q' Q tools (placed_by files Incremental key j x)
-        (placed_by files Clean key k x) j k
+        AlikeWalks (bytes_in files) W Q' Q tools (request_by places files Incremental key j x)
+        (request_by places files Clean key k x) j k
     requests key j k a (Err reply) = refl
     requests key j k a (Ok instance) =
         let p : Project = record { files = files; key = key.instance; instance = instance } in
         go p (has_no_targets instance key)
       where
-        go : (p : Project) (b : Bool) → AlikeWalks (bytes_in files) W Q' Q tools
-            (placed_unless b files Incremental (record p { files = files }) key j)
-            (placed_unless b files Clean (record p { files = files }) key k) j k
+        go : (p : Project) (b : Bool) → let q : Project = record p { files = files } in
+            AlikeWalks (bytes_in files) W Q' Q tools
+            (request_unless places q key (bodies_at files Incremental q) b j)
+            (request_unless places q key (bodies_at files Clean q) b k) j k
         go p true = refl
         go p false =
             let q : Project = record p { files = files } in
-            walks-go q key W Q' Q tools (bodies_in files Incremental q) (bodies_in files Clean q)
+            walks-go q key W Q' Q tools (bodies_at files Incremental q) (bodies_at files Clean q)
             (λ name scope i l b made h fw fc. each-run (target_at q name) scope
             (run_of q.key name) i l b made h fw fc)
             (order q.instance.rows (all_targets q.instance key)) (nothing_ran q) j k a

@@ -63,14 +63,14 @@ use Rattle.target_body.specs.States.{
   place_in,
   state_of,
   outcome_of,
+  run_at,
 }
-use Rattle.target_body.specs.Pieces.{lists_at, choice_of, or_failed}
-use Rattle.target_body.specs.Bodies.{body}
-use Rattle.build_declared.specs.Chosen.{all_of, all_or_nothing, bucket_by, buckets_by}
+use Rattle.target_body.specs.Pieces.{lists_at, choice_of, or_failed, bucket_by}
+use Rattle.target_body.specs.Bodies.{body, buckets_by}
+use Rattle.build_declared.specs.Chosen.{all_of, all_or_nothing}
 use Rattle.build_declared.specs.Declared.{RunIsDeclared, DeclaredBy, DeclaredAt, clean_pieces}
 use Rattle.build_declared.specs.Fresh.{PieceIsFresh, FreshAt}
 use Rattle.build_declared.specs.Pieces.{Piece, piece_if, pieces_among, pieces_in}
-use Rattle.build_declared.specs.Places.{run_at}
 use Rattle.build_declared.specs.Skipped.{TakesLists, IsIdle, up_to_date, pieces_met}
 use Rattle.build_declared.specs.Written.{bytes_in, AnyPath}
 use Rattle.build_declared.proofs.BucketsGo.{Carry, AreSo, BucketGoes}

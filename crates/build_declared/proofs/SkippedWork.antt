@@ -70,8 +70,15 @@ use Rattle.target_body.specs.Children.{
   children,
 }
 use Rattle.target_body.specs.Returned.{items_if, returned}
-use Rattle.target_body.specs.Pieces.{lists_at, decided, word_of, or_failed}
-use Rattle.build_declared.specs.Chosen.{Chooser, chosen_or_run, bucket_by}
+use Rattle.target_body.specs.Pieces.{
+  lists_at,
+  decided,
+  word_of,
+  or_failed,
+  Chooser,
+  chosen_or_run,
+  bucket_by,
+}
 
 -- ---- words
 

@@ -61,17 +61,19 @@ use Rattle.request_machine.specs.Requests.{
   has_no_targets,
   unevaluated,
 }
-use Rattle.request_machine.specs.Walk.{run_of, nothing_ran}
-use Rattle.request_machine.specs.Worlds.{root_of, world_of}
-use Rattle.build_declared.specs.Builds.{
+use Rattle.request_machine.specs.Walk.{run_of, nothing_ran, Site, request_tree, request_unless}
+use Rattle.request_machine.specs.Worlds.{
+  root_of,
+  world_of,
   instance_by,
   instance_if,
   instances_of,
-  in_mode,
-  placed_world,
+  body_at,
+  bodies_at,
+  request_by,
 }
+use Rattle.build_declared.specs.Builds.{in_mode, placed_world, places}
 use Rattle.build_declared.specs.Clean.{IsTrustworthy}
-use Rattle.build_declared.specs.Places.{Site, placed}
 use Rattle.build_declared.specs.Skipped.{
   TakesLists,
   target_by,
@@ -81,7 +83,6 @@ use Rattle.build_declared.specs.Skipped.{
   SkippedAt,
 }
 use Rattle.build_declared.specs.UpToDate.{IsUpToDate, SkipsEach}
-use Rattle.build_declared.specs.Worlds.{body_if, bodies_in, placed_unless, placed_by}
 use Rattle.build_declared.proofs.CleanBuilds.{Asked}
 use Rattle.build_declared.proofs.CleanOutcomes.{pieces-go}
 use Rattle.build_declared.proofs.PlacedBodies.{placed-tells}
@@ -106,16 +107,16 @@ module _ (files : List File) where
   -- the body and the target at a place are those of its run
   pub record IsPlaced (site : Site) (id : RunId) (j : Journal) (b : Body ToolInput ToolAnswer)
       : Type 0 where
-    pub body_is : b ≡ body_if files Incremental id site.target site.scope j
+    pub body_is : b ≡ body_at files Incremental id site.target site.scope j
     pub target_is : site.target ≡ target_of files id
 
   module _ (p : Project) (key : RequestKey)
       (at : (name : List ℕ) → target_at p name ≡ target_of files (run_of p.key name)) where
     abbrev bodies : List ℕ → Scope → Journal → Body ToolInput ToolAnswer
-    bodies = bodies_in files Incremental p
+    bodies = bodies_at files Incremental p
 
     tells-tree : (tree : Asking Question OrderAnswer End) (s : Standing) (j : Journal) →
-        Tells IsPlaced (placed p key bodies tree s j) j
+        Tells IsPlaced (request_tree places p key bodies tree s j) j
     tells-tree = placed-tells IsPlaced p key bodies
         (λ name scope j. record { body_is = refl; target_is = at name })
 
@@ -131,18 +132,18 @@ module _ (files : List File) where
       go (Some file) = ap (λ (i : InstanceKey). instance_by (evaluated files i)) e
 
   pub tells-request : (key : RequestKey) (j : Journal) →
-      Tells IsPlaced (placed_by files Incremental key j (instances_of files key)) j
+      Tells IsPlaced (request_by places files Incremental key j (instances_of files key)) j
   tells-request key j = go (instances_of files key) refl
     where
       unless : (p : Project) → ((name : List ℕ) → target_at p name
           ≡ target_of files (run_of p.key name)) → (none : Bool) →
-          Tells IsPlaced (placed_unless none files Incremental p key j) j
+          Tells IsPlaced (request_unless places p key (bodies_at files Incremental p) none j) j
       unless p at true = tt
       unless p at false = tells-tree p key at (order p.instance.rows (all_targets p.instance key))
           (nothing_ran p) j
 
       go : (x : Result Instance Reply) → instances_of files key ≡ x →
-          Tells IsPlaced (placed_by files Incremental key j x) j
+          Tells IsPlaced (request_by places files Incremental key j x) j
       go (Err reply) e = tt
       go (Ok instance) e =
           let p : Project = record {
@@ -197,7 +198,7 @@ module _ (tools : List ℕ → ToolInput → ToolAnswer) (w : Build)
       subst (λ o. SkippedAt tools files o site.scope id j made) same q in
       let s = skipped takes in
       let over : b ≡ makes s.outcome =
-      at.body_is ∙ (ap (λ o. body_if files Incremental id o site.scope j) same ∙ s.at_once) in (
+      at.body_is ∙ (ap (λ o. body_at files Incremental id o site.scope j) same ∙ s.at_once) in (
         record { scope = site.scope; from = j; skipped = s },
         makes-tools of s.outcome over,
       )

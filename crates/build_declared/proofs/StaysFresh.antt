@@ -58,10 +58,11 @@ use Rattle.build_incremental.proofs.Numbered.{
 use Rattle.msb_files.specs.FinalTree.{commit_list}
 use Rattle.task_trait.specs.declared.tools.ToolAnswer.{ToolAnswer}
 use Rattle.task_trait.specs.declared.tools.ToolInput.{ToolInput}
-use Rattle.request_machine.specs.Worlds.{root_of, world_of}
+use Rattle.request_machine.specs.Worlds.{root_of, world_of, instances_of}
 use Rattle.target_body.specs.Pieces.{choice_of}
-use Rattle.target_body.specs.States.{Run, State, view_of}
-use Rattle.build_declared.specs.Builds.{in_mode, instances_of, placed_world}
+use Rattle.target_body.specs.States.{Run, State, view_of, run_at}
+use Rattle.request_machine.specs.Walk.{Site}
+use Rattle.build_declared.specs.Builds.{in_mode, placed_world}
 use Rattle.build_declared.specs.Clean.{IsTrustworthy}
 use Rattle.build_declared.specs.Declared.{IsDeclared, SucceedsWith, clean_pieces}
 use Rattle.build_declared.specs.Fresh.{
@@ -74,7 +75,6 @@ use Rattle.build_declared.specs.Fresh.{
 }
 use Rattle.build_declared.specs.NoOlder.{NoOlderAt, IsNoOlder, OutputIsNoOlder, PieceIsNoOlder}
 use Rattle.build_declared.specs.Pieces.{Piece, ByItems}
-use Rattle.build_declared.specs.Places.{Site, run_at}
 use Rattle.build_declared.specs.Repeated.{
   IsAgain,
   AreAgain,

@@ -54,14 +54,16 @@ use Rattle.target_incremental.specs.declared.decision.Choice.TheVariants.{
 }
 use Rattle.msb_files.specs.Views as views
 use Rattle.target_texts.specs.Lists.{Lists}
-use Rattle.target_body.specs.States.{Run, State, view_of}
+use Rattle.target_body.specs.States.{Run, State, view_of, run_at}
+use Rattle.target_body.specs.Bodies.{work_by}
+use Rattle.target_body.specs.Pieces.{Chooser}
+use Rattle.request_machine.specs.Walk.{Site}
 use Rattle.build_declared.specs.CalledTasks.{Called, calls_of, ReturnsGiven}
 use Rattle.build_declared.specs.Sublists.{ArePart, kept}
 use Rattle.build_declared.specs.Written.{bytes_in, AnyPath, since, is_one_of}
-use Rattle.build_declared.specs.Chosen.{Chooser, all_or_nothing, all_of, work_by}
+use Rattle.build_declared.specs.Chosen.{all_or_nothing, all_of}
 use Rattle.build_declared.specs.Ends.{End, end_of}
 use Rattle.build_declared.specs.Pieces.{Piece, ByItems, pieces_of, end_of_piece}
-use Rattle.build_declared.specs.Places.{Site, run_at}
 
 -- ---- a piece
 

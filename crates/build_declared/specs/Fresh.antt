@@ -21,11 +21,11 @@ use Rattle.task_trait.specs.declared.tools.ToolInput.{ToolInput}
 use Rattle.target_incremental.specs.declared.decision.Choice.TheVariants.{Run as RunAll}
 use Rattle.msb_files.specs.Views as views
 use Rattle.msb_files.specs.Views.{View}
-use Rattle.target_body.specs.States.{Run, State, view_of}
+use Rattle.target_body.specs.States.{Run, State, view_of, run_at}
+use Rattle.request_machine.specs.Walk.{Site}
 use Rattle.build_declared.specs.Pieces.{Piece, ByItems, end_of_piece}
 use Rattle.build_declared.specs.Declared.{clean_pieces}
 use Rattle.build_declared.specs.Written.{since}
-use Rattle.build_declared.specs.Places.{Site, run_at}
 
 -- the path is in the tree, and has the tree's bytes
 pub record IsAsInTree (view : View) (path : List ℕ) (file : File) : Type 0 where

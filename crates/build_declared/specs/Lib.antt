@@ -7,11 +7,9 @@ pub mod Ends
 pub mod Fresh
 pub mod NoOlder
 pub mod Pieces
-pub mod Places
 pub mod Repeated
 pub mod Settled
 pub mod Skipped
 pub mod Sublists
 pub mod UpToDate
-pub mod Worlds
 pub mod Written

@@ -15,10 +15,10 @@ use Rattle.build_incremental.specs.Each.{EachOfMeaning}
 use Rattle.build_incremental.specs.Joins.{Anyhow}
 use Rattle.task_trait.specs.declared.tools.ToolAnswer.{ToolAnswer}
 use Rattle.task_trait.specs.declared.tools.ToolInput.{ToolInput}
+use Rattle.request_machine.specs.Walk.{Site}
 use Rattle.build_declared.specs.Pieces.{Piece, ByItems}
 use Rattle.build_declared.specs.Declared.{clean_pieces}
 use Rattle.build_declared.specs.Fresh.{Pairing, pairs_of}
-use Rattle.build_declared.specs.Places.{Site}
 
 -- an output and the inputs that it is paired with are in the tree, and none of these has a greater
 -- stamp

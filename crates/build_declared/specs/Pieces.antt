@@ -27,9 +27,8 @@ use Rattle.task_trait.specs.declared.tools.ToolInput.{ToolInput}
 use Rattle.target_incremental.specs.declared.decision.Choice.{Choice}
 use Rattle.target_texts.specs.Lists.{Lists}
 use Rattle.target_body.specs.States.{Run, State, Stopped, begun, entered}
-use Rattle.target_body.specs.Pieces.{lists_at, decided}
+use Rattle.target_body.specs.Pieces.{lists_at, decided, Chooser, bucket_by}
 use Rattle.target_body.specs.Bodies.{buckets_at}
-use Rattle.build_declared.specs.Chosen.{Chooser, bucket_by}
 use Rattle.build_declared.specs.Ends.{End, end_of}
 
 -- a bucket with its lists, the state in which it begins, and the acts of the run by then, the

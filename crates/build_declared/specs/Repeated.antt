@@ -21,12 +21,12 @@ use Rattle.build_incremental.specs.Joins.{Anyhow}
 use Rattle.build_incremental.specs.Placed.{PlacedWorld, plain_world}
 use Rattle.task_trait.specs.declared.tools.ToolAnswer.{ToolAnswer}
 use Rattle.task_trait.specs.declared.tools.ToolInput.{ToolInput}
-use Rattle.target_body.specs.States.{Run, State}
+use Rattle.target_body.specs.States.{Run, State, run_at}
 use Rattle.request_machine.specs.Worlds.{world_of}
+use Rattle.request_machine.specs.Walk.{Site}
 use Rattle.build_declared.specs.Builds.{in_mode, placed_world}
 use Rattle.build_declared.specs.Declared.{SucceedsWith, clean_pieces}
 use Rattle.build_declared.specs.Pieces.{Piece, ByItems}
-use Rattle.build_declared.specs.Places.{Site, run_at}
 use Rattle.build_declared.specs.Settled.{FreeRunsKeepOff, IsSettled}
 use Rattle.build_declared.specs.Written.{since}
 

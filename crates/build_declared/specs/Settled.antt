@@ -29,10 +29,10 @@ use Rattle.build_incremental.specs.Demand.{Occurrence}
 use Rattle.task_trait.specs.declared.tools.ToolAnswer.{ToolAnswer}
 use Rattle.task_trait.specs.declared.tools.ToolInput.{ToolInput}
 use Rattle.msb_files.specs.Views as views
-use Rattle.target_body.specs.States.{Run, State}
+use Rattle.target_body.specs.States.{Run, State, run_at}
 use Rattle.target_body.specs.Pieces.{choice_of}
+use Rattle.request_machine.specs.Walk.{Site}
 use Rattle.build_declared.specs.Pieces.{Piece, pieces_of, end_of_piece}
-use Rattle.build_declared.specs.Places.{Site, run_at}
 
 module _ (tools : List ℕ → ToolInput → ToolAnswer) (files : List File) (mode : Mode) where
   -- the pieces of a body, where each is done as this mode decides

@@ -42,11 +42,10 @@ use Rattle.task_trait.specs.declared.tools.ToolInput.{ToolInput}
 use Rattle.target_incremental.specs.declared.decision.Choice.TheVariants.{Skip}
 use Rattle.target_body.specs.Bodies.{body}
 use Rattle.target_body.specs.Pieces.{choice_of}
-use Rattle.target_body.specs.States.{Run}
+use Rattle.target_body.specs.States.{Run, run_at}
 use Rattle.request_machine.specs.Requests.{Project, target_at}
-use Rattle.build_declared.specs.Builds.{instances_of}
+use Rattle.request_machine.specs.Worlds.{instances_of}
 use Rattle.build_declared.specs.Pieces.{Piece, pieces_of}
-use Rattle.build_declared.specs.Places.{run_at}
 
 -- a target that has both Inputs and Outputs
 pub record TakesLists (target : UsedTarget) : Type 0 where

@@ -15,9 +15,9 @@ use Rattle.build_incremental.specs.Each.{EachOfMeaning}
 use Rattle.build_incremental.specs.Joins.{Anyhow}
 use Rattle.task_trait.specs.declared.tools.ToolAnswer.{ToolAnswer}
 use Rattle.task_trait.specs.declared.tools.ToolInput.{ToolInput}
+use Rattle.request_machine.specs.Walk.{Site}
 use Rattle.build_declared.specs.Builds.{in_mode, placed_world}
 use Rattle.build_declared.specs.NoOlder.{IsNoOlder}
-use Rattle.build_declared.specs.Places.{Site}
 use Rattle.build_declared.specs.Settled.{FreeRunsKeepOff}
 use Rattle.build_declared.specs.Skipped.{TakesLists, target_of, IsOfSkipped, SkippedAt}
 

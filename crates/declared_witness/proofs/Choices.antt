@@ -53,7 +53,8 @@ use Rattle.target_incremental.specs.declared.decision.Choice.TheVariants.{
 }
 use Rattle.target_texts.specs.Lists.{Lists}
 use Rattle.target_body.specs.States.{Run, State}
-use Rattle.build_declared.specs.Chosen.{Chooser, work_by}
+use Rattle.target_body.specs.Bodies.{work_by}
+use Rattle.target_body.specs.Pieces.{Chooser}
 use Rattle.build_declared.specs.Declared.{IsNotTooLarge, MayChoose}
 use Rattle.build_declared.specs.Ends.{End, end_of}
 use Rattle.build_declared.specs.Sublists.{ArePart, kept}

@@ -51,9 +51,9 @@ use Rattle.build_meaning.specs.SoFar.{ToolUse}
 use Rattle.build_incremental.specs.Placed.{Placed, plain, plain_world}
 use Rattle.task_trait.specs.declared.tools.ToolAnswer.{ToolAnswer}
 use Rattle.task_trait.specs.declared.tools.ToolInput.{ToolInput}
-use Rattle.request_machine.specs.Worlds.{world_of}
-use Rattle.build_declared.specs.Places.{Site}
-use Rattle.build_declared.specs.Worlds.{placed_by}
+use Rattle.request_machine.specs.Worlds.{world_of, request_by}
+use Rattle.request_machine.specs.Walk.{Site}
+use Rattle.build_declared.specs.Builds.{places}
 use Rattle.build_declared.proofs.Plain.{plain-is-world}
 use Rattle.declared_witness.proofs.Derivations.{walk-so}
 use Rattle.declared_witness.specs.ThreeCopies.{
@@ -83,7 +83,7 @@ module _ (tools : List ℕ → ToolInput → ToolAnswer) where
       (walk (plain_of tree mode) (request (plain_of tree mode) 127) [] (plain placed_walk) [] [])
 
   abbrev evaluated_walk : List File → Mode → Placed Site ToolInput ToolAnswer
-  evaluated_walk tree mode = placed_by tree mode root [] (Ok instance)
+  evaluated_walk tree mode = request_by places tree mode root [] (Ok instance)
 
   means : (bytes : List ℕ) (stamp : ℕ) (mode : Mode) →
       meaning (plain_of (files_with bytes stamp) mode)

@@ -27,9 +27,9 @@ use Rattle.build_incremental.specs.Each.{
 }
 use Rattle.task_trait.specs.declared.tools.ToolAnswer.{ToolAnswer}
 use Rattle.task_trait.specs.declared.tools.ToolInput.{ToolInput}
-use Rattle.build_declared.specs.Builds.{instance_by}
-use Rattle.build_declared.specs.Places.{Site}
-use Rattle.build_declared.specs.Worlds.{placed_by}
+use Rattle.request_machine.specs.Walk.{Site}
+use Rattle.request_machine.specs.Worlds.{instance_by, request_by}
+use Rattle.build_declared.specs.Builds.{places}
 use Rattle.declared_witness.proofs.Evaluated.{evaluates}
 use Rattle.declared_witness.specs.ThreeCopies.{
   instance,
@@ -49,9 +49,9 @@ use Rattle.declared_witness.specs.ThreeCopies.{
 -- the walk of the root request is that of the project as it is evaluated
 pub walk-so : (tools : List ℕ → ToolInput → ToolAnswer) (bytes : List ℕ) (stamp : ℕ) (mode : Mode) →
     (world tools (files_with bytes stamp) mode).walks root []
-    ≡ placed_by (files_with bytes stamp) mode root [] (Ok instance)
+    ≡ request_by places (files_with bytes stamp) mode root [] (Ok instance)
 walk-so tools bytes stamp mode =
-    ap (λ r. placed_by (files_with bytes stamp) mode root [] (instance_by r))
+    ap (λ r. request_by places (files_with bytes stamp) mode root [] (instance_by r))
     (evaluates bytes stamp)
 
 module _ (tools : List ℕ → ToolInput → ToolAnswer)
@@ -65,7 +65,7 @@ module _ (tools : List ℕ → ToolInput → ToolAnswer)
         EachWalk (world tools tree mode) Q J AnyKey [] [] [] walk result left
 
     abbrev evaluated_walk : List File → Mode → Placed Site ToolInput ToolAnswer
-    evaluated_walk tree mode = placed_by tree mode root [] (Ok instance)
+    evaluated_walk tree mode = request_by places tree mode root [] (Ok instance)
 
     clean-walk : (bytes : List ℕ) (stamp : ℕ) → Q site run [] clean_record →
         Derives (files_with bytes stamp) Clean

@@ -19,11 +19,10 @@ use Rattle.task_trait.specs.declared.tools.ToolAnswer.{ToolAnswer}
 use Rattle.task_trait.specs.declared.tools.ToolInput.{ToolInput}
 use Rattle.target_incremental.specs.declared.decision.Choice.TheVariants.{Run as RunAll, Part}
 use Rattle.target_texts.specs.Lists.{Lists}
-use Rattle.target_body.specs.States.{Run, State, Stopped, begun, entered, state_of}
+use Rattle.target_body.specs.States.{Run, State, Stopped, begun, entered, state_of, run_at}
 use Rattle.build_declared.specs.Declared.{clean_pieces}
 use Rattle.build_declared.specs.Ends.{End}
 use Rattle.build_declared.specs.Pieces.{Piece, ByItems, end_of_piece}
-use Rattle.build_declared.specs.Places.{run_at}
 use Rattle.build_declared.specs.Settled.{pieces_at}
 use Rattle.build_declared.specs.Sublists.{kept}
 use Rattle.declared_witness.specs.ThreeCopies.{

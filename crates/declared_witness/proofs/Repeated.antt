@@ -45,11 +45,11 @@ use Rattle.msb_files.specs.FinalTree.{commit_list}
 use Rattle.task_trait.specs.declared.tools.ToolAnswer.{ToolAnswer}
 use Rattle.task_trait.specs.declared.tools.ToolInput.{ToolInput}
 use Rattle.target_body.specs.States.{State}
+use Rattle.request_machine.specs.Walk.{Site}
 use Rattle.build_declared.specs.Declared.{SucceedsWith}
 use Rattle.build_declared.specs.Fresh.{Pairing, pairs_of}
 use Rattle.build_declared.specs.NoOlder.{OutputIsNoOlder, PieceIsNoOlder, NoOlderAt}
 use Rattle.build_declared.specs.Pieces.{Piece}
-use Rattle.build_declared.specs.Places.{Site}
 use Rattle.build_declared.specs.Repeated.{
   IsAgain,
   AreAgain,

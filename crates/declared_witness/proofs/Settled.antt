@@ -42,10 +42,10 @@ use Rattle.msb_files.specs.Views as views
 use Rattle.task_trait.specs.declared.tools.ToolAnswer.{ToolAnswer}
 use Rattle.task_trait.specs.declared.tools.ToolInput.{ToolInput}
 use Rattle.target_body.specs.Pieces.{choice_of}
-use Rattle.target_body.specs.States.{Run, State, Stopped}
+use Rattle.target_body.specs.States.{Run, State, Stopped, run_at}
+use Rattle.request_machine.specs.Walk.{Site}
 use Rattle.build_declared.specs.Ends.{End}
 use Rattle.build_declared.specs.Pieces.{Piece, end_of_piece}
-use Rattle.build_declared.specs.Places.{Site, run_at}
 use Rattle.build_declared.specs.Repeated.{IsSettledBuild}
 use Rattle.build_declared.specs.Settled.{pieces_at, FreeRunsKeepOff, Succeeds, Stood}
 use Rattle.declared_witness.proofs.Computed.{part-whole, steady}

@@ -40,9 +40,9 @@ use Rattle.build_incremental.specs.Demand.{Occurrence}
 use Rattle.build_incremental.specs.Placed.{PlacedWorld}
 use Rattle.task_trait.specs.declared.tools.ToolAnswer.{ToolAnswer}
 use Rattle.task_trait.specs.declared.tools.ToolInput.{ToolInput}
-use Rattle.build_declared.specs.Builds.{instances_of}
-use Rattle.build_declared.specs.Places.{Site}
-use Rattle.build_declared.specs.Worlds.{world_by}
+use Rattle.request_machine.specs.Walk.{Site}
+use Rattle.request_machine.specs.Worlds.{instances_of}
+use Rattle.build_declared.specs.Builds.{world_by}
 
 -- ---- the project, as it is evaluated
 

@@ -24,8 +24,13 @@ lists_at run bucket s =
     let e = run.target.element in
     lists_by (in_target (place_in run s s.scope) bucket) e (attribute_of (codes "Inputs") e) (attribute_of (codes "Outputs") e)
 
--- what is decided by the lists
-abbrev pub choice_of : Run → Lists → State → Choice
+-- what is chosen for a bucket of a target that has Inputs and Outputs, by its lists and the state
+-- in which it begins
+abbrev pub Chooser : Type 0
+Chooser = Lists → State → Choice
+
+-- what a build decides by the lists
+abbrev pub choice_of : Run → Chooser
 choice_of run lists s = decision (view_of run s) lists.inputs lists.outputs (option_map (λ typed. typed.1) lists.items) run.mode
 
 -- the state where the tasks of a bucket begin: they see of the type its items that are out of date
@@ -56,14 +61,12 @@ abbrev pub decided : Run → Bucket → Choice → Option (List ℕ × List Item
 decided run bucket choice items s =
     and_then (treated run choice items s) (λ end. done (map_ok (with_decision (word_of choice items)) (returned run bucket end)))
 
--- A piece: one bucket of a target that has Inputs and Outputs, from the state in which it begins.
-abbrev pub piece : Run → Bucket → Lists → State → Work (Result State Stopped)
-piece run bucket lists s = decided run bucket (choice_of run lists s) lists.items s
-
--- a bucket of any other target runs
-abbrev pub piece_or_run : Run → Bucket → State → Option Lists → Work (Result State Stopped)
-piece_or_run run bucket s None = decided run bucket RunAll None s
-piece_or_run run bucket s (Some lists) = piece run bucket lists s
+-- A bucket with its lists, from the state in which it begins. Where the target has Inputs and
+-- Outputs it is done as is chosen; a bucket of any other target runs.
+abbrev pub chosen_or_run : Chooser → Run → Bucket → State → Option Lists →
+    Work (Result State Stopped)
+chosen_or_run choose run bucket s None = decided run bucket RunAll None s
+chosen_or_run choose run bucket s (Some lists) = decided run bucket (choose lists s) lists.items s
 
 -- the word for a bucket in which the run has stopped
 abbrev pub as_failed : Stopped → Stopped
@@ -74,9 +77,17 @@ abbrev pub or_failed : {X : Type 0} → Result X Stopped → Result X Stopped
 or_failed (Ok x) = Ok x
 or_failed (Err stop) = Err (as_failed stop)
 
--- a bucket, which sees the scope as the target found it
-abbrev pub in_bucket : Run → Bucket → State → Work (Result State Stopped)
-in_bucket run bucket s = followed_by (unless_stopped (or_stop s (lists_at run bucket s)) (piece_or_run run bucket s)) (λ end. done (or_failed end))
+-- a bucket that has begun
+abbrev pub in_bucket : Chooser → Run → Bucket → State → Work (Result State Stopped)
+in_bucket choose run bucket s =
+    followed_by
+    (unless_stopped (or_stop s (lists_at run bucket s)) (chosen_or_run choose run bucket s))
+    (λ end. done (or_failed end))
 
+-- it sees the scope as the target found it
+abbrev pub bucket_by : Chooser → Run → Scope → Bucket → State → Work (Result State Stopped)
+bucket_by choose run scope bucket s = in_bucket choose run bucket (entered scope bucket s)
+
+-- a bucket as the build decides
 abbrev pub bucket_of : Run → Scope → Bucket → State → Work (Result State Stopped)
-bucket_of run scope bucket s = in_bucket run bucket (entered scope bucket s)
+bucket_of run = bucket_by (choice_of run) run

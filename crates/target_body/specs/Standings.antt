@@ -16,7 +16,7 @@ use Rattle.build_world.specs.declared.world.World.{World}
 use Rattle.task_trait.specs.declared.tools.ToolAnswer.{ToolAnswer}
 use Rattle.task_trait.specs.declared.tools.ToolInput.{ToolInput}
 use Rattle.target_body.specs.Work.{body_of}
-use Rattle.target_body.specs.States.{Run, outcome_of}
+use Rattle.target_body.specs.States.{Run, run_at, outcome_of}
 use Rattle.target_body.specs.Bodies.{body}
 use Rattle.target_body.specs.Left.{left, waiting_run}
 use Rattle.target_body.specs.Seen.{ended, seen_state}
@@ -35,7 +35,7 @@ abbrev pub target_named : List UsedTarget → List ℕ → Option UsedTarget
 target_named targets name = find (λ target. bytes_eq target.name name) targets
 
 abbrev pub run_with : World → RunId → UsedTarget → Run
-run_with world run target = record { files = world.tree.files; mode = world.mode; instance = run.instance; target = target }
+run_with world = run_at world.tree.files world.mode
 
 -- It has not begun, and will begin in this scope. Or it has done this to files and called this, and waits for the results
 -- of these requests, by which and by the journal then it goes on. Or it is over.

@@ -13,6 +13,7 @@ use Rattle.msb_values.specs.declared.act.Act.{Act}
 use Rattle.msb_values.specs.declared.scope.Scope.{Scope}
 use Rattle.result_cache.specs.Journal.{Journal}
 use Rattle.result_cache.specs.declared.record.Decision.{Decision}
+use Rattle.result_cache.specs.declared.run.RunId.{RunId}
 use Rattle.build_meaning.specs.Walk.{Outcome}
 use Rattle.build_world.specs.Faults.{fault_text}
 use Rattle.build_world.specs.Instances.{UsedTarget}
@@ -31,6 +32,9 @@ pub record Run : Type 0 where
   pub mode : Mode
   pub instance : InstanceKey
   pub target : UsedTarget
+
+abbrev pub run_at : List File → Mode → RunId → UsedTarget → Run
+run_at files mode id target = record { files = files; mode = mode; instance = id.instance; target = target }
 
 -- The scope of the bucket at hand. Where its tasks run on a part of a list, the type and the items that they see of it. The changes of the task
 -- element at hand, which the scope has not yet. The journal of files, and the number of bytes that the run itself has written. Then what its record says: what was decided

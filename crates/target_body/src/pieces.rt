@@ -12,7 +12,7 @@ ghost use Rattle.target_texts.specs.Returned.{returns_of};
 ghost use Rattle.target_texts.specs.Seen.{seen_lists};
 ghost use Rattle.target_body.specs.Left.{bucket_frames, children_frames};
 ghost use Rattle.target_body.specs.Moments.{GoesOn, Plays, moment, player};
-ghost use Rattle.target_body.specs.Pieces.{bucket_of, decided, lists_at, number_of, on_old, or_failed, piece_or_run, treated, word_of};
+ghost use Rattle.target_body.specs.Pieces.{bucket_of, choice_of, chosen_or_run, decided, lists_at, number_of, on_old, or_failed, treated, word_of};
 ghost use Rattle.target_body.specs.Returned.{items_if, returned};
 ghost use Rattle.target_body.specs.Seen.{ended, seen_run, seen_state};
 ghost use Rattle.target_body.specs.States.{with_decision};
@@ -84,7 +84,12 @@ impl State {
         journal: &mut Journal,
     ) -> Result<Step<AtBucket>, NoMemory>
         ensures plays { IfOk result (λ step. let run = seen_run site.now in
-            Plays (bucket_frames run) (player site.now.id.now T.answer) (λ s. followed_by (piece_or_run run bucket s (option_map seen_lists lists)) (λ end. done (or_failed end))) (moment self.old journal.old (T.calls tools.old)) step (moment self.new journal.new (T.calls tools.new))) }
+            Plays (bucket_frames run) (player site.now.id.now T.answer)
+            (λ s. followed_by
+            (chosen_or_run (choice_of run) run bucket s (option_map seen_lists lists))
+            (λ end. done (or_failed end)))
+            (moment self.old journal.old (T.calls tools.old)) step
+            (moment self.new journal.new (T.calls tools.new))) }
         ensures begun { BeginsWith (T.calls tools.old) (T.calls tools.new) }
     {
         match lists {

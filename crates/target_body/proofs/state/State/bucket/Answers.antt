@@ -4,7 +4,7 @@ use Rattle.target_texts.specs.Lists.{Lists}
 use Rattle.target_texts.specs.Seen.{seen_lists}
 use Rattle.target_body.specs.Left.{bucket_frames}
 use Rattle.target_body.specs.Moments.{Moment, done_at, moment, player, state_at}
-use Rattle.target_body.specs.Pieces.{in_bucket, or_failed, piece_or_run}
+use Rattle.target_body.specs.Pieces.{choice_of, chosen_or_run, in_bucket, or_failed}
 use Rattle.target_body.specs.Played.{played}
 use Rattle.target_body.specs.Seen.{seen_run}
 use Rattle.target_body.specs.States.{State as Now, Stopped, or_stop}
@@ -26,8 +26,8 @@ returns-in-Ok-clause-plays g c =
     let bucket = c.args.bucket in
     let last : Result Now Stopped → Work (Result Now Stopped) = λ end. done (or_failed end) in
     all_entered run bucket p c.args.found.now c.args.self.now c.enter.new.self c.args.journal.now tools after c.piece.result c.in_ok-enter.ensures
-    (all_as (bucket_frames run) p (λ s. followed_by (piece_or_run run bucket s (option_map seen_lists c.in-Ok.lists)) last) (in_bucket run bucket) begun after c.piece.result
-    (ap (λ (r : Result (Option Lists) EvalFault). followed_by (unless_stopped (or_stop (state_at begun) r) (piece_or_run run bucket (state_at begun))) last) c.in-Ok.ensures)
+    (all_as (bucket_frames run) p (λ s. followed_by (chosen_or_run (choice_of run) run bucket s (option_map seen_lists c.in-Ok.lists)) last) (in_bucket (choice_of run) run bucket) begun after c.piece.result
+    (ap (λ (r : Result (Option Lists) EvalFault). followed_by (unless_stopped (or_stop (state_at begun) r) (chosen_or_run (choice_of run) run bucket (state_at begun))) last) c.in-Ok.ensures)
     c.piece.ensures.plays)
 
 pub returns-in_ok-add_decision-in-Err-clause-plays : goal.returns-in_ok-add_decision-in-Err-clause-plays
@@ -40,7 +40,7 @@ returns-in_ok-add_decision-in-Err-clause-plays g c =
     let bucket = c.args.bucket in
     let last : Result Now Stopped → Work (Result Now Stopped) = λ end. done (or_failed end) in
     entered run bucket p c.args.found.now c.args.self.now c.enter.new.self c.args.journal.now tools after (Over Faulted) c.in_ok-enter.ensures
-    (ap (λ (r : Result (Option Lists) EvalFault). played p (followed_by (unless_stopped (or_stop (state_at begun) r) (piece_or_run run bucket (state_at begun))) last) (done_at begun))
+    (ap (λ (r : Result (Option Lists) EvalFault). played p (followed_by (unless_stopped (or_stop (state_at begun) r) (chosen_or_run (choice_of run) run bucket (state_at begun))) last) (done_at begun))
     (told c.in-Err.fault.cause c.in_ok-note_fault-in-Err.ensures.told c.in-Err.ensures)
     ∙ faulted_so c.in-Err.fault c.args.journal.now tools c.enter.new.self c.note_fault.new.self c.add_decision.new.self
     c.in_ok-note_fault-in-Err.ensures.noted c.in_ok-add_decision-in-Err.ensures)
