@@ -4,6 +4,7 @@ use denote.Ref.{NamedLft}
 use denote.Struct.Declared as Struct
 use denote.Enum.Declared as Enum
 use denote.Param.Send.{IsSend, sendable, recorded_send, struct_send, enum_send, view_send}
+use Rattle.std.specs.contracts.option.Option as Option
 use Rattle.std.proofs.Crossing.{crosses as owned}
 use Rattle.std.proofs.alloc.Global.TheSendSync as heap
 use Rattle.std.proofs.collections.HashMap.TheSendSync as map
@@ -37,6 +38,10 @@ use Rattle.request_machine.proofs.visit.At.TheSendSync as at
 use Rattle.request_machine.proofs.reply.Reply.TheSendSync as reply
 use Rattle.request_machine.proofs.shared.SharedList.TheSendSync as shared
 use Rattle.request_machine.proofs.standing.Standing.TheSendSync as standing
+use Rattle.request_machine.specs.contracts.former.Before as Before
+use Rattle.request_machine.specs.contracts.former.Former as Former
+use Rattle.request_machine.specs.contracts.former.FormerVisit as FormerVisit
+use Rattle.request_machine.specs.contracts.former.VisitParts as VisitParts
 use Rattle.request_machine.specs.contracts.request.Request as Request
 use Rattle.request_machine.specs.contracts.stage.Stage as Stage
 use Rattle.request_machine.specs.contracts.visit.Visit as Visit
@@ -82,6 +87,27 @@ module _ (T : RattleType) (s : IsSend T) where
   stage-send : IsSend (Stage.the_field T).row
   stage-send = enum_send (Enum.shape (Stage.the_type T)) (tt, ((visit-send, tt), ((reply.the_send, tt), tt)))
 
+  parts-send : IsSend (VisitParts.the_field T).row
+  parts-send = struct_send (Struct.shape (VisitParts.the_type T)) (standing.the_field_send, (order.the_send, (name.the_send, (at.the_field_send T s, tt))))
+
+  former_visit-send : IsSend (FormerVisit.the_field T).row
+  former_visit-send = enum_send (Enum.shape (FormerVisit.the_type T)) ((stage-send, tt), ((parts-send, tt), tt))
+
+  former-send : IsSend (Former.the_field T).row
+  former-send = enum_send (Enum.shape (Former.the_type T)) (
+    tt,
+    (
+      (at.the_field_send T s, (journal.the_send, tt)),
+      ((former_visit-send, (journal.the_send, (shared.the_send RunId.the_row run.the_send run.the_sync, tt))), tt),
+    ),
+  )
+
+  Before-send : IsSend (Before.the_row T)
+  Before-send = recorded_send _ _ _ (Before.the_type T).to_one (struct_send (Struct.shape (Before.the_type T)) (former-send, (search sendable, tt)))
+
+  before-send : IsSend (Option.the_field (Before.the_row T)).row
+  before-send = enum_send (Enum.shape (Option.the_type (Before.the_row T))) (tt, ((Before-send, tt), tt))
+
   module _ (a : NamedLft) where
     request-send : IsSend (Request.the_field a T).row
     request-send = struct_send (Struct.shape (Request.the_type a T)) (
@@ -93,4 +119,4 @@ module _ (T : RattleType) (s : IsSend T) where
     )
 
     pub Walk-send : IsSend (Walk.the_row a T)
-    Walk-send = recorded_send _ _ _ (Walk.the_type a T).to_one (struct_send (Struct.shape (Walk.the_type a T)) (request-send, (table.the_send, (search sendable, tt))))
+    Walk-send = recorded_send _ _ _ (Walk.the_type a T).to_one (struct_send (Struct.shape (Walk.the_type a T)) (request-send, (table.the_send, (search sendable, (before-send, tt)))))

@@ -13,5 +13,6 @@ pub mod RunsMade
 pub mod RecordsNeeded
 pub mod RunsReplayed
 pub mod StagesTaken
+pub mod PutBack
 pub mod WalksAnswered
 pub mod Crossing

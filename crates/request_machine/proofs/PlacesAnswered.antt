@@ -78,7 +78,7 @@ module _ {T : Type 0} (answer : List ℕ → ToolInput → ToolAnswer) (calls : 
   its_target = target_named (seen_instance v.instance).targets v.run.target
 
   abbrev after : Record → Journal → Walk ToolInput ToolAnswer
-  after = after_target p (λ answer. walk p key (bodies_of w p) (left v.order answer)) v.standing v.run.target
+  after = after_target gives p (λ answer. walk p key (bodies_of w p) (left v.order answer)) v.standing v.run.target
 
   abbrev inside : SoFar ToolInput → Stop ToolInput ToolAnswer → P
   inside s stop = within (record { run = v.run; so_far = s; go = after }) stop

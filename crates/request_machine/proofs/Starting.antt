@@ -21,8 +21,8 @@ use Rattle.build_meaning.specs.State.{walking}
 use Rattle.build_meaning.specs.Walk.{Walk, Reply, gives}
 use Rattle.request_machine.specs.Requests.{Project, unevaluated}
 use Rattle.request_machine.specs.Stands.{Bodies, StandsNext}
-use Rattle.request_machine.specs.Walk.{walk, walk_unless}
-use Rattle.request_machine.specs.Worlds.{bodies_of, project_of, walk_by, walk_if, walk_of}
+use Rattle.request_machine.specs.Walk.{walk, walks}
+use Rattle.request_machine.specs.Worlds.{bodies_of, instance_by, instance_if, project_of, request_by, walk_of}
 use Rattle.request_machine.specs.Positions.{place_at, place_of}
 use Rattle.request_machine.specs.Begun.{IsReady, StandsAt, StandsBy, instance_in, is_fresh, is_wanted, left_by}
 use Rattle.request_machine.specs.declared.standing.Standing.{Standing}
@@ -43,11 +43,17 @@ over_stands w key journal reply tree stage is same = record { fresh = ap is_fres
 pub tree_stands : {T : Type 0} (w : Given) (key : RequestKey) (journal : Journal) (tree other : W) (stage : Stage T) → tree ≡ other → StandsAt w key journal tree stage → StandsAt w key journal other stage
 tree_stands w key journal tree other stage same stands = record { fresh = stands.fresh; own = stands.own; stands = λ calls. stands.stands calls ∙ ap walking same }
 
+abbrev walk_by : Given → RequestKey → Journal → Result Instance Reply → W
+walk_by w key journal = request_by walks w.tree.files w.mode key journal
+
+abbrev walk_if : Given → RequestKey → Journal → Option File → W
+walk_if w key journal file = walk_by w key journal (instance_if w.tree.files key file)
+
 pub no_file : (w : Given) (key : RequestKey) (journal : Journal) → file_at key.instance.path w.tree.files ≡ None → walk_of w key journal ≡ gives (unevaluated (key.instance.path ++ codes ": not found"))
 no_file w key journal none = ap (walk_if w key journal) none
 
-pub at_file : (w : Given) (key : RequestKey) (journal : Journal) (file : File) (r : Result Instance EvalFault) → file_at key.instance.path w.tree.files ≡ Some file → evaluated w.tree.files key.instance ≡ r → walk_of w key journal ≡ walk_by w key journal r
-at_file w key journal file r found is = ap (walk_if w key journal) found ∙ ap (walk_by w key journal) is
+pub at_file : (w : Given) (key : RequestKey) (journal : Journal) (file : File) (r : Result Instance EvalFault) → file_at key.instance.path w.tree.files ≡ Some file → evaluated w.tree.files key.instance ≡ r → walk_of w key journal ≡ walk_by w key journal (instance_by r)
+at_file w key journal file r found is = ap (walk_if w key journal) found ∙ ap (λ x. walk_by w key journal (instance_by x)) is
 
 -- what is left of a request whose order has been answered so far
 pub next_left : (p : Project) (key : RequestKey) (s : Standing) (journal : Journal) (tree : Asking Question OrderAnswer End) (stand : Stand) (order : Progress) → StandsNext p key s journal tree stand order → (bodies : Bodies) →

@@ -1,5 +1,5 @@
 -- Where the body of a run stops, as the code holds it.
-use Rattle.std.proofs.Common.{◌≡◌, ℕ, List, [], ◌∷◌, ◌++◌, length, drop, map, Option, None, Some, IfSome, refl, sym, ap, ◌∙◌, subst, append_assoc}
+use Rattle.std.proofs.Common.{◌≡◌, ℕ, List, [], ◌∷◌, ◌++◌, length, drop, map, Option, None, Some, IfSome, IsSome, refl, sym, ap, ◌∙◌, subst, append_assoc}
 use Rattle.std.specs.List.{flat_map}
 use Rattle.std.proofs.lemmas.List.{map-append, append-nil}
 use Rattle.build_world.specs.Instances.{UsedTarget}
@@ -14,7 +14,9 @@ use Rattle.build_meaning.specs.SoFar.{SoFar, called, recorded}
 use Rattle.build_meaning.specs.Stop.{Stop, ends, asks}
 use Rattle.build_meaning.specs.Walk.{Body as Tree}
 use Rattle.target_body.specs.Bodies.{body as body_of}
-use Rattle.target_body.specs.Standings.{Standing, begins, waits, over, Advances, Goes, IsTold, run_with, standing, tool_use}
+use Rattle.target_body.specs.Standings.{Standing, begins, waits, over, Advances, Fits, Goes, IsTold, run_with, standing, tool_use}
+use Rattle.task_trait.specs.Tools.{BeginsWith}
+use Rattle.target_body.specs.States.{Run}
 use Rattle.target_body.specs.declared.body.Body.{Body}
 use Rattle.target_body.specs.declared.body.BodyAsk.{BodyAsk}
 use Rattle.request_machine.specs.Positions.{Halt, halt_at, halt_by, calls_at, uses_in, uses_between}
@@ -85,3 +87,17 @@ pub all_play : {T : Type 0} (answer : List ℕ → ToolInput → ToolAnswer) (ca
 all_play answer calls w run results before after old new log then_log body then_body ask step None grown is goes = tt
 all_play answer calls w run results before after old new log then_log body then_body ask step (Some target) grown is goes =
     goes_plays answer calls w run target results before after old new log then_log body then_body ask step grown is (standing (run_with w run target) body) goes
+
+-- the calls of tools begin with those of before
+goes_begin : (answer : List ℕ → ToolInput → ToolAnswer) (id : RunId) (run : Run) (results : List RequestResult) (before after : Journal) (old new : List (List ℕ × ToolInput)) (ask : BodyAsk) (st now : Standing) →
+    Fits st results → Goes answer id run st results before after old new ask now → BeginsWith old new
+goes_begin answer id run results before after old new ask (begins scope) now fits goes = (goes.uses, goes.calls)
+goes_begin answer id run results before after old new ask (waits segments key keys go) now fits goes = (goes.uses, goes.calls)
+goes_begin answer id run results before after old new ask over now fits goes = absurd fits
+
+pub all_begin : (answer : List ℕ → ToolInput → ToolAnswer) (w : Given) (run : RunId) (found : Option UsedTarget) (body then_body : Body) (results : List RequestResult) (before after : Journal) (old new : List (List ℕ × ToolInput)) (ask : BodyAsk) → IsSome found →
+    IfSome found (λ target. Fits (standing (run_with w run target) body) results) →
+    IfSome found (λ target. Goes answer run (run_with w run target) (standing (run_with w run target) body) results before after old new ask (standing (run_with w run target) then_body)) → BeginsWith old new
+all_begin answer w run None body then_body results before after old new ask there fits goes = absurd (cc)
+all_begin answer w run (Some target) body then_body results before after old new ask there fits goes =
+    goes_begin answer run (run_with w run target) results before after old new ask (standing (run_with w run target) body) (standing (run_with w run target) then_body) fits goes

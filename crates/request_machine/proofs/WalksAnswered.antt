@@ -1,5 +1,9 @@
 -- How a walk begins, and which answer comes next.
-use Rattle.std.proofs.Common.{◌≡◌, ℕ, zero, suc, ◌+◌, ◌<◌, ◌==◌, not, List, [], ◌∷◌, length, Bool, true, false, refl, sym, ap, ◌∙◌, subst, arith}
+use Rattle.std.proofs.Common.{◌≡◌, ℕ, zero, suc, ◌+◌, ◌<◌, ◌==◌, not, List, [], ◌∷◌, length, map, Bool, true, false, refl, sym, ap, ◌∙◌, subst, arith}
+use mathlib.Core.List.{IsPrefix}
+use Rattle.std.proofs.lemmas.List.{map-append}
+use Rattle.target_body.specs.Standings.{tool_use}
+use Rattle.task_trait.specs.Tools.{BeginsWith}
 use Rattle.std.proofs.Math.Dec.{eqb-suc-zero}
 use Rattle.build_world.specs.declared.world.World.{World as Given}
 use Rattle.result_cache.specs.Journal.{Journal}
@@ -51,3 +55,7 @@ root_is w path globals targets named is-path is-globals is-targets is-named =
     ∙ (ap (λ x. record { instance = record { path = w.root; globals = x }; targets = targets; named = named }) is-globals
     ∙ (ap (λ x. record { instance = record { path = w.root; globals = w.globals }; targets = x; named = named }) is-targets
     ∙ ap (λ x. record { instance = record { path = w.root; globals = w.globals }; targets = w.targets; named = x }) is-named))
+
+-- the uses of tools begin with those of before
+pub begins_used : (old new : List (List ℕ × ToolInput)) → BeginsWith old new → IsPrefix (map tool_use old) (map tool_use new)
+begins_used old new begins = (map tool_use begins.0, sym (map-append tool_use old begins.0) ∙ ap (map tool_use) (sym begins.1))

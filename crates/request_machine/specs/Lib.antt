@@ -7,6 +7,7 @@ pub mod Turns
 pub mod Stands
 pub mod Learning
 pub mod Worlds
+pub mod Visited
 pub mod Positions
 pub mod Begun
 pub mod Following
@@ -17,4 +18,5 @@ pub mod Asks
 pub mod Taken
 pub mod Needed
 pub mod WalkPosition
+pub mod Former
 pub mod Halted

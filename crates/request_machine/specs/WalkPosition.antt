@@ -1,11 +1,12 @@
 -- Of which world a walk is, and where it stands. (Target build order; MSBuild task)
-use Rattle.std.specs.Prelude.{ℕ, List, map}
+use Rattle.std.specs.Prelude.{ℕ, List, map, Option, option_map}
 use Rattle.task_trait.specs.declared.tools.ToolAnswer.{ToolAnswer}
 use Rattle.task_trait.specs.declared.tools.ToolInput.{ToolInput}
 use Rattle.build_meaning.specs.SoFar.{ToolUse}
 use Rattle.build_meaning.specs.World.{World}
 use Rattle.build_scheduler.specs.Position.{Position}
 use Rattle.target_body.specs.Standings.{tool_use}
+use Rattle.request_machine.specs.Former.{position_before}
 use Rattle.request_machine.specs.Positions.{position_of}
 use Rattle.request_machine.specs.Worlds.{world_of}
 use Rattle.request_machine.specs.declared.request.Request.{Request}
@@ -19,6 +20,10 @@ module _ {T : Type 0} (calls : T → List (List ℕ × ToolInput)) where
   -- where a walk stands
   abbrev pub walk_position : Walk T → Position ToolInput ToolAnswer
   walk_position w = request_position w.request
+
+  -- where a walk stood before its last answer, and how often it had asked then
+  abbrev pub earlier_position : Walk T → Option (Position ToolInput ToolAnswer × ℕ)
+  earlier_position w = option_map (λ b. (position_before calls w.request b.former, b.asked)) w.before
 
   -- how tools were used
   abbrev pub tools_used : T → List (ToolUse ToolInput)

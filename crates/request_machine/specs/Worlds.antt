@@ -1,7 +1,7 @@
 -- The world of a build: its root request, and what each request and each run does, by the files, the mode and the tools. (MSBuild command-line
 -- reference; MSBuild task)
 use Rattle.std.specs.Prelude.{ℕ, List, [], ◌∷◌, ◌++◌, Bool, true, false, Option, Some, None, Result, Ok, Err, codes}
-use Rattle.msb_values.specs.declared.key.InstanceKey.{InstanceKey}
+use Rattle.msb_values.specs.declared.mode.Mode.{Mode}
 use Rattle.msb_values.specs.declared.scope.Scope.{Scope}
 use Rattle.file_store.specs.Files.{file_at}
 use Rattle.file_store.specs.declared.tree.File.{File}
@@ -15,41 +15,62 @@ use Rattle.result_cache.specs.declared.request.RequestKey.{RequestKey}
 use Rattle.result_cache.specs.declared.run.RunId.{RunId}
 use Rattle.task_trait.specs.declared.tools.ToolAnswer.{ToolAnswer}
 use Rattle.task_trait.specs.declared.tools.ToolInput.{ToolInput}
-use Rattle.build_meaning.specs.Walk.{Walk, gives, Body, makes, Outcome}
+use Rattle.build_meaning.specs.Walk.{Walk, Body, makes, Outcome, Reply}
 use Rattle.build_meaning.specs.World.{World}
 use Rattle.target_body.specs.Bodies.{body}
-use Rattle.target_body.specs.Standings.{run_with}
+use Rattle.target_body.specs.States.{run_at}
 use Rattle.request_machine.specs.Requests.{Project, target_at, unevaluated}
 use Rattle.request_machine.specs.Stands.{Bodies}
-use Rattle.request_machine.specs.Walk.{run_of, walk_in}
+use Rattle.request_machine.specs.Walk.{Trees, run_of, request_in, walks}
 
 -- nothing is made of a target that the project has not; the order asks for none
 abbrev pub nothing_made : Outcome
 nothing_made = record { ok = true; decisions = []; items = []; changes = []; notes = [] }
 
+-- what the run of a target does
+abbrev pub body_at : List File → Mode → RunId → Option UsedTarget → Scope → Journal →
+    Body ToolInput ToolAnswer
+body_at files mode id None scope journal = makes nothing_made
+body_at files mode id (Some target) scope journal = body (run_at files mode id target) scope journal
+
 abbrev pub body_if : Given → RunId → Option UsedTarget → Scope → Journal → Body ToolInput ToolAnswer
-body_if w run None scope journal = makes nothing_made
-body_if w run (Some target) scope journal = body (run_with w run target) scope journal
+body_if w = body_at w.tree.files w.mode
 
 -- what the runs of a project's targets do
+abbrev pub bodies_at : List File → Mode → Project → Bodies
+bodies_at files mode p name scope journal =
+    body_at files mode (run_of p.key name) (target_at p name) scope journal
+
 abbrev pub bodies_of : Given → Project → Bodies
-bodies_of w p name scope journal = body_if w (run_of p.key name) (target_at p name) scope journal
+bodies_of w = bodies_at w.tree.files w.mode
 
 abbrev pub project_of : Given → RequestKey → Instance → Project
 project_of w key instance = record { files = w.tree.files; key = key.instance; instance = instance }
 
--- a request, by what its instance evaluates to
-abbrev pub walk_by : Given → RequestKey → Journal → Result Instance EvalFault → Walk ToolInput ToolAnswer
-walk_by w key journal (Ok instance) = let p : Project = project_of w key instance in walk_in p key (bodies_of w p) journal
-walk_by w key journal (Err fault) = gives (unevaluated (fault_text fault))
+-- what a project evaluates to, or what is replied where it is refused
+abbrev pub instance_by : Result Instance EvalFault → Result Instance Reply
+instance_by (Ok instance) = Ok instance
+instance_by (Err fault) = Err (unevaluated (fault_text fault))
 
 -- a project that is not among the files is not evaluated
-abbrev pub walk_if : Given → RequestKey → Journal → Option File → Walk ToolInput ToolAnswer
-walk_if w key journal None = gives (unevaluated (key.instance.path ++ codes ": not found"))
-walk_if w key journal (Some file) = walk_by w key journal (evaluated w.tree.files key.instance)
+abbrev pub instance_if : List File → RequestKey → Option File → Result Instance Reply
+instance_if files key None = Err (unevaluated (key.instance.path ++ codes ": not found"))
+instance_if files key (Some file) = instance_by (evaluated files key.instance)
+
+abbrev pub instances_of : List File → RequestKey → Result Instance Reply
+instances_of files key = instance_if files key (file_at key.instance.path files)
+
+-- a request, by what its project evaluates to
+abbrev pub request_by : {T : Type 0} → Trees ToolInput ToolAnswer T → List File → Mode →
+    RequestKey → Journal → Result Instance Reply → T
+request_by t files mode key journal (Ok instance) =
+    let p : Project = record { files = files; key = key.instance; instance = instance } in
+    request_in t p key (bodies_at files mode p) journal
+request_by t files mode key journal (Err reply) = t.over reply
 
 abbrev pub walk_of : Given → RequestKey → Journal → Walk ToolInput ToolAnswer
-walk_of w key journal = walk_if w key journal (file_at key.instance.path w.tree.files)
+walk_of w key journal =
+    request_by walks w.tree.files w.mode key journal (instances_of w.tree.files key)
 
 -- the default targets of the root are asked for where none is named
 abbrev pub is_some_named : List (List ℕ) → Bool

@@ -3,26 +3,29 @@ ghost use Rattle.msb_items.specs.TargetGroups.{all_applied};
 ghost use Rattle.target_order.specs.declared.visits.Asked.TheVariants.{Body as ForBody};
 ghost use Rattle.request_machine.specs.Asks.{asked_by};
 ghost use Rattle.request_machine.specs.Begun.{IsReady};
+ghost use Rattle.request_machine.specs.Former.{visit_before};
 ghost use Rattle.request_machine.specs.Following.{FitsBody, Follows, FollowsTurn};
 ghost use Rattle.request_machine.specs.Taken.{IsVisit, TakenOn};
 ghost use Rattle.request_machine.specs.declared.stage.Stage.TheVariants.{Over};
 ghost use Rattle.request_machine.specs.declared.turn.Stand.TheVariants.{Wants};
-ghost use Rattle.request_machine.specs.declared.visit.At.TheVariants.{Wanted};
+ghost use Rattle.request_machine.specs.Visited.{seen_stage};
 ghost use Rattle.request_machine.specs.Walk.{after_run};
 ghost use Rattle.request_machine.specs.Seen.{seen_project};
 
+use crate::former::{FormerVisit, VisitParts};
 use crate::moment::Moment;
 use crate::reply::Reply;
 use crate::shared::SharedList;
 use crate::stage::Stage;
 use crate::standing::Standing;
 use crate::turn::{Stand, Turn};
-use crate::visit::{At, Visit};
+use crate::visit::At;
 use build_scheduler::Ask;
 use msb_files::Journal;
 use msb_values::{Change, Copied, InstanceKey, Name, NoMemory, Scope};
 use result_cache::{Record, Returned, RunId};
 use std::alloc::Global;
+use std::mem;
 use target_order::OrderWalk;
 
 /// What follows the run of a target: the scope with its changes and what has been returned, and how the order goes on.
@@ -71,11 +74,12 @@ impl Follow {
         }
     }
 
-    /// Takes a request on that has visited the target. This takes no memory.
-    pub fn take<T>(self, stage: &mut Stage<T>)
+    /// Takes a request on that has visited the target, and gives the visit. This takes no memory.
+    pub fn take<T>(self, stage: &mut Stage<T>) -> FormerVisit<T>
         requires visits { IsVisit stage.old }
         requires ready { IsReady self.stand self.order }
-        ensures { TakenOn stage.old self stage.new }
+        ensures taken { TakenOn stage.old self stage.new }
+        ensures before { visit_before stage.new result ≡ seen_stage stage.old }
     {
         let Follow {
             standing,
@@ -90,37 +94,35 @@ impl Follow {
 }
 
 // The request is over.
-fn over<T>(stage: &mut Stage<T>, reply: Reply)
-    ensures { stage.new ≡ Over reply }
+fn over<T>(stage: &mut Stage<T>, reply: Reply) -> FormerVisit<T>
+    ensures over { stage.new ≡ Over reply }
+    ensures before { visit_before stage.new result ≡ seen_stage stage.old }
 {
-    *stage = Stage::Over(reply);
+    FormerVisit::Whole(mem::replace(stage, Stage::Over(reply)))
 }
 
 // The request wants the run of another target.
-fn want<T>(stage: &mut Stage<T>, standing: Standing, order: OrderWalk, target: Name)
+fn want<T>(
+    stage: &mut Stage<T>,
+    standing: Standing,
+    order: OrderWalk,
+    target: Name,
+) -> FormerVisit<T>
     requires visits { IsVisit stage.old }
     requires ready { order.asked ≡ ForBody }
-    ensures { TakenOn stage.old (record { standing = standing; order = order; stand = Wants target }) stage.new }
+    ensures taken { TakenOn stage.old (record { standing = standing; order = order; stand = Wants target }) stage.new }
+    ensures before { visit_before stage.new result ≡ seen_stage stage.old }
 {
+    let parts = VisitParts {
+        standing,
+        order,
+        target,
+        at: At::Wanted,
+    };
     match stage {
-        Stage::Visits(visit) => want_at(visit, standing, order, target),
+        Stage::Visits(visit) => FormerVisit::Parts(parts.replace(visit)),
         Stage::Begins | Stage::Over(_) => unreachable!(),
     }
-}
-
-fn want_at<T>(visit: &mut Visit<T>, standing: Standing, order: OrderWalk, target: Name)
-    requires { order.asked ≡ ForBody }
-    ensures instance { visit.new.instance ≡ visit.old.instance }
-    ensures standing { visit.new.standing ≡ standing }
-    ensures order { visit.new.order ≡ order }
-    ensures own { visit.new.run.instance ≡ visit.old.run.instance }
-    ensures target { visit.new.run.target ≡ target }
-    ensures at { visit.new.at ≡ Wanted }
-{
-    visit.standing = standing;
-    visit.order = order;
-    visit.run.target = target;
-    visit.at = At::Wanted;
 }
 
 impl<'a> Moment<'a> {

@@ -6,6 +6,7 @@
 
 mod beginning;
 mod following;
+mod former;
 mod held;
 mod learning;
 mod log;

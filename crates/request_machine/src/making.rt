@@ -1,6 +1,7 @@
 ghost use Rattle.std.specs.Prelude.{◌≡◌, [], ◌∷◌, IfOk, IfSome, IsSome};
 ghost use Rattle.build_meaning.specs.SoFar.{nothing_yet, recorded};
 ghost use Rattle.build_world.specs.Instances.{seen_instance};
+ghost use Rattle.task_trait.specs.Tools.{BeginsWith};
 ghost use Rattle.target_body.specs.Standings.{Fits, run_with, standing, target_named};
 ghost use Rattle.request_machine.specs.Making.{IsFinished, IsStep, Plays, Steps};
 ghost use Rattle.request_machine.specs.Runs.{run_in};
@@ -45,6 +46,7 @@ impl<'a> Making<'a> {
         requires { IsSome (target_named (seen_instance self.now.instance.now).targets self.now.run.now.target) }
         ensures goes { IfOk result (let target = target_named (seen_instance self.now.instance.now).targets self.now.run.now.target in
             Steps T.answer T.calls self.now.world.now self.now.run.now target (body_if self.now.world.now self.now.run.now target scope.now journal.old) nothing_yet journal.old journal.new tools.old tools.new) }
+        ensures tools { BeginsWith (T.calls tools.old) (T.calls tools.new) }
         ensures run { IfOk result (λ step. run_in self.now.run.now step.at ≡ self.now.run.now) }
     {
         let body = Body::start(alloc, self.run, scope)?;
@@ -68,6 +70,7 @@ impl<'a> Making<'a> {
             Fits (standing (run_with self.now.world.now self.now.run.now target) body) results.now) }
         ensures goes { IfOk result (λ step. IfSome (target_named (seen_instance self.now.instance.now).targets self.now.run.now.target) (λ target.
             Plays T.answer T.calls self.now.world.now self.now.run.now target (standing (run_with self.now.world.now self.now.run.now target) body) results.now journal.old journal.new tools.old tools.new uses.now step)) }
+        ensures tools { BeginsWith (T.calls tools.old) (T.calls tools.new) }
         ensures run { IfOk result (λ step. run_in self.now.run.now step.at ≡ self.now.run.now) }
     {
         let mut body = body;

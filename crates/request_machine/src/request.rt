@@ -3,6 +3,7 @@ ghost use Rattle.request_machine.specs.Begun.{instance_in};
 
 use crate::beginning::begin;
 use crate::following::{After, Follow};
+use crate::former::{Former, replace_body};
 use crate::making::Step;
 use crate::moment::Moment;
 use crate::project::Project;
@@ -16,6 +17,7 @@ use msb_files::Journal;
 use msb_values::{Copied, List, NoMemory};
 use result_cache::{Record, RequestKey, RequestResult, RunId, Table};
 use std::alloc::Global;
+use std::mem;
 use task_trait::CountedTools;
 
 /// A request of a build, with what it knows of files and runs.
@@ -42,6 +44,13 @@ impl<'a, T> Drop for Request<'a, T> {
             stage: _,
         } = self;
     }
+}
+
+/// What a request asks that an answer has taken on, and what the answer has replaced.
+#[derive(Drop)]
+pub struct Advanced<T> {
+    pub ask: Ask,
+    pub former: Former<T>,
 }
 
 /// A request that begins, and what it asks.
@@ -161,28 +170,32 @@ impl<'a, T: CountedTools> Request<'a, T> {
     ghost use Rattle.result_cache.specs.Table.{Records};
     ghost use Rattle.build_world.specs.Instances.{seen_instance};
     ghost use Rattle.target_body.specs.Standings.{target_named, tool_use};
+    ghost use Rattle.task_trait.specs.Tools.{BeginsWith};
     ghost use Rattle.request_machine.specs.Answered.{GoesOn, HasMade, IsNext, WaitsFor, WantsRun};
     ghost use Rattle.request_machine.specs.Begun.{has_begun};
+    ghost use Rattle.request_machine.specs.Former.{Replaces};
     ghost use Rattle.request_machine.specs.Halted.{HasMadeRun, HasResumedRun, IsMade, IsResumed};
     ghost use Rattle.request_machine.specs.Making.{IsWaiting};
     ghost use Rattle.request_machine.specs.Positions.{halt_at};
     ghost use Rattle.request_machine.specs.WalkPosition.{request_position};
     ghost use Rattle.request_machine.specs.Worlds.{world_of};
 
-    /// Goes on with an answer to the next ask. Where there is no memory, the request is as it was. (Target build order; MSBuild
-    /// task.)
+    /// Goes on with an answer to the next ask. Where there is no memory, the request is as it was, and the calls of tools begin
+    /// with those of before. (Target build order; MSBuild task.)
     pub fn advance(
         &mut self,
         learnt: &Table,
         tools: &mut T,
         answer: &Answer,
-    ) -> Result<Ask, NoMemory>
+    ) -> Result<Advanced<T>, NoMemory>
         requires fits { IsSome (answered (world_of T.answer self.old.world.now) learnt.now.finished (request_position T.calls self.old) answer.now) }
         requires turn { IsNext (has_begun self.old.stage) answer.now }
-        ensures goes { IfOk result (GoesOn (world_of T.answer self.old.world.now) learnt.now.finished (request_position T.calls self.old) (request_position T.calls self.new) answer.now) }
+        ensures goes { IfOk result (λ advanced. GoesOn (world_of T.answer self.old.world.now) learnt.now.finished (request_position T.calls self.old) (request_position T.calls self.new) answer.now advanced.ask) }
         ensures used { OnOk result (map tool_use (T.calls tools.new) ≡ map tool_use (T.calls tools.old) ++ used_between (request_position T.calls self.old).place (request_position T.calls self.new).place) }
         ensures begun { OnOk result (has_begun self.new.stage ≡ true) }
         ensures world { self.new.world ≡ self.old.world }
+        ensures former { IfOk result (λ advanced. Replaces T.calls self.old self.new advanced.former) }
+        ensures tools { BeginsWith (T.calls tools.old) (T.calls tools.new) }
         ensures err { OnErr result (self.new ≡ self.old) }
     {
         match answer {
@@ -194,41 +207,48 @@ impl<'a, T: CountedTools> Request<'a, T> {
     }
 
     // It begins: its project is evaluated, and its order is answered. (Target build order.)
-    fn begin(&mut self) -> Result<Ask, NoMemory>
+    fn begin(&mut self) -> Result<Advanced<T>, NoMemory>
         requires { has_begun self.old.stage ≡ false }
-        ensures goes { (table : Records) → IfOk result (GoesOn (world_of T.answer self.old.world.now) table (request_position T.calls self.old) (request_position T.calls self.new) First) }
+        ensures goes { (table : Records) → IfOk result (λ advanced. GoesOn (world_of T.answer self.old.world.now) table (request_position T.calls self.old) (request_position T.calls self.new) First advanced.ask) }
         ensures used { OnOk result (used_between (request_position T.calls self.old).place (request_position T.calls self.new).place ≡ []) }
         ensures begun { OnOk result (has_begun self.new.stage ≡ true) }
         ensures world { self.new.world ≡ self.old.world }
+        ensures former { IfOk result (λ advanced. Replaces T.calls self.old self.new advanced.former) }
         ensures err { OnErr result (self.new ≡ self.old) }
     {
         let Begun { stage, ask } = self.begun()?;
         self.stage = stage;
-        Ok(ask)
+        Ok(Advanced {
+            ask,
+            former: Former::Begins,
+        })
     }
 
     // It makes the run that it wants. (Target element.)
-    fn go(&mut self, tools: &mut T) -> Result<Ask, NoMemory>
+    fn go(&mut self, tools: &mut T) -> Result<Advanced<T>, NoMemory>
         requires { WantsRun self.old.stage }
-        ensures goes { (table : Records) → IfOk result (GoesOn (world_of T.answer self.old.world.now) table (request_position T.calls self.old) (request_position T.calls self.new) Go) }
+        ensures goes { (table : Records) → IfOk result (λ advanced. GoesOn (world_of T.answer self.old.world.now) table (request_position T.calls self.old) (request_position T.calls self.new) Go advanced.ask) }
         ensures used { OnOk result (map tool_use (T.calls tools.new) ≡ map tool_use (T.calls tools.old) ++ used_between (request_position T.calls self.old).place (request_position T.calls self.new).place) }
         ensures begun { OnOk result (has_begun self.new.stage ≡ true) }
         ensures world { self.new.world ≡ self.old.world }
+        ensures former { IfOk result (λ advanced. Replaces T.calls self.old self.new advanced.former) }
+        ensures tools { BeginsWith (T.calls tools.old) (T.calls tools.new) }
         ensures err { OnErr result (self.new ≡ self.old) }
     {
         let Halted { step, journal } = self.made(tools)?;
         let Step { at, ask } = step;
-        match &mut self.stage {
-            Stage::Visits(visit) => visit.at = at,
-            Stage::Begins | Stage::Over(_) => unreachable!(),
-        }
-        self.journal = journal;
-        Ok(ask)
+        let at = replace_body(&mut self.stage, at);
+        let journal = mem::replace(&mut self.journal, journal);
+        Ok(Advanced {
+            ask,
+            former: Former::Body(at, journal),
+        })
     }
 
     fn made(&self, tools: &mut T) -> Result<Halted<T>, NoMemory>
         requires { WantsRun self.now.stage }
-        ensures { IfOk result (λ halted. IsMade T.answer T.calls self.now.world.now self.now.stage self.now.journal halted.journal tools.old tools.new halted.step) }
+        ensures halted { IfOk result (λ halted. IsMade T.answer T.calls self.now.world.now self.now.stage self.now.journal halted.journal tools.old tools.new halted.step) }
+        ensures tools { BeginsWith (T.calls tools.old) (T.calls tools.new) }
     {
         match &self.stage {
             Stage::Visits(visit) => self.made_at(visit, tools),
@@ -237,7 +257,8 @@ impl<'a, T: CountedTools> Request<'a, T> {
     }
 
     fn made_at(&self, visit: &Visit<T>, tools: &mut T) -> Result<Halted<T>, NoMemory>
-        ensures { IfOk result (λ halted. HasMadeRun T.answer T.calls self.now.world.now visit.now self.now.journal halted.journal tools.old tools.new halted.step) }
+        ensures halted { IfOk result (λ halted. HasMadeRun T.answer T.calls self.now.world.now visit.now self.now.journal halted.journal tools.old tools.new halted.step) }
+        ensures tools { BeginsWith (T.calls tools.old) (T.calls tools.new) }
     {
         let mut journal = self.journal.copy()?;
         let step = visit.make(self.alloc, self.world, tools, &mut journal)?;
@@ -250,23 +271,25 @@ impl<'a, T: CountedTools> Request<'a, T> {
         learnt: &Table,
         tools: &mut T,
         results: &List<RequestResult>,
-    ) -> Result<Ask, NoMemory>
+    ) -> Result<Advanced<T>, NoMemory>
         requires waits { WaitsFor T.calls self.old.world.now results.now self.old.stage }
         requires replays { IsSome (replay_all learnt.now.finished (runs_of results.now) self.old.journal) }
-        ensures goes { IfOk result (GoesOn (world_of T.answer self.old.world.now) learnt.now.finished (request_position T.calls self.old) (request_position T.calls self.new) (Results results.now)) }
+        ensures goes { IfOk result (λ advanced. GoesOn (world_of T.answer self.old.world.now) learnt.now.finished (request_position T.calls self.old) (request_position T.calls self.new) (Results results.now) advanced.ask) }
         ensures used { OnOk result (map tool_use (T.calls tools.new) ≡ map tool_use (T.calls tools.old) ++ used_between (request_position T.calls self.old).place (request_position T.calls self.new).place) }
         ensures begun { OnOk result (has_begun self.new.stage ≡ true) }
         ensures world { self.new.world ≡ self.old.world }
+        ensures former { IfOk result (λ advanced. Replaces T.calls self.old self.new advanced.former) }
+        ensures tools { BeginsWith (T.calls tools.old) (T.calls tools.new) }
         ensures err { OnErr result (self.new ≡ self.old) }
     {
         let Halted { step, journal } = self.resumed(learnt, tools, results)?;
         let Step { at, ask } = step;
-        match &mut self.stage {
-            Stage::Visits(visit) => visit.at = at,
-            Stage::Begins | Stage::Over(_) => unreachable!(),
-        }
-        self.journal = journal;
-        Ok(ask)
+        let at = replace_body(&mut self.stage, at);
+        let journal = mem::replace(&mut self.journal, journal);
+        Ok(Advanced {
+            ask,
+            former: Former::Body(at, journal),
+        })
     }
 
     fn resumed(
@@ -277,7 +300,8 @@ impl<'a, T: CountedTools> Request<'a, T> {
     ) -> Result<Halted<T>, NoMemory>
         requires waits { WaitsFor T.calls self.now.world.now results.now self.now.stage }
         requires replays { IsSome (replay_all learnt.now.finished (runs_of results.now) self.now.journal) }
-        ensures { IfOk result (λ halted. IsResumed T.answer T.calls self.now.world.now learnt.now.finished results.now self.now.stage self.now.journal halted.journal tools.old tools.new halted.step) }
+        ensures halted { IfOk result (λ halted. IsResumed T.answer T.calls self.now.world.now learnt.now.finished results.now self.now.stage self.now.journal halted.journal tools.old tools.new halted.step) }
+        ensures tools { BeginsWith (T.calls tools.old) (T.calls tools.new) }
     {
         match &self.stage {
             Stage::Visits(visit) => self.resumed_at(visit, learnt, tools, results),
@@ -294,7 +318,8 @@ impl<'a, T: CountedTools> Request<'a, T> {
     ) -> Result<Halted<T>, NoMemory>
         requires waits { IsWaiting (halt_at T.calls self.now.world.now visit.now.run (target_named (seen_instance visit.now.instance).targets visit.now.run.target) visit.now.at) results.now }
         requires replays { IsSome (replay_all learnt.now.finished (runs_of results.now) self.now.journal) }
-        ensures { IfOk result (λ halted. HasResumedRun T.answer T.calls self.now.world.now learnt.now.finished results.now visit.now self.now.journal halted.journal tools.old tools.new halted.step) }
+        ensures halted { IfOk result (λ halted. HasResumedRun T.answer T.calls self.now.world.now learnt.now.finished results.now visit.now self.now.journal halted.journal tools.old tools.new halted.step) }
+        ensures tools { BeginsWith (T.calls tools.old) (T.calls tools.new) }
     {
         let mut journal = self.journal.copy()?;
         replay_results(self.alloc, &mut journal, learnt, results.as_slice())?;
@@ -304,12 +329,13 @@ impl<'a, T: CountedTools> Request<'a, T> {
 
     // It goes on with the record of its run, which another request has made, or its own body. (Target build order; OnError
     // element.)
-    fn use_record(&mut self, learnt: &Table) -> Result<Ask, NoMemory>
+    fn use_record(&mut self, learnt: &Table) -> Result<Advanced<T>, NoMemory>
         requires { HasMade learnt.now.finished self.old.journal self.old.stage }
-        ensures goes { IfOk result (GoesOn (world_of T.answer self.old.world.now) learnt.now.finished (request_position T.calls self.old) (request_position T.calls self.new) Use) }
+        ensures goes { IfOk result (λ advanced. GoesOn (world_of T.answer self.old.world.now) learnt.now.finished (request_position T.calls self.old) (request_position T.calls self.new) Use advanced.ask) }
         ensures used { OnOk result (used_between (request_position T.calls self.old).place (request_position T.calls self.new).place ≡ []) }
         ensures begun { OnOk result (has_begun self.new.stage ≡ true) }
         ensures world { self.new.world ≡ self.old.world }
+        ensures former { IfOk result (λ advanced. Replaces T.calls self.old self.new advanced.former) }
         ensures err { OnErr result (self.new ≡ self.old) }
     {
         let After {
@@ -318,9 +344,12 @@ impl<'a, T: CountedTools> Request<'a, T> {
             runs,
             ask,
         } = self.after_run(learnt)?;
-        follow.take(&mut self.stage);
-        self.journal = journal;
-        self.runs = runs;
-        Ok(ask)
+        let visit = follow.take(&mut self.stage);
+        let journal = mem::replace(&mut self.journal, journal);
+        let runs = mem::replace(&mut self.runs, runs);
+        Ok(Advanced {
+            ask,
+            former: Former::Visit(visit, journal, runs),
+        })
     }
 }

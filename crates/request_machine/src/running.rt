@@ -3,6 +3,7 @@ ghost use Rattle.build_meaning.specs.SoFar.{nothing_yet};
 ghost use Rattle.build_world.specs.Instances.{seen_instance};
 ghost use Rattle.result_cache.specs.Replay.{replay};
 ghost use Rattle.result_cache.specs.Table.{found};
+ghost use Rattle.task_trait.specs.Tools.{BeginsWith};
 ghost use Rattle.target_body.specs.Standings.{target_named};
 ghost use Rattle.request_machine.specs.Answered.{HasRecord, IsRecord};
 ghost use Rattle.request_machine.specs.Making.{GoesOnFrom, IsWaiting, Steps};
@@ -32,6 +33,7 @@ impl<T: CountedTools> Visit<T> {
     ) -> Result<Step<T>, NoMemory>
         ensures goes { IfOk result (let target = target_named (seen_instance self.now.instance).targets self.now.run.target in
             Steps T.answer T.calls world.now self.now.run target (body_if world.now self.now.run target self.now.standing.scope journal.old) nothing_yet journal.old journal.new tools.old tools.new) }
+        ensures tools { BeginsWith (T.calls tools.old) (T.calls tools.new) }
         ensures run { IfOk result (λ step. run_in self.now.run step.at ≡ self.now.run) }
     {
         let making = Making {
@@ -62,6 +64,7 @@ impl<T: CountedTools> Visit<T> {
         requires { IsWaiting (halt_at T.calls world.now self.now.run (target_named (seen_instance self.now.instance).targets self.now.run.target) self.now.at) results.now }
         ensures goes { IfOk result (let target = target_named (seen_instance self.now.instance).targets self.now.run.target in
             GoesOnFrom T.answer T.calls world.now self.now.run target (halt_at T.calls world.now self.now.run target self.now.at) results.now journal.old journal.new tools.old tools.new) }
+        ensures tools { BeginsWith (T.calls tools.old) (T.calls tools.new) }
         ensures run { IfOk result (λ step. run_in self.now.run step.at ≡ self.now.run) }
     {
         let making = Making {

@@ -1,14 +1,17 @@
-ghost use Rattle.std.specs.Prelude.{◌≡◌, ◌==◌, not};
+ghost use Rattle.std.specs.Prelude.{◌≡◌, ◌==◌, not, IfSome};
 ghost use Rattle.request_machine.specs.Begun.{has_begun};
+ghost use Rattle.request_machine.specs.Former.{IsBefore};
 
-use crate::request::Request;
+use crate::former::Before;
+use crate::request::{Advanced, Request};
 use crate::root::root_key;
 use build_scheduler::{Answer, Ask, Walker};
 use build_world::World;
 use msb_files::Journal;
 use msb_values::{Copied, NoMemory};
-use result_cache::{RequestKey, Table};
+use result_cache::{RequestKey, RunId, Table};
 use std::alloc::Global;
+use std::mem;
 use task_trait::CountedTools;
 
 /// What tells the world of a walk.
@@ -23,7 +26,10 @@ pub struct Walk<'a, T> {
     pub(crate) learnt: Table,
     /// How often it has asked.
     pub(crate) asked: u64,
+    /// What its last answer has replaced, unless it was taken back.
+    pub(crate) before: Option<Before<T>>,
     ghost begun: { has_begun request.stage ≡ not (asked == 0) },
+    ghost fits: { ∥ IfSome before (IsBefore request) ∥₁ },
 }
 
 // A drop that is written out is proved here alone.
@@ -33,12 +39,14 @@ impl<'a, T> Drop for Walk<'a, T> {
             request: _,
             learnt: _,
             asked: _,
+            before: _,
         } = self;
     }
 }
 
 impl<'a, T: CountedTools> Walk<'a, T> {
-    ghost use Rattle.std.specs.Prelude.{[], IfOk};
+    ghost use Rattle.std.specs.Prelude.{[], IfOk, None};
+    ghost use Rattle.result_cache.specs.Journal.{end_of, has};
     ghost use Rattle.build_scheduler.specs.Position.{begins};
     ghost use Rattle.request_machine.specs.WalkPosition.{walk_position, walk_world};
     ghost use Rattle.request_machine.specs.Worlds.{root_of, world_of};
@@ -50,10 +58,18 @@ impl<'a, T: CountedTools> Walk<'a, T> {
         ensures begins { IfOk result (λ walk. walk_position T.calls walk ≡ begins (world_of T.answer world.entry.now) (root_of world.entry.now) []) }
         ensures asked { IfOk result (λ walk. walk.asked ≡ 0) }
         ensures learnt { IfOk result (λ walk. walk.learnt.finished ≡ []) }
+        ensures before { IfOk result (λ walk. walk.before ≡ None) }
     {
         let key = root_key(world)?;
         let journal = Journal::new(alloc)?;
         Ok(Walk::of(alloc, world, key, journal))
+    }
+
+    /// Whether the run has ended in its journal. This takes no memory.
+    pub fn has_ended(&self, run: &RunId) -> bool
+        ensures { result ≡ has (end_of run.now) (walk_position T.calls self.now).journal }
+    {
+        self.request.journal.has_ended(run)
     }
 
     // The walk of a request that begins with a journal.
@@ -62,19 +78,21 @@ impl<'a, T: CountedTools> Walk<'a, T> {
         ensures begins { walk_position T.calls result ≡ begins (world_of T.answer world.entry.now) key journal }
         ensures asked { result.asked ≡ 0 }
         ensures learnt { result.learnt.finished ≡ [] }
+        ensures before { result.before ≡ None }
     {
         let request = Request::new(alloc, world, key, journal);
         Walk {
             request,
             learnt: Table::new(alloc),
             asked: 0,
+            before: None,
         }
     }
 }
 
 impl<'a, T: CountedTools> Walker for Walk<'a, T> {
     ghost use Rattle.std.specs.Prelude.{◌≡◌};
-    ghost use Rattle.request_machine.specs.WalkPosition.{tools_used, walk_position, walk_world};
+    ghost use Rattle.request_machine.specs.WalkPosition.{earlier_position, tools_used, walk_position, walk_world};
     ghost use Rattle.request_machine.specs.Worlds.{world_of};
     ghost use Rattle.task_trait.specs.declared.tools.ToolAnswer.{ToolAnswer};
     ghost use Rattle.task_trait.specs.declared.tools.ToolInput.{ToolInput};
@@ -98,6 +116,8 @@ impl<'a, T: CountedTools> Walker for Walk<'a, T> {
 
     ghost learnt = { λ walk. walk.learnt.finished };
 
+    ghost earlier = { earlier_position T.calls };
+
     ghost used = { tools_used T.calls };
 
     fn origin(&self) -> WorldRef<'a> {
@@ -119,8 +139,19 @@ impl<'a, T: CountedTools> Walker for Walk<'a, T> {
     }
 
     fn advance(&mut self, tools: &mut T, answer: &Answer) -> Result<Ask, NoMemory> {
-        let ask = self.request.advance(&self.learnt, tools, answer)?;
+        let Advanced { ask, former } = self.request.advance(&self.learnt, tools, answer)?;
+        self.before = Some(Before {
+            former,
+            asked: self.asked,
+        });
         self.asked += 1;
         Ok(ask)
+    }
+
+    fn back(&mut self) {
+        match mem::replace(&mut self.before, None) {
+            Some(before) => self.asked = before.put_back(&mut self.request),
+            None => unreachable!(),
+        }
     }
 }

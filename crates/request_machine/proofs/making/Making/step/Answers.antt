@@ -5,7 +5,7 @@ use Rattle.target_body.specs.Standings.{Goes, run_with, standing, target_named}
 use Rattle.request_machine.specs.Making.{IsStep, Plays}
 use Rattle.request_machine.specs.Runs.{run_in}
 use Rattle.request_machine.proofs.RunsMade.{step_run}
-use Rattle.request_machine.proofs.Stopping.{all_play, noted_uses}
+use Rattle.request_machine.proofs.Stopping.{all_begin, all_play, noted_uses}
 use Rattle.request_machine.proofs.making.Making.step.Goals as goal
 
 pub returns : goal.returns
@@ -31,5 +31,6 @@ returns g c =
       goes = IfOk-weaker c.stopped.result (IsStep run then_body then_log ask) (λ step. IfSome (target_named targets run.target) (λ target. Plays answer calls w run target (standing (run_with w run target) body) results before after old new log step))
           (λ step is. all_play answer calls w run results before after old new log then_log body then_body ask step (target_named targets run.target)
           (λ uses called. noted_uses calls log then_log c.noted-before.result c.noted.result old new uses c.and-uses.ensures c.noted-before.ensures c.noted.ensures called) is goes) c.stopped.ensures;
+      tools = all_begin answer w run (target_named targets run.target) body then_body results before after (calls old) (calls new) ask c.requires.target c.requires.fits goes;
       run = IfOk-weaker c.stopped.result (IsStep run then_body then_log ask) (λ step. run_in run step.at ≡ run) (λ step is. step_run run then_body then_log ask step (c.advance.ensures.run ∙ c.requires.run) is) c.stopped.ensures;
     }

@@ -1,5 +1,7 @@
-use Rattle.std.proofs.Common.{[], refl}
+use Rattle.std.proofs.Common.{[], refl, ap}
 use Rattle.request_machine.proofs.PlacesAnswered.{first_goes, first_used, fresh_begun}
+use Rattle.request_machine.specs.Positions.{position_of}
+use Rattle.request_machine.proofs.PutBack.{unbegun_is}
 use Rattle.request_machine.proofs.request.Request.begin.Goals as goal
 
 pub invariant_of-self : goal.invariant_of-self
@@ -18,5 +20,6 @@ returns g c =
       used = first_used answer calls w r.key [] r.journal r.runs r.stage begun.stage c.requires e.stands;
       begun = fresh_begun begun.stage e.stands.fresh;
       world = refl;
+      former = record { fits = tt; begun = c.requires; stood = ap (position_of calls w r.key r.journal r.runs) (unbegun_is r.stage c.requires) };
       err = tt;
     }

@@ -13,8 +13,11 @@ pub returns : goal.returns
 returns g c =
     let table = c.args.learnt.now.finished in
     record {
-      replayed = c.replay_results.new.journal;
-      is = ap (replay_all table (runs_of c.args.results.now)) (sym c.in_ok-journal.ensures) ∙ (ap (λ rs. replay_all table (runs_of rs) c.in_ok-journal.journal) (sym c.as_slice.ensures) ∙ c.in_ok-replay_results.ensures);
-      goes = c.in_ok-step.ensures.goes;
-      own = c.in_ok-step.ensures.run;
+      halted = record {
+        replayed = c.replay_results.new.journal;
+        is = ap (replay_all table (runs_of c.args.results.now)) (sym c.in_ok-journal.ensures) ∙ (ap (λ rs. replay_all table (runs_of rs) c.in_ok-journal.journal) (sym c.as_slice.ensures) ∙ c.in_ok-replay_results.ensures);
+        goes = c.in_ok-step.ensures.goes;
+        own = c.in_ok-step.ensures.run;
+      };
+      tools = c.go_on.ensures.tools;
     }

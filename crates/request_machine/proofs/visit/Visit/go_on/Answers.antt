@@ -48,5 +48,6 @@ returns g c =
           (λ step plays. subst (λ at. GoesOnFrom answer calls w run target (halt_at calls w run target at) results before after old new step) (sym c.in-Called.is)
           (plays_on answer calls w run target body log results before after old new step
           (subst (λ b. IfSome target (λ t. Plays answer calls w run t (standing (run_with w run t) b) results before after old new log step)) c.in_ok-copy-in-Called.ensures plays))) c.step.ensures.goes;
+      tools = c.step.ensures.tools;
       run = c.step.ensures.run;
     }

@@ -6,6 +6,7 @@ use Rattle.target_body.specs.Standings.{target_named}
 use Rattle.request_machine.specs.Making.{IsFinished, Steps}
 use Rattle.request_machine.specs.Runs.{run_in}
 use Rattle.request_machine.specs.Worlds.{body_if, nothing_made}
+use Rattle.target_body.proofs.Stepping.{begins_here}
 use Rattle.request_machine.proofs.RunsMade.{finished_run, nothing_steps}
 use Rattle.request_machine.proofs.visit.Visit.make.Goals as goal
 
@@ -28,5 +29,6 @@ returns-in-None g c =
       goes = IfOk-weaker c.nothing.result (IsFinished run log (recorded nothing_made []))
           (Steps answer calls w run target (body_if w run target v.standing.scope journal) nothing_yet journal journal tools tools)
           (λ step is. nothing_steps answer calls w run target v.standing.scope log journal tools step absent c.new.ensures is) c.nothing.ensures;
+      tools = begins_here (calls tools);
       run = IfOk-weaker c.nothing.result (IsFinished run log (recorded nothing_made [])) (λ step. run_in run step.at ≡ run) (λ step is. finished_run run log step is) c.nothing.ensures;
     }

@@ -12,4 +12,5 @@ returns g c =
       begins = c.of.ensures.begins ∙ (ap (λ k. begins (world_of answer w) k c.in_ok-journal.journal) c.in_ok-key.ensures ∙ ap (begins (world_of answer w) (root_of w)) c.in_ok-journal.ensures);
       asked = c.of.ensures.asked;
       learnt = c.of.ensures.learnt;
+      before = c.of.ensures.before;
     }

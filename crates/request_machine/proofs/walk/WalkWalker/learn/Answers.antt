@@ -20,4 +20,5 @@ returns g c =
       world = refl;
       position = refl;
       asked = refl;
+      earlier = refl;
     }

@@ -1,0 +1,26 @@
+-- The visit of a target, as plain data. (Target build order)
+use Rattle.std.specs.Prelude.{Option, None, Some}
+use Rattle.target_order.specs.Progress.{Progress}
+use Rattle.build_world.specs.Instances.{Instance, seen_instance}
+use Rattle.result_cache.specs.declared.run.RunId.{RunId}
+use Rattle.request_machine.specs.declared.standing.Standing.{Standing}
+use Rattle.request_machine.specs.declared.stage.Stage.{Stage}
+use Rattle.request_machine.specs.declared.stage.Stage.TheVariants.{Begins, Visits, Over}
+use Rattle.request_machine.specs.declared.visit.At.{At}
+use Rattle.request_machine.specs.declared.visit.Visit.{Visit}
+
+pub record Visited (T : Type 0) : Type 0 where
+  pub instance : Instance
+  pub standing : Standing
+  pub order : Progress
+  pub run : RunId
+  pub at : At T
+
+abbrev pub seen_visit : {T : Type 0} → Visit T → Visited T
+seen_visit v = record { instance = seen_instance v.instance; standing = v.standing; order = v.order; run = v.run; at = v.at }
+
+-- the visit of a stage, where a target is visited
+abbrev pub seen_stage : {T : Type 0} → Stage T → Option (Visited T)
+seen_stage Begins = None
+seen_stage (Visits v) = Some (seen_visit v)
+seen_stage (Over reply) = None
