@@ -1,5 +1,5 @@
 -- A build of a world, from its first state to its outcome.
-use Rattle.std.proofs.Common.{◌≡◌, ◌⊎◌, ℕ, zero, suc, List, [], Bool, Option, None, Some, Result, Ok, Err, IfOk, inl, inr, ap, sym, subst, ◌∙◌}
+use Rattle.std.proofs.Common.{◌≡◌, ◌⊎◌, ℕ, zero, suc, List, [], Bool, Option, None, Some, Result, Ok, Err, IfOk, inl, inr, ap, subst, ◌∙◌}
 use Rattle.std.proofs.Math.Logic.{∥∥₁_elim, ∥∥₁_map₂, ∥∥₁_prop}
 use Rattle.msb_values.specs.declared.errors.NoMemory.{NoMemory}
 use Rattle.build_meaning.specs.declared.event.Event.{Event}
@@ -37,10 +37,6 @@ module _ {I A : Type 0} (w : World I A) where
       → IfOk made (λ outcome. ∥ IsOutcome w low outcome ∥₁)
   outcomes_are low events end (Ok outcome) legal is = outcome_is low events end outcome legal is
   outcomes_are low events end (Err none) legal is = tt
-
--- a core with no event yet has no request with a node
-pub none_in_core : {I A : Type 0} (w : World I A) (events : List Event) → events ≡ [] → NoneAssigned w events
-none_in_core w events none = subst (NoneAssigned w) (sym none) (none_at_first w)
 
 module _ {I A : Type 0} (low : Bool) (events : List Event) (end : Option End) where
   outcomes_in : (v u : World I A) (made : Result Outcome NoMemory) → ∥ u ≡ v ∥₁ → ∥ IsLegal v events ∥₁ → IfOk made (λ o. ∥ IsOutcomeAt u low events end o ∥₁) → IfOk made (λ o. ∥ IsOutcome v low o ∥₁)

@@ -1,5 +1,5 @@
 -- A build whose runs are counted, from its first state to what comes of it.
-use Rattle.std.proofs.Common.{◌≡◌, ℕ, List, [], Option, Some, false, Result, Ok, Err, IfOk, ap, sym, subst, ◌∙◌}
+use Rattle.std.proofs.Common.{◌≡◌, ℕ, List, [], ◌++◌, Option, Some, false, Result, Ok, Err, IfOk, ap, sym, subst, ◌∙◌}
 use Rattle.std.proofs.Math.Logic.{∥∥₁_map₂}
 use Rattle.std.specs.Prelude.{IfSome}
 use Rattle.msb_values.specs.declared.errors.NoMemory.{NoMemory}
@@ -20,7 +20,7 @@ use Rattle.build_scheduler.specs.Log.{Logged}
 use Rattle.build_scheduler.specs.Own.{Seen}
 use Rattle.build_scheduler.specs.Shown.{Shown}
 use Rattle.build_scheduler.proofs.HistoryFacts.{one_state}
-use Rattle.build_plain.specs.Driven.{IsLegal}
+use Rattle.build_plain.specs.Driven.{AssignsLeast, IsLegal}
 use Rattle.build_outcome.specs.Outcomes.{IsOutcomeAt}
 use Rattle.build_outcome.specs.declared.outcome.Outcome.{Outcome}
 use Rattle.build_engine.specs.Tried.{AreRuns, IsTried, IsTriedAt, runs_in}
@@ -52,7 +52,25 @@ module _ {I A : Type 0} (w : World I A) (events : List Event) (end : Option End)
   pub tried_at : (outcome : Outcome) (runs : ℕ) → ∥ IsOutcomeAt w false events end outcome ∥₁ → ∥ AreRuns w events end runs ∥₁ → ∥ IsTriedAt w events end (record { outcome = outcome; runs = runs }) ∥₁
   tried_at outcome runs is are = ∥∥₁_map₂ is are (λ x y. record { outcome = x; runs = y })
 
-  -- what has come of a legal history
-  pub tried_are : (made : Result Tried NoMemory) → ∥ IsLegal w events ∥₁ → IfOk made (λ t. ∥ IsTriedAt w events end t ∥₁) → IfOk made (λ t. ∥ IsTried w t ∥₁)
-  tried_are (Ok t) legal is = ∥∥₁_map₂ legal is (λ s x. record { events = events; state = s.0; end = end; history = s.1; is = x })
-  tried_are (Err none) legal is = tt
+  -- what has come of a legal history by which the least ready request was taken each time
+  pub tried_are : (made : Result Tried NoMemory) → ∥ IsLegal w events ∥₁ → AssignsLeast w [] events →
+      IfOk made (λ t. ∥ IsTriedAt w events end t ∥₁) → IfOk made (λ t. ∥ IsTried w t ∥₁)
+  tried_are (Ok t) legal least is = ∥∥₁_map₂ legal is (λ s x. record {
+    events = events;
+    state = s.0;
+    end = end;
+    history = s.1;
+    least = least;
+    is = x;
+  })
+  tried_are (Err none) legal least is = tt
+
+-- what is so of all events after none is so of all events
+pub least_of_all : {I A : Type 0} (w told : World I A) (first events : List Event) → first ≡ [] →
+    told ≡ w →
+    ((more : List Event) → events ≡ first ++ more → AssignsLeast w first more) →
+    AssignsLeast told [] events
+least_of_all {I} {A} w told first events none same least =
+    subst (λ (v : World I A). AssignsLeast v [] events) (sym same)
+    (subst (λ (before : List Event). AssignsLeast w before events) none
+    (least events (sym (ap (λ before. before ++ events) none))))

@@ -1,3 +1,4 @@
+pub mod OnNodes
 pub mod Statuses
 pub mod Tried
 pub mod UsedFor

@@ -1,5 +1,5 @@
 -- How many runs have ended in a build. (This engine's own action)
-use Rattle.std.specs.Prelude.{◌≡◌, ℕ, List, Bool, true, false, Option, None, Some}
+use Rattle.std.specs.Prelude.{◌≡◌, ℕ, List, [], Bool, true, false, Option, None, Some}
 use Rattle.std.specs.List.{count_by}
 use Rattle.result_cache.specs.Journal.{Entry, acted, ended, Journal}
 use Rattle.result_cache.specs.declared.request.RequestResult.{RequestResult}
@@ -9,6 +9,7 @@ use Rattle.build_meaning.specs.State.{State}
 use Rattle.build_meaning.specs.History.{IsHistory, EndsWith}
 use Rattle.build_scheduler.specs.declared.slot.End.{End}
 use Rattle.build_scheduler.specs.declared.slot.End.TheVariants.{Root, Circular, TooDeep, TooMany, NoMemory}
+use Rattle.build_plain.specs.Driven.{AssignsLeast}
 use Rattle.build_outcome.specs.Outcomes.{IsOutcomeAt}
 use Rattle.build_engine.specs.declared.tried.Tried.{Tried}
 
@@ -43,10 +44,12 @@ pub record IsTriedAt {I A : Type 0} (w : World I A) (events : List Event) (end :
   pub outcome : IsOutcomeAt w false events end tried.outcome
   pub runs : AreRuns w events end tried.runs
 
--- some legal history leads to both
+-- the legal history of one node leads to both: each time that no request is with the node, it takes
+-- the least one that is ready
 pub record IsTried {I A : Type 0} (w : World I A) (tried : Tried) : Type 0 where
   pub events : List Event
   pub state : State I A
   pub end : Option End
   pub history : IsHistory w events state
+  pub least : AssignsLeast w [] events
   pub is : IsTriedAt w events end tried

@@ -1,16 +1,23 @@
--- Which tools a build uses. (Task element)
-use Rattle.std.specs.Prelude.{◌≡◌, List, ◌++◌, Bool, Option}
+-- Which tools a build on one node uses. (Task element)
+use Rattle.std.specs.Prelude.{◌≡◌, List, [], ◌++◌, Bool, Option}
 use Rattle.build_meaning.specs.declared.event.Event.{Event}
 use Rattle.build_meaning.specs.SoFar.{ToolUse}
 use Rattle.build_meaning.specs.World.{World}
+use Rattle.build_meaning.specs.State.{State}
+use Rattle.build_meaning.specs.History.{IsHistory}
 use Rattle.build_history.specs.Uses.{tools_of, uses_in}
 use Rattle.build_scheduler.specs.declared.slot.End.{End}
+use Rattle.build_plain.specs.Driven.{AssignsLeast}
 use Rattle.build_outcome.specs.Outcomes.{IsOutcomeAt}
 use Rattle.build_outcome.specs.declared.outcome.Outcome.{Outcome}
 
--- the outcome comes of events by which the tools were used that were used from one to the other, in order
+-- the outcome comes of a legal history that takes the least ready request each time, and the tools that were used from one to the other are those
+-- that the history has, in order
 pub record IsUsedFor {I A : Type 0} (w : World I A) (low : Bool) (outcome : Outcome) (from to : List (ToolUse I)) : Type 0 where
   pub events : List Event
+  pub state : State I A
   pub end : Option End
+  pub history : IsHistory w events state
+  pub least : AssignsLeast w [] events
   pub is : IsOutcomeAt w low events end outcome
   pub tools : to ≡ from ++ tools_of (uses_in w events)

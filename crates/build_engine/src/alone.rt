@@ -1,6 +1,7 @@
 //! Builds on one node.
 
 ghost use Rattle.std.specs.Prelude.{◌≡◌, ◌⊎◌, [], IfOk};
+ghost use mathlib.Core.List.{IsPrefix};
 ghost use Rattle.build_outcome.specs.Outcomes.{IsOutcome};
 ghost use Rattle.build_scheduler.specs.Position.{begins};
 ghost use Rattle.build_engine.specs.Statuses.{IsCompletion, IsRefusal};
@@ -13,8 +14,10 @@ use msb_values::NoMemory;
 use result_cache::RequestKey;
 use std::alloc::Global;
 
-/// Builds the request of a walk that had no answer yet, on one node, and tells what the build prints and writes. The tools at
-/// the place are used as the build's history has it. (MSBuild command-line reference, -maxCpuCount.)
+/// Builds the request of a walk that had no answer yet, on one node, and tells what the build prints
+/// and writes. The build's history takes the least ready request each time, and the tools at the
+/// place are used as it has it; after want of memory their uses begin with those of before. (MSBuild
+/// command-line reference, -maxCpuCount.)
 pub fn build_on_one<W: Walker>(
     alloc: Global,
     key: RequestKey,
@@ -29,6 +32,7 @@ pub fn build_on_one<W: Walker>(
     ensures outcome { IfOk result (λ o. ∥ IsOutcome (W.world walk) low o ∥₁) }
     ensures status { IfOk result (λ o. IsCompletion o.status ⊎ IsRefusal o.status) }
     ensures used { IfOk result (λ o. ∥ IsUsedFor (W.world walk) low o (W.used place.old) (W.used place.new) ∥₁) }
+    ensures front { IsPrefix (W.used place.old) (W.used place.new) }
 {
     let mut core = Core::new(alloc, key, walk)?;
     build_alone(&mut core, place);

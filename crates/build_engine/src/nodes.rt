@@ -3,6 +3,7 @@
 ghost use Rattle.std.specs.Prelude.{◌≡◌, ◌⊎◌, ◌<◌, ◌≤◌, [], IfOk, vec_len};
 ghost use Rattle.build_outcome.specs.Outcomes.{IsOutcome};
 ghost use Rattle.build_scheduler.specs.Position.{begins};
+ghost use Rattle.build_engine.specs.OnNodes.{IsOutcomeOn};
 ghost use Rattle.build_engine.specs.Statuses.{IsCompletion, IsRefusal};
 
 use build_nodes::build_with;
@@ -14,8 +15,9 @@ use std::alloc::Global;
 use std::sync::Wait;
 use std::thread::Threads;
 
-/// Builds the request of a walk that had no answer yet, on a node for each place, of which there are 1 to 64, and tells what the
-/// build prints and writes. (MSBuild command-line reference, -maxCpuCount.)
+/// Builds the request of a walk that had no answer yet, on a node for each place, of which there are 1
+/// to 64, and tells what the build prints and writes. Where a node wants memory, it retires and another
+/// one goes on; one at least stays. (MSBuild command-line reference, -maxCpuCount.)
 pub fn build_on_many<R: Threads + Wait + Sync, W: Walker + Send>(
     rt: &R,
     alloc: Global,
@@ -33,6 +35,7 @@ where
     requires learnt { W.learnt walk ≡ [] }
     requires places { (0 < vec_len places) × (vec_len places ≤ 64) }
     ensures outcome { IfOk result (λ o. ∥ IsOutcome (W.world walk) low o ∥₁) }
+    ensures nodes { IfOk result (λ o. ∥ IsOutcomeOn (W.world walk) (vec_len places) low o ∥₁) }
     ensures status { IfOk result (λ o. IsCompletion o.status ⊎ IsRefusal o.status) }
 {
     let core = Core::new(alloc, key, walk)?;

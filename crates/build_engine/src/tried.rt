@@ -1,6 +1,7 @@
 //! A build on one node, of which the runs are counted.
 
 ghost use Rattle.std.specs.Prelude.{◌≡◌, [], IfOk, IfSome, IsSome, Some};
+ghost use mathlib.Core.List.{IsPrefix};
 ghost use Rattle.result_cache.specs.Replay.{replay_all};
 ghost use Rattle.build_scheduler.specs.Position.{begins};
 ghost use Rattle.msb_files.specs.Seen.{entry_shown};
@@ -22,7 +23,9 @@ pub struct Tried {
     pub runs: usize,
 }
 
-/// Builds the request of a walk that had no answer yet, on one node, and counts its runs. (This engine's own action.)
+/// Builds the request of a walk that had no answer yet, on one node, and counts its runs. The uses of
+/// tools at the place begin with those of before, also after want of memory. (This engine's own
+/// action.)
 pub fn build_and_count<W: Walker>(
     alloc: Global,
     key: RequestKey,
@@ -33,7 +36,8 @@ pub fn build_and_count<W: Walker>(
     requires begins { W.position walk ≡ begins (W.world walk) key [] }
     requires asked { W.asked walk ≡ 0 }
     requires learnt { W.learnt walk ≡ [] }
-    ensures { IfOk result (λ t. ∥ IsTried (W.world walk) t ∥₁) }
+    ensures tried { IfOk result (λ t. ∥ IsTried (W.world walk) t ∥₁) }
+    ensures front { IsPrefix (W.used place.old) (W.used place.new) }
 {
     let mut core = Core::new(alloc, key, walk)?;
     build_alone(&mut core, place);

@@ -1,7 +1,6 @@
 -- What the closed board gives: the events continue those of the start, they are legal in its world, and an end is told.
-use Rattle.std.proofs.Common.{◌≡◌, true, List, Option, Some, None, ap, sym, ◌∙◌, subst}
+use Rattle.std.proofs.Common.{◌≡◌, List, Option, Some, None, sym, subst}
 use Rattle.std.proofs.Math.Logic.{∥∥₁_elim, ∥∥₁_map₂, ∥∥₁_prop}
-use Rattle.std.specs.Prelude.{IsSome}
 use mathlib.Core.List.{IsPrefix}
 use Rattle.result_cache.specs.declared.run.RunId.{RunId}
 use Rattle.result_cache.specs.Table.{TableRuns}
@@ -17,15 +16,12 @@ use Rattle.build_scheduler.specs.Log.{Logged}
 use Rattle.build_scheduler.specs.Own.{Seen}
 use Rattle.build_scheduler.specs.Shown.{Shown}
 use Rattle.build_nodes.specs.Driven.{Continues, IsLegal}
-use Rattle.build_nodes.specs.Marked.{marked, has_mark}
-use Rattle.build_nodes.proofs.Marks.{continues-of, mark-told}
+use Rattle.build_nodes.specs.Marked.{marked}
+use Rattle.build_nodes.proofs.Marks.{continues-of}
 
 -- the last seat saw the history of the closed board, which continues that of the opening seat
 pub built-continues : (before after : List Event) (b a : Option End) (first last : List (Option Event)) → first ≡ marked before b → IsPrefix first last → marked after a ≡ last → ∥ Continues before after ∥₁
 built-continues before after b a first last f p l = ∣ continues-of before after b a (subst (λ x. IsPrefix x (marked after a)) f (subst (IsPrefix first) (sym l) p)) ∣₁
-
-pub built-ended : (after : List Event) (a : Option End) (last : List (Option Event)) → marked after a ≡ last → has_mark last ≡ true → IsSome a
-built-ended after a last l e = mark-told after a (ap has_mark l ∙ e)
 
 pub built-legal : {W I A : Type 0} (seen : W → Seen I A) (w v : World I A) {log : Logged} {origins : List Origin} {slots : List (Slot W)} {making : List (Option RunId)} {table : TableRuns} {end : Option End} →
     ∥ Shown seen w log origins slots making table end ∥₁ → ∥ w ≡ v ∥₁ → ∥ IsLegal v log.events ∥₁

@@ -52,7 +52,7 @@ Event-send = recorded_send _ _ _ Event.the_type.to_one (enum_send (Enum.shape Ev
   (search sendable, (search sendable, tt)),
   (
     (search sendable, (run-send, (search sendable, tt))),
-    ((search sendable, (Entries-send RequestKey.the_row RequestKey-send, tt)), ((search sendable, (run-send, tt)), ((search sendable, tt), tt))),
+    ((search sendable, (Entries-send RequestKey.the_row RequestKey-send, tt)), ((search sendable, (run-send, tt)), ((search sendable, tt), ((search sendable, (search sendable, tt)), tt)))),
   ),
 ))
 
@@ -82,7 +82,7 @@ calls-send W s = struct_send (Struct.shape (Calls.the_type W)) (s, (search senda
 
 Slot-send : (W : RattleType) → IsSend W → IsSend (Slot.the_row W)
 Slot-send W s =
-    recorded_send _ _ _ (Slot.the_type W).to_one (enum_send (Enum.shape (Slot.the_type W)) ((s, (answer-send, tt)), (tt, ((s, (search sendable, tt)), ((calls-send W s, tt), (tt, tt))))))
+    recorded_send _ _ _ (Slot.the_type W).to_one (enum_send (Enum.shape (Slot.the_type W)) ((s, (answer-send, tt)), ((search sendable, tt), ((s, (search sendable, tt)), ((calls-send W s, tt), (tt, tt))))))
 
 module _ (S V K P : RattleType) (g : TableRule.Ghosts P.Denot S.Denot V.Denot K.Denot) (s : IsSend S) where
   table-sync : IsSync (Table.the_field S V K P Heap.the_row g heap).row

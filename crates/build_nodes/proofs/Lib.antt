@@ -1,3 +1,6 @@
+pub mod Either
+pub mod HistoryParts
+pub mod Here
 pub mod Marks
 pub mod OthersBehind
 pub mod Away
@@ -7,3 +10,5 @@ pub mod Crossing
 pub mod CoreCrossing
 pub mod Seated
 pub mod Built
+pub mod Leaves
+pub mod Active

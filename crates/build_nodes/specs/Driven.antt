@@ -1,14 +1,9 @@
 -- What a driver asks of a core's history, and leaves in it. (Building projects in parallel)
-use Rattle.std.specs.Prelude.{◌≡◌, ℕ, List, ◌++◌}
+use Rattle.std.specs.Prelude.{◌≡◌, List, ◌++◌}
 use Rattle.build_meaning.specs.declared.event.Event.{Event}
 use Rattle.build_meaning.specs.World.{World}
 use Rattle.build_meaning.specs.State.{State}
 use Rattle.build_meaning.specs.History.{IsHistory}
-use Rattle.build_scheduler.specs.Ready.{IsAssigned}
-
--- no request is with a node
-abbrev pub NoneAssigned : {I A : Type 0} → World I A → List Event → Type 0
-NoneAssigned w events = (id : ℕ) → ∥ IsAssigned w events id ∥₁ → ⊥
 
 -- the events lead from the start of the world to a state
 abbrev pub IsLegal : {I A : Type 0} → World I A → List Event → Type 0

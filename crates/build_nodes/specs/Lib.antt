@@ -1,4 +1,5 @@
 pub mod Driven
+pub mod Leaving
 pub mod Marked
 pub mod Seats
 pub mod Turns

@@ -1,5 +1,6 @@
 //! What a node does with the core while it has it.
-ghost use Rattle.std.specs.Prelude.{◌≡◌, true, drop, None};
+ghost use Rattle.std.specs.Prelude.{◌≡◌, false, true, drop, None};
+ghost use Rattle.std.specs.List.{list_any};
 ghost use mathlib.Core.List.{IsPrefix};
 ghost use Rattle.build_meaning.specs.History.{AreOfOthers};
 ghost use Rattle.build_meaning.specs.Step.{whose};
@@ -7,39 +8,74 @@ ghost use Rattle.build_scheduler.specs.declared.walker.Ask.TheVariants.{Call, Do
 ghost use Rattle.build_scheduler.specs.Ends.{IsStop};
 ghost use Rattle.build_scheduler.specs.Own.{Asks, IsOut, IsOwn, seen_by};
 ghost use Rattle.build_scheduler.specs.Position.{ask_of};
+ghost use Rattle.build_scheduler.specs.Ready.{IsAssignedTo};
+ghost use Rattle.build_nodes.specs.Leaving.{IsCaused, IsSpent, has_left, is_retire_of};
 ghost use Rattle.build_nodes.specs.Marked.{marked};
-ghost use Rattle.build_nodes.specs.Turns.{IsAsking, IsBrought, IsNext, refusal_end};
+ghost use Rattle.build_nodes.specs.Turns.{CanGoBack, IsAnswered, IsAsking, IsBrought, IsNext, refusal_end};
 
-use crate::turn::{Answered, Asking, Brought, Next};
+use crate::turn::{Answered, Asking, Brought, Held, Next};
 use build_scheduler::{Answer, Ask, Claimed, Core, End, Event, RequestFault, Walker};
 use msb_values::{List, NoMemory};
 use result_cache::{RecordRef, RequestKey, RequestResult, RunId};
 
 /// One turn of a node: what it brings goes on, and where its request can't, the least request that is ready is assigned to the
-/// node. There is nothing to do next once the end is told.
+/// node. There is nothing to do next once the end is told, or the node has retired.
 pub(crate) fn turn<W: Walker>(core: &mut Core<W>, node: u32, brought: Brought<W>) -> Option<Next<W>>
-    requires brought { IsBrought (seen_by W.world W.position W.asked W.learnt) (W.world_of core.old.world) (marked core.old.history.events core.old.end) brought }
+    requires spent { IsSpent core.old.history.nodes core.old.history.events core.old.end }
+    requires brought { IsBrought (seen_by W.world W.position W.asked W.learnt) W.earlier node (W.world_of core.old.world) (marked core.old.history.events core.old.end) brought }
     ensures world { W.world_of core.new.world ≡ W.world_of core.old.world }
     ensures continues { IsPrefix (marked core.old.history.events core.old.end) (marked core.new.history.events core.new.end) }
-    ensures next { IsNext (seen_by W.world W.position W.asked W.learnt) (W.world_of core.new.world) (marked core.new.history.events core.new.end) result }
+    ensures nodes { core.new.history.nodes ≡ core.old.history.nodes }
+    ensures spent { IsSpent core.new.history.nodes core.new.history.events core.new.end }
+    ensures next { IsNext (seen_by W.world W.position W.asked W.learnt) W.earlier node (W.world_of core.new.world) (marked core.new.history.events core.new.end) result }
 {
     if core.end().is_some() {
         return None;
     }
+    if has_retired(core.history(), node, brought.number()) {
+        return None;
+    }
     match brought {
-        Brought::Nothing => assign_least(core, node),
+        Brought::Nothing(_) => assign_least(core, node),
         Brought::Walk(asking) => bring_back(core, node, asking),
-        Brought::NoMemory => stop(core, End::NoMemory),
+        Brought::Refused(answered) => give_back(core, node, answered),
+    }
+}
+
+/// Whether an event from this number on is a Retire of the node.
+fn has_retired(events: &[Event], node: u32, number: usize) -> bool
+    ensures { result ≡ list_any (is_retire_of node) (drop number events.now) }
+{
+    events
+        .iter()
+        .skip(number)
+        .any(|event| is_retire_of(event, node))
+}
+
+/// Whether an event is a Retire of the node.
+fn is_retire_of(event: &Event, node: u32) -> bool
+    ensures { result ≡ is_retire_of node event.now }
+{
+    match event {
+        Event::Assign(_, _) => false,
+        Event::Claim(_, _, _) => false,
+        Event::Request(_, _) => false,
+        Event::Result(_, _) => false,
+        Event::Done(_) => false,
+        Event::Retire(_, by) => *by == node,
     }
 }
 
 /// Goes on with a walk that the node has advanced, unless its request has moved meanwhile: then the walk is dropped.
 fn bring_back<W: Walker>(core: &mut Core<W>, node: u32, asking: Asking<W>) -> Option<Next<W>>
     requires running { core.old.end ≡ None }
-    requires asking { ∥ IsAsking (seen_by W.world W.position W.asked W.learnt) (W.world_of core.old.world) (marked core.old.history.events core.old.end) asking ∥₁ }
+    requires active { has_left node (marked core.old.history.events core.old.end) ≡ false }
+    requires asking { ∥ IsAsking (seen_by W.world W.position W.asked W.learnt) W.earlier node (W.world_of core.old.world) (marked core.old.history.events core.old.end) asking ∥₁ }
     ensures world { W.world_of core.new.world ≡ W.world_of core.old.world }
     ensures continues { IsPrefix (marked core.old.history.events core.old.end) (marked core.new.history.events core.new.end) }
-    ensures next { IsNext (seen_by W.world W.position W.asked W.learnt) (W.world_of core.new.world) (marked core.new.history.events core.new.end) result }
+    ensures nodes { core.new.history.nodes ≡ core.old.history.nodes }
+    ensures spent { IsSpent core.new.history.nodes core.new.history.events core.new.end }
+    ensures next { IsNext (seen_by W.world W.position W.asked W.learnt) W.earlier node (W.world_of core.new.world) (marked core.new.history.events core.new.end) result }
 {
     if are_of_others(core.history(), asking.id, asking.number) {
         go_on(core, node, asking)
@@ -70,47 +106,67 @@ fn request_of(event: &Event) -> u64
         Event::Request(id, _) => *id,
         Event::Result(id, _) => *id,
         Event::Done(id) => *id,
+        Event::Retire(id, _) => *id,
     }
 }
 
 /// One event of the request that the node has: what its walk asks.
 fn go_on<W: Walker>(core: &mut Core<W>, node: u32, asking: Asking<W>) -> Option<Next<W>>
     requires running { core.old.end ≡ None }
+    requires active { has_left node (marked core.old.history.events core.old.end) ≡ false }
     requires own { ∥ IsOwn (W.world_of core.old.world) core.old.history.events core.old.table.finished asking.id (seen_by W.world W.position W.asked W.learnt asking.walk) ∥₁ }
+    requires here { ∥ IsAssignedTo (W.world_of core.old.world) core.old.history.events asking.id node ∥₁ }
+    requires back { ∥ CanGoBack (seen_by W.world W.position W.asked W.learnt) W.earlier (W.world_of core.old.world) core.old.history.events core.old.table.finished asking.id asking.walk asking.answer ∥₁ }
     requires asks { ask_of (W.position asking.walk) ≡ asking.ask }
     ensures world { W.world_of core.new.world ≡ W.world_of core.old.world }
     ensures continues { IsPrefix (marked core.old.history.events core.old.end) (marked core.new.history.events core.new.end) }
-    ensures next { IsNext (seen_by W.world W.position W.asked W.learnt) (W.world_of core.new.world) (marked core.new.history.events core.new.end) result }
+    ensures nodes { core.new.history.nodes ≡ core.old.history.nodes }
+    ensures spent { IsSpent core.new.history.nodes core.new.history.events core.new.end }
+    ensures next { IsNext (seen_by W.world W.position W.asked W.learnt) W.earlier node (W.world_of core.new.world) (marked core.new.history.events core.new.end) result }
 {
     let Asking {
         id,
         walk,
+        answer,
         ask,
         number: _,
     } = asking;
+    let held = Held { id, walk, answer };
     match ask {
-        Ask::Want(run) => claim(core, node, id, walk, &run),
-        Ask::Call(calls) => request(core, node, id, walk, calls),
-        Ask::Finished(run, made) => finish(core, id, walk, &run, made),
+        Ask::Want(run) => claim(core, node, held, &run),
+        Ask::Call(calls) => request(core, node, held, calls),
+        Ask::Finished(run, made) => finish(core, node, held, &run, made),
         Ask::Done(told) => end_request(core, node, id, told),
     }
 }
 
 /// Claims the run that the walk wants.
-fn claim<W: Walker>(core: &mut Core<W>, node: u32, id: u64, walk: W, run: &RunId) -> Option<Next<W>>
+fn claim<W: Walker>(core: &mut Core<W>, node: u32, held: Held<W>, run: &RunId) -> Option<Next<W>>
     requires running { core.old.end ≡ None }
-    requires own { ∥ IsOwn (W.world_of core.old.world) core.old.history.events core.old.table.finished id (seen_by W.world W.position W.asked W.learnt walk) ∥₁ }
-    requires asks { ask_of (W.position walk) ≡ Want run.now }
+    requires active { has_left node (marked core.old.history.events core.old.end) ≡ false }
+    requires own { ∥ IsOwn (W.world_of core.old.world) core.old.history.events core.old.table.finished held.id (seen_by W.world W.position W.asked W.learnt held.walk) ∥₁ }
+    requires here { ∥ IsAssignedTo (W.world_of core.old.world) core.old.history.events held.id node ∥₁ }
+    requires back { ∥ CanGoBack (seen_by W.world W.position W.asked W.learnt) W.earlier (W.world_of core.old.world) core.old.history.events core.old.table.finished held.id held.walk held.answer ∥₁ }
+    requires asks { ask_of (W.position held.walk) ≡ Want run.now }
     ensures world { W.world_of core.new.world ≡ W.world_of core.old.world }
     ensures continues { IsPrefix (marked core.old.history.events core.old.end) (marked core.new.history.events core.new.end) }
-    ensures next { IsNext (seen_by W.world W.position W.asked W.learnt) (W.world_of core.new.world) (marked core.new.history.events core.new.end) result }
+    ensures nodes { core.new.history.nodes ≡ core.old.history.nodes }
+    ensures spent { IsSpent core.new.history.nodes core.new.history.events core.new.end }
+    ensures next { IsNext (seen_by W.world W.position W.asked W.learnt) W.earlier node (W.world_of core.new.world) (marked core.new.history.events core.new.end) result }
 {
+    let Held { id, walk, answer } = held;
     match core.claim(id, walk, run) {
-        Ok(Claimed::Go(walk)) => give_answer(core, id, walk, Answer::Go),
-        Ok(Claimed::Use(walk)) => give_answer(core, id, walk, Answer::Use),
+        Ok(Claimed::Go(walk)) => {
+            let answer = Answer::Go;
+            give_answer(core, node, Held { id, walk, answer })
+        }
+        Ok(Claimed::Use(walk)) => {
+            let answer = Answer::Use;
+            give_answer(core, node, Held { id, walk, answer })
+        }
         Ok(Claimed::Wait) => assign_least(core, node),
-        Ok(Claimed::Circular(_walk, runs)) => stop(core, End::Circular(runs)),
-        Err(_walk) => stop(core, End::NoMemory),
+        Ok(Claimed::Circular(_walk, runs)) => stop(core, node, End::Circular(runs)),
+        Err(walk) => take_back(core, node, Held { id, walk, answer }),
     }
 }
 
@@ -118,51 +174,75 @@ fn claim<W: Walker>(core: &mut Core<W>, node: u32, id: u64, walk: W, run: &RunId
 fn request<W: Walker>(
     core: &mut Core<W>,
     node: u32,
-    id: u64,
-    walk: W,
+    held: Held<W>,
     calls: List<RequestKey>,
 ) -> Option<Next<W>>
     requires running { core.old.end ≡ None }
-    requires own { ∥ IsOwn (W.world_of core.old.world) core.old.history.events core.old.table.finished id (seen_by W.world W.position W.asked W.learnt walk) ∥₁ }
-    requires asks { ask_of (W.position walk) ≡ Call calls }
+    requires active { has_left node (marked core.old.history.events core.old.end) ≡ false }
+    requires own { ∥ IsOwn (W.world_of core.old.world) core.old.history.events core.old.table.finished held.id (seen_by W.world W.position W.asked W.learnt held.walk) ∥₁ }
+    requires here { ∥ IsAssignedTo (W.world_of core.old.world) core.old.history.events held.id node ∥₁ }
+    requires back { ∥ CanGoBack (seen_by W.world W.position W.asked W.learnt) W.earlier (W.world_of core.old.world) core.old.history.events core.old.table.finished held.id held.walk held.answer ∥₁ }
+    requires asks { ask_of (W.position held.walk) ≡ Call calls }
     ensures world { W.world_of core.new.world ≡ W.world_of core.old.world }
     ensures continues { IsPrefix (marked core.old.history.events core.old.end) (marked core.new.history.events core.new.end) }
-    ensures next { IsNext (seen_by W.world W.position W.asked W.learnt) (W.world_of core.new.world) (marked core.new.history.events core.new.end) result }
+    ensures nodes { core.new.history.nodes ≡ core.old.history.nodes }
+    ensures spent { IsSpent core.new.history.nodes core.new.history.events core.new.end }
+    ensures next { IsNext (seen_by W.world W.position W.asked W.learnt) W.earlier node (W.world_of core.new.world) (marked core.new.history.events core.new.end) result }
 {
+    let Held { id, walk, answer } = held;
     match core.request(id, walk, calls) {
         Ok(()) => assign_least(core, node),
-        Err((_walk, fault)) => stop(core, refusal(fault)),
+        Err((walk, fault)) => refuse(core, node, Held { id, walk, answer }, fault),
     }
 }
 
-/// How the build ends where calls are refused.
-fn refusal(fault: RequestFault) -> End
-    ensures { result ≡ refusal_end fault }
+/// Ends a build whose calls pass a limit; where there is no memory for them, the request goes back.
+fn refuse<W: Walker>(
+    core: &mut Core<W>,
+    node: u32,
+    held: Held<W>,
+    fault: RequestFault,
+) -> Option<Next<W>>
+    requires running { core.old.end ≡ None }
+    requires shown { IsStop (W.world_of core.old.world) core.old.history.events (refusal_end fault) }
+    requires here { ∥ IsAssignedTo (W.world_of core.old.world) core.old.history.events held.id node ∥₁ }
+    requires back { ∥ CanGoBack (seen_by W.world W.position W.asked W.learnt) W.earlier (W.world_of core.old.world) core.old.history.events core.old.table.finished held.id held.walk held.answer ∥₁ }
+    ensures world { W.world_of core.new.world ≡ W.world_of core.old.world }
+    ensures continues { IsPrefix (marked core.old.history.events core.old.end) (marked core.new.history.events core.new.end) }
+    ensures nodes { core.new.history.nodes ≡ core.old.history.nodes }
+    ensures spent { IsSpent core.new.history.nodes core.new.history.events core.new.end }
+    ensures next { IsNext (seen_by W.world W.position W.asked W.learnt) W.earlier node (W.world_of core.new.world) (marked core.new.history.events core.new.end) result }
 {
     match fault {
-        RequestFault::TooDeep(keys) => End::TooDeep(keys),
-        RequestFault::TooMany(instance) => End::TooMany(instance),
-        RequestFault::Memory => End::NoMemory,
+        RequestFault::TooDeep(keys) => stop(core, node, End::TooDeep(keys)),
+        RequestFault::TooMany(instance) => stop(core, node, End::TooMany(instance)),
+        RequestFault::Memory => take_back(core, node, held),
     }
 }
 
 /// Finishes the run whose body has come to its end in the walk.
 fn finish<W: Walker>(
     core: &mut Core<W>,
-    id: u64,
-    walk: W,
+    node: u32,
+    held: Held<W>,
     run: &RunId,
     made: RecordRef,
 ) -> Option<Next<W>>
     requires running { core.old.end ≡ None }
-    requires own { ∥ IsOwn (W.world_of core.old.world) core.old.history.events core.old.table.finished id (seen_by W.world W.position W.asked W.learnt walk) ∥₁ }
-    requires asks { ask_of (W.position walk) ≡ Finished run.now made }
+    requires active { has_left node (marked core.old.history.events core.old.end) ≡ false }
+    requires own { ∥ IsOwn (W.world_of core.old.world) core.old.history.events core.old.table.finished held.id (seen_by W.world W.position W.asked W.learnt held.walk) ∥₁ }
+    requires here { ∥ IsAssignedTo (W.world_of core.old.world) core.old.history.events held.id node ∥₁ }
+    requires asks { ask_of (W.position held.walk) ≡ Finished run.now made }
     ensures world { W.world_of core.new.world ≡ W.world_of core.old.world }
     ensures continues { IsPrefix (marked core.old.history.events core.old.end) (marked core.new.history.events core.new.end) }
-    ensures next { IsNext (seen_by W.world W.position W.asked W.learnt) (W.world_of core.new.world) (marked core.new.history.events core.new.end) result }
+    ensures nodes { core.new.history.nodes ≡ core.old.history.nodes }
+    ensures spent { IsSpent core.new.history.nodes core.new.history.events core.new.end }
+    ensures next { IsNext (seen_by W.world W.position W.asked W.learnt) W.earlier node (W.world_of core.new.world) (marked core.new.history.events core.new.end) result }
 {
-    core.result(id, run, made);
-    give_answer(core, id, walk, Answer::Use)
+    core.result(held.id, run, made);
+    let mut held = held;
+    held.answer = Answer::Use;
+    give_answer(core, node, held)
 }
 
 /// Ends the request, and with the root the build.
@@ -173,10 +253,13 @@ fn end_request<W: Walker>(
     told: RequestResult,
 ) -> Option<Next<W>>
     requires running { core.old.end ≡ None }
+    requires active { has_left node (marked core.old.history.events core.old.end) ≡ false }
     requires asks { ∥ Asks (W.world_of core.old.world) core.old.history.events id (Done told) ∥₁ }
     ensures world { W.world_of core.new.world ≡ W.world_of core.old.world }
     ensures continues { IsPrefix (marked core.old.history.events core.old.end) (marked core.new.history.events core.new.end) }
-    ensures next { IsNext (seen_by W.world W.position W.asked W.learnt) (W.world_of core.new.world) (marked core.new.history.events core.new.end) result }
+    ensures nodes { core.new.history.nodes ≡ core.old.history.nodes }
+    ensures spent { IsSpent core.new.history.nodes core.new.history.events core.new.end }
+    ensures next { IsNext (seen_by W.world W.position W.asked W.learnt) W.earlier node (W.world_of core.new.world) (marked core.new.history.events core.new.end) result }
 {
     core.done(id, told);
     if core.end().is_some() {
@@ -188,28 +271,39 @@ fn end_request<W: Walker>(
 /// Assigns the least request that is ready to the node.
 fn assign_least<W: Walker>(core: &mut Core<W>, node: u32) -> Option<Next<W>>
     requires running { core.old.end ≡ None }
+    requires active { has_left node (marked core.old.history.events core.old.end) ≡ false }
     ensures world { W.world_of core.new.world ≡ W.world_of core.old.world }
     ensures continues { IsPrefix (marked core.old.history.events core.old.end) (marked core.new.history.events core.new.end) }
-    ensures next { IsNext (seen_by W.world W.position W.asked W.learnt) (W.world_of core.new.world) (marked core.new.history.events core.new.end) result }
+    ensures nodes { core.new.history.nodes ≡ core.old.history.nodes }
+    ensures spent { IsSpent core.new.history.nodes core.new.history.events core.new.end }
+    ensures next { IsNext (seen_by W.world W.position W.asked W.learnt) W.earlier node (W.world_of core.new.world) (marked core.new.history.events core.new.end) result }
 {
     match core.ready() {
-        None => Some(Next::Park(core.history().len() as u64)),
+        None => Some(Next::Park(core.history().len())),
         Some(id) => {
             let (walk, answer) = core.assign(id, node);
-            give_answer(core, id, walk, answer)
+            give_answer(core, node, Held { id, walk, answer })
         }
     }
 }
 
 /// Lets the walk learn the records that its next answer needs. The node advances it when it has given the core back.
-fn give_answer<W: Walker>(core: &mut Core<W>, id: u64, walk: W, answer: Answer) -> Option<Next<W>>
+fn give_answer<W: Walker>(core: &mut Core<W>, node: u32, held: Held<W>) -> Option<Next<W>>
     requires running { core.old.end ≡ None }
-    requires out { ∥ IsOut (W.world_of core.old.world) core.old.history.events core.old.table.finished id (seen_by W.world W.position W.asked W.learnt walk) answer ∥₁ }
+    requires active { has_left node (marked core.old.history.events core.old.end) ≡ false }
+    requires out { ∥ IsOut (W.world_of core.old.world) core.old.history.events core.old.table.finished held.id (seen_by W.world W.position W.asked W.learnt held.walk) held.answer ∥₁ }
+    requires here { ∥ IsAssignedTo (W.world_of core.old.world) core.old.history.events held.id node ∥₁ }
     ensures world { W.world_of core.new.world ≡ W.world_of core.old.world }
     ensures continues { IsPrefix (marked core.old.history.events core.old.end) (marked core.new.history.events core.new.end) }
-    ensures next { IsNext (seen_by W.world W.position W.asked W.learnt) (W.world_of core.new.world) (marked core.new.history.events core.new.end) result }
+    ensures nodes { core.new.history.nodes ≡ core.old.history.nodes }
+    ensures spent { IsSpent core.new.history.nodes core.new.history.events core.new.end }
+    ensures next { IsNext (seen_by W.world W.position W.asked W.learnt) W.earlier node (W.world_of core.new.world) (marked core.new.history.events core.new.end) result }
 {
-    let mut walk = walk;
+    let Held {
+        id,
+        mut walk,
+        answer,
+    } = held;
     match walk.learn(core.table(), &answer) {
         Ok(()) => Some(Next::Advance(Answered {
             id,
@@ -217,17 +311,80 @@ fn give_answer<W: Walker>(core: &mut Core<W>, id: u64, walk: W, answer: Answer) 
             answer,
             number: core.history().len(),
         })),
-        Err(NoMemory) => stop(core, End::NoMemory),
+        Err(NoMemory) => retire(core, node, Held { id, walk, answer }),
     }
 }
 
-/// Tells the end of a build that can't go on.
-fn stop<W: Walker>(core: &mut Core<W>, end: End) -> Option<Next<W>>
+/// Gives a request back whose walk the node had no memory to advance, unless it has moved meanwhile: then the walk is dropped.
+fn give_back<W: Walker>(core: &mut Core<W>, node: u32, answered: Answered<W>) -> Option<Next<W>>
     requires running { core.old.end ≡ None }
-    requires shown { IsStop (W.world_of core.old.world) core.old.history.events end }
+    requires active { has_left node (marked core.old.history.events core.old.end) ≡ false }
+    requires answered { ∥ IsAnswered (seen_by W.world W.position W.asked W.learnt) W.earlier node (W.world_of core.old.world) (marked core.old.history.events core.old.end) answered ∥₁ }
     ensures world { W.world_of core.new.world ≡ W.world_of core.old.world }
     ensures continues { IsPrefix (marked core.old.history.events core.old.end) (marked core.new.history.events core.new.end) }
-    ensures next { IsNext (seen_by W.world W.position W.asked W.learnt) (W.world_of core.new.world) (marked core.new.history.events core.new.end) result }
+    ensures nodes { core.new.history.nodes ≡ core.old.history.nodes }
+    ensures spent { IsSpent core.new.history.nodes core.new.history.events core.new.end }
+    ensures next { IsNext (seen_by W.world W.position W.asked W.learnt) W.earlier node (W.world_of core.new.world) (marked core.new.history.events core.new.end) result }
+{
+    let Answered {
+        id,
+        walk,
+        answer,
+        number,
+    } = answered;
+    if are_of_others(core.history(), id, number) {
+        retire(core, node, Held { id, walk, answer })
+    } else {
+        assign_least(core, node)
+    }
+}
+
+/// Takes the last answer of a walk back, and gives its request back.
+fn take_back<W: Walker>(core: &mut Core<W>, node: u32, held: Held<W>) -> Option<Next<W>>
+    requires running { core.old.end ≡ None }
+    requires here { ∥ IsAssignedTo (W.world_of core.old.world) core.old.history.events held.id node ∥₁ }
+    requires back { ∥ CanGoBack (seen_by W.world W.position W.asked W.learnt) W.earlier (W.world_of core.old.world) core.old.history.events core.old.table.finished held.id held.walk held.answer ∥₁ }
+    ensures world { W.world_of core.new.world ≡ W.world_of core.old.world }
+    ensures continues { IsPrefix (marked core.old.history.events core.old.end) (marked core.new.history.events core.new.end) }
+    ensures nodes { core.new.history.nodes ≡ core.old.history.nodes }
+    ensures spent { IsSpent core.new.history.nodes core.new.history.events core.new.end }
+    ensures next { IsNext (seen_by W.world W.position W.asked W.learnt) W.earlier node (W.world_of core.new.world) (marked core.new.history.events core.new.end) result }
+{
+    let Held {
+        id,
+        mut walk,
+        answer,
+    } = held;
+    walk.back();
+    retire(core, node, Held { id, walk, answer })
+}
+
+/// Gives a request back for which the node has no memory: the node has retired. Where no other node is left, the end is told.
+fn retire<W: Walker>(core: &mut Core<W>, node: u32, held: Held<W>) -> Option<Next<W>>
+    requires running { core.old.end ≡ None }
+    requires out { ∥ IsOut (W.world_of core.old.world) core.old.history.events core.old.table.finished held.id (seen_by W.world W.position W.asked W.learnt held.walk) held.answer ∥₁ }
+    requires here { ∥ IsAssignedTo (W.world_of core.old.world) core.old.history.events held.id node ∥₁ }
+    ensures world { W.world_of core.new.world ≡ W.world_of core.old.world }
+    ensures continues { IsPrefix (marked core.old.history.events core.old.end) (marked core.new.history.events core.new.end) }
+    ensures nodes { core.new.history.nodes ≡ core.old.history.nodes }
+    ensures spent { IsSpent core.new.history.nodes core.new.history.events core.new.end }
+    ensures next { IsNext (seen_by W.world W.position W.asked W.learnt) W.earlier node (W.world_of core.new.world) (marked core.new.history.events core.new.end) result }
+{
+    let Held { id, walk, answer } = held;
+    core.retire(id, walk, answer);
+    None
+}
+
+/// Tells the end of a build that can't go on.
+fn stop<W: Walker>(core: &mut Core<W>, node: u32, end: End) -> Option<Next<W>>
+    requires running { core.old.end ≡ None }
+    requires shown { IsStop (W.world_of core.old.world) core.old.history.events end }
+    requires caused { IsCaused end }
+    ensures world { W.world_of core.new.world ≡ W.world_of core.old.world }
+    ensures continues { IsPrefix (marked core.old.history.events core.old.end) (marked core.new.history.events core.new.end) }
+    ensures nodes { core.new.history.nodes ≡ core.old.history.nodes }
+    ensures spent { IsSpent core.new.history.nodes core.new.history.events core.new.end }
+    ensures next { IsNext (seen_by W.world W.position W.asked W.learnt) W.earlier node (W.world_of core.new.world) (marked core.new.history.events core.new.end) result }
 {
     core.stop(end);
     None

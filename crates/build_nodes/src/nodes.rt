@@ -1,11 +1,13 @@
-ghost use Rattle.std.specs.Prelude.{◌≡◌, ◌+◌, ◌-◌, ◌<◌, ◌≤◌, [], All, true, false, is_some, vec_len, vec_capacity, IfOk, IfSome, IsSome, IsSomeAnd, None};
+ghost use Rattle.std.specs.Prelude.{◌≡◌, ◌+◌, ◌-◌, ◌<◌, ◌≤◌, ◌++◌, ◌∷◌, [], All, map, true, false, is_some, vec_len, vec_capacity, IfOk, IfSome, IsSome, IsSomeAnd, None};
 ghost use mathlib.Core.List.{IsPrefix};
 ghost use Rattle.build_scheduler.specs.Ends.{IsEnd};
 ghost use Rattle.build_scheduler.specs.Own.{seen_by};
-ghost use Rattle.build_nodes.specs.Driven.{Continues, IsLegal, NoneAssigned};
-ghost use Rattle.build_nodes.specs.Marked.{has_mark, marked};
+ghost use Rattle.build_meaning.specs.History.{AreOfNodes};
+ghost use Rattle.build_nodes.specs.Leaving.{IsSpent, has_left};
+ghost use Rattle.build_nodes.specs.Driven.{Continues, IsLegal};
+ghost use Rattle.build_nodes.specs.Marked.{marked};
 ghost use Rattle.turn_board.specs.Seats.{opening_seat};
-ghost use Rattle.build_nodes.specs.Seats.{HasSeenEnd, IsSeated};
+ghost use Rattle.build_nodes.specs.Seats.{HasLeft, IsSeated, numbers_below};
 ghost use Rattle.build_nodes.specs.Turns.{IsAnswered, IsBrought, IsNext};
 
 use crate::shared::Shared;
@@ -41,10 +43,10 @@ where
     W::Origin: Send,
     requires board { seat.old.board ≡ board.now }
     requires home { seat.old.has_state ≡ false }
-    requires brought { IsSomeAnd seat.old.world (λ first. IsBrought (seen_by W.world W.position W.asked W.learnt) (W.world_of first.world) seat.old.seen brought) }
+    requires brought { IsSomeAnd seat.old.world (λ first. IsBrought (seen_by W.world W.position W.asked W.learnt) W.earlier number (W.world_of first.world) seat.old.seen brought) }
     ensures home { seat.new.has_state ≡ false }
     ensures kept { (seat.new.board ≡ seat.old.board) × (seat.new.share ≡ seat.old.share) × (seat.new.world ≡ seat.old.world) }
-    ensures next { IsSomeAnd seat.new.world (λ first. IsNext (seen_by W.world W.position W.asked W.learnt) (W.world_of first.world) seat.new.seen result.next) }
+    ensures next { IsSomeAnd seat.new.world (λ first. IsNext (seen_by W.world W.position W.asked W.learnt) W.earlier number (W.world_of first.world) seat.new.seen result.next) }
 {
     let mut shared = match board.take(seat) {
         Taken::State(shared) => shared,
@@ -71,9 +73,9 @@ fn advance<W: Walker + Send>(node: &mut Node<W>, answered: Answered<W>) -> Broug
 where
     W::Place: Send + Drop,
     W::Origin: Send,
-    requires answered { IsSomeAnd node.old.seat.world (λ first. ∥ IsAnswered (seen_by W.world W.position W.asked W.learnt) (W.world_of first.world) node.old.seat.seen answered ∥₁) }
-    ensures seat { node.new.seat ≡ node.old.seat }
-    ensures brought { IsSomeAnd node.old.seat.world (λ first. IsBrought (seen_by W.world W.position W.asked W.learnt) (W.world_of first.world) node.old.seat.seen result) }
+    requires answered { IsSomeAnd node.old.seat.world (λ first. ∥ IsAnswered (seen_by W.world W.position W.asked W.learnt) W.earlier node.old.number (W.world_of first.world) node.old.seat.seen answered ∥₁) }
+    ensures seat { (node.new.seat ≡ node.old.seat) × (node.new.number ≡ node.old.number) }
+    ensures brought { IsSomeAnd node.old.seat.world (λ first. IsBrought (seen_by W.world W.position W.asked W.learnt) W.earlier node.old.number (W.world_of first.world) node.old.seat.seen result) }
 {
     let Answered {
         id,
@@ -85,10 +87,16 @@ where
         Ok(ask) => Brought::Walk(Asking {
             id,
             walk,
+            answer,
             ask,
             number,
         }),
-        Err(NoMemory) => Brought::NoMemory,
+        Err(NoMemory) => Brought::Refused(Answered {
+            id,
+            walk,
+            answer,
+            number,
+        }),
     }
 }
 
@@ -102,9 +110,9 @@ fn go_on<R: Wait, W: Walker + Send>(
 where
     W::Place: Send + Drop,
     W::Origin: Send,
-    requires next { IsSomeAnd node.old.seat.world (λ first. IsNext (seen_by W.world W.position W.asked W.learnt) (W.world_of first.world) node.old.seat.seen (Some next)) }
-    ensures seat { node.new.seat ≡ node.old.seat }
-    ensures brought { IsSomeAnd node.old.seat.world (λ first. IsBrought (seen_by W.world W.position W.asked W.learnt) (W.world_of first.world) node.old.seat.seen result) }
+    requires next { IsSomeAnd node.old.seat.world (λ first. IsNext (seen_by W.world W.position W.asked W.learnt) W.earlier node.old.number (W.world_of first.world) node.old.seat.seen (Some next)) }
+    ensures seat { (node.new.seat ≡ node.old.seat) × (node.new.number ≡ node.old.number) }
+    ensures brought { IsSomeAnd node.old.seat.world (λ first. IsBrought (seen_by W.world W.position W.asked W.learnt) W.earlier node.old.number (W.world_of first.world) node.old.seat.seen result) }
 {
     match next {
         Next::Missed(brought) => {
@@ -113,13 +121,13 @@ where
         }
         Next::Advance(answered) => advance(node, answered),
         Next::Park(number) => {
-            board.park_idle(rt, number);
-            Brought::Nothing
+            board.park_idle(rt, number as u64);
+            Brought::Nothing(number)
         }
     }
 }
 
-/// Takes turns until the end is told, and brings this to the first.
+/// Takes turns until the end is told or the node retires, and brings this to the first.
 fn work<R: Wait, W: Walker + Send>(
     rt: &R,
     board: &Board<Shared<W>>,
@@ -130,9 +138,10 @@ where
     W::Place: Send + Drop,
     W::Origin: Send,
     requires seated { IsSeated board.now node.old.seat }
-    requires brought { IsSomeAnd node.old.seat.world (λ first. IsBrought (seen_by W.world W.position W.asked W.learnt) (W.world_of first.world) node.old.seat.seen brought) }
+    requires brought { IsSomeAnd node.old.seat.world (λ first. IsBrought (seen_by W.world W.position W.asked W.learnt) W.earlier node.old.number (W.world_of first.world) node.old.seat.seen brought) }
     ensures seated { IsSeated board.now node.new.seat }
-    ensures ended { HasSeenEnd node.new.seat }
+    ensures number { node.new.number ≡ node.old.number }
+    ensures left { HasLeft node.new.number node.new.seat }
 {
     for _ in rt.forever() {
         match take_turn(board, &mut node.seat, node.number, brought).next {
@@ -144,8 +153,8 @@ where
     board.wake_one();
 }
 
-/// Takes turns until the end is told or there is a walk to advance. A node that is alone advances walks itself while no other
-/// request is ready.
+/// Takes turns until the end is told, the node retires or there is a walk to advance. A node that is alone
+/// advances walks itself while no other request is ready.
 fn take_turns<R: Wait, W: Walker + Send>(
     rt: &R,
     board: &Board<Shared<W>>,
@@ -155,12 +164,13 @@ fn take_turns<R: Wait, W: Walker + Send>(
 where
     W::Place: Send + Drop,
     W::Origin: Send,
-    requires { IsSeated board.now node.old.seat }
+    requires seated { IsSeated board.now node.old.seat }
     ensures seated { IsSeated board.now node.new.seat }
-    ensures answered { IfSome result (λ a. IsSomeAnd node.new.seat.world (λ first. ∥ IsAnswered (seen_by W.world W.position W.asked W.learnt) (W.world_of first.world) node.new.seat.seen a ∥₁)) }
-    ensures ended { result ≡ None → HasSeenEnd node.new.seat }
+    ensures number { node.new.number ≡ node.old.number }
+    ensures answered { IfSome result (λ a. IsSomeAnd node.new.seat.world (λ first. ∥ IsAnswered (seen_by W.world W.position W.asked W.learnt) W.earlier node.new.number (W.world_of first.world) node.new.seat.seen a ∥₁)) }
+    ensures left { result ≡ None → HasLeft node.new.number node.new.seat }
 {
-    let mut brought = Brought::Nothing;
+    let mut brought = Brought::Nothing(0);
     for _ in rt.forever() {
         let Turn { next, more } = take_turn(board, &mut node.seat, node.number, brought);
         match next {
@@ -172,7 +182,7 @@ where
     unreachable!()
 }
 
-/// A board for the nodes of a core, with the core at home. Where there is no memory, the core is let go.
+/// A board for the nodes of a core that runs, with the core at home. Where there is no memory, the core is let go.
 fn open_board<W: Walker + Send>(
     alloc: Global,
     core: Core<W>,
@@ -180,6 +190,7 @@ fn open_board<W: Walker + Send>(
 where
     W::Place: Send,
     W::Origin: Send,
+    requires running { core.end ≡ None }
     ensures { IfOk result (λ b. b.1 ≡ opening_seat b.0 core (marked core.history.events core.end)) }
 {
     match Board::open(alloc, Shared::new(core)) {
@@ -205,6 +216,7 @@ where
     requires seat { (seat.old.has_state ≡ false) × (vec_len places < seat.old.share) × (seat.old.share ≤ 128) × (is_some seat.old.world ≡ true) }
     requires room { (all.old.items ≡ []) × (vec_len places ≤ vec_capacity all.old) }
     ensures nodes { (vec_len all.new ≡ vec_len places) × All (λ n. IsSeated board.now n.seat) all.new.items }
+    ensures numbers { map (λ n. n.number) all.new.items ≡ numbers_below (vec_len places) }
     ensures seat { seat.new ≡ record seat.old { share = seat.old.share - vec_len places } }
 {
     while let Some(place) = places.pop() {
@@ -229,26 +241,27 @@ fn run_all<R: Threads + Wait + Sync, W: Walker + Send>(
 where
     W::Place: Send + Drop,
     W::Origin: Send,
-    requires { All (λ n. IsSeated board.now n.seat) nodes.items }
+    requires seated { All (λ n. IsSeated board.now n.seat) nodes.items }
     ensures seated { All (λ n. IsSeated board.now n.seat) result.items }
-    ensures ended { All (λ n. HasSeenEnd n.seat) result.items }
+    ensures left { All (λ n. HasLeft n.number n.seat) result.items }
+    ensures numbers { map (λ n. n.number) result.items ≡ map (λ n. n.number) nodes.items }
     ensures room { (vec_len result ≡ vec_len nodes) × (vec_capacity result ≡ vec_capacity nodes) }
 {
     let Some(mut node) = nodes.pop() else {
         return nodes;
     };
     if nodes.is_empty() {
-        work(rt, board, &mut node, Brought::Nothing);
+        work(rt, board, &mut node, Brought::Nothing(0));
         nodes.push_reserved(node);
         return nodes;
     }
     match take_turns(rt, board, &mut node, alone) {
         Some(answered) => run_both(rt, board, node, answered, nodes),
         None => {
-            // The others see the end as well, each at its first turn.
-            let mut ended = run_all(rt, board, alone, nodes);
-            ended.push_reserved(node);
-            ended
+            // Where the end is told, the others see it as well, each at its first turn.
+            let mut left = run_all(rt, board, alone, nodes);
+            left.push_reserved(node);
+            left
         }
     }
 }
@@ -267,19 +280,20 @@ where
     W::Place: Send + Drop,
     W::Origin: Send,
     requires seated { IsSeated board.now node.seat × All (λ n. IsSeated board.now n.seat) others.items }
-    requires answered { IsSomeAnd node.seat.world (λ first. ∥ IsAnswered (seen_by W.world W.position W.asked W.learnt) (W.world_of first.world) node.seat.seen answered ∥₁) }
+    requires answered { IsSomeAnd node.seat.world (λ first. ∥ IsAnswered (seen_by W.world W.position W.asked W.learnt) W.earlier node.number (W.world_of first.world) node.seat.seen answered ∥₁) }
     requires room { vec_len others < vec_capacity others }
     ensures seated { All (λ n. IsSeated board.now n.seat) result.items }
-    ensures ended { All (λ n. HasSeenEnd n.seat) result.items }
+    ensures left { All (λ n. HasLeft n.number n.seat) result.items }
+    ensures numbers { map (λ n. n.number) result.items ≡ map (λ n. n.number) others.items ++ node.number ∷ [] }
     ensures room { (vec_len result ≡ vec_len others + 1) × (vec_capacity result ≡ vec_capacity others) }
 {
     let there = move || -> Vec<Node<W>>
         requires { All (λ n. IsSeated board.now n.seat) others.items }
-        ensures { All (λ n. IsSeated board.entry.now n.seat) result.items × All (λ n. HasSeenEnd n.seat) result.items × (vec_len result ≡ vec_len others) × (vec_capacity result ≡ vec_capacity others) }
+        ensures { All (λ n. IsSeated board.entry.now n.seat) result.items × All (λ n. HasLeft n.number n.seat) result.items × (map (λ n. n.number) result.items ≡ map (λ n. n.number) others.items) × (vec_len result ≡ vec_len others) × (vec_capacity result ≡ vec_capacity others) }
     { run_all(rt, board, false, others) };
     let here = move || -> Node<W>
-        requires { IsSeated board.now node.seat × IsSomeAnd node.seat.world (λ first. ∥ IsAnswered (seen_by W.world W.position W.asked W.learnt) (W.world_of first.world) node.seat.seen answered ∥₁) }
-        ensures { IsSeated board.entry.now result.seat × HasSeenEnd result.seat }
+        requires { IsSeated board.now node.seat × IsSomeAnd node.seat.world (λ first. ∥ IsAnswered (seen_by W.world W.position W.asked W.learnt) W.earlier node.number (W.world_of first.world) node.seat.seen answered ∥₁) }
+        ensures { IsSeated board.entry.now result.seat × HasLeft result.number result.seat × (result.number ≡ node.number) }
     {
         let mut node = node;
         let brought = advance(&mut node, answered);
@@ -291,7 +305,7 @@ where
     all
 }
 
-/// Joins the seat of a node that has seen the end.
+/// Joins the seat of a node that has left.
 fn join_one<W: Walker + Send>(board: &Board<Shared<W>>, seat: &mut Seat<Shared<W>>, node: Node<W>)
 where
     W::Place: Send + Drop,
@@ -299,11 +313,11 @@ where
     requires board { seat.old.board ≡ board.now }
     requires home { seat.old.has_state ≡ false }
     requires seated { IsSeated board.now node.seat }
-    requires ended { HasSeenEnd node.seat }
+    requires left { HasLeft node.number node.seat }
     ensures kept { (seat.new.board ≡ seat.old.board) × (seat.new.world ≡ seat.old.world) × (seat.new.has_state ≡ false) }
     ensures share { seat.new.share ≡ seat.old.share + 1 }
     ensures continues { IsPrefix seat.old.seen seat.new.seen }
-    ensures ended { has_mark seat.new.seen ≡ true }
+    ensures left { has_left node.number seat.new.seen ≡ true }
 {
     let Node {
         number: _,
@@ -324,13 +338,12 @@ where
     W::Origin: Send,
     requires board { seat.old.board ≡ board.now }
     requires home { seat.old.has_state ≡ false }
-    requires some { 0 < vec_len all }
     requires seated { All (λ n. IsSeated board.now n.seat) all.items }
-    requires ended { All (λ n. HasSeenEnd n.seat) all.items }
+    requires left { All (λ n. HasLeft n.number n.seat) all.items }
     ensures kept { (seat.new.board ≡ seat.old.board) × (seat.new.world ≡ seat.old.world) × (seat.new.has_state ≡ false) }
     ensures share { seat.new.share ≡ seat.old.share + vec_len all }
     ensures continues { IsPrefix seat.old.seen seat.new.seen }
-    ensures ended { has_mark seat.new.seen ≡ true }
+    ensures left { All (λ n. has_left n.number seat.new.seen ≡ true) all.items }
 {
     while let Some(node) = all.pop() {
         join_one(board, seat, node);
@@ -338,30 +351,35 @@ where
 }
 
 /// Builds on several nodes, one for each place and each in a thread of its own, until the core's end is told. Nodes are
-/// started as there is work for them, and each takes the least request that is ready. Want of memory, a cycle of runs and
-/// a limit that is passed end the build. Where there is no memory to begin with, nothing has run. (Building projects in
+/// started as there is work for them, and each takes the least request that is ready. A node that has no memory for its
+/// request gives it back and leaves; where no other one is left, the build ends for want of memory. A cycle of runs and a
+/// limit that is passed end the build as well. Where there is no memory to begin with, nothing has run. (Building projects in
 /// parallel.)
 pub fn build_with<R: Threads + Wait + Sync, W: Walker + Send>(
     rt: &R,
     alloc: Global,
-    core: Core<W>,
+    mut core: Core<W>,
     places: Vec<W::Place>,
 ) -> Result<Core<W>, NoMemory>
 where
     W::Place: Send + Drop,
     W::Origin: Send,
     requires places { (0 < vec_len places) × (vec_len places ≤ 64) }
-    requires core { NoneAssigned (W.world_of core.world) core.history.events }
+    requires empty { core.history.events ≡ [] }
+    requires running { core.end ≡ None }
     ensures world { IfOk result (λ built. ∥ W.world_of built.world ≡ W.world_of core.world ∥₁) }
     ensures continues { IfOk result (λ built. ∥ Continues core.history.events built.history.events ∥₁) }
     ensures legal { IfOk result (λ built. ∥ IsLegal (W.world_of core.world) built.history.events ∥₁) }
     ensures end { IfOk result (λ built. IsSome built.end) }
     ensures told { IfOk result (λ built. IsEnd (W.world_of core.world) built.history.events built.end) }
+    ensures few { IfOk result (λ built. AreOfNodes (vec_len places) built.history.events) }
+    ensures spent { IfOk result (λ built. IsSpent (vec_len places) built.history.events built.end) }
 {
+    core.nodes(places.len() as u32);
     let mut all = Vec::with_capacity(alloc, places.len())?;
     let (board, mut seat) = open_board(alloc, core)?;
     split_all(&board, &mut seat, places, &mut all);
-    let ended = run_all(rt, &board, true, all);
-    join_all(&board, &mut seat, ended);
+    let left = run_all(rt, &board, true, all);
+    join_all(&board, &mut seat, left);
     Ok(board.close(seat).into_core())
 }

@@ -1,6 +1,7 @@
-ghost use Rattle.std.specs.Prelude.{◌≡◌, ◌+◌, ◌<◌, ◌^◌, length};
+ghost use Rattle.std.specs.Prelude.{◌≡◌, ◌+◌, ◌<◌, ◌^◌, None, length};
 ghost use mathlib.Core.List.{IsPrefix};
 ghost use Rattle.build_scheduler.specs.Own.{seen_by};
+ghost use Rattle.build_nodes.specs.Leaving.{IsSpent};
 ghost use Rattle.build_nodes.specs.Marked.{marked};
 ghost use Rattle.build_nodes.specs.Turns.{IsBrought, IsNext};
 
@@ -17,10 +18,13 @@ pub(crate) struct Shared<W: Walker> {
     /// The core that the nodes began with.
     first: Snapshot<Core<W>>,
     ghost same: { ∥ W.world_of core.world ≡ W.world_of first.value.world ∥₁ },
+    ghost nodes: { core.history.nodes ≡ first.value.history.nodes },
+    ghost spent: { IsSpent core.history.nodes core.history.events core.end },
 }
 
 impl<W: Walker> Shared<W> {
     pub(crate) fn new(core: Core<W>) -> Shared<W>
+        requires { core.end ≡ None }
         ensures core { result.core ≡ core }
         ensures first { result.first.value ≡ core }
         ensures few { length (marked core.history.events core.end) < 2 ^ 63 }
@@ -39,10 +43,10 @@ impl<W: Walker> Shared<W> {
 
     /// One turn of a node.
     pub(crate) fn turn(&mut self, node: u32, brought: Brought<W>) -> Option<Next<W>>
-        requires brought { IsBrought (seen_by W.world W.position W.asked W.learnt) (W.world_of self.old.core.world) (marked self.old.core.history.events self.old.core.end) brought }
+        requires brought { IsBrought (seen_by W.world W.position W.asked W.learnt) W.earlier node (W.world_of self.old.core.world) (marked self.old.core.history.events self.old.core.end) brought }
         ensures first { self.new.first ≡ self.old.first }
         ensures continues { IsPrefix (marked self.old.core.history.events self.old.core.end) (marked self.new.core.history.events self.new.core.end) }
-        ensures next { IsNext (seen_by W.world W.position W.asked W.learnt) (W.world_of self.new.core.world) (marked self.new.core.history.events self.new.core.end) result }
+        ensures next { IsNext (seen_by W.world W.position W.asked W.learnt) W.earlier node (W.world_of self.new.core.world) (marked self.new.core.history.events self.new.core.end) result }
         ensures few { length (marked self.new.core.history.events self.new.core.end) < 2 ^ 63 }
     {
         let next = turn(&mut self.core, node, brought);

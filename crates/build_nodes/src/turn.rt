@@ -1,10 +1,22 @@
+ghost use Rattle.std.specs.Prelude.{◌≡◌};
+ghost use Rattle.build_nodes.specs.Turns.{number_of};
+
 use build_scheduler::{Answer, Ask};
 
-/// The walk of a request that a node has advanced.
+/// The walk of a request that a node has, and its next answer, or its last one.
+#[derive(Drop)]
+pub(crate) struct Held<W> {
+    pub id: u64,
+    pub walk: W,
+    pub answer: Answer,
+}
+
+/// The walk of a request that a node has advanced by an answer.
 #[derive(Drop)]
 pub(crate) struct Asking<W> {
     pub id: u64,
     pub walk: W,
+    pub answer: Answer,
     pub ask: Ask,
     /// The number of events when the node had the core last.
     pub number: usize,
@@ -23,26 +35,40 @@ pub(crate) struct Answered<W> {
 /// What a node brings to its turn.
 #[derive(Drop)]
 pub(crate) enum Brought<W> {
-    Nothing,
+    /// No request, and the number of events when the node had the core last.
+    Nothing(usize),
     Walk(Asking<W>),
-    /// There was no memory to advance a walk.
-    NoMemory,
+    /// There was no memory to advance the walk.
+    Refused(Answered<W>),
 }
 
-/// What a node does after its turn, where no end is told.
+impl<W> Brought<W> {
+    /// The number of events when the node had the core last.
+    pub fn number(&self) -> usize
+        ensures { result ≡ number_of self.now }
+    {
+        match self {
+            Brought::Nothing(number) => *number,
+            Brought::Walk(asking) => asking.number,
+            Brought::Refused(answered) => answered.number,
+        }
+    }
+}
+
+/// What a node does after its turn, where no end is told and it has not retired.
 #[derive(Drop)]
 pub(crate) enum Next<W> {
     /// Another node had the core: it tries again.
     Missed(Brought<W>),
     Advance(Answered<W>),
     /// No request is ready: it sleeps while the history has this number.
-    Park(u64),
+    Park(usize),
 }
 
 /// What a turn of a node comes to.
 #[derive(Drop)]
 pub(crate) struct Turn<W> {
-    /// There is nothing to do next once the end is told.
+    /// There is nothing to do next once the end is told, or the node has retired.
     pub next: Option<Next<W>>,
     /// Whether another request is ready.
     pub more: bool,

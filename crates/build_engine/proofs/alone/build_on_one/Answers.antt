@@ -1,9 +1,8 @@
 use Rattle.std.proofs.Common.{List, IfOk, sym, subst, ◌∙◌}
 use Rattle.build_meaning.specs.World.{World}
 use Rattle.build_meaning.specs.declared.event.Event.{Event}
-use Rattle.build_outcome.specs.Outcomes.{IsOutcome}
-use Rattle.build_plain.specs.Driven.{NoneAssigned}
-use Rattle.build_plain.specs.Used.{Uses, UnlessMemory}
+use Rattle.build_outcome.specs.Outcomes.{IsOutcome, IsOutcomeAt}
+use Rattle.build_plain.specs.Driven.{IsLegal, NoneAssigned}
 use Rattle.build_engine.specs.UsedFor.{IsUsedFor}
 use Rattle.build_engine.proofs.Using.{all_used_for}
 use Rattle.build_engine.proofs.Building.{known_statuses, none_at_first, outcomes_are}
@@ -30,6 +29,11 @@ returns-clause-used g c =
     let first = c.in_ok-core.core in
     let from = m.used c.args.place.now in
     let to = m.used c.build_alone.new.place in
-    subst (λ (w : World m.Input m.Output). IfOk c.of.result (λ o. ∥ IsUsedFor w c.args.low o from to ∥₁)) (c.build_alone.ensures.world ∙ c.in_ok-core.ensures.world)
-    (all_used_for (m.world_of core.world) c.args.low first.history.events core.history.events core.end c.of.result from to c.in_ok-core.ensures.history
-    (subst (λ (w : World m.Input m.Output). UnlessMemory core.end ∥ Uses w first.history.events core.history.events from to ∥₁) (sym c.build_alone.ensures.world) c.build_alone.ensures.uses) c.of.ensures.outcome)
+    let same = c.build_alone.ensures.world in
+    subst (λ (w : World m.Input m.Output). IfOk c.of.result (λ o. ∥ IsUsedFor w c.args.low o from to ∥₁)) c.in_ok-core.ensures.world
+    (all_used_for (m.world_of first.world) c.args.low first.history.events core.history.events core.end c.of.result from to c.in_ok-core.ensures.history
+    (subst (λ (w : World m.Input m.Output). ∥ IsLegal w core.history.events ∥₁) same c.build_alone.ensures.legal) c.build_alone.ensures.least c.build_alone.ensures.uses
+    (subst (λ (w : World m.Input m.Output). IfOk c.of.result (λ o. ∥ IsOutcomeAt w c.args.low core.history.events core.end o ∥₁)) same c.of.ensures.outcome))
+
+pub returns-clause-front : goal.returns-clause-front
+returns-clause-front g c = c.build_alone.ensures.front

@@ -1,10 +1,7 @@
-use Rattle.build_engine.proofs.Building.{known_statuses, none_in_core, outcome_of_core}
+use Rattle.std.specs.Prelude.{vec_len}
+use Rattle.build_engine.proofs.Building.{known_statuses, outcome_of_core}
+use Rattle.build_engine.proofs.ManyNodes.{outcome_on_core}
 use Rattle.build_engine.proofs.nodes.build_on_many.Goals as goal
-
-pub build_with-requires-clause-core : goal.build_with-requires-clause-core
-build_with-requires-clause-core g c κs within =
-    let core = c.in_ok-core.core in
-    none_in_core (g.W.Walker.world_of core.world) core.history.events c.in_ok-core.ensures.history
 
 pub returns-clause-outcome : goal.returns-clause-outcome
 returns-clause-outcome g c =
@@ -13,6 +10,14 @@ returns-clause-outcome g c =
     let built = c.in_ok-built.built in
     outcome_of_core (m.world c.args.walk) (m.world_of core.world) (m.world_of built.world) c.args.low built.history.events built.end c.of.result c.in_ok-core.ensures.world c.in_ok-built.ensures.world
     c.in_ok-built.ensures.legal c.of.ensures.outcome
+
+pub returns-clause-nodes : goal.returns-clause-nodes
+returns-clause-nodes g c =
+    let m = g.W.Walker in
+    let core = c.in_ok-core.core in
+    let built = c.in_ok-built.built in
+    outcome_on_core (m.world c.args.walk) (m.world_of core.world) (m.world_of built.world) (vec_len c.args.places) c.args.low built.history.events built.end c.of.result c.in_ok-core.ensures.world
+    c.in_ok-built.ensures.world c.in_ok-built.ensures.legal c.in_ok-built.ensures.few c.of.ensures.outcome
 
 pub returns-clause-status : goal.returns-clause-status
 returns-clause-status g c = known_statuses c.of.result c.of.ensures.status

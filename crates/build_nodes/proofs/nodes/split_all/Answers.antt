@@ -1,9 +1,9 @@
 use Rattle.std.proofs.Common.{◌≡◌, ◌-◌, arith, vec_len, ap, ◌∙◌}
 use Rattle.std.specs.Prelude.{is_some}
 use Rattle.turn_board.specs.Seats.{SeatFacts}
-use Rattle.build_nodes.specs.Seats.{IsSeated}
+use Rattle.build_nodes.specs.Seats.{IsSeated, numbers_below}
 use Rattle.build_nodes.proofs.CoreCrossing.{shared-crosses}
-use Rattle.build_nodes.proofs.Seated.{all-more}
+use Rattle.build_nodes.proofs.Seated.{all-more, numbers-all, numbers-more}
 use Rattle.build_nodes.proofs.nodes.split_all.Goals as goal
 
 pub split-requires-send-S : goal.split-requires-send-S
@@ -27,4 +27,8 @@ loop-place-preserved g c =
         ap (λ s. s.share) new,
         ap (λ s. is_some s.world) new ∙ (ap (λ s. is_some s.world) was.0 ∙ c.requires.seat.3),
       ),
+      numbers-more (λ n. n.number) c.push_reserved.new.self.items loop.all.items _ (vec_len loop.places) (vec_len c.pop.new.self) (numbers_below (vec_len c.args.places)) c.push_reserved.ensures.items c.len.ensures (omega (arith, left)) was.4,
     )
+
+pub returns-clause-numbers : goal.returns-clause-numbers
+returns-clause-numbers g c = numbers-all (λ n. n.number) c.loop-place.all.items (vec_len c.loop-place.places) (numbers_below (vec_len c.args.places)) c.loop-place.invariant.4 c.in_default.ensures.cases.0

@@ -18,9 +18,9 @@ turn-next-requires g c =
     let seat = c.args.seat.now in
     let shared = c.in-State.shared in
     let seen = seen_by m.world m.position m.asked m.learnt in
-    let brought = subst (λ o. IsSomeAnd o (λ first. IsBrought seen (m.world_of first.world) seat.seen c.args.brought)) c.in-State.ensures.world c.requires.brought in
+    let brought = subst (λ o. IsSomeAnd o (λ first. IsBrought seen m.earlier c.args.number (m.world_of first.world) seat.seen c.args.brought)) c.in-State.ensures.world c.requires.brought in
     record {
-      brought = brought-later seen (m.world_of shared.first.value.world) (m.world_of shared.core.world) seat.seen (marked shared.core.history.events shared.core.end)
+      brought = brought-later seen m.earlier c.args.number (m.world_of shared.first.value.world) (m.world_of shared.core.world) seat.seen (marked shared.core.history.events shared.core.end)
           (∥∥₁_map shared.same sym) c.in-State.ensures.continues c.args.brought brought;
     }
 
@@ -44,5 +44,5 @@ returns-clause-next g c =
     let past = marked after.core.history.events after.core.end in
     let same = ap (λ s. s.value) c.turn-next.ensures.first in
     let world = ap (λ s. s.world) c.give.ensures ∙ (ap (λ s. s.world) c.in-State.ensures.state ∙ c.in-State.ensures.world) in
-    next-seated seen before.first.value (λ first. m.world_of first.world) c.give.new.seat.world past c.give.new.seat.seen c.turn-next.result world (ap (λ s. s.seen) c.give.ensures)
-    (next-there seen (m.world_of after.core.world) (m.world_of before.first.value.world) past (∥∥₁_map after.same (λ e. e ∙ ap (λ first. m.world_of first.world) same)) c.turn-next.result c.turn-next.ensures.next)
+    next-seated seen m.earlier c.args.number before.first.value (λ first. m.world_of first.world) c.give.new.seat.world past c.give.new.seat.seen c.turn-next.result world (ap (λ s. s.seen) c.give.ensures)
+    (next-there seen m.earlier c.args.number (m.world_of after.core.world) (m.world_of before.first.value.world) past (∥∥₁_map after.same (λ e. e ∙ ap (λ first. m.world_of first.world) same)) c.turn-next.result c.turn-next.ensures.next)
