@@ -1,10 +1,12 @@
 #!/usr/bin/env python3
 """Runs bench/compare.py on small sets: each program has to write the outputs of each set, and once.
+Runs bench/checks.py on small diamonds, each of which has to be steady, with its number of bodies.
 
 usage: tests/benchmarks.py PROGRAM
 
-The script itself looks at the outputs of each build, and ends with a status above 0 where one is
-not as it should be. The last line is `N passed, M failed`: so many sets were built.
+The scripts themselves look at the outputs of each build and at the text of each check, and end with
+a status above 0 where one is not as it should be. The last line is `N passed, M failed`: so many
+shapes of sets were tried.
 """
 
 import re
@@ -17,6 +19,7 @@ TOP = Path(__file__).resolve().parent.parent
 SHAPES = ("flat", "chains", "layers", "tree")
 # One project, layers of two, and a second chain and a last layer of one project.
 SIZES = (1, 26, 101)
+LAYERS = (1, 4, 10)
 SECONDS = 300
 
 
@@ -39,16 +42,32 @@ def compare(program: str, shape: str) -> str:
     return ""
 
 
+def check(program: str) -> str:
+    """What is wrong with the checks of diamonds, or nothing."""
+    words = [TOP / "bench" / "checks.py", program, *map(str, LAYERS)]
+    ran = subprocess.run([sys.executable, "-B", *words], stdin=subprocess.DEVNULL, text=True,
+                         stdout=subprocess.PIPE, stderr=subprocess.STDOUT, timeout=SECONDS)
+    if ran.returncode:
+        return f"status {ran.returncode}\n{ran.stdout}"
+    for layers in LAYERS:
+        bodies = 2 ** (layers + 1) - 1
+        line = rf"^{layers} layers, {1 + 2 * layers} runs, {bodies} bodies: "
+        if not re.search(line, ran.stdout, re.M):
+            return f"no line of {layers} layers\n{ran.stdout}"
+    return ""
+
+
 def main() -> int:
     if len(sys.argv) != 2:
         print("usage: tests/benchmarks.py PROGRAM", file=sys.stderr)
         return 2
     wrong = {shape: compare(sys.argv[1], shape) for shape in SHAPES}
+    wrong["checks of diamonds"] = check(sys.argv[1])
     for shape, told in wrong.items():
         if told:
             print(f"FAIL {shape}: {told}")
     failed = sum(map(bool, wrong.values()))
-    print(f"{len(SHAPES) - failed} passed, {failed} failed")
+    print(f"{len(wrong) - failed} passed, {failed} failed")
     return 1 if failed else 0
 
 

@@ -150,6 +150,7 @@ WORDS = (
     (("build",), "the PROJECT is missing: msb build PROJECT"),
     (("build", "hello.proj", "x"), "`x` is one word too many"),
     (("build", ""), "a word is empty"),
+    (("check", "hello.proj", "--nodes", "2"), "`check` does not take `--nodes`"),
     (("eval", "hello.proj", "--nodes", "2"), "`eval` does not take `--nodes`"),
     (("trial", "7"), "`trial` needs `--size N`"),
     (("trial", "x", "--size", "5"), "the SEED of a trial is a number"),
@@ -166,7 +167,7 @@ def try_words(tests: Tests) -> None:
     tests.says("a word that is no text", ran, 11, "word 2 is no UTF-8")
 
 
-RANDOM_WORDS = ("build", "eval", "targets", "trial", "x.proj", "7", "--target", "--target=a",
+RANDOM_WORDS = ("build", "check", "eval", "targets", "trial", "x.proj", "7", "--target", "--target=a",
                 "--target=", "--property",
                 "--property=A=1", "A=1", "A", "a;b", ";", "--nodes", "--nodes=64", "64", "0", "100",
                 "--clean", "--clean=",
@@ -184,7 +185,7 @@ def try_random_words(tests: Tests) -> None:
     for _ in range(800):
         words = [draw.choice(RANDOM_WORDS) for _ in range(draw.randint(1, 6))]
         if draw.random() < 0.7:
-            words = [draw.choice(RANDOM_WORDS[:4]), draw.choice(("x.proj", "7")), *words[:-2]]
+            words = [draw.choice(RANDOM_WORDS[:5]), draw.choice(("x.proj", "7")), *words[:-2]]
         ran = subprocess.run([place.program, *words], cwd=place.work, stdout=subprocess.PIPE,
                              timeout=SECONDS)
         lines, asks_for_help = advice(words)
@@ -376,7 +377,7 @@ def try_text(tests: Tests) -> None:
     text = "x" * 3_000_000
     large = f'{{"e":"Project","c":[{{"e":"PropertyGroup","c":[{{"e":"A","t":"{text}"}}]}}]}}'
     place.write("large.proj", large)
-    rows = (("build", "hello.proj"), ("eval", "large.proj"), ("targets", "hello.proj"),
+    rows = (("build", "hello.proj"), ("check", "hello.proj"), ("eval", "large.proj"), ("targets", "hello.proj"),
             ("trial", "7", "--size", "20"),
             ("build", "hello.proj", "--nodes", "8"))
     for words in rows:
@@ -584,6 +585,7 @@ def try_unproved(tests: Tests) -> None:
 
 COMPLETED = (
     ("msb bu", "build"),
+    ("msb ch", "check"),
     ("msb --q", "--quiet"),
     ("msb --quiet ev", "eval"),
     ("msb build hello.proj --t", "--target"),

@@ -105,8 +105,8 @@ ATTRIBUTES = ["Condition", "Label", "Include", "Exclude", "Remove", "Update", "K
               "InitialTargets", "TreatAsLocalProperty", "Text", "Importance", "SourceFiles",
               "DestinationFiles", "DestinationFolder", "File", "Lines", "Overwrite", "Projects",
               "Targets", "Properties", "BuildInParallel", "RunEachTargetSeparately"]
-WORDS = ["build", "eval", "targets", "trial", "--target", "--property", "--nodes", "--clean",
-         "--show", "low", "--size", "--target=Build", "--property=P=1", "--nodes=64", "--nodes=0",
+WORDS = ["build", "check", "eval", "targets", "trial", "--target", "--property", "--nodes",
+         "--clean", "--show", "low", "--size", "--target=Build", "--property=P=1", "--nodes=64", "--nodes=0",
          "--nodes=2", "--show=low", "--size=3", "1", "8", "", "-", "--", "/", "..", "A;B", "P=%3B"]
 
 

@@ -27,6 +27,7 @@ def name_that_is_no_text(place: Place) -> None:
     with needs("no such name can be made"):
         Path(os.fsdecode(os.fsencode(place.path("src")) + b"/\xff.c")).write_bytes(SOURCE)
     place.fails(5, "store fault\n")
+    expect("a check", place.run("check", "app.proj"), Ended(5, "store fault\n"))
     expect("an output is there", place.path("out").exists(), False)
 
 
@@ -45,6 +46,8 @@ def file_that_may_not_be_read(place: Place) -> None:
     place.path("src/b.c").chmod(0o000)
     place.folder.chmod(0o777)
     place.fails(5, "store fault src/b.c\n", **bound())
+    checked = place.run("check", "app.proj", **bound())
+    expect("a check", checked, Ended(5, "store fault src/b.c\n"))
     expect("an output is there", place.path("out").exists(), False)
 
 
@@ -90,6 +93,7 @@ def full_standard_output(place: Place) -> None:
         device = open("/dev/full", "wb")
     with device as full:
         expect("the status of a build", place.build(stdout=full).status, 6)
+        expect("the status of a check", place.run("check", "app.proj", stdout=full).status, 6)
         expect("the status of eval", place.run("eval", "app.proj", stdout=full).status, 6)
         expect("the status of targets", place.run("targets", "app.proj", stdout=full).status, 6)
         trial = place.run("trial", "1", "--size", "2", stdout=full)

@@ -135,6 +135,8 @@ def wait(number: int, began: float, ended: Ended) -> None:
 
 def word_for(words: list[str]) -> str:
     """What the program does, for the line on a terminal."""
+    if words[:1] == ["check"]:
+        return "checking"
     return "evaluating" if words[:1] in (["eval"], ["targets"]) else "building"
 
 

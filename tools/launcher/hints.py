@@ -169,6 +169,20 @@ def say_circle(text: str) -> None:
         say("at most 4,096 projects, told apart by path and global properties, are built at once")
 
 
+def say_verdict(text: str) -> None:
+    """What a check has found, and how it is mended."""
+    if text.startswith("differs "):
+        say("this target makes another thing where it is built in another order; does it read what "
+            "a target writes that it does not depend on?")
+    elif text.startswith("not whole: circular "):
+        say("this target calls itself, over other projects or not: one of the calls has to go, or "
+            "name other targets")
+    elif text.startswith("not whole: too deep "):
+        say_circle("too deep")
+    elif text.startswith("not whole: too many instances "):
+        say_circle("too many instances")
+
+
 def say_store(text: str) -> None:
     """Why the folder or a file could not be read or written."""
     path = text.removeprefix("store fault").strip("\n").removeprefix(" ")
@@ -202,6 +216,7 @@ def say_not_text(words: list[str]) -> None:
 
 def say_by_status(words: list[str], status: int, text: str) -> None:
     if status == 1:
+        say_verdict(text)
         say_faults(text)
     elif status == 2:
         say_words(words)
@@ -215,6 +230,9 @@ def say_by_status(words: list[str], status: int, text: str) -> None:
         say("no memory was found; `ulimit -v` shows whether the shell limits it")
     elif status == 8:
         say_limit(text)
+    elif status == 9:
+        say("a project that many others call is made for each of them here: check a part of the set, "
+            "by --target or by another PROJECT")
     elif status == 11:
         say_not_text(words)
 

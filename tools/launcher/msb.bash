@@ -5,7 +5,7 @@ _msb() {
   local word=${COMP_WORDS[COMP_CWORD]} before=${COMP_WORDS[COMP_CWORD-1]} action= options= number
   for ((number = 1; number < COMP_CWORD; number++)); do
     case ${COMP_WORDS[number]} in
-      build|eval|targets|trial) action=${COMP_WORDS[number]}; break ;;
+      build|check|eval|targets|trial) action=${COMP_WORDS[number]}; break ;;
     esac
   done
   case $before in
@@ -14,8 +14,9 @@ _msb() {
     --target|--property|--size) return ;;
   esac
   case $action in
-    '') COMPREPLY=($(compgen -W 'build eval targets trial --quiet --time --unproved --help' -- "$word")); return ;;
+    '') COMPREPLY=($(compgen -W 'build check eval targets trial --quiet --time --unproved --help' -- "$word")); return ;;
     build) options='--target --property --nodes --clean --show' ;;
+    check) options='--target --property --clean' ;;
     eval) options='--property' ;;
     targets) options='--property' ;;
     trial) options='--size --nodes' ;;

@@ -20,6 +20,8 @@ class Option(NamedTuple):
 ACTIONS = (
     Action("build", "PROJECT", "build its default targets, or those of --target",
            ("--target", "--property", "--nodes", "--clean", "--show")),
+    Action("check", "PROJECT", "tell whether its build gives one answer in every order",
+           ("--target", "--property", "--clean")),
     Action("eval", "PROJECT", "show its properties and items", ("--property",)),
     Action("targets", "PROJECT", "show its targets in order", ("--property",)),
     Action("trial", "SEED",
@@ -49,13 +51,14 @@ EXAMPLES = (
     ("msb build app/app.proj", "build the default targets of a project"),
     ('msb build app/app.proj --target Test --property "Configuration=Release" --nodes 4',
      "build a target, with a global property, on four nodes"),
+    ("msb check app/app.proj", "see that many nodes can't change what is built"),
     ("msb eval app/app.proj", "show the properties and items of a project"),
     ("msb trial 7 --size 100", "try the engine on this machine"),
 )
 
 STATUSES = (
     ("0", "it was done"),
-    ("1", "the build failed"),
+    ("1", "the build failed, or a check did not find the set of projects steady"),
     ("2", "the words are not those of the program"),
     ("3", "the project is refused: it is not there, or has a fault"),
     ("4", "the build is refused: a circle of calls, calls that are nested too deep, or too many "
@@ -64,6 +67,7 @@ STATUSES = (
     ("6", "the text could not be printed"),
     ("7", "no memory was found"),
     ("8", "the folder passes a limit"),
+    ("9", "a check made 100,000 bodies of targets, and was given up"),
     ("11", "the words could not be got"),
     ("125", "the launcher has no program to run"),
 )

@@ -1,3 +1,4 @@
+pub mod Checked
 pub mod Line
 pub mod Eval
 pub mod Targets

@@ -36,7 +36,7 @@ fn push_decided(
     Ok(shown.push('\n')?)
 }
 
-fn push_decisions(shown: &mut String, decisions: &[Decision]) -> Result<(), NoMemory>
+pub(crate) fn push_decisions(shown: &mut String, decisions: &[Decision]) -> Result<(), NoMemory>
     ensures { OnOk result (string_bytes shown.new ≡ string_bytes shown.old ++ join_by decision_words (codes ", ") decisions.now) }
 {
     match decisions {
@@ -70,7 +70,7 @@ fn push_decision(shown: &mut String, decision: &Decision) -> Result<(), NoMemory
     }
 }
 
-fn push_notes(shown: &mut String, notes: &[Note], low: bool) -> Result<(), NoMemory>
+pub(crate) fn push_notes(shown: &mut String, notes: &[Note], low: bool) -> Result<(), NoMemory>
     ensures { OnOk result (string_bytes shown.new ≡ string_bytes shown.old ++ flat_map (note_line low) notes.now) }
 {
     for note in notes {

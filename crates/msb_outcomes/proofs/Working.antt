@@ -15,16 +15,29 @@ use Rattle.file_store.specs.Files.{file_at}
 use Rattle.build_outcome.specs.declared.outcome.Outcome.{Outcome}
 use Rattle.msb_words.specs.declared.options.Options.{Options}
 use Rattle.msb_words.specs.declared.options.Action.{Action}
-use Rattle.msb_words.specs.declared.options.Action.TheVariants.{Build as ToBuild, Eval, Targets, Trial}
+use Rattle.msb_words.specs.declared.options.Action.TheVariants.{Build as ToBuild, Check as ToCheck, Eval, Targets, Trial}
 use Rattle.msb_outcomes.specs.declared.work.Work.{Work}
-use Rattle.msb_outcomes.specs.declared.work.Work.TheVariants.{Told, Build}
-use Rattle.msb_outcomes.specs.Outcomes.{HasStatus, IsBuild, IsWorkAt, IsWorkOfAction, IsWorkOfFile, IsWorkOfInstance, key_at, refused}
+use Rattle.msb_outcomes.specs.declared.work.Work.TheVariants.{Told, Build, Check}
+use Rattle.msb_outcomes.specs.Outcomes.{HasStatus, IsUnfinished, MakesRuns, IsWorkAt, IsWorkOfAction, IsWorkOfFile, IsWorkOfInstance, key_at, refused}
 use Rattle.build_engine.specs.Statuses.{IsCompletion, IsRefusal}
+
+-- a refusal is one of the ways to stop
+pub also_stops : (status : ℕ) → IsCompletion status ⊎ IsRefusal status →
+    IsCompletion status ⊎ IsUnfinished status
+also_stops status (inl done) = inl done
+also_stops status (inr refused) = inr (inl refused)
+
+pub each_stops : (made : Result Outcome NoMemory) →
+    IfOk made (λ o. IsCompletion o.status ⊎ IsRefusal o.status) →
+    IfOk made (λ o. IsCompletion o.status ⊎ IsUnfinished o.status)
+each_stops (Ok o) known = also_stops o.status known
+each_stops (Err fault) known = tt
 
 -- the status of what is told
 abbrev status_in : Work → ℕ
 status_in (Told outcome) = outcome.status
 status_in (Build given) = 0
+status_in (Check given) = 0
 
 shown_status : (o : Outcome) (work : Work) → status_in work ≡ 0 → Told o ≡ work → IsCompletion o.status ⊎ IsRefusal o.status
 shown_status o work zero_is is = inl (inl (ap status_in is ∙ zero_is))
@@ -35,6 +48,7 @@ refused_status o work three_is is = inr (inl (ap status_in is ∙ three_is))
 module _ (options : Options) (key : InstanceKey) (files : List File) where
   told_of_action : (action : Action) (instance : Instance) (o : Outcome) → IsWorkOfAction action options key files instance (Told o) → IsCompletion o.status ⊎ IsRefusal o.status
   told_of_action ToBuild instance o is = absurd is
+  told_of_action ToCheck instance o is = absurd is
   told_of_action Eval instance o is = shown_status o _ refl is
   told_of_action Targets instance o is = shown_status o _ refl is
   told_of_action Trial instance o is = absurd is
@@ -52,6 +66,7 @@ module _ (options : Options) (key : InstanceKey) (files : List File) where
 
   built_of_action : (action : Action) (instance : Instance) (given : World) → IsWorkOfAction action options key files instance (Build given) → action ≡ ToBuild
   built_of_action ToBuild instance given is = refl
+  built_of_action ToCheck instance given is = absurd is
   built_of_action Eval instance given is = absurd (apart given _ is)
   built_of_action Targets instance given is = absurd (apart given _ is)
   built_of_action Trial instance given is = absurd is
@@ -64,6 +79,24 @@ module _ (options : Options) (key : InstanceKey) (files : List File) where
   built_of_file None given is = absurd (apart given _ is)
   built_of_file (Some file) given is = built_of_instance (evaluated files key) given is
 
+  besides : (given : World) (o : Outcome) → Check given ≡ Told o → ⊥
+  besides given o is = cc
+
+  checked_of_action : (action : Action) (instance : Instance) (given : World) → IsWorkOfAction action options key files instance (Check given) → action ≡ ToCheck
+  checked_of_action ToBuild instance given is = absurd is
+  checked_of_action ToCheck instance given is = refl
+  checked_of_action Eval instance given is = absurd (besides given _ is)
+  checked_of_action Targets instance given is = absurd (besides given _ is)
+  checked_of_action Trial instance given is = absurd is
+
+  checked_of_instance : (result : Result Instance EvalFault) (given : World) → IsWorkOfInstance options key files result (Check given) → options.action ≡ ToCheck
+  checked_of_instance (Ok instance) given is = checked_of_action options.action instance given is
+  checked_of_instance (Err fault) given is = absurd (besides given _ is)
+
+  checked_of_file : (file : Option File) (given : World) → IsWorkOfFile options key files file (Check given) → options.action ≡ ToCheck
+  checked_of_file None given is = absurd (besides given _ is)
+  checked_of_file (Some file) given is = checked_of_instance (evaluated files key) given is
+
 module _ (options : Options) (files : List File) where
   -- what is told without a build is done, or the project is refused
   pub told_status : (path : Result (List ℕ) NormalFault) (o : Outcome) → IsWorkAt options files path (Told o) → IsCompletion o.status ⊎ IsRefusal o.status
@@ -75,13 +108,20 @@ module _ (options : Options) (files : List File) where
   build_is_asked (Ok path) given is = let key : InstanceKey = key_at path options in built_of_file options key files (file_at path files) given is
   build_is_asked (Err fault) given is = let key : InstanceKey = key_at [] options in absurd (apart options key files given _ is)
 
+  -- and a check too
+  pub check_is_asked : (path : Result (List ℕ) NormalFault) (given : World) → IsWorkAt options files path (Check given) → options.action ≡ ToCheck
+  check_is_asked (Ok path) given is = let key : InstanceKey = key_at path options in checked_of_file options key files (file_at path files) given is
+  check_is_asked (Err fault) given is = let key : InstanceKey = key_at [] options in absurd (besides options key files given _ is)
+
   pub has_status : (path : Result (List ℕ) NormalFault) (work : Work) → IsWorkAt options files path work → HasStatus work
   has_status path (Told o) is = told_status path o is
   has_status path (Build given) is = tt
+  has_status path (Check given) is = tt
 
-  pub build_asked : (path : Result (List ℕ) NormalFault) (work : Work) → IsWorkAt options files path work → IsBuild work → options.action ≡ ToBuild
-  build_asked path (Told o) is build = absurd build
-  build_asked path (Build given) is build = build_is_asked path given is
+  pub runs_asked : (path : Result (List ℕ) NormalFault) (work : Work) → IsWorkAt options files path work → MakesRuns work → (options.action ≡ ToBuild) ⊎ (options.action ≡ ToCheck)
+  runs_asked path (Told o) is makes = absurd makes
+  runs_asked path (Build given) is makes = inl (build_is_asked path given is)
+  runs_asked path (Check given) is makes = inr (check_is_asked path given is)
 
 -- an answer whose fault is no want of memory
 caused : (cause : Cause) (P : Type 0) → UnlessMemory cause P → cause ≢ Memory → P

@@ -7,7 +7,7 @@ use Rattle.build_engine.specs.UsedFor.{IsUsedFor}
 use Rattle.request_machine.specs.Worlds.{world_of}
 use Rattle.msb_outcomes.specs.Outcomes.{Answering}
 use Rattle.msb_outcomes.specs.declared.work.Work.{Work}
-use Rattle.msb_outcomes.specs.declared.work.Work.TheVariants.{Told, Build}
+use Rattle.msb_outcomes.specs.declared.work.Work.TheVariants.{Told, Build, Check}
 
 -- a list of calls, by their names and what the tools were handed
 abbrev pub Called : Type 0
@@ -21,3 +21,4 @@ as_uses calls = map (λ call. record { name = call.0; input = call.1 }) calls
 abbrev pub AreCallsFor : Answering → Bool → Work → Outcome → Called → Called → Type 0
 AreCallsFor tools low (Told told) outcome before after = Unit {0}
 AreCallsFor tools low (Build given) outcome before after = ∥ IsUsedFor (world_of tools given) low outcome (as_uses before) (as_uses after) ∥₁
+AreCallsFor tools low (Check given) outcome before after = Unit {0}

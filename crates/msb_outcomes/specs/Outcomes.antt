@@ -25,11 +25,13 @@ use Rattle.request_machine.specs.Worlds.{world_of}
 use Rattle.build_outcome.specs.Outcomes.{IsOutcome}
 use Rattle.build_outcome.specs.declared.outcome.Outcome.{Outcome}
 use Rattle.build_engine.specs.Statuses.{IsCompletion, IsRefusal}
+use Rattle.build_steady.specs.Verdicts.{verdict_of}
+use Rattle.msb_outcomes.specs.Checked.{checked}
 use Rattle.msb_outcomes.specs.declared.work.Work.{Work}
-use Rattle.msb_outcomes.specs.declared.work.Work.TheVariants.{Told, Build}
+use Rattle.msb_outcomes.specs.declared.work.Work.TheVariants.{Told, Build, Check}
 use Rattle.msb_words.specs.declared.options.Options.{Options}
 use Rattle.msb_words.specs.declared.options.Action.{Action}
-use Rattle.msb_words.specs.declared.options.Action.TheVariants.{Build as ToBuild, Eval, Targets, Trial}
+use Rattle.msb_words.specs.declared.options.Action.TheVariants.{Build as ToBuild, Check as ToCheck, Eval, Targets, Trial}
 
 -- a project that is refused for this reason
 abbrev pub refused : List ℕ → Outcome
@@ -95,10 +97,18 @@ Answering = List ℕ → ToolInput → ToolAnswer
 abbrev pub IsBuildOf : Options → InstanceKey → List File → Work → Type 0
 IsBuildOf options key files (Told outcome) = ⊥
 IsBuildOf options key files (Build given) = IsAsked options key files given
+IsBuildOf options key files (Check given) = ⊥
 
--- an evaluated project is built, or it or its targets are shown; a trial has none
+-- what is given is checked
+abbrev pub IsCheckOf : Options → InstanceKey → List File → Work → Type 0
+IsCheckOf options key files (Told outcome) = ⊥
+IsCheckOf options key files (Build given) = ⊥
+IsCheckOf options key files (Check given) = IsAsked options key files given
+
+-- an evaluated project is built or checked, or it or its targets are shown; a trial has none
 abbrev pub IsWorkOfAction : Action → Options → InstanceKey → List File → Instance → Work → Type 0
 IsWorkOfAction ToBuild options key files instance work = IsBuildOf options key files work
+IsWorkOfAction ToCheck options key files instance work = IsCheckOf options key files work
 IsWorkOfAction Eval options key files instance work = work ≡ Told (shown (eval_text instance.scope instance.duplicates))
 IsWorkOfAction Targets options key files instance work = work ≡ Told (shown (targets_text instance.rows instance.initial instance.default))
 IsWorkOfAction Trial options key files instance work = ⊥
@@ -116,21 +126,29 @@ abbrev pub IsWorkAt : Options → List File → Result (List ℕ) NormalFault �
 IsWorkAt options files (Ok path) work = IsWorkOfFile options (key_at path options) files (file_at path files) work
 IsWorkAt options files (Err fault) work = work ≡ Told (not_found options.project)
 
--- what is told without a build is done, or the project is refused
+-- the status where the project or its build is refused, or a check is given up: nothing is done
+abbrev pub IsUnfinished : ℕ → Type 0
+IsUnfinished status = IsRefusal status ⊎ (status ≡ 9)
+
+-- what is told at once is done, or the project is refused
 abbrev pub HasStatus : Work → Type 0
 HasStatus (Told outcome) = IsCompletion outcome.status ⊎ IsRefusal outcome.status
 HasStatus (Build given) = Unit {0}
+HasStatus (Check given) = Unit {0}
 
--- the work is a build
-abbrev pub IsBuild : Work → Type 0
-IsBuild (Told outcome) = ⊥
-IsBuild (Build given) = Unit {0}
+-- the work is a build or a check, which make runs
+abbrev pub MakesRuns : Work → Type 0
+MakesRuns (Told outcome) = ⊥
+MakesRuns (Build given) = Unit {0}
+MakesRuns (Check given) = Unit {0}
 
 module _ (tools : Answering) where
-  -- what may come of the work: of a build, what some legal history of its requests leads to
+  -- what may come of the work: of a build, what some legal history of its requests leads to; of a
+  -- check, the verdict of its world
   abbrev pub ComesOf : Bool → Work → Outcome → Type 0
   ComesOf low (Told outcome) told = told ≡ outcome
   ComesOf low (Build given) outcome = ∥ IsOutcome (world_of tools given) low outcome ∥₁
+  ComesOf low (Check given) outcome = outcome ≡ checked (verdict_of (world_of tools given))
 
   abbrev pub IsOutcomeAt : Options → List File → Result (List ℕ) NormalFault → Outcome → Type 0
   IsOutcomeAt options files path outcome = (work : Work) × IsWorkAt options files path work × ComesOf options.low work outcome

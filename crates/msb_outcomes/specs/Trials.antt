@@ -63,7 +63,7 @@ pub record IsTold (options : Options) (one : Tried) (other : Outcome) (text : Li
   pub decides : Decides equal (AreEqual one.outcome other)
   pub told : text ≡ trial_text options one equal
 
--- what a trial may print: what is told of two outcomes of the set
+-- what a trial may print: what is told of the set's build on one node, and of an outcome of the set
 pub record IsTrial (options : Options) (text : List ℕ) : Type 0 where
   pub given : Given
   pub set : IsSetOf options given

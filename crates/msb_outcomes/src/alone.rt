@@ -2,6 +2,7 @@
 
 ghost use Rattle.std.specs.Prelude.{◌⊎◌, IfOk};
 ghost use Rattle.build_outcome.specs.Outcomes.{IsOutcome};
+ghost use Rattle.task_trait.specs.Tools.{BeginsWith};
 ghost use Rattle.request_machine.specs.Worlds.{world_of};
 ghost use Rattle.build_engine.specs.Statuses.{IsCompletion, IsRefusal};
 ghost use Rattle.build_engine.specs.UsedFor.{IsUsedFor};
@@ -25,6 +26,7 @@ pub fn built<T: CountedTools>(
     ensures outcome { IfOk result (λ o. ∥ IsOutcome (world_of T.answer world.now) low o ∥₁) }
     ensures status { IfOk result (λ o. IsCompletion o.status ⊎ IsRefusal o.status) }
     ensures used { IfOk result (λ o. ∥ IsUsedFor (world_of T.answer world.now) low o (as_uses (T.calls tools.old)) (as_uses (T.calls tools.new)) ∥₁) }
+    ensures begun { BeginsWith (T.calls tools.old) (T.calls tools.new) }
 {
     let key = root_key(world)?;
     let walk = Walk::start(alloc, world)?;

@@ -5,6 +5,7 @@
 #![tactic(auto)]
 
 mod alone;
+mod checked;
 mod on_nodes;
 mod outcome;
 mod trial;

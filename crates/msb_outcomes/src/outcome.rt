@@ -1,11 +1,13 @@
 //! What is made of the work that is left.
 
 ghost use Rattle.std.specs.Prelude.{◌≡◌, ◌⊎◌, ◌<◌, ◌≤◌, IfOk};
-ghost use Rattle.build_engine.specs.Statuses.{IsCompletion, IsRefusal};
+ghost use Rattle.build_engine.specs.Statuses.{IsCompletion};
+ghost use Rattle.task_trait.specs.Tools.{BeginsWith};
 ghost use Rattle.msb_outcomes.specs.Calls.{AreCallsFor};
-ghost use Rattle.msb_outcomes.specs.Outcomes.{ComesOf, HasStatus, IsBuild};
+ghost use Rattle.msb_outcomes.specs.Outcomes.{ComesOf, HasStatus, IsUnfinished, MakesRuns};
 
 use crate::alone::built;
+use crate::checked::checked;
 use crate::on_nodes::built_on;
 use crate::work::Work;
 use build_outcome::Outcome;
@@ -25,13 +27,15 @@ pub fn outcome_alone<T: CountedTools>(
 ) -> Result<Outcome, NoMemory>
     requires { HasStatus work }
     ensures outcome { IfOk result (ComesOf T.answer options.now.low work) }
-    ensures status { IfOk result (λ o. IsCompletion o.status ⊎ IsRefusal o.status) }
-    ensures uncalled { (IsBuild work → ⊥) → T.calls tools.new ≡ T.calls tools.old }
+    ensures status { IfOk result (λ o. IsCompletion o.status ⊎ IsUnfinished o.status) }
+    ensures uncalled { (MakesRuns work → ⊥) → T.calls tools.new ≡ T.calls tools.old }
     ensures calls { IfOk result (λ o. AreCallsFor T.answer options.now.low work o (T.calls tools.old) (T.calls tools.new)) }
+    ensures begun { BeginsWith (T.calls tools.old) (T.calls tools.new) }
 {
     match work {
         Work::Told(outcome) => Ok(outcome),
         Work::Build(world) => built(alloc, options.low, &world, tools),
+        Work::Check(world) => checked(alloc, &world, tools),
     }
 }
 
@@ -46,7 +50,7 @@ pub fn outcome_on<R: Threads + Wait + Sync, T: Tools + Sync>(
     requires status { HasStatus work }
     requires nodes { (0 < options.now.nodes) × (options.now.nodes ≤ 64) }
     ensures outcome { IfOk result (ComesOf T.answer options.now.low work) }
-    ensures status { IfOk result (λ o. IsCompletion o.status ⊎ IsRefusal o.status) }
+    ensures status { IfOk result (λ o. IsCompletion o.status ⊎ IsUnfinished o.status) }
 {
     if options.nodes == 1 {
         let mut counted = Counted::new(alloc, tools)?;
@@ -55,5 +59,9 @@ pub fn outcome_on<R: Threads + Wait + Sync, T: Tools + Sync>(
     match work {
         Work::Told(outcome) => Ok(outcome),
         Work::Build(world) => built_on(rt, alloc, options.low, options.nodes, &world, tools),
+        Work::Check(world) => {
+            let mut counted = Counted::new(alloc, tools)?;
+            checked(alloc, &world, &mut counted)
+        }
     }
 }

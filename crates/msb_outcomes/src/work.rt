@@ -7,7 +7,7 @@ ghost use Rattle.msb_values.specs.declared.cause.Cause.TheVariants.{Memory};
 ghost use Rattle.build_world.specs.Faults.{fault_text};
 ghost use Rattle.msb_instance.specs.Evaluated.{seen_instance};
 ghost use Rattle.msb_words.specs.declared.options.Action.TheVariants.{Build};
-ghost use Rattle.msb_outcomes.specs.Outcomes.{HasProject, IsBuildOf, IsWorkAt, IsWorkOfAction, IsWorkOfFile, mode_of, not_found, refused, shown};
+ghost use Rattle.msb_outcomes.specs.Outcomes.{HasProject, IsAsked, IsWorkAt, IsWorkOfAction, IsWorkOfFile, mode_of, not_found, refused, shown};
 ghost use Rattle.msb_outcomes.specs.declared.work.Work.TheVariants.{Told};
 
 use build_outcome::Outcome;
@@ -27,10 +27,12 @@ pub enum Work {
     Told(Outcome),
     /// This is built.
     Build(World),
+    /// It is told whether a build of this gives one answer in every order.
+    Check(World),
 }
 
 /// What is left to do of the words over the files of a tree: to tell why the project is refused, to tell what is shown of it,
-/// or to build it. (MSBuild command-line reference.)
+/// or to build or check it. (MSBuild command-line reference.)
 pub fn work_within(alloc: Global, options: &Options, tree: Tree) -> Result<Work, NoMemory>
     requires { HasProject options.now }
     ensures { IfOk result (IsWorkAt options.now tree.files (normal_path [] options.now.project)) }
@@ -72,7 +74,8 @@ fn work_of(
     ensures { IfOk result (IsWorkOfAction options.now.action options.now key tree.files (seen_instance instance.now)) }
 {
     match options.action {
-        Action::Build => build_of(options, key, tree),
+        Action::Build => Ok(Work::Build(asked(options, key, tree)?)),
+        Action::Check => Ok(Work::Check(asked(options, key, tree)?)),
         Action::Eval => Ok(shown(
             alloc,
             shown_eval(alloc, &instance.scope, &instance.duplicates)?,
@@ -85,16 +88,16 @@ fn work_of(
     }
 }
 
-fn build_of(options: &Options, key: InstanceKey, tree: Tree) -> Result<Work, NoMemory>
-    ensures { IfOk result (IsBuildOf options.now key tree.files) }
+fn asked(options: &Options, key: InstanceKey, tree: Tree) -> Result<World, NoMemory>
+    ensures { IfOk result (IsAsked options.now key tree.files) }
 {
-    Ok(Work::Build(World {
+    Ok(World {
         tree,
         root: key.path,
         globals: key.globals,
         targets: options.targets.copy()?,
         mode: mode_of(options.clean),
-    }))
+    })
 }
 
 fn mode_of(clean: bool) -> Mode

@@ -3,7 +3,7 @@ use Rattle.std.proofs.Common.{◌≡◌, ◌⊎◌, ◌==◌, ℕ, List, true, f
 use Rattle.msb_laws.specs.Faults.{Rose}
 use Rattle.msb_words.specs.Options.{options_in}
 use Rattle.msb_program.specs.Endings.{Saving, Kept, Printing, Printed}
-use Rattle.msb_program.specs.Answers.{Loading, usage, IsDone, IsFailed, IsUsage, IsRefused, IsStopped, IsStoreFailure, IsSinkFailure, IsMemory, IsPastLimit, IsStatus, IsStatusOf, Answers}
+use Rattle.msb_program.specs.Answers.{Loading, usage, IsDone, IsFailed, IsUsage, IsRefused, IsStopped, IsStoreFailure, IsSinkFailure, IsMemory, IsPastLimit, IsSpent, IsStatus, IsStatusOf, Answers}
 use Rattle.msb_outcomes.specs.Outcomes.{Answering}
 
 module _ (tools : Answering) (words : List (List ℕ)) (l : Loading) (s : Saving) (p : Printing) where
@@ -31,7 +31,10 @@ module _ (tools : Answering) (words : List (List ℕ)) (l : Loading) (s : Saving
                                           elim (status == 6) [
                                             | true ↦ IsSinkFailure tools words l.told s p
                                             | false ↦
-                                                elim (status == 7) [ true ↦ IsMemory tools words l.told s p | false ↦ IsPastLimit words l s p ]
+                                                elim (status == 7) [
+                                                  | true ↦ IsMemory tools words l.told s p
+                                                  | false ↦ elim (status == 8) [ true ↦ IsPastLimit words l s p | false ↦ IsSpent tools words l.told s p ]
+                                                ]
                                           ]
                                     ]
                               ]
@@ -58,6 +61,7 @@ module _ (tools : Answering) (words : List (List ℕ)) (l : Loading) (s : Saving
         sink = λ e. subst Claim e given;
         memory = λ e. subst Claim e given;
         limited = λ e. subst Claim e given;
+        spent = λ e. subst Claim e given;
         unfailing = unfailing;
       }
 

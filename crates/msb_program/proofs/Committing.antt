@@ -4,14 +4,16 @@ use Rattle.msb_laws.specs.Faults.{Rose}
 use Rattle.msb_values.specs.Acts.{act_path}
 use Rattle.msb_values.specs.declared.act.Act.{Act}
 use Rattle.build_report.specs.Line.{line}
-use Rattle.build_engine.specs.Statuses.{IsCompletion, IsRefusal}
+use Rattle.build_engine.specs.Statuses.{IsCompletion}
+use Rattle.msb_outcomes.specs.Outcomes.{IsUnfinished}
 use Rattle.msb_program.specs.Endings.{Saving, SavedTo, Printing, Printed, Silent, Ends}
 use Rattle.build_outcome.specs.declared.outcome.Outcome.{Outcome}
 
-pub completion_of : (status : ℕ) → status ≤ 1 → IsCompletion status ⊎ IsRefusal status → IsCompletion status
+pub completion_of : (status : ℕ) → status ≤ 1 → IsCompletion status ⊎ IsUnfinished status → IsCompletion status
 completion_of status low (inl completion) = completion
-completion_of status low (inr (inl three_is)) = absurd (omega arith)
-completion_of status low (inr (inr four_is)) = absurd (omega arith)
+completion_of status low (inr (inl (inl three_is))) = absurd (omega arith)
+completion_of status low (inr (inl (inr four_is))) = absurd (omega arith)
+completion_of status low (inr (inr nine_is)) = absurd (omega arith)
 
 module _ (o : Outcome) (before after : ℕ) (s : Saving) (p : Printing) (completion : IsCompletion o.status) where
   -- the store failed at a place

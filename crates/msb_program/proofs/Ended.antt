@@ -3,8 +3,8 @@ use Rattle.std.proofs.Common.{◌≡◌, ◌≤◌, ◌+◌, min, ℕ, List, Opt
 use Rattle.file_store.specs.declared.tree.File.{File}
 use Rattle.msb_words.specs.Options.{options_in}
 use Rattle.msb_words.specs.declared.options.Options.{Options}
-use Rattle.msb_outcomes.specs.Outcomes.{Answering, HasProject, IsOutcomeOf}
-use Rattle.build_engine.specs.Statuses.{IsCompletion, IsRefusal}
+use Rattle.msb_outcomes.specs.Outcomes.{Answering, HasProject, IsOutcomeOf, IsUnfinished}
+use Rattle.build_engine.specs.Statuses.{IsCompletion}
 use Rattle.msb_program.specs.Endings.{Saving, saving, Printing, Silent, EndsWhole, EndsRefused, EndsUnprinted, EndsUnwritten, EndsHalfway, Ends, EndsOver}
 use Rattle.msb_program.specs.Answers.{Loading, AreLoaded, HasOutcome, IsStatusOf, IsStatusOfProject, Answers}
 use Rattle.build_outcome.specs.declared.outcome.Outcome.{Outcome}
@@ -39,11 +39,13 @@ module _ (tools : Answering) where
     whole_answers status is (inr one_is) ends =
         answers_at tools words l s p 1 (inr (inl refl)) (having (λ made. (made.status ≡ 1) × EndsWhole s p made) (one_is, ends)) status (is ∙ one_is) (λ store sink. inr (status_told status is))
 
-    refused_answers : (status : ℕ) → status ≡ o.status → IsRefusal o.status → EndsRefused s p o → Answers tools words l s p status
-    refused_answers status is (inl three_is) ends =
+    refused_answers : (status : ℕ) → status ≡ o.status → IsUnfinished o.status → EndsRefused s p o → Answers tools words l s p status
+    refused_answers status is (inl (inl three_is)) ends =
         answers_at tools words l s p 3 (inr (inr (inr (inl refl)))) (having (λ made. (made.status ≡ 3) × EndsRefused s p made) (three_is, ends)) status (is ∙ three_is) (λ store sink. inr (status_told status is))
-    refused_answers status is (inr four_is) ends =
+    refused_answers status is (inl (inr four_is)) ends =
         answers_at tools words l s p 4 (inr (inr (inr (inr (inl refl))))) (having (λ made. (made.status ≡ 4) × EndsRefused s p made) (four_is, ends)) status (is ∙ four_is) (λ store sink. inr (status_told status is))
+    refused_answers status is (inr nine_is) ends =
+        answers_at tools words l s p 9 (inr (inr (inr (inr (inr (inr (inr (inr (inr refl))))))))) (having (λ made. (made.status ≡ 9) × EndsRefused s p made) (nine_is, ends)) status (is ∙ nine_is) (λ store sink. inr (status_told status is))
 
     unwritten_answers : (status : ℕ) → status ≡ 5 → EndsUnwritten l.faults_before l.faults_after s p o → Answers tools words l s p status
     unwritten_answers status is ends =

@@ -36,6 +36,7 @@ use Rattle.msb_words.specs.declared.options.Options.{Options}
 use Rattle.msb_words.specs.declared.options.Action.{Action}
 use Rattle.msb_words.specs.declared.options.Action.TheVariants.{
   Build as ToBuild,
+  Check as ToCheck,
   Eval,
   Targets,
   Trial,
@@ -60,6 +61,7 @@ module _ (files : List File) (given : World) where
     files_of_action : (action : Action) (instance : Instance) →
         IsWorkOfAction action options key files instance (Build given) → given.tree.files ≡ files
     files_of_action ToBuild instance is = is.tree
+    files_of_action ToCheck instance is = absurd is
     files_of_action Eval instance is = absurd (untold given _ is)
     files_of_action Targets instance is = absurd (untold given _ is)
     files_of_action Trial instance is = absurd is

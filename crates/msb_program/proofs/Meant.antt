@@ -26,13 +26,13 @@ use Rattle.request_machine.specs.Worlds.{world_of}
 use Rattle.msb_words.specs.Options.{options_in}
 use Rattle.msb_words.specs.declared.options.Options.{Options}
 use Rattle.msb_words.specs.declared.options.Action.{Action}
-use Rattle.msb_words.specs.declared.options.Action.TheVariants.{Build as ToBuild, Eval, Targets, Trial}
+use Rattle.msb_words.specs.declared.options.Action.TheVariants.{Build as ToBuild, Check as ToCheck, Eval, Targets, Trial}
 use Rattle.msb_program.specs.Answers.{Answers, HasOutcome, HasTrial, IsLoadFailure, IsStatus, IsStatusOf, IsPastLimit, Loading}
 use Rattle.msb_program.specs.Endings.{Saving, Kept, Printing, PrintedAll, PrintedFront, Silent, EndsWhole, EndsRefused, EndsUnprinted, EndsUnwritten, EndsHalfway}
 use Rattle.msb_program.specs.Meanings.{AnswersMeant, Means}
 use Rattle.msb_outcomes.specs.Outcomes.{Answering, ComesOf, IsAsked, IsBuildOf, IsOutcomeAt, IsOutcomeOf, IsOutcomeWithin, IsWorkAt, IsWorkOfAction, IsWorkOfFile, IsWorkOfInstance, key_at}
 use Rattle.msb_outcomes.specs.declared.work.Work.{Work}
-use Rattle.msb_outcomes.specs.declared.work.Work.TheVariants.{Told, Build}
+use Rattle.msb_outcomes.specs.declared.work.Work.TheVariants.{Told, Build, Check}
 use Rattle.msb_outcomes.proofs.Working.{build_is_asked}
 
 bytes_code : Coded (List ℕ)
@@ -91,9 +91,11 @@ module _ (options : Options) (key : InstanceKey) (files : List File) (given : Wo
   same_build : (work : Work) → IsBuildOf options key files work → IsAsked options key files given → work ≡ Build given
   same_build (Told o) x y = absurd x
   same_build (Build other) x y = ap Build (same_given other x y)
+  same_build (Check other) x y = absurd x
 
   same_action : (action : Action) (instance : Instance) (work : Work) → IsWorkOfAction action options key files instance work → IsWorkOfAction action options key files instance (Build given) → work ≡ Build given
   same_action ToBuild instance work x y = same_build work x y
+  same_action ToCheck instance work x y = absurd y
   same_action Eval instance work x y = x ∙ sym y
   same_action Targets instance work x y = x ∙ sym y
   same_action Trial instance work x y = absurd x
@@ -116,12 +118,22 @@ module _ (tools : Answering) (words : List (List ℕ)) (told : Option (List File
   meant_of outcome is =
       ∥∥₁_elim is (Coded-set outcome_code _ _) (λ x. outcome_is_the_meanings (world_of tools means.given) means.out means.whole means.steady means.build.options.low outcome x ∙ sym means.is)
 
-  meant_at : (outcome : Outcome) → IsOutcomeAt tools means.build.options means.build.files (normal_path [] means.build.options.project) outcome → outcome ≡ meant
-  meant_at outcome is =
-      meant_of outcome (subst (λ work. ComesOf tools means.build.options.low work outcome) (same_work means.build.options means.build.files means.given (normal_path [] means.build.options.project) is.0 is.1 means.build.is) is.2)
+  -- what comes of the words over the files that are told comes of the build
+  abbrev Legal : Outcome → Type 0
+  Legal outcome = ∥ IsOutcome (world_of tools means.given) means.build.options.low outcome ∥₁
 
-  meant_within : (outcome : Outcome) → IsOutcomeOf tools means.build.options means.build.files outcome → outcome ≡ meant
-  meant_within outcome is = meant_at outcome (subst (λ (limit : Option LoadFault). IsOutcomeWithin tools means.build.options means.build.files limit outcome) means.build.within is)
+  legal_at : (outcome : Outcome) → IsOutcomeAt tools means.build.options means.build.files
+      (normal_path [] means.build.options.project) outcome → Legal outcome
+  legal_at outcome is =
+      subst (λ work. ComesOf tools means.build.options.low work outcome)
+      (same_work means.build.options means.build.files means.given
+      (normal_path [] means.build.options.project) is.0 is.1 means.build.is) is.2
+
+  legal_within : (outcome : Outcome) →
+      IsOutcomeOf tools means.build.options means.build.files outcome → Legal outcome
+  legal_within outcome is =
+      legal_at outcome (subst (λ (limit : Option LoadFault). IsOutcomeWithin tools
+      means.build.options means.build.files limit outcome) means.build.within is)
 
   pub same_options : (options : Options) → options_in words ≡ Some options → options ≡ means.build.options
   same_options options asked = ap (λ (o : Option Options). elim o [ None ↦ options | Some found ↦ found ]) (sym asked ∙ means.build.asked)
@@ -129,13 +141,27 @@ module _ (tools : Answering) (words : List (List ℕ)) (told : Option (List File
   pub same_files : (files : List File) → IfSome told (λ those. files ≡ those) → files ≡ means.build.files
   same_files files told_are = subst (λ those. IfSome those (λ found. files ≡ found)) means.build.told_are told_are
 
-  -- every outcome of the words and the loaded files is what the build means
+  -- every outcome of the words and the loaded files is one of the build, and what it means
+  pub outcome_legal : (options : Options) (files : List File) (outcome : Outcome) →
+      options_in words ≡ Some options → IfSome told (λ those. files ≡ those) →
+      IsOutcomeOf tools options files outcome → Legal outcome
+  outcome_legal options files outcome asked told_are is =
+      legal_within outcome
+      (subst (λ found. IsOutcomeOf tools found means.build.files outcome)
+      (same_options options asked) (subst (λ those. IsOutcomeOf tools options those outcome)
+      (same_files files told_are) is))
+
   pub outcome_meant : (options : Options) (files : List File) (outcome : Outcome) → options_in words ≡ Some options → IfSome told (λ those. files ≡ those) → IsOutcomeOf tools options files outcome → outcome ≡ meant
   outcome_meant options files outcome asked told_are is =
-      meant_within outcome (subst (λ found. IsOutcomeOf tools found means.build.files outcome) (same_options options asked) (subst (λ those. IsOutcomeOf tools options those outcome) (same_files files told_are) is))
+      meant_of outcome (outcome_legal options files outcome asked told_are is)
 
   pub holds_meant : (P : Outcome → Type 0) → HasOutcome tools words told P → P meant
   holds_meant P x = subst P (outcome_meant x.options x.files x.outcome x.asked x.loaded.told_are x.is) x.holds
+
+  pub holds_legal : (P : Outcome → Type 0) → HasOutcome tools words told P → Legal meant
+  holds_legal P x =
+      subst Legal (outcome_meant x.options x.files x.outcome x.asked x.loaded.told_are x.is)
+      (outcome_legal x.options x.files x.outcome x.asked x.loaded.told_are x.is)
 
   -- what asks for a build asks for no trial
   pub no_trial : (options : Options) → options_in words ≡ Some options → options.action ≡ Trial → ⊥
@@ -179,7 +205,8 @@ module _ (tools : Answering) (words : List (List ℕ)) (l : Loading) (s : Saving
   known_meant (inr (inr (inr (inr (inr (inl five_is)))))) = inr (inr (inl five_is))
   known_meant (inr (inr (inr (inr (inr (inr (inl six_is))))))) = inr (inr (inr (inl six_is)))
   known_meant (inr (inr (inr (inr (inr (inr (inr (inl seven_is)))))))) = inr (inr (inr (inr seven_is)))
-  known_meant (inr (inr (inr (inr (inr (inr (inr (inr eight_is)))))))) = absurd (in_limits tools words l.told meant means refl (answers.limited eight_is))
+  known_meant (inr (inr (inr (inr (inr (inr (inr (inr (inl eight_is))))))))) = absurd (in_limits tools words l.told meant means refl (answers.limited eight_is))
+  known_meant (inr (inr (inr (inr (inr (inr (inr (inr (inr nine_is))))))))) = absurd (not_refused 9 (omega arith) (holds (λ o. (o.status ≡ 9) × EndsRefused s p o) (answers.spent nine_is)).0)
 
   -- what is known of an outcome of the words, or else of a trial, holds of what the build means
   not_tried : (P : Outcome → Type 0) (Q : List ℕ → Type 0) → HasOutcome tools words l.told P ⊎ HasTrial words s Q → P meant
@@ -189,6 +216,16 @@ module _ (tools : Answering) (words : List (List ℕ)) (l : Loading) (s : Saving
   done_meant : (status ≡ 0) ⊎ (status ≡ 1) → (status ≡ meant.status) × EndsWhole s p meant
   done_meant (inl zero_is) = let x = not_tried (λ o. (o.status ≡ 0) × EndsWhole s p o) (PrintedAll p) (answers.done zero_is) in (zero_is ∙ sym x.0, x.1)
   done_meant (inr one_is) = let x = holds (λ o. (o.status ≡ 1) × EndsWhole s p o) (answers.failed one_is) in (one_is ∙ sym x.0, x.1)
+
+  -- and some legal history of the build leads to it
+  pub done_legal : (status ≡ 0) ⊎ (status ≡ 1) → Legal tools words l.told meant means meant
+  done_legal (inl zero_is) = elim (answers.done zero_is) [
+    | inl x ↦ holds_legal tools words l.told meant means (λ o. (o.status ≡ 0) × EndsWhole s p o) x
+    | inr x ↦ absurd (no_trial tools words l.told meant means x.options x.asked x.trial)
+  ]
+  done_legal (inr one_is) =
+      holds_legal tools words l.told meant means (λ o. (o.status ≡ 1) × EndsWhole s p o)
+      (answers.failed one_is)
 
   store_meant : status ≡ 5 → IsLoadFailure words l s p ⊎ EndsUnwritten l.faults_before l.faults_after s p meant
   store_meant five_is = elim (answers.store five_is) [ inl load ↦ inl load | inr commit ↦ inr (holds (EndsUnwritten l.faults_before l.faults_after s p) commit) ]

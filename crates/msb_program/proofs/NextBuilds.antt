@@ -29,7 +29,7 @@ use Rattle.msb_files.specs.FinalTree.{commit_list}
 use Rattle.build_world.specs.declared.world.World.{World}
 use Rattle.build_meaning.specs.Meaning.{Given}
 use Rattle.build_meaning.specs.Demand.{IsWhole, IsSteady}
-use Rattle.build_history.specs.Uses.{RunUse, uses_of, with_if}
+use Rattle.build_history.specs.Uses.{AreMeant, RunUse, uses_in, uses_of, with_if}
 use Rattle.build_report.specs.Shown.{shown_text}
 use Rattle.build_outcome.specs.Outcomes.{built}
 use Rattle.build_outcome.specs.declared.outcome.Outcome.{Outcome}
@@ -49,6 +49,8 @@ use Rattle.msb_program.specs.Endings.{Printing, PrintedAll, SavedAll, Saving}
 use Rattle.msb_program.specs.Meanings.{AnswersMeant, IsAskedOf, Means}
 use Rattle.msb_program.specs.NextBuilds.{
   AreCallsOfOthers,
+  AreUsesOfOthers,
+  EndsIdle,
   HasSaved,
   MeansRepeated,
   MeansUpToDate,
@@ -56,7 +58,8 @@ use Rattle.msb_program.specs.NextBuilds.{
   StaysFresh,
 }
 use Rattle.msb_program.proofs.GivenFiles.{given_told, means_of}
-use Rattle.msb_program.proofs.Meant.{answers_meant}
+use Rattle.msb_program.proofs.Calling.{are_meant}
+use Rattle.msb_program.proofs.Meant.{answers_meant, done_legal}
 
 -- what holds of the trees before and after holds of those that the store tells
 told_both : (P : List File → List File → Type 0) (before after : Option (List File))
@@ -66,6 +69,38 @@ told_both P before after b a is_before is_after h =
     subst (λ (told : Option (List File)). IsSomeAnd told (P b)) is_after
     (subst (λ (told : Option (List File)). IfSome told (λ files. IsSomeAnd after (P files)))
     is_before h)
+
+-- ---- the uses of tools
+
+-- a run that is used has a use
+no_use : (u : RunUse ToolInput) (uses : List (RunUse ToolInput)) → In u uses →
+    uses_of u.run uses ≡ [] → ⊥
+no_use u [] there none = absurd there
+no_use u (x ∷ xs) (inl same) none =
+    let used : with_if (same_run u.run u.run) u.tool (uses_of u.run xs) ≡ [] =
+    subst (λ (z : RunUse ToolInput).
+    with_if (same_run z.run u.run) z.tool (uses_of u.run xs) ≡ []) same none in
+    let own : same_run u.run u.run ≡ true = same_run-refl u.run in
+    let some : u.tool ∷ uses_of u.run xs ≡ [] =
+    subst (λ (b : Bool). with_if b u.tool (uses_of u.run xs) ≡ []) own used in
+    cc
+no_use u (x ∷ xs) (inr there) none = by (same_run x.run u.run) none (no_use u xs there)
+  where
+    by : (b : Bool) → with_if b x.tool (uses_of u.run xs) ≡ [] →
+        (uses_of u.run xs ≡ [] → ⊥) → ⊥
+    by true some rest = cc
+    by false none rest = rest none
+
+-- where each piece is skipped, no use that is meant is in a run of a target with Inputs and Outputs
+uses_of_others : (tools : Answering) (given : World) (out : Given ToolInput RequestResult) →
+    SkipsEach tools given out → (uses : List (RunUse ToolInput)) → AreMeant out uses →
+    AreUsesOfOthers given.tree.files uses
+uses_of_others tools given out skips uses meant = λ u there target has takes.
+    let made = meant.each u there in
+    no_use u uses there (skips.uses_none u.run made.0 (uses_of u.run uses)
+    (meant.once u.run made.0 made.1 made.2) target has takes).1
+
+-- ---- the answers
 
 module _ (tools : Answering) (words : List (List ℕ)) (l : Loading) (s : Saving) (p : Printing)
     (status : ℕ) (answers : Answers tools words l s p status) where
@@ -133,6 +168,36 @@ module _ (tools : Answering) (words : List (List ℕ)) (l : Loading) (s : Saving
           (means.means.steady out whole.means)).done done).1.1,
     )
 
+    idles_so : (out : Given ToolInput RequestResult) →
+        IsWhole (world_of tools means.means.given) out →
+        SkipsEach tools means.means.given out → IsCompletion status →
+        EndsIdle tools means.means.given means.means.build.options.low s p
+    idles_so out whole skips done =
+        let w = world_of tools means.means.given in
+        let low = means.means.build.options.low in
+        let steady = means.means.steady out whole.means in
+        let meant : Outcome = built low out.value out.journal in
+        record {
+          outcome = meant;
+          ends =
+              ((answers_of means.means.given means.means.build out whole steady).done done).1;
+          legal = done_legal tools words l s p status answers meant
+              (means_of tools words l.told means.means.given means.means.build out whole steady)
+              done;
+          others = λ events end is.
+              uses_of_others tools means.means.given out skips (uses_in w events)
+              (are_meant w low out whole steady events end meant is);
+        }
+
+    -- no piece uses a tool
+    pub build_idles : IsCompletion status →
+        EndsIdle tools means.means.given means.means.build.options.low s p
+    build_idles =
+        let law = build-is-clean tools means.means.given clean means.means.trusted in
+        idles_so law.0 law.1
+        (second-build-skips tools means.means.given clean means.means.trusted means.up_to_date
+        means.mode law.0 law.1.means)
+
     -- each piece is skipped, and so it is printed
     pub build_skips : IsCompletion status →
         PrintedSkips tools means.means.given.tree.files p clean.value
@@ -143,25 +208,6 @@ module _ (tools : Answering) (words : List (List ℕ)) (l : Loading) (s : Saving
         means.mode law.0 law.1.means)
 
 -- ---- the calls of tools
-
--- a run that is used has a use
-no_use : (u : RunUse ToolInput) (uses : List (RunUse ToolInput)) → In u uses →
-    uses_of u.run uses ≡ [] → ⊥
-no_use u [] there none = absurd there
-no_use u (x ∷ xs) (inl same) none =
-    let used : with_if (same_run u.run u.run) u.tool (uses_of u.run xs) ≡ [] =
-    subst (λ (z : RunUse ToolInput).
-    with_if (same_run z.run u.run) z.tool (uses_of u.run xs) ≡ []) same none in
-    let own : same_run u.run u.run ≡ true = same_run-refl u.run in
-    let some : u.tool ∷ uses_of u.run xs ≡ [] =
-    subst (λ (b : Bool). with_if b u.tool (uses_of u.run xs) ≡ []) own used in
-    cc
-no_use u (x ∷ xs) (inr there) none = by (same_run x.run u.run) none (no_use u xs there)
-  where
-    by : (b : Bool) → with_if b x.tool (uses_of u.run xs) ≡ [] →
-        (uses_of u.run xs ≡ [] → ⊥) → ⊥
-    by true some rest = cc
-    by false none rest = rest none
 
 module _ (tools : Answering) (words : List (List ℕ)) (told : Option (List File))
     (clean : Given ToolInput RequestResult) (means : MeansUpToDate tools words told clean)
@@ -174,10 +220,7 @@ module _ (tools : Answering) (words : List (List ℕ)) (told : Option (List File
     out = out;
     means = whole.means;
     calls = calls;
-    others = λ u there target has takes.
-        let made = calls.meant.each u there in
-        no_use u calls.uses there (skips.uses_none u.run made.0 (uses_of u.run calls.uses)
-        (calls.meant.once u.run made.0 made.1 made.2) target has takes).1;
+    others = uses_of_others tools means.means.given out skips calls.uses calls.meant;
   }
 
   -- no piece calls a tool

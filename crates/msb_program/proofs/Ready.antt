@@ -8,13 +8,13 @@ use Rattle.msb_values.specs.declared.errors.NoMemory.{NoMemory}
 use Rattle.msb_words.specs.Options.{options_in}
 use Rattle.msb_words.specs.declared.options.Options.{Options}
 use Rattle.build_outcome.specs.declared.outcome.Outcome.{Outcome}
-use Rattle.msb_program.specs.Answers.{Answers, AsksForBuild, AreLoaded, loading}
+use Rattle.msb_program.specs.Answers.{Answers, AsksForRuns, AreLoaded, loading}
 use Rattle.msb_program.specs.Endings.{EndsMade, EndsOver, Printing, Saving, printing, saving}
-use Rattle.msb_outcomes.specs.Outcomes.{Answering, ComesOf, IsBuild, IsOutcomeWithin, IsWorkAt}
+use Rattle.msb_outcomes.specs.Outcomes.{Answering, ComesOf, IsOutcomeWithin, IsWorkAt, MakesRuns}
 use Rattle.msb_program.specs.Prepared.{IsReady}
 use Rattle.msb_outcomes.specs.declared.work.Work.{Work}
 use Rattle.msb_program.proofs.Ended.{loaded_answers}
-use Rattle.msb_outcomes.proofs.Working.{build_asked}
+use Rattle.msb_outcomes.proofs.Working.{runs_asked}
 
 module _ (tools : Answering) (told : Option (List File)) (options : Options) (files : List File) (work : Work) (loaded : AreLoaded told files) (is : IsWorkAt options files (normal_path [] options.project) work) where
   -- what was made of the work is an outcome of the files
@@ -33,6 +33,27 @@ ready_answers tools {words} {told} {faults} {mid} {faults_after} {failed} {faile
     loaded_answers tools words (loading told faults faults_after failed failed_after) (saving before after) (printing pf pa t ta) options ready.files ready.asked ready.project ready.loaded status mid between ready.kept ready.later
     (over tools told options ready.files work ready.loaded ready.is made comes mid faults_after (saving between after) (printing pf pa t ta) status whole)
 
--- a build is made only where the words ask for one
-pub build_of_words : (words : List (List ℕ)) (files : List File) (options : Options) (work : Work) → options_in words ≡ Some options → IsWorkAt options files (normal_path [] options.project) work → IsBuild work → AsksForBuild (options_in words)
-build_of_words words files options work asked is build = subst AsksForBuild (sym asked) (build_asked options files (normal_path [] options.project) work is build)
+-- how what was made ends, from before the words were read: until then no file was touched, and
+-- nothing printed
+pub ended_since : {words : List (List ℕ)} {told : Option (List File)} {faults mid : ℕ}
+    {failed failed_mid : Failures} {before between : Option (List File)} {pf pm : ℕ}
+    {t tm : Option (List ℕ)} (options : Options) (work : Work) →
+    IsReady words (loading told faults mid failed failed_mid) (saving before between)
+    (printing pf pm t tm) options work →
+    (made : Result Outcome NoMemory) (from to : ℕ) (after : Option (List File)) (pa : ℕ)
+    (ta : Option (List ℕ)) (status : ℕ) →
+    EndsMade made from to (saving between after) (printing pm pa tm ta) status →
+    EndsMade made from to (saving before after) (printing pf pa t ta) status
+ended_since {words} {told} {faults} {mid} {failed} {failed_mid} {before} {between} {pf} {pm} {t} {tm}
+    options work ready made from to after pa ta status ends =
+    subst (λ (files : Option (List File)).
+    EndsMade made from to (saving files after) (printing pf pa t ta) status) ready.kept
+    (subst (λ (old : Option (List ℕ)).
+    EndsMade made from to (saving between after) (printing pf pa old ta) status) ready.silent
+    (subst (λ (count : ℕ).
+    EndsMade made from to (saving between after) (printing count pa tm ta) status)
+    ready.unfailing ends))
+
+-- runs are made only where the words ask for a build or a check
+pub runs_of_words : (words : List (List ℕ)) (files : List File) (options : Options) (work : Work) → options_in words ≡ Some options → IsWorkAt options files (normal_path [] options.project) work → MakesRuns work → AsksForRuns (options_in words)
+runs_of_words words files options work asked is makes = subst AsksForRuns (sym asked) (runs_asked options files (normal_path [] options.project) work is makes)

@@ -59,7 +59,7 @@ module _ (tools : Answering) where
         answers_at tools words l s p 5 (inr (inr (inr (inr (inr (inl refl)))))) (inl (fault, stored.0, stored.1, fails printed)) status (is ∙ five) (λ store sink. absurd (store stored.1))
     fault_answers status is printed (inr eight) =
         let past = past_limit l.told fault l.faults_before l.faults_after eight caused in
-        answers_at tools words l s p 8 (inr (inr (inr (inr (inr (inr (inr (inr refl)))))))) (fault, past, fails printed) status (is ∙ eight)
+        answers_at tools words l s p 8 (inr (inr (inr (inr (inr (inr (inr (inr (inl refl))))))))) (fault, past, fails printed) status (is ∙ eight)
         (λ store sink. inr (subst (λ asks. IsStatusOf tools asks l.told status) (sym asked) (inl (limited_status l.told options fault status project is past))))
 
     pub unloaded_answers : (status : ℕ) → ((status ≡ fault_status fault) × (fault ≡ Memory → ⊥) × Printed p (line (load_fault_text fault))) ⊎ ((status ≡ 7) × Silent p) → Answers tools words l s p status

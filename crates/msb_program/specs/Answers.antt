@@ -11,7 +11,7 @@ use Rattle.file_store.specs.declared.loading.LoadFault.TheVariants.{Listing, Rea
 use Rattle.file_store.specs.declared.tree.File.{File}
 use Rattle.msb_words.specs.Options.{options_in}
 use Rattle.msb_words.specs.declared.options.Options.{Options}
-use Rattle.msb_words.specs.declared.options.Action.TheVariants.{Build, Trial}
+use Rattle.msb_words.specs.declared.options.Action.TheVariants.{Build, Check, Trial}
 use Rattle.build_report.specs.Line.{line}
 use Rattle.msb_outcomes.specs.Outcomes.{Answering, HasProject, IsOutcomeOf, load_fault_text}
 use Rattle.msb_program.specs.Endings.{Saving, Kept, Printing, Printed, PrintedAll, PrintedFront, Silent, EndsWhole, EndsRefused, EndsUnprinted, EndsUnwritten, EndsHalfway}
@@ -38,10 +38,10 @@ pub record AreLoaded (told : Option (List File)) (files : List File) : Type 0 wh
   pub within : limit_fault (entries_of files) ≡ None
   pub told_are : IfSome told (λ those. files ≡ those)
 
--- the words ask for a build
-abbrev pub AsksForBuild : Option Options → Type 0
-AsksForBuild None = ⊥
-AsksForBuild (Some options) = options.action ≡ Build
+-- the words ask for a build or a check, which make runs
+abbrev pub AsksForRuns : Option Options → Type 0
+AsksForRuns None = ⊥
+AsksForRuns (Some options) = (options.action ≡ Build) ⊎ (options.action ≡ Check)
 
 -- the words ask for a project
 abbrev pub AsksForProject : Option Options → Type 0
@@ -78,7 +78,7 @@ IsPastLimit words l s p = (fault : LoadFault) × OfListing l.told (λ listing. l
 
 -- the statuses of the program
 abbrev pub IsStatus : ℕ → Type 0
-IsStatus status = (status ≡ 0) ⊎ (status ≡ 1) ⊎ (status ≡ 2) ⊎ (status ≡ 3) ⊎ (status ≡ 4) ⊎ (status ≡ 5) ⊎ (status ≡ 6) ⊎ (status ≡ 7) ⊎ (status ≡ 8)
+IsStatus status = (status ≡ 0) ⊎ (status ≡ 1) ⊎ (status ≡ 2) ⊎ (status ≡ 3) ⊎ (status ≡ 4) ⊎ (status ≡ 5) ⊎ (status ≡ 6) ⊎ (status ≡ 7) ⊎ (status ≡ 8) ⊎ (status ≡ 9)
 
 -- the words ask for a trial, and P holds of a text that it may print; no file is written or removed
 pub record HasTrial (words : List (List ℕ)) (s : Saving) (P : List ℕ → Type 0) : Type 0 where
@@ -106,7 +106,8 @@ module _ (tools : Answering) where
   abbrev pub IsDone : List (List ℕ) → Option (List File) → Saving → Printing → Type 0
   IsDone words told s p = HasOutcome words told (λ o. (o.status ≡ 0) × EndsWhole s p o) ⊎ HasTrial words s (PrintedAll p)
 
-  -- 1: the request failed, its acts were done, and its text was printed whole
+  -- 1: the request failed, or a check has another verdict than that the set is steady; its acts were
+  -- done, and its text was printed whole
   abbrev pub IsFailed : List (List ℕ) → Option (List File) → Saving → Printing → Type 0
   IsFailed words told s p = HasOutcome words told (λ o. (o.status ≡ 1) × EndsWhole s p o)
 
@@ -117,6 +118,10 @@ module _ (tools : Answering) where
   -- 4: the build is refused
   abbrev pub IsStopped : List (List ℕ) → Option (List File) → Saving → Printing → Type 0
   IsStopped words told s p = HasOutcome words told (λ o. (o.status ≡ 4) × EndsRefused s p o)
+
+  -- 9: a check has made as many bodies as it makes
+  abbrev pub IsSpent : List (List ℕ) → Option (List File) → Saving → Printing → Type 0
+  IsSpent words told s p = HasOutcome words told (λ o. (o.status ≡ 9) × EndsRefused s p o)
 
   -- 5: the store's count of faults rose, in the load, or as the acts of an outcome were done
   abbrev pub IsStoreFailure : List (List ℕ) → Loading → Saving → Printing → Type 0
@@ -151,4 +156,5 @@ module _ (tools : Answering) where
     pub sink : status ≡ 6 → IsSinkFailure words l.told s p
     pub memory : status ≡ 7 → IsMemory words l.told s p
     pub limited : status ≡ 8 → IsPastLimit words l s p
+    pub spent : status ≡ 9 → IsSpent words l.told s p
     pub unfailing : ¬ Rose l.faults_before l.faults_after → ¬ Rose p.faults_before p.faults_after → (status ≡ 7) ⊎ IsStatusOf (options_in words) l.told status

@@ -8,8 +8,8 @@ use Rattle.msb_values.specs.declared.act.Act.{Act}
 use Rattle.file_store.specs.Commits.{AreDone, AreDoneTo, HasContents}
 use Rattle.file_store.specs.declared.tree.File.{File}
 use Rattle.build_report.specs.Line.{line}
-use Rattle.msb_outcomes.specs.Outcomes.{Answering, IsOutcomeOf}
-use Rattle.build_engine.specs.Statuses.{IsCompletion, IsRefusal}
+use Rattle.msb_outcomes.specs.Outcomes.{Answering, IsOutcomeOf, IsUnfinished}
+use Rattle.build_engine.specs.Statuses.{IsCompletion}
 use Rattle.build_outcome.specs.declared.outcome.Outcome.{Outcome}
 use Rattle.msb_words.specs.declared.options.Options.{Options}
 
@@ -96,7 +96,7 @@ pub record EndsHalfway (s : Saving) (o : Outcome) : Type 0 where
 abbrev pub Ends : Outcome → ℕ → ℕ → Saving → Printing → ℕ → Type 0
 Ends o faults_before faults_after s p status =
     ((status ≡ o.status) × IsCompletion o.status × EndsWhole s p o)
-    ⊎ ((status ≡ o.status) × IsRefusal o.status × EndsRefused s p o)
+    ⊎ ((status ≡ o.status) × IsUnfinished o.status × EndsRefused s p o)
     ⊎ ((status ≡ 6) × EndsUnprinted s p o)
     ⊎ ((status ≡ 5) × EndsUnwritten faults_before faults_after s p o)
     ⊎ ((status ≡ 7) × Silent p × EndsHalfway s o)

@@ -10,9 +10,13 @@ use Rattle.result_cache.specs.Lists.{In}
 use Rattle.result_cache.specs.Journal.{Journal, ended}
 use Rattle.build_world.specs.Instances.{UsedTarget}
 use Rattle.build_world.specs.declared.world.World.{World}
+use Rattle.build_meaning.specs.declared.event.Event.{Event}
 use Rattle.build_meaning.specs.Meaning.{Given, meaning}
-use Rattle.build_history.specs.Uses.{RunUse}
+use Rattle.build_history.specs.Uses.{RunUse, uses_in}
+use Rattle.build_scheduler.specs.declared.slot.End.{End}
 use Rattle.build_report.specs.Shown.{shown_text}
+use Rattle.build_outcome.specs.Outcomes.{IsOutcome, IsOutcomeAt}
+use Rattle.build_outcome.specs.declared.outcome.Outcome.{Outcome}
 use Rattle.task_trait.specs.declared.tools.ToolInput.{ToolInput}
 use Rattle.request_machine.specs.Worlds.{world_of}
 use Rattle.build_declared.specs.Clean.{IsTrustworthy}
@@ -25,7 +29,7 @@ use Rattle.msb_outcomes.specs.Calls.{Called}
 use Rattle.msb_outcomes.specs.Outcomes.{Answering}
 use Rattle.msb_program.specs.Calls.{AreMeantCalls}
 use Rattle.msb_program.specs.Clean.{MeansClean}
-use Rattle.msb_program.specs.Endings.{Printing, PrintedAll}
+use Rattle.msb_program.specs.Endings.{EndsWhole, Printing, PrintedAll, Saving}
 use Rattle.msb_program.specs.Meanings.{IsAskedOf}
 
 -- ---- what a build leaves
@@ -76,6 +80,22 @@ abbrev pub PrintedSkips : Answering → List File → Printing → RequestResult
 PrintedSkips tools files p root = (journal : Journal) × (low : Bool)
     × SkipsAll tools files journal × PrintedAll p (shown_text root journal low)
 
+-- none of the uses of tools is in a run of a target with Inputs and Outputs
+abbrev pub AreUsesOfOthers : List File → List (RunUse ToolInput) → Type 0
+AreUsesOfOthers files uses = (u : RunUse ToolInput) → In u uses → (target : UsedTarget) →
+    target_of files u.run ≡ Some target → TakesLists target → ⊥
+
+-- What was done to files and printed is an outcome of the build, to which some legal history leads;
+-- and in each that leads to it no run of a target with Inputs and Outputs uses a tool.
+pub record EndsIdle (tools : Answering) (given : World) (low : Bool) (s : Saving) (p : Printing)
+    : Type 0 where
+  pub outcome : Outcome
+  pub ends : EndsWhole s p outcome
+  pub legal : ∥ IsOutcome (world_of tools given) low outcome ∥₁
+  pub others : (events : List Event) (end : Option End) →
+      IsOutcomeAt (world_of tools given) low events end outcome →
+      AreUsesOfOthers given.tree.files (uses_in (world_of tools given) events)
+
 -- the calls of tools are uses of the meaning's runs, and none is of a run of a target with Inputs
 -- and Outputs
 pub record AreCallsOfOthers (tools : Answering) (given : World) (before after : Called) : Type 0
@@ -83,5 +103,4 @@ pub record AreCallsOfOthers (tools : Answering) (given : World) (before after : 
     pub out : Given ToolInput RequestResult
     pub means : meaning (world_of tools given) ≡ Some out
     pub calls : AreMeantCalls out before after
-    pub others : (u : RunUse ToolInput) → In u calls.uses → (target : UsedTarget) →
-        target_of given.tree.files u.run ≡ Some target → TakesLists target → ⊥
+    pub others : AreUsesOfOthers given.tree.files calls.uses

@@ -4,19 +4,21 @@ ghost use Rattle.msb_laws.specs.Gains.{Prints};
 ghost use Rattle.file_store.specs.declared.loading.LoadFault.TheVariants.{Memory};
 ghost use Rattle.file_store.specs.declared.tree.Tree.{Tree as TheTree};
 ghost use Rattle.result_cache.specs.declared.request.RequestResult.{RequestResult};
+ghost use Rattle.build_world.specs.declared.world.World.{World as TheWorld};
+ghost use Rattle.task_trait.specs.Tools.{BeginsWith};
 ghost use Rattle.task_trait.specs.declared.tools.ToolInput.{ToolInput};
 ghost use Rattle.build_meaning.specs.Meaning.{Given};
 ghost use Rattle.msb_words.specs.Options.{options_in};
 ghost use Rattle.build_report.specs.Line.{line};
-ghost use Rattle.build_engine.specs.Statuses.{IsCompletion, IsRefusal};
-ghost use Rattle.msb_outcomes.specs.Outcomes.{HasProject, load_fault_text, fault_status};
+ghost use Rattle.build_engine.specs.Statuses.{IsCompletion};
+ghost use Rattle.msb_outcomes.specs.Outcomes.{HasProject, IsUnfinished, load_fault_text, fault_status};
 ghost use Rattle.msb_program.specs.Endings.{Ends, EndsMade, EndsTrial, Printed, PrintedAll, PrintedFront, Silent, printing, saving};
-ghost use Rattle.msb_program.specs.Calls.{AreMeantCalls, IsUndone};
-ghost use Rattle.msb_program.specs.Answers.{Answers, AsksForBuild, AsksForTrial, loading};
+ghost use Rattle.msb_program.specs.Calls.{AreMeantCalls, IsOfHistory, IsUndone, ToldOutcome};
+ghost use Rattle.msb_program.specs.Answers.{Answers, AsksForRuns, AsksForTrial, loading};
 ghost use Rattle.msb_program.specs.Clean.{AnswersClean, MeansClean};
-ghost use Rattle.msb_program.specs.NextBuilds.{AreCallsOfOthers, HasSaved, MeansRepeated, MeansUpToDate, PrintedSkips, StaysFresh};
+ghost use Rattle.msb_program.specs.NextBuilds.{AreCallsOfOthers, EndsIdle, HasSaved, MeansRepeated, MeansUpToDate, PrintedSkips, StaysFresh};
 ghost use Rattle.msb_program.specs.Prepared.{IsLeft, IsPrepared};
-ghost use Rattle.msb_program.specs.Meanings.{AnswersMeant, Means};
+ghost use Rattle.msb_program.specs.Meanings.{AnswersMeant, IsAskedOf, Means};
 ghost use Rattle.build_outcome.specs.declared.outcome.Outcome.{Outcome as TheOutcome};
 
 use build_outcome::Outcome;
@@ -32,23 +34,24 @@ use task_trait::{CountedTools, Tools};
 const USAGE: &str =
     "usage: msb ACTION PROJECT [--target LIST] [--property LIST] [--nodes N] [--clean] [--show low] [--size N]\n";
 
-/// Does what the words ask for: reads them, loads the store's files, evaluates the project, builds or shows it, writes
-/// files to the store, and prints to the sink.
+/// Does what the words ask for: reads them, loads the store's files, evaluates the project, builds,
+/// checks or shows it, writes files to the store, and prints to the sink.
 ///
-/// `words` are those after the program's name. The answer is the program's status: 0 where it was done, 1 where the
-/// build failed, 2 where the words are outside the grammar, 3 where the project is refused, 4 where its build is, 5
-/// where the store failed, 6 where the sink failed and nothing else did, 7 for want of memory, and 8 where the files
-/// pass a limit. Files are written and removed with status 0, 1 and 6, and up to some place of the list
-/// with 5 and 7.
+/// `words` are those after the program's name. The answer is the program's status: 0 where it was
+/// done, 1 where the build failed or a check does not find the set steady, 2 where the words are
+/// outside the grammar, 3 where the project is refused, 4 where its build is, 5 where the store
+/// failed, 6 where the sink failed and nothing else did, 7 for want of memory, 8 where the files pass
+/// a limit, and 9 where a check has made as many bodies as it makes. Files are written and removed
+/// with status 0, 1 and 6, and up to some place of the list with 5 and 7.
 ///
 /// A build takes as many nodes as the words tell, each in a thread of its own, and waits for them; over one node it starts no
-/// thread. A trial builds its set so too, and touches neither the store nor the tools. (MSBuild command-line reference,
-/// -maxCpuCount.)
+/// thread. A trial builds its set so too, and on one node first, whose numbers it prints; it touches neither the store nor the
+/// tools. (MSBuild command-line reference, -maxCpuCount.)
 ///
 /// A build that may be trusted to skip what is up to date ends as a build with `--clean` would: with its status, the items that
 /// it returns, and the bytes that it leaves at each path. If it is settled, and the clean build is repeated over the tree that it
 /// leaves, the next build may be trusted as well. A build that finds no output older than its inputs skips each piece, and prints
-/// so. (Incremental builds.)
+/// so, and no history that leads to its outcome uses a tool for one. (Incremental builds.)
 pub fn run<R: Threads + Wait + Sync, S: Store, K: Sink, T: Tools + Sync>(
     rt: &R,
     alloc: Global,
@@ -79,6 +82,13 @@ pub fn run<R: Threads + Wait + Sync, S: Store, K: Sink, T: Tools + Sync>(
         (printing (K.fault_count sink.old) (K.fault_count sink.new) (K.told sink.old)
         (K.told sink.new))
         clean.value }
+    ensures idle { (clean : Given ToolInput RequestResult)
+        (m : MeansUpToDate T.answer (map string_bytes words.now) (S.tree store.old) clean) →
+        IsCompletion result →
+        EndsIdle T.answer m.means.given m.means.build.options.low
+        (saving (S.tree store.old) (S.tree store.new))
+        (printing (K.fault_count sink.old) (K.fault_count sink.new) (K.told sink.old)
+        (K.told sink.new)) }
     ensures untouched { AsksForTrial (options_in (map string_bytes words.now)) → store.new ≡ store.old }
 {
     answered_on(rt, alloc, words, store, sink, tools)
@@ -87,7 +97,9 @@ pub fn run<R: Threads + Wait + Sync, S: Store, K: Sink, T: Tools + Sync>(
 /// The same on one node, whatever the number of nodes that the words tell. It starts no thread and always returns. A build
 /// that is done, of a whole and steady world, has called the tools for each run of its meaning as one body of that run does, in
 /// order; where no calls are made at once, a run has one body alone, so they were called as often as in the meaning. Where each
-/// piece is skipped, no tool is called for it.
+/// piece is skipped, no tool is called for it. Whatever the world, what is told of a build comes of the history in which the node
+/// takes the least ready request each time, and the calls are that history's; for want of memory, too, they begin with those of
+/// before.
 pub fn run_alone<S: Store, K: Sink, T: CountedTools>(
     alloc: Global,
     words: &[String],
@@ -117,9 +129,18 @@ pub fn run_alone<S: Store, K: Sink, T: CountedTools>(
         (printing (K.fault_count sink.old) (K.fault_count sink.new) (K.told sink.old)
         (K.told sink.new))
         clean.value }
-    ensures uncalled { (AsksForBuild (options_in (map string_bytes words.now)) → ⊥) → T.calls tools.new ≡ T.calls tools.old }
+    ensures uncalled { (AsksForRuns (options_in (map string_bytes words.now)) → ⊥) → T.calls tools.new ≡ T.calls tools.old }
     ensures untouched { AsksForTrial (options_in (map string_bytes words.now)) → store.new ≡ store.old }
     ensures calls { (meant : TheOutcome) (m : Means T.answer (map string_bytes words.now) (S.tree store.old) meant) → IsCompletion result → ∥ AreMeantCalls m.out (T.calls tools.old) (T.calls tools.new) ∥₁ }
+    ensures history { (given : TheWorld)
+        (build : IsAskedOf (map string_bytes words.now) (S.tree store.old) given) →
+        ToldOutcome result →
+        ∥ IsOfHistory T.answer given build.options.low (T.calls tools.old) (T.calls tools.new)
+        (saving (S.tree store.old) (S.tree store.new))
+        (printing (K.fault_count sink.old) (K.fault_count sink.new) (K.told sink.old)
+        (K.told sink.new))
+        result ∥₁ }
+    ensures begun { BeginsWith (T.calls tools.old) (T.calls tools.new) }
     ensures idle { (clean : Given ToolInput RequestResult)
         (m : MeansUpToDate T.answer (map string_bytes words.now) (S.tree store.old) clean) →
         IsCompletion result →
@@ -137,9 +158,18 @@ fn answered_alone<S: Store, K: Sink, T: CountedTools>(
     tools: &mut T,
 ) -> u8
     ensures answer { Answers T.answer (map string_bytes words.now) (loading (S.tree store.old) (S.fault_count store.old) (S.fault_count store.new) (S.failures store.old) (S.failures store.new)) (saving (S.tree store.old) (S.tree store.new)) (printing (K.fault_count sink.old) (K.fault_count sink.new) (K.told sink.old) (K.told sink.new)) result }
-    ensures uncalled { (AsksForBuild (options_in (map string_bytes words.now)) → ⊥) → T.calls tools.new ≡ T.calls tools.old }
+    ensures uncalled { (AsksForRuns (options_in (map string_bytes words.now)) → ⊥) → T.calls tools.new ≡ T.calls tools.old }
     ensures untouched { AsksForTrial (options_in (map string_bytes words.now)) → store.new ≡ store.old }
     ensures calls { (meant : TheOutcome) (m : Means T.answer (map string_bytes words.now) (S.tree store.old) meant) → IsCompletion result → ∥ AreMeantCalls m.out (T.calls tools.old) (T.calls tools.new) ∥₁ }
+    ensures history { (given : TheWorld)
+        (build : IsAskedOf (map string_bytes words.now) (S.tree store.old) given) →
+        ToldOutcome result →
+        ∥ IsOfHistory T.answer given build.options.low (T.calls tools.old) (T.calls tools.new)
+        (saving (S.tree store.old) (S.tree store.new))
+        (printing (K.fault_count sink.old) (K.fault_count sink.new) (K.told sink.old)
+        (K.told sink.new))
+        result ∥₁ }
+    ensures begun { BeginsWith (T.calls tools.old) (T.calls tools.new) }
 {
     match prepare(alloc, words, store, sink) {
         Prepared::Ended(status) => status,
@@ -231,7 +261,7 @@ fn end<S: Store, K: Sink>(
     store: &mut S,
     sink: &mut K,
 ) -> u8
-    requires { IfOk made (λ o. IsCompletion o.status ⊎ IsRefusal o.status) }
+    requires { IfOk made (λ o. IsCompletion o.status ⊎ IsUnfinished o.status) }
     ensures { EndsMade made (S.fault_count store.old) (S.fault_count store.new) (saving (S.tree store.old) (S.tree store.new)) (printing (K.fault_count sink.old) (K.fault_count sink.new) (K.told sink.old) (K.told sink.new)) result }
 {
     match made {
@@ -257,7 +287,7 @@ fn commit_and_print<S: Store, K: Sink>(
     store: &mut S,
     sink: &mut K,
 ) -> u8
-    requires { IsCompletion outcome.now.status ⊎ IsRefusal outcome.now.status }
+    requires { IsCompletion outcome.now.status ⊎ IsUnfinished outcome.now.status }
     ensures { Ends outcome.now (S.fault_count store.old) (S.fault_count store.new) (saving (S.tree store.old) (S.tree store.new)) (printing (K.fault_count sink.old) (K.fault_count sink.new) (K.told sink.old) (K.told sink.new)) result }
 {
     if outcome.status > 1 {

@@ -5,11 +5,11 @@ use Rattle.msb_words.specs.Given.{Given, given_in}
 use Rattle.msb_words.specs.Values.{targets_if, globals_if, nodes_if, low_if, size_if, seed_in}
 use Rattle.msb_words.specs.declared.options.Options.{Options}
 use Rattle.msb_words.specs.declared.options.Action.{Action}
-use Rattle.msb_words.specs.declared.options.Action.TheVariants.{Build, Eval, Targets, Trial}
+use Rattle.msb_words.specs.declared.options.Action.TheVariants.{Build, Check, Eval, Targets, Trial}
 
 -- the names, as they have to be written
 abbrev pub actions : List (List ℕ × Action)
-actions = (codes "build", Build) ∷ (codes "eval", Eval) ∷ (codes "targets", Targets) ∷ (codes "trial", Trial) ∷ []
+actions = (codes "build", Build) ∷ (codes "check", Check) ∷ (codes "eval", Eval) ∷ (codes "targets", Targets) ∷ (codes "trial", Trial) ∷ []
 
 abbrev pub action_of : List ℕ → Option Action
 action_of word = value_at word actions
@@ -18,6 +18,10 @@ action_of word = value_at word actions
 abbrev pub for_show : Given → Bool
 for_show given = not (is_some given.target) && not (is_some given.nodes) && not given.clean && not (is_some given.show) && not (is_some given.size)
 
+-- there is no `--nodes`, `--show` or `--size`
+abbrev pub for_check : Given → Bool
+for_check given = not (is_some given.nodes) && not (is_some given.show) && not (is_some given.size)
+
 -- there is `--size`, and no other option but `--nodes`
 abbrev pub for_trial : Given → Bool
 for_trial given = is_some given.size && not (is_some given.target) && not (is_some given.property) && not given.clean && not (is_some given.show)
@@ -25,6 +29,7 @@ for_trial given = is_some given.size && not (is_some given.target) && not (is_so
 -- the options that each action has
 abbrev pub has_options : Action → Given → Bool
 has_options Build given = not (is_some given.size)
+has_options Check given = for_check given
 has_options Eval given = for_show given
 has_options Targets given = for_show given
 has_options Trial given = for_trial given
@@ -32,6 +37,7 @@ has_options Trial given = for_trial given
 -- how many nodes build where the option is left out
 abbrev pub nodes_without : Action → ℕ
 nodes_without Build = 1
+nodes_without Check = 1
 nodes_without Eval = 1
 nodes_without Targets = 1
 nodes_without Trial = 4
@@ -39,6 +45,7 @@ nodes_without Trial = 4
 -- a trial has a seed in the place of a project
 abbrev pub seed_for : Action → List ℕ → Option ℕ
 seed_for Build project = Some 0
+seed_for Check project = Some 0
 seed_for Eval project = Some 0
 seed_for Targets project = Some 0
 seed_for Trial seed = seed_in seed

@@ -17,6 +17,8 @@ use std::alloc::Global;
 pub enum Action {
     /// Build targets of it.
     Build,
+    /// Tell whether a build of its targets gives one answer in every order.
+    Check,
     /// Show its properties and items.
     Eval,
     /// Show its targets.
@@ -67,6 +69,7 @@ impl Drop for Options {
 ///
 /// ```text
 /// build PROJECT [--target LIST] [--property LIST] [--nodes N] [--clean] [--show low]
+/// check PROJECT [--target LIST] [--property LIST] [--clean]
 /// eval PROJECT [--property LIST]
 /// targets PROJECT [--property LIST]
 /// trial SEED --size SIZE [--nodes N]
@@ -98,6 +101,7 @@ fn action_of(word: &str) -> Option<Action>
 {
     match word {
         "build" => Some(Action::Build),
+        "check" => Some(Action::Check),
         "eval" => Some(Action::Eval),
         "targets" => Some(Action::Targets),
         "trial" => Some(Action::Trial),
@@ -126,12 +130,16 @@ fn options_for(alloc: Global, given: &Given<'_>, action: Action) -> Result<Optio
 }
 
 impl Action {
-    // A trial alone has a size, which has to be there, and no global properties; a build alone has all others.
+    // A trial alone has a size, which has to be there, and no global properties; a build alone has
+    // all others, and a check those that say what is built.
     fn has_options(self, given: &Given<'_>) -> bool
         ensures { result ≡ has_options self (seen given.now) }
     {
         match self {
             Action::Build => given.size.is_none(),
+            Action::Check => {
+                given.nodes.is_none() && given.show.is_none() && given.size.is_none()
+            }
             Action::Eval | Action::Targets => {
                 given.target.is_none()
                     && given.nodes.is_none()
@@ -155,7 +163,7 @@ impl Action {
         ensures range { (0 < result) × (result ≤ 64) }
     {
         match self {
-            Action::Build | Action::Eval | Action::Targets => 1,
+            Action::Build | Action::Check | Action::Eval | Action::Targets => 1,
             Action::Trial => 4,
         }
     }
@@ -165,7 +173,7 @@ impl Action {
         ensures { Reads (seed_for self project.now) result }
     {
         match self {
-            Action::Build | Action::Eval | Action::Targets => Ok(0),
+            Action::Build | Action::Check | Action::Eval | Action::Targets => Ok(0),
             Action::Trial => seed_in(project),
         }
     }

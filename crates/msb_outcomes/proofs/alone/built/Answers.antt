@@ -5,6 +5,7 @@ use Rattle.build_meaning.specs.World.{World}
 use Rattle.request_machine.specs.Worlds.{root_of, world_of}
 use Rattle.build_engine.specs.UsedFor.{IsUsedFor}
 use Rattle.msb_outcomes.specs.Calls.{as_uses}
+use Rattle.build_steady.proofs.Begun.{calls_begin}
 use Rattle.msb_outcomes.proofs.Beginning.{begins_there}
 use Rattle.msb_outcomes.proofs.alone.built.Goals as goal
 
@@ -19,3 +20,8 @@ returns-clause-used g c =
     let calls = g.T.CountedTools.calls in
     subst (λ (w : World ToolInput ToolAnswer). IfOk c.build_on_one.result (λ o. ∥ IsUsedFor w c.args.low o (as_uses (calls c.args.tools.now)) (as_uses (calls c.build_on_one.new.place)) ∥₁))
     c.in_ok-walk.ensures.world c.build_on_one.ensures.used
+
+pub returns-clause-begun : goal.returns-clause-begun
+returns-clause-begun g c =
+    let calls = g.T.CountedTools.calls in
+    calls_begin (calls c.args.tools.now) (calls c.build_on_one.new.place) c.build_on_one.ensures.front

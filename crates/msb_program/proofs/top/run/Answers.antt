@@ -1,7 +1,7 @@
 use Rattle.std.proofs.Common.{refl}
 use Rattle.msb_program.proofs.CleanAnswers.{answers_clean}
 use Rattle.msb_program.proofs.Meant.{answers_meant}
-use Rattle.msb_program.proofs.NextBuilds.{build_skips, stays_fresh}
+use Rattle.msb_program.proofs.NextBuilds.{build_idles, build_skips, stays_fresh}
 use Rattle.msb_program.proofs.top.run.Goals as goal
 
 pub returns-clause-meaning : goal.returns-clause-meaning
@@ -18,3 +18,7 @@ returns-clause-stays g c =
 pub returns-clause-skips : goal.returns-clause-skips
 returns-clause-skips g c =
     build_skips g.T.Tools.answer _ _ _ _ _ c.answered_on.ensures.answer
+
+pub returns-clause-idle : goal.returns-clause-idle
+returns-clause-idle g c =
+    build_idles g.T.Tools.answer _ _ _ _ _ c.answered_on.ensures.answer

@@ -1,0 +1,16 @@
+use Rattle.std.proofs.Common.{◌≡◌, ◌-◌, ◌^◌}
+use mathlib.Core.List.{IsPrefix}
+use Rattle.build_scheduler.specs.Own.{seen_by}
+use Rattle.build_steady.specs.Held.{IsTurn}
+use Rattle.build_steady.proofs.checking.check_walk.Given as goal
+
+abbrev pub invariant-loop-check : goal.invariant-loop-check
+invariant-loop-check g l =
+    let m = g.W.Walker in
+    record {
+      turn : IsTurn (seen_by m.world m.position m.asked m.learnt) (m.world l.fn.walk) l.check l.turn;
+      front : IsPrefix (m.used l.initial.place) (m.used l.place);
+    }
+
+abbrev pub decreases-loop-check : goal.decreases-loop-check
+decreases-loop-check g l = 2 ^ 62 - l.check.asks

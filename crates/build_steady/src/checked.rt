@@ -1,0 +1,26 @@
+ghost use Rattle.std.specs.Prelude.{◌≡◌, IfOk};
+ghost use Rattle.build_steady.specs.Verdicts.{verdict_of};
+ghost use Rattle.request_machine.specs.Worlds.{world_of};
+ghost use Rattle.task_trait.specs.Tools.{BeginsWith};
+
+use crate::{Verdict, check_walk};
+use build_world::World;
+use msb_values::NoMemory;
+use request_machine::{Walk, root_key};
+use std::alloc::Global;
+use task_trait::CountedTools;
+
+/// Checks a build: whether its world is whole and steady, or the first event in the order of demand
+/// that speaks against it. No file is written. (MSBuild task; Building projects in parallel.)
+pub fn check<T: CountedTools>(
+    alloc: Global,
+    world: &World,
+    tools: &mut T,
+) -> Result<Verdict, NoMemory>
+    ensures verdict { IfOk result (λ verdict. verdict ≡ verdict_of (world_of T.answer world.now)) }
+    ensures begun { BeginsWith (T.calls tools.old) (T.calls tools.new) }
+{
+    let key = root_key(world)?;
+    let walk = Walk::start(alloc, world)?;
+    check_walk(alloc, &key.instance, walk, tools)
+}

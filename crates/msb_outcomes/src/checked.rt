@@ -1,0 +1,74 @@
+//! Checks of a build, on one node.
+
+ghost use Rattle.std.specs.Prelude.{◌≡◌, ◌⊎◌, IfOk};
+ghost use Rattle.build_engine.specs.Statuses.{IsCompletion};
+ghost use Rattle.build_steady.specs.Verdicts.{verdict_of};
+ghost use Rattle.request_machine.specs.Worlds.{world_of};
+ghost use Rattle.task_trait.specs.Tools.{BeginsWith};
+ghost use Rattle.msb_outcomes.specs.Checked.{checked, verdict_status, verdict_text};
+ghost use Rattle.msb_outcomes.specs.Outcomes.{IsUnfinished};
+
+use build_outcome::Outcome;
+use build_report::{
+    shown_circular_run, shown_crowding_instance, shown_deep_instance, shown_differs, shown_spent,
+    shown_steady,
+};
+use build_steady::{Verdict, check};
+use build_world::World;
+use msb_values::{List, NoMemory, Text8};
+use std::alloc::Global;
+use task_trait::CountedTools;
+
+/// What is given is checked: its verdict is told, and no file is written.
+pub fn checked<T: CountedTools>(
+    alloc: Global,
+    world: &World,
+    tools: &mut T,
+) -> Result<Outcome, NoMemory>
+    ensures outcome { IfOk result (λ o. o ≡ checked (verdict_of (world_of T.answer world.now))) }
+    ensures status { IfOk result (λ o. IsCompletion o.status ⊎ IsUnfinished o.status) }
+    ensures begun { BeginsWith (T.calls tools.old) (T.calls tools.new) }
+{
+    let verdict = check(alloc, world, tools)?;
+    outcome_of(alloc, &verdict)
+}
+
+fn outcome_of(alloc: Global, verdict: &Verdict) -> Result<Outcome, NoMemory>
+    ensures outcome { IfOk result (λ o. o ≡ checked verdict.now) }
+    ensures status { IfOk result (λ o. IsCompletion o.status ⊎ IsUnfinished o.status) }
+{
+    Ok(Outcome {
+        status: status_of(verdict),
+        text: text_of(alloc, verdict)?,
+        commit: List::new(alloc),
+    })
+}
+
+fn status_of(verdict: &Verdict) -> u8
+    ensures is { result ≡ verdict_status verdict.now }
+    ensures status { IsCompletion result ⊎ IsUnfinished result }
+{
+    match verdict {
+        Verdict::Steady(_) => 0,
+        Verdict::Differs(_, _, _) => 1,
+        Verdict::Circular(_) => 1,
+        Verdict::TooDeep(_) => 1,
+        Verdict::TooMany(_) => 1,
+        Verdict::Spent(_) => 9,
+    }
+}
+
+fn text_of(alloc: Global, verdict: &Verdict) -> Result<Text8, NoMemory>
+    ensures { IfOk result (λ t. t ≡ verdict_text verdict.now) }
+{
+    match verdict {
+        Verdict::Steady(bodies) => shown_steady(alloc, *bodies),
+        Verdict::Differs(run, first, other) => {
+            shown_differs(alloc, run, first.get(), other.get())
+        }
+        Verdict::Circular(run) => shown_circular_run(alloc, run),
+        Verdict::TooDeep(instance) => shown_deep_instance(alloc, instance),
+        Verdict::TooMany(instance) => shown_crowding_instance(alloc, instance),
+        Verdict::Spent(bodies) => shown_spent(alloc, *bodies),
+    }
+}
