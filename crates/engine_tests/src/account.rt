@@ -89,6 +89,7 @@ impl Account {
             }
             Event::Result(id, run) => return self.finish(*id, run, table),
             Event::Done(id) => self.end(*id),
+            Event::Retire(id, _) => self.retire(*id),
         }
         Ok(())
     }
@@ -98,6 +99,14 @@ impl Account {
         let is_ready = matches!(request.place, Place::Ready);
         self.rule(is_ready, "a ready request is assigned");
         self.put(id, Place::WithNode, request.making);
+    }
+
+    /// The request goes back from its node, and stays in the body in which it is.
+    fn retire(&mut self, id: u64) {
+        let request = self.request(id);
+        let is_with_node = matches!(request.place, Place::WithNode);
+        self.rule(is_with_node, "a request goes back from a node");
+        self.put(id, Place::Ready, request.making);
     }
 
     fn claim(&mut self, id: u64, run: &RunId, kind: &ClaimKind) -> Result<(), NoMemory> {

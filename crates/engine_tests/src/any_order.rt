@@ -224,6 +224,7 @@ fn request_of(event: &Event) -> u64
         Event::Request(id, _) => *id,
         Event::Result(id, _) => *id,
         Event::Done(id) => *id,
+        Event::Retire(id, _) => *id,
     }
 }
 

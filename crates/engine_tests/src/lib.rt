@@ -16,6 +16,8 @@ mod orders;
 #[cfg(test)]
 mod random;
 #[cfg(test)]
+mod refusing;
+#[cfg(test)]
 mod removals;
 #[cfg(test)]
 mod runs;

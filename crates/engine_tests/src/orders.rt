@@ -69,7 +69,8 @@ fn status_in_every_order<R: Abort>(
     Ok(status)
 }
 
-fn world(alloc: Global, tree: Tree) -> Result<World, NoMemory> {
+/// What is built of a set: its first project.
+pub fn world(alloc: Global, tree: Tree) -> Result<World, NoMemory> {
     Ok(World {
         tree,
         root: Text::of(alloc, "p0")?,
