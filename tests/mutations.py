@@ -222,13 +222,15 @@ USAGE_LINE = ("usage: msb ACTION PROJECT [--target LIST] [--property LIST] [--no
 FAULT = r"(?:[1-9]|1[0-9]|2[0-5]) [A-Z][A-Za-z]+(?: .*)?"
 FORMS = {
     0: r"(?:.*\n)?",
-    1: r"(?:.*\n)?returned 0\nbuild failed\n",
+    1: r"(?:.*\n)?returned 0\nbuild failed\n|differs [^\n]+ : [^\n]+\nfirst.*\nsecond.*\n"
+       r"|not whole: (?:circular|too deep|too many instances) [^\n]+\n",
     2: re.escape(USAGE_LINE),
     3: rf"project refused\n  .*(?:: not found|: {FAULT})\n",
     4: r"circular request\n(?:  [^\n]+ : [^\n]+\n){2,}|too deep\n(?:  [^\n]+\n){129}"
        r"|too many instances\n  [^\n]+\n",
     5: r"store fault(?: .+)?\n",
     8: r"too large: .+\n|bad path: .+\n",
+    9: r"spent 100000\n",
     11: ""}
 STORE_FAULT = 5
 BUILT = (b"build succeeded\n", b"build failed\n")
