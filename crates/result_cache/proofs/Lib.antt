@@ -1,8 +1,9 @@
 pub mod Closed
-pub mod EachOnce
-pub mod FinishedRuns
 pub mod JournalEntries
+pub mod LayerSteps
 pub mod ReplayRelation
+pub mod RunLists
 pub mod RunTests
 pub mod SlotEntries
+pub mod TableSlots
 pub mod Truths

@@ -1,10 +1,12 @@
 -- Tests on runs and marks, and what they say.
-use Rattle.std.proofs.Common.{◌≡◌, Bool, true, false, ◌==◌, ◌||◌, ◌&&◌, ◌⊎◌, inl, inr, List, [], ◌∷◌, Option, None, Some, refl, ap}
+use Rattle.std.proofs.Common.{◌≡◌, Bool, true, false, ◌==◌, ◌||◌, ◌&&◌, ◌⊎◌, inl, inr, List, [], ◌∷◌, Option, None, Some, ℕ, nat_eq, ◌≢◌, refl, sym, ap, ◌∙◌}
+use Rattle.std.specs.Cmp.{unsigned_Decides}
 use Rattle.std.proofs.lemmas.Bool.{eqb-true, eq-eqb}
 use Rattle.msb_laws.specs.Asking.{and_then}
 use Rattle.result_cache.specs.declared.run.RunId.{RunId}
 use Rattle.result_cache.specs.Same.{same_run, is_in}
 use Rattle.result_cache.specs.Exact.{run-exact}
+use Rattle.result_cache.specs.Hashes.{run_hash}
 use Rattle.result_cache.specs.Lists.{In}
 use Rattle.result_cache.specs.Journal.{Mark, act_of, end_of, same_mark}
 
@@ -44,6 +46,23 @@ same_run-true r s h = (run-exact r s).0 h
 
 pub same_run-eq : (r s : RunId) → r ≡ s → same_run r s ≡ true
 same_run-eq r s h = (run-exact r s).1 h
+
+-- runs with different hashes are different
+pub hash-apart : (a b : RunId) → (run_hash a ≡ run_hash b → ⊥) → same_run a b ≡ false
+hash-apart a b apart = by (same_run a b) refl
+  where
+    by : (t : Bool) → same_run a b ≡ t → t ≡ false
+    by true h = absurd (apart (ap run_hash (same_run-true a b h)))
+    by false h = refl
+
+pub hashes-tell : (h k : ℕ) (a b : RunId) → h ≡ run_hash a → k ≡ run_hash b → h ≢ k
+    → nat_eq h k ≡ same_run a b
+hashes-tell h k a b p q apart =
+    by (nat_eq h k) refl ∙ sym (hash-apart a b (λ e. apart (p ∙ (e ∙ sym q))))
+  where
+    by : (t : Bool) → nat_eq h k ≡ t → nat_eq h k ≡ false
+    by true e = absurd (apart ((unsigned_Decides h k).0 e))
+    by false e = e
 
 pub same_mark-refl : (m : Mark) → same_mark m m ≡ true
 same_mark-refl (end_of r) = same_run-refl r

@@ -1,157 +1,118 @@
--- The entries of a table's map: what is found of a run, and what they are after a run is begun or finished.
-use Rattle.std.proofs.Common.{◌≡◌, ℕ, zero, suc, Bool, true, false, cond, ◌||◌, List, [], ◌∷◌, ◌++◌, insert, slice_get, Option, None, Some, is_some, refl, sym, ap, ◌∙◌}
-use Rattle.std.specs.Cmp.{IsEquivalence, decided}
-use Rattle.std.specs.List.{IsDistinct, remove}
+-- The entries of a table's map: which request has begun a run, and what the entries are after a run
+-- is begun or finished.
+use Rattle.std.proofs.Common.{◌≡◌, ℕ, zero, suc, ◌+◌, Bool, true, false, cond, ◌||◌, ◌⊎◌, inl, inr, List, [], ◌∷◌, ◌++◌, length, slice_get, Option, None, Some, is_some, refl, sym, ap, ◌∙◌, arith, length-append}
+use Rattle.std.specs.List.{IsDistinct}
 use Rattle.std.specs.Map.{keys_of, lookup}
 use Rattle.std.proofs.lemmas.Map.{lookup-none}
 use Rattle.std.proofs.lemmas.Map.Entries.{none_past_head, lookup_from_place}
 use Rattle.std.proofs.lemmas.Map.Keys.{IsDistinct-tail}
+use Rattle.indexmap.specs.Layout.{set_value_at}
 use Rattle.result_cache.specs.declared.run.RunId.{RunId}
-use Rattle.result_cache.specs.declared.record.Record.{Record}
-use Rattle.result_cache.specs.declared.table.Slot.{Slot}
-use Rattle.result_cache.specs.declared.table.Slot.TheVariants.{Begun, Done}
+use Rattle.result_cache.specs.declared.table.Begin.{Begin}
 use Rattle.result_cache.specs.Exact.{run-exact}
-use Rattle.result_cache.specs.Lists.{this_or}
+use Rattle.result_cache.specs.Lists.{In, this_or}
 use Rattle.result_cache.specs.Same.{same_run}
-use Rattle.result_cache.specs.Table.{FinishedRun, Records, found, BegunRun, is_begun, request_of, begun_unless, without}
-use Rattle.result_cache.specs.Slots.{with_record, records_in, with_begun, begun_in, LeadsFinished, FinishedFirst}
-use Rattle.result_cache.proofs.RunTests.{clash}
+use Rattle.result_cache.specs.Table.{BegunRun, is_begun, request_of, begun_unless, without}
+use Rattle.result_cache.specs.Slots.{Slot, Slots, with_begun, begun_in}
+use Rattle.result_cache.proofs.RunTests.{same_run-true}
+use Rattle.result_cache.proofs.RunLists.{run_laws, this_or-none, or-some}
 
-pub run_laws : IsEquivalence same_run
-run_laws = decided same_run run-exact
+-- ---- the request that has begun a run
 
--- ---- what is found of a run
-
-this_or-none : {X : Type 0} (b : Bool) (o : Option X) (x : X) → this_or b o x ≡ None → (b ≡ false) × (o ≡ None)
-this_or-none true o x h = absurd (cc)
-this_or-none false o x h = (refl, h)
-
-found-behind : (xs : Records) (f : FinishedRun) (run : RunId) → same_run f.run run ≡ false → found (xs ++ f ∷ []) run ≡ found xs run
-found-behind [] f run h = ap (λ b. this_or b None f.made) h
-found-behind (x ∷ xs) f run h = ap (λ o. this_or (same_run x.run run) o x.made) (found-behind xs f run h)
-
-found-last : (xs : Records) (f : FinishedRun) (run : RunId) → same_run f.run run ≡ true → found xs run ≡ None → found (xs ++ f ∷ []) run ≡ Some f.made
-found-last [] f run h n = ap (λ b. this_or b None f.made) h
-found-last (x ∷ xs) f run h n =
-    let p = this_or-none (same_run x.run run) (found xs run) x.made n in
-    ap (λ b. this_or b (found (xs ++ f ∷ []) run) x.made) p.0 ∙ found-last xs f run h p.1
-
-request-behind : (xs : List BegunRun) (b : BegunRun) (run : RunId) → same_run b.run run ≡ false → request_of (xs ++ b ∷ []) run ≡ request_of xs run
+request-behind : (xs : List BegunRun) (b : BegunRun) (run : RunId) → same_run b.run run ≡ false
+    → request_of (xs ++ b ∷ []) run ≡ request_of xs run
 request-behind [] b run h = ap (λ t. this_or t None b.by) h
-request-behind (x ∷ xs) b run h = ap (λ o. this_or (same_run x.run run) o x.by) (request-behind xs b run h)
+request-behind (x ∷ xs) b run h =
+    ap (λ o. this_or (same_run x.run run) o x.by) (request-behind xs b run h)
 
-request-last : (xs : List BegunRun) (b : BegunRun) (run : RunId) → same_run b.run run ≡ true → request_of xs run ≡ None → request_of (xs ++ b ∷ []) run ≡ Some b.by
+request-last : (xs : List BegunRun) (b : BegunRun) (run : RunId) → same_run b.run run ≡ true
+    → request_of xs run ≡ None → request_of (xs ++ b ∷ []) run ≡ Some b.by
 request-last [] b run h n = ap (λ t. this_or t None b.by) h
 request-last (x ∷ xs) b run h n =
     let p = this_or-none (same_run x.run run) (request_of xs run) x.by n in
     ap (λ t. this_or t (request_of (xs ++ b ∷ []) run) x.by) p.0 ∙ request-last xs b run h p.1
 
--- the record in a slot
-abbrev pub record_if : Option Slot → Option Record
-record_if None = None
-record_if (Some (Begun by)) = None
-record_if (Some (Done made)) = Some made
-
--- the request in a slot
-abbrev pub request_if : Option Slot → Option ℕ
+-- the request in what is kept of a run
+abbrev pub request_if : Option (Option Begin) → Option ℕ
 request_if None = None
-request_if (Some (Begun by)) = Some by
-request_if (Some (Done made)) = None
+request_if (Some None) = None
+request_if (Some (Some begin)) = Some begin.by
 
-record-here : (k run : RunId) (s : Slot) (xs : Records) → same_run k run ≡ true → found xs run ≡ None → found (with_record k s xs) run ≡ record_if (Some s)
-record-here k run (Begun by) xs h n = n
-record-here k run (Done made) xs h n = found-last xs (record { run = k; made = made }) run h n
+request-here : (k run : RunId) (s : Option Begin) (xs : List BegunRun) → same_run k run ≡ true
+    → request_of xs run ≡ None → request_of (with_begun k s xs) run ≡ request_if (Some s)
+request-here k run None xs h n = n
+request-here k run (Some begin) xs h n = request-last xs (record { run = k; by = begin.by }) run h n
 
-record-there : (k run : RunId) (s : Slot) (xs : Records) → same_run k run ≡ false → found (with_record k s xs) run ≡ found xs run
-record-there k run (Begun by) xs h = refl
-record-there k run (Done made) xs h = found-behind xs (record { run = k; made = made }) run h
+request-there : (k run : RunId) (s : Option Begin) (xs : List BegunRun) → same_run k run ≡ false
+    → request_of (with_begun k s xs) run ≡ request_of xs run
+request-there k run None xs h = refl
+request-there k run (Some begin) xs h = request-behind xs (record { run = k; by = begin.by }) run h
 
-request-here : (k run : RunId) (s : Slot) (xs : List BegunRun) → same_run k run ≡ true → request_of xs run ≡ None → request_of (with_begun k s xs) run ≡ request_if (Some s)
-request-here k run (Begun by) xs h n = request-last xs (record { run = k; by = by }) run h n
-request-here k run (Done made) xs h n = n
-
-request-there : (k run : RunId) (s : Slot) (xs : List BegunRun) → same_run k run ≡ false → request_of (with_begun k s xs) run ≡ request_of xs run
-request-there k run (Begun by) xs h = request-behind xs (record { run = k; by = by }) run h
-request-there k run (Done made) xs h = refl
-
-pub absent-behind : (run : RunId) (e : RunId × Slot) (es : List (RunId × Slot)) → IsDistinct same_run (keys_of (e ∷ es)) → same_run run e.0 ≡ true → lookup (same_run run) es ≡ None
+pub absent-behind : (run : RunId) (e : Slot) (es : Slots) → IsDistinct same_run (keys_of (e ∷ es))
+    → same_run run e.0 ≡ true → lookup (same_run run) es ≡ None
 absent-behind run e es d h = lookup-none (same_run run) es (none_past_head run_laws run e es d h)
 
-pub told-record : (run : RunId) (es : List (RunId × Slot)) → IsDistinct same_run (keys_of es) → found (records_in es) run ≡ record_if (lookup (same_run run) es)
-told-record run [] d = refl
-told-record run (e ∷ es) d = by (same_run run e.0) refl (told-record run es (IsDistinct-tail same_run e.0 (keys_of es) d))
-  where
-    by : (b : Bool) → same_run run e.0 ≡ b → found (records_in es) run ≡ record_if (lookup (same_run run) es)
-        → found (with_record e.0 e.1 (records_in es)) run ≡ record_if (cond b (Some e.1) (lookup (same_run run) es))
-    by true h rest = record-here e.0 run e.1 (records_in es) (run_laws.symm e.0 run ∙ h) (rest ∙ ap record_if (absent-behind run e es d h))
-    by false h rest = record-there e.0 run e.1 (records_in es) (run_laws.symm e.0 run ∙ h) ∙ rest
-
-pub told-request : (run : RunId) (es : List (RunId × Slot)) → IsDistinct same_run (keys_of es) → request_of (begun_in es) run ≡ request_if (lookup (same_run run) es)
+pub told-request : (run : RunId) (es : Slots) → IsDistinct same_run (keys_of es)
+    → request_of (begun_in es) run ≡ request_if (lookup (same_run run) es)
 told-request run [] d = refl
-told-request run (e ∷ es) d = by (same_run run e.0) refl (told-request run es (IsDistinct-tail same_run e.0 (keys_of es) d))
+told-request run (e ∷ es) d =
+    by (same_run run e.0) refl (told-request run es (IsDistinct-tail same_run e.0 (keys_of es) d))
   where
-    by : (b : Bool) → same_run run e.0 ≡ b → request_of (begun_in es) run ≡ request_if (lookup (same_run run) es)
-        → request_of (with_begun e.0 e.1 (begun_in es)) run ≡ request_if (cond b (Some e.1) (lookup (same_run run) es))
-    by true h rest = request-here e.0 run e.1 (begun_in es) (run_laws.symm e.0 run ∙ h) (rest ∙ ap request_if (absent-behind run e es d h))
+    by : (b : Bool) → same_run run e.0 ≡ b
+        → request_of (begun_in es) run ≡ request_if (lookup (same_run run) es)
+        → request_of (with_begun e.0 e.1 (begun_in es)) run
+        ≡ request_if (cond b (Some e.1) (lookup (same_run run) es))
+    by true h rest =
+        request-here e.0 run e.1 (begun_in es) (run_laws.symm e.0 run ∙ h)
+        (rest ∙ ap request_if (absent-behind run e es d h))
     by false h rest = request-there e.0 run e.1 (begun_in es) (run_laws.symm e.0 run ∙ h) ∙ rest
 
--- a run that is neither begun nor finished is in no entry
-absent-from : (o : Option Slot) → record_if o ≡ None → request_if o ≡ None → o ≡ None
-absent-from None r q = refl
-absent-from (Some (Begun by)) r q = absurd (cc)
-absent-from (Some (Done made)) r q = absurd (cc)
+-- the entry of a run that is not finished says which request has begun it
+pub request-begun : (o : Option Begin) → is_some (request_if (Some o)) ≡ true
+    → (begin : Begin) × (o ≡ Some begin)
+request-begun None h = absurd (cc)
+request-begun (Some begin) h = (begin, refl)
 
-pub absent-lookup : (run : RunId) (es : List (RunId × Slot)) → IsDistinct same_run (keys_of es) → found (records_in es) run ≡ None → request_of (begun_in es) run ≡ None
-    → lookup (same_run run) es ≡ None
-absent-lookup run es d r q = absent-from (lookup (same_run run) es) (sym (told-record run es d) ∙ r) (sym (told-request run es d) ∙ q)
+-- a look-up finds an entry
+pub lookup-in : (run : RunId) (es : Slots) (o : Option Begin) → lookup (same_run run) es ≡ Some o
+    → In (run, o) es
+lookup-in run [] o h = absurd (cc)
+lookup-in run (e ∷ es) o h = by (same_run run e.0) refl h (lookup-in run es o)
+  where
+    by : (b : Bool) → same_run run e.0 ≡ b → cond b (Some e.1) (lookup (same_run run) es) ≡ Some o
+        → (lookup (same_run run) es ≡ Some o → In (run, o) es) → In (run, o) (e ∷ es)
+    by true t h rest =
+        let k : run ≡ e.0 = same_run-true run e.0 t in
+        let v : e.1 ≡ o = cc in
+        inl ((λ j. (sym k j, v j)))
+    by false t h rest = inr (rest h)
 
 -- a run is begun where a request has begun it
-pub or-some : {X : Type 0} (b : Bool) (o : Option X) (x : X) → (b || is_some o) ≡ is_some (this_or b o x)
-or-some true o x = refl
-or-some false o x = refl
-
-pub begun-some : (run : RunId) (begun : List BegunRun) → is_begun run begun ≡ is_some (request_of begun run)
+pub begun-some : (run : RunId) (begun : List BegunRun)
+    → is_begun run begun ≡ is_some (request_of begun run)
 begun-some run [] = refl
-begun-some run (b ∷ begun) = ap (λ t. same_run b.run run || t) (begun-some run begun) ∙ or-some (same_run b.run run) (request_of begun run) b.by
+begun-some run (b ∷ begun) =
+    ap (λ t. same_run b.run run || t) (begun-some run begun)
+    ∙ or-some (same_run b.run run) (request_of begun run) b.by
 
 -- ---- after a run is begun
 
-pub records-push : (es : List (RunId × Slot)) (run : RunId) (by : ℕ) → records_in (es ++ (run, Begun by) ∷ []) ≡ records_in es
-records-push [] run by = refl
-records-push (e ∷ es) run by = ap (with_record e.0 e.1) (records-push es run by)
+in-front : (k : RunId) (s : Option Begin) (b : BegunRun) (xs : List BegunRun)
+    → with_begun k s (b ∷ xs) ≡ b ∷ with_begun k s xs
+in-front k None b xs = refl
+in-front k (Some begin) b xs = refl
 
-in-front : (k : RunId) (s : Slot) (b : BegunRun) (xs : List BegunRun) → with_begun k s (b ∷ xs) ≡ b ∷ with_begun k s xs
-in-front k (Begun by) b xs = refl
-in-front k (Done made) b xs = refl
-
-pub begun-push : (es : List (RunId × Slot)) (run : RunId) (by : ℕ) → begun_in (es ++ (run, Begun by) ∷ []) ≡ record { run = run; by = by } ∷ begun_in es
-begun-push [] run by = refl
-begun-push (e ∷ es) run by = ap (with_begun e.0 e.1) (begun-push es run by) ∙ in-front e.0 e.1 (record { run = run; by = by }) (begun_in es)
-
-leads : (s : Slot) (es fs : List (RunId × Slot)) (P Q : Type 0) → records_in fs ≡ records_in es → (P → Q) → LeadsFinished s es P → LeadsFinished s fs Q
-leads (Begun by) es fs P Q e f h = e ∙ h
-leads (Done made) es fs P Q e f h = f h
-
-pub first-push : (es : List (RunId × Slot)) (run : RunId) (by : ℕ) → FinishedFirst es → FinishedFirst (es ++ (run, Begun by) ∷ [])
-first-push [] run by h = refl
-first-push (e ∷ es) run by h =
-    leads e.1 es (es ++ (run, Begun by) ∷ []) (FinishedFirst es) (FinishedFirst (es ++ (run, Begun by) ∷ [])) (records-push es run by) (first-push es run by) h
+pub begun-push : (es : Slots) (run : RunId) (begin : Begin)
+    → begun_in (es ++ (run, Some begin) ∷ []) ≡ record { run = run; by = begin.by } ∷ begun_in es
+begun-push [] run begin = refl
+begun-push (e ∷ es) run begin =
+    ap (with_begun e.0 e.1) (begun-push es run begin)
+    ∙ in-front e.0 e.1 (record { run = run; by = begin.by }) (begun_in es)
 
 -- ---- after a run is finished
 
-pub push-some : {X : Type 0} (xs : List X) (x : X) → xs ++ x ∷ [] ≡ [] → ⊥
-push-some [] x h = cc
-push-some (y ∷ xs) x h = cc
-
-pub none-behind : (k : RunId) (s : Slot) (xs : Records) → with_record k s xs ≡ [] → xs ≡ []
-none-behind k (Begun by) xs h = h
-none-behind k (Done made) xs h = absurd (push-some xs (record { run = k; made = made }) h)
-
-pub none-leads : (k : RunId) (s : Slot) (es : List (RunId × Slot)) (P : Type 0) → (records_in es ≡ [] → P) → with_record k s (records_in es) ≡ [] → LeadsFinished s es P
-none-leads k (Begun by) es P f h = h
-none-leads k (Done made) es P f h = absurd (push-some (records_in es) (record { run = k; made = made }) h)
-
-without-last : (k : RunId) (xs : List BegunRun) (b : BegunRun) → same_run b.run k ≡ true → without k (xs ++ b ∷ []) ≡ without k xs
+without-last : (k : RunId) (xs : List BegunRun) (b : BegunRun) → same_run b.run k ≡ true
+    → without k (xs ++ b ∷ []) ≡ without k xs
 without-last k [] b h = ap (λ t. begun_unless t b []) h
 without-last k (x ∷ xs) b h = ap (begun_unless (same_run x.run k) x) (without-last k xs b h)
 
@@ -161,48 +122,108 @@ without-absent k (x ∷ xs) n =
     let p = this_or-none (same_run x.run k) (request_of xs k) x.by n in
     ap (λ t. begun_unless t x (without k xs)) p.0 ∙ ap (λ l. x ∷ l) (without-absent k xs p.1)
 
-unless-push : (t : Bool) (x b : BegunRun) (xs : List BegunRun) → begun_unless t x (xs ++ b ∷ []) ≡ begun_unless t x xs ++ b ∷ []
+unless-push : (t : Bool) (x b : BegunRun) (xs : List BegunRun)
+    → begun_unless t x (xs ++ b ∷ []) ≡ begun_unless t x xs ++ b ∷ []
 unless-push true x b xs = refl
 unless-push false x b xs = refl
 
-without-behind : (k : RunId) (xs : List BegunRun) (b : BegunRun) → same_run b.run k ≡ false → without k (xs ++ b ∷ []) ≡ without k xs ++ b ∷ []
+without-behind : (k : RunId) (xs : List BegunRun) (b : BegunRun) → same_run b.run k ≡ false
+    → without k (xs ++ b ∷ []) ≡ without k xs ++ b ∷ []
 without-behind k [] b h = ap (λ t. begun_unless t b []) h
-without-behind k (x ∷ xs) b h = ap (begun_unless (same_run x.run k) x) (without-behind k xs b h) ∙ unless-push (same_run x.run k) x b (without k xs)
+without-behind k (x ∷ xs) b h =
+    ap (begun_unless (same_run x.run k) x) (without-behind k xs b h)
+    ∙ unless-push (same_run x.run k) x b (without k xs)
 
-without-other : (k r : RunId) (s : Slot) (xs : List BegunRun) → same_run r k ≡ false → with_begun r s (without k xs) ≡ without k (with_begun r s xs)
-without-other k r (Begun by) xs h = sym (without-behind k xs (record { run = r; by = by }) h)
-without-other k r (Done made) xs h = refl
+without-other : (k r : RunId) (s : Option Begin) (xs : List BegunRun) → same_run r k ≡ false
+    → with_begun r s (without k xs) ≡ without k (with_begun r s xs)
+without-other k r None xs h = refl
+without-other k r (Some begin) xs h =
+    sym (without-behind k xs (record { run = r; by = begin.by }) h)
 
 -- an entry before that of a run is another run's
-apart : (k : RunId) (s : Slot) (e : RunId × Slot) (es : List (RunId × Slot)) (i : ℕ) → IsDistinct same_run (keys_of (e ∷ es)) → slice_get es i ≡ Some (k, s) → same_run e.0 k ≡ false
-apart k s e es i d at = by (same_run k e.0) refl
+pub apart-before : (k : RunId) (s : Option Begin) (e : Slot) (es : Slots) (i : ℕ)
+    → IsDistinct same_run (keys_of (e ∷ es)) → slice_get es i ≡ Some (k, s) → same_run e.0 k ≡ false
+apart-before k s e es i d at = by (same_run k e.0) refl
   where
     by : (b : Bool) → same_run k e.0 ≡ b → same_run e.0 k ≡ false
     by true h =
-        let there = lookup_from_place run_laws es i k s (IsDistinct-tail same_run e.0 (keys_of es) d) at in
+        let there = lookup_from_place run_laws es i k s
+        (IsDistinct-tail same_run e.0 (keys_of es) d) at in
         let gone = absent-behind k e es d h in absurd (cc)
     by false h = run_laws.symm e.0 k ∙ h
 
-pub begun-removed : (k : RunId) (by : ℕ) (es : List (RunId × Slot)) (i : ℕ) → IsDistinct same_run (keys_of es) → slice_get es i ≡ Some (k, Begun by)
-    → begun_in (remove es i) ≡ without k (begun_in es)
-begun-removed k by [] i d at = absurd (cc)
-begun-removed k by (e ∷ es) zero d at =
-    let here : e ≡ (k, Begun by) = cc in
+-- the run is taken out of those that are begun, where nothing more is kept of it
+pub begun-taken : (k : RunId) (begin : Begin) (es : Slots) (i : ℕ)
+    → IsDistinct same_run (keys_of es) → slice_get es i ≡ Some (k, Some begin)
+    → begun_in (set_value_at es i None) ≡ without k (begun_in es)
+begun-taken k begin [] i d at = absurd (cc)
+begun-taken k begin (e ∷ es) zero d at =
+    let here : e ≡ (k, Some begin) = cc in
     let same : same_run k e.0 ≡ true = (run-exact k e.0).1 (ap (λ p. p.0) (sym here)) in
-    let gone = told-request k es (IsDistinct-tail same_run e.0 (keys_of es) d) ∙ ap request_if (absent-behind k e es d same) in
-    sym (ap (λ p. without k (with_begun p.0 p.1 (begun_in es))) here ∙ without-last k (begun_in es) (record { run = k; by = by }) ((run-exact k k).1 refl)
+    let gone = told-request k es (IsDistinct-tail same_run e.0 (keys_of es) d)
+    ∙ ap request_if (absent-behind k e es d same) in
+    sym (ap (λ p. without k (with_begun p.0 p.1 (begun_in es))) here
+    ∙ without-last k (begun_in es) (record { run = k; by = begin.by }) ((run-exact k k).1 refl)
     ∙ without-absent k (begun_in es) gone)
-begun-removed k by (e ∷ es) (suc i) d at =
-    ap (with_begun e.0 e.1) (begun-removed k by es i (IsDistinct-tail same_run e.0 (keys_of es) d) at)
-    ∙ without-other k e.0 e.1 (begun_in es) (apart k (Begun by) e es i d at)
+begun-taken k begin (e ∷ es) (suc i) d at =
+    ap (with_begun e.0 e.1)
+    (begun-taken k begin es i (IsDistinct-tail same_run e.0 (keys_of es) d) at)
+    ∙ without-other k e.0 e.1 (begun_in es) (apart-before k (Some begin) e es i d at)
 
-pub begun-inserted : (k : RunId) (made : Record) (es : List (RunId × Slot)) (n : ℕ) → begun_in (insert es n (k, Done made)) ≡ begun_in es
-begun-inserted k made [] zero = refl
-begun-inserted k made [] (suc n) = refl
-begun-inserted k made (e ∷ es) zero = refl
-begun-inserted k made (e ∷ es) (suc n) = ap (with_begun e.0 e.1) (begun-inserted k made es n)
+-- one run fewer is begun
+with-longer : (k : RunId) (s : Option Begin) (xs ys : List BegunRun) → length xs ≡ length ys + 1
+    → length (with_begun k s xs) ≡ length (with_begun k s ys) + 1
+with-longer k None xs ys h = h
+with-longer k (Some begin) xs ys h =
+    let b : BegunRun = record { run = k; by = begin.by } in
+    omega (arith, length-append xs (b ∷ []), length-append ys (b ∷ []))
 
--- the slot of a begun run
-pub slot-begun : (s : Slot) → is_some (request_if (Some s)) ≡ true → (by : ℕ) × (s ≡ Begun by)
-slot-begun (Begun by) h = (by, refl)
-slot-begun (Done made) h = absurd (clash false h refl)
+pub taken-length : (k : RunId) (begin : Begin) (es : Slots) (i : ℕ)
+    → slice_get es i ≡ Some (k, Some begin)
+    → length (begun_in es) ≡ length (begun_in (set_value_at es i None)) + 1
+taken-length k begin [] i at = absurd (cc)
+taken-length k begin (e ∷ es) zero at =
+    let here : e ≡ (k, Some begin) = cc in
+    ap (λ p. length (with_begun p.0 p.1 (begun_in es))) here
+    ∙ length-append (begun_in es) (record { run = k; by = begin.by } ∷ [])
+taken-length k begin (e ∷ es) (suc i) at =
+    with-longer e.0 e.1 (begun_in es) (begun_in (set_value_at es i None))
+    (taken-length k begin es i at)
+
+later-apart : (k : RunId) (es : Slots) (f : Slot) → lookup (same_run k) es ≡ None → In f es
+    → same_run k f.0 ≡ false
+later-apart k [] f n there = absurd there
+later-apart k (e ∷ es) f n there = by (same_run k e.0) refl n there (later-apart k es f)
+  where
+    by : (b : Bool) → same_run k e.0 ≡ b → cond b (Some e.1) (lookup (same_run k) es) ≡ None
+        → In f (e ∷ es) → (lookup (same_run k) es ≡ None → In f es → same_run k f.0 ≡ false)
+        → same_run k f.0 ≡ false
+    by true t n there rest = absurd (cc)
+    by false t n (inl p) rest = ap (λ q. same_run k q.0) (sym p) ∙ t
+    by false t n (inr p) rest = rest n p
+
+-- an entry afterwards is the one that was taken, or another run's as it was before
+pub taken-in : (k : RunId) (begin : Begin) (es : Slots) (i : ℕ) (f : Slot)
+    → IsDistinct same_run (keys_of es) → slice_get es i ≡ Some (k, Some begin)
+    → In f (set_value_at es i None) → ((k, None) ≡ f) ⊎ (In f es × (same_run k f.0 ≡ false))
+taken-in k begin [] i f d at there = absurd (cc)
+taken-in k begin (e ∷ es) zero f d at (inl p) =
+    let here : e ≡ (k, Some begin) = cc in inl (ap (λ q. (q.0, None)) (sym here) ∙ p)
+taken-in k begin (e ∷ es) zero f d at (inr p) =
+    let here : e ≡ (k, Some begin) = cc in
+    inr (
+      inr p,
+      later-apart k es f
+          (absent-behind k e es d ((run-exact k e.0).1 (ap (λ p. p.0) (sym here)))) p,
+    )
+taken-in k begin (e ∷ es) (suc i) f d at (inl p) =
+    inr (
+      inl p,
+      run_laws.symm k f.0
+          ∙ (ap (λ q. same_run q.0 k) (sym p) ∙ apart-before k (Some begin) e es i d at),
+    )
+taken-in k begin (e ∷ es) (suc i) f d at (inr p) =
+    elim (taken-in k begin es i f (IsDistinct-tail same_run e.0 (keys_of es) d) at p) [
+      | inl q ↦ inl q
+      | inr q ↦ inr (inr q.0, q.1)
+    ]

@@ -3,6 +3,7 @@ pub mod ExactRecords
 pub mod Found
 pub mod Hashes
 pub mod Journal
+pub mod Kept
 pub mod Lists
 pub mod Replay
 pub mod Same

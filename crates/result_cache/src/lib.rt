@@ -19,6 +19,8 @@ ghost use Rattle.result_cache.specs.Table.{Records};
 ghost use Rattle.result_cache.specs.Replay.{HasAll, effects_of, IsClosed, replay};
 
 mod compared;
+mod finished;
+mod layer;
 mod record;
 mod record_ref;
 mod request;
@@ -30,7 +32,7 @@ pub use record::{Decision, Record, Segment};
 pub use record_ref::RecordRef;
 pub use request::{RequestKey, RequestResult, Returned};
 pub use run::RunId;
-pub use run_ref::{RunRef, hash_of};
+pub use run_ref::{RunProbe, RunRef, hash_of};
 pub use table::{Found, Table};
 
 /// The tests that tell instances, runs, lists of requests and records apart hold exactly of equal ones.

@@ -49,11 +49,10 @@ impl RecordRef {
     }
 
     /// The record of this run, which shares the run's name with all that put it in a journal.
-    pub fn of_run(alloc: Global, run: &RunId, made: Record) -> Result<RecordRef, NoMemory>
+    pub fn of_run(alloc: Global, run: &RunRef, made: Record) -> Result<RecordRef, NoMemory>
         ensures { IfOk result (λ r. r ≡ made) }
     {
-        let run = RunRef::new(alloc, run)?;
-        let run = Some(run);
+        let run = Some(run.copy()?);
         RecordRef::kept(alloc, Kept { made, run })
     }
 
@@ -69,6 +68,19 @@ impl RecordRef {
         ensures { result.now ≡ self.now }
     {
         &self.shared.made
+    }
+
+    /// The kept name, if it is that of this run, else this one.
+    pub fn name_or(&self, run: RunRef) -> RunRef
+        ensures { result ≡ run }
+    {
+        match &self.shared.run {
+            Some(kept) if *kept == run => match kept.copy() {
+                Ok(kept) => kept,
+                Err(NoMemory) => run,
+            },
+            _ => run,
+        }
     }
 
     /// The name of a run: the one that is kept, if it is that run's, else a copy.

@@ -1,24 +1,41 @@
-ghost use Rattle.std.specs.Prelude.{◌≡◌, ◌<◌, [], ◌∷◌, None, IsSome, length, reverse, slice_get, OnErr, OnOk};
-ghost use Rattle.indexmap.specs.IndexMap.{index_map_len};
+ghost use Rattle.std.specs.Prelude.{◌≡◌, ◌<◌, [], ◌∷◌, ◌++◌, None, Some, IsSome, IfOk, length, reverse, slice_get, OnErr, OnOk};
+ghost use Rattle.indexmap.specs.IndexMap.{index_map_len, get, spare, IsUnique};
 ghost use Rattle.indexmap.specs.Layout.{set_value_at};
-ghost use Rattle.result_cache.specs.declared.table.Slot.TheVariants.{Done};
 ghost use Rattle.std.specs.Option.{option_map};
+ghost use Rattle.result_cache.specs.declared.run.RunId.{RunId};
 ghost use Rattle.result_cache.specs.Found.{FoundIn, seen_finished};
-ghost use Rattle.result_cache.specs.Slots.{AreSlots};
-ghost use Rattle.result_cache.specs.Table.{found, request_of, without, TableRuns, HasEachOnce};
+ghost use Rattle.result_cache.specs.Same.{same_run};
+ghost use Rattle.result_cache.specs.Table.{found, request_of, without, HasEachOnce};
 
-use crate::{RecordRef, RunId};
+use crate::finished::Finished;
+use crate::{RecordRef, RunId, RunProbe, RunRef};
 use indexmap::IndexMap;
 use msb_values::{Copied, NoMemory};
 use std::alloc::Global;
 use std::marker::Model;
+use std::mem;
 
-/// What a table holds of a run.
-#[derive(Drop)]
-enum Slot {
-    /// This request has begun it.
-    Begun(u64),
-    Done(RecordRef),
+/// A run that is begun and not finished: the request that has begun it, and its name for those that
+/// will find its record.
+struct Begin {
+    by: u64,
+    run: RunRef,
+}
+
+// A drop that is written out is proved here alone.
+impl Drop for Begin {
+    fn drop(self) {
+        let Begin { by: _, run: _ } = self;
+    }
+}
+
+impl Begin {
+    fn into_run(self) -> RunRef
+        ensures { result ≡ self.run }
+    {
+        let Begin { by: _, run } = self;
+        run
+    }
 }
 
 /// What a table says of a run.
@@ -37,28 +54,34 @@ pub enum Found<'a> {
 /// A run is begun by one request, and is finished once. Contracts see the finished runs and the begun ones as two lists,
 /// each with the last one first.
 pub struct Table {
-    /// The finished runs in finishing order, and behind them those that are not finished, in the order of their beginnings.
-    slots: IndexMap<RunId, Slot>,
-    /// How many are finished.
-    done: usize,
+    finished: Finished,
+    /// All runs in the order of their beginnings; nothing is kept of one that is finished.
+    begun: IndexMap<RunRef, Option<Begin>>,
 }
 
 // A drop that is written out is proved here alone.
 impl Drop for Table {
     fn drop(self) {
-        let Table { slots: _, done: _ } = self;
+        let Table {
+            finished: _,
+            begun: _,
+        } = self;
     }
 }
 
 impl Model for Table {
+    ghost use Rattle.std.specs.Prelude.{reverse};
     ghost use Rattle.result_cache.specs.Table.{TableRuns};
-    ghost use Rattle.result_cache.specs.Slots.{table_of, AreSlots};
+    ghost use Rattle.result_cache.specs.Slots.{begun_in, AreSlots};
 
     ghost Value = { TableRuns };
 
-    ghost view = { λ t. table_of t.slots.entries };
+    ghost view = { λ t. record {
+      finished = reverse t.finished.records;
+      begun = begun_in t.begun.entries;
+    } };
 
-    ghost invariant = { λ t. AreSlots t.slots.entries t.done };
+    ghost invariant = { λ t. AreSlots t.finished t.begun.entries };
 }
 
 impl Table {
@@ -67,9 +90,21 @@ impl Table {
         ensures begun { result.begun ≡ [] }
     {
         Table {
-            slots: IndexMap::new(alloc),
-            done: 0,
+            finished: Finished::new(alloc),
+            begun: IndexMap::new(alloc),
         }
+    }
+
+    /// The finished runs alone. A copy takes a time that grows with the logarithm of their number.
+    pub fn learnt(&self) -> Result<Table, NoMemory>
+        ensures finished { IfOk result (λ learnt. learnt.finished ≡ self.now.finished) }
+        ensures begun { IfOk result (λ learnt. learnt.begun ≡ []) }
+    {
+        let alloc = *self.begun.allocator();
+        Ok(Table {
+            finished: self.finished.copy()?,
+            begun: IndexMap::new(alloc),
+        })
     }
 
     /// Enters a run that a request begins, with the room that its record will need. Where there is no memory, nothing
@@ -81,33 +116,58 @@ impl Table {
         ensures begun { OnOk result (self.new.begun ≡ record { run = run.now; by = request } ∷ self.old.begun) }
         ensures err { OnErr result (self.new.begun ≡ self.old.begun) }
     {
-        self.slots.insert(run.copy()?, Slot::Begun(request))?;
+        let alloc = *self.begun.allocator();
+        let name = RunRef::new(alloc, run)?;
+        let begin = Begin {
+            by: request,
+            run: name.copy()?,
+        };
+        self.begun.reserve(1)?;
+        self.finished.reserve_one()?;
+        put_begin(&mut self.begun, name, begin);
         Ok(())
     }
 
-    /// Gives a begun run its record: it is finished. This takes no memory.
+    /// Gives a begun run its record: it is finished. This needs no memory.
     pub fn finish(&mut self, run: &RunId, made: RecordRef)
         requires { IsSome (request_of self.old.begun run.now) }
         ensures finished { self.new.finished ≡ record { run = run.now; made = made } ∷ self.old.finished }
         ensures begun { self.new.begun ≡ without run.now self.old.begun }
     {
-        // The length is what says that one more can be counted.
-        let _len = self.slots.len();
-        if let Some((at, _, _)) = self.slots.get_full(run) {
-            put_record(&mut self.slots, at, made);
-            self.slots.move_index(at, self.done);
-            self.done += 1;
-        }
+        let probe = RunProbe::of(run);
+        let Some((at, _, _)) = self.begun.get_full(&probe) else {
+            unreachable!()
+        };
+        let Some(begin) = take_begin(&mut self.begun, at) else {
+            unreachable!()
+        };
+        self.finished.push(made.name_or(begin.into_run()), made);
     }
 
     /// What is known of a run. This takes no memory, and hardly more time in a larger table.
     pub fn find(&self, run: &RunId) -> Found<'_>
         ensures { FoundIn self.now run.now result }
     {
-        match self.slots.get(run) {
+        self.find_by(&RunProbe::of(run))
+    }
+
+    /// The same of a run whose hash is there.
+    pub fn find_ref(&self, run: &RunRef) -> Found<'_>
+        ensures { FoundIn self.now run.now result }
+    {
+        self.find_by(&RunProbe::of_ref(run))
+    }
+
+    fn find_by(&self, run: &RunProbe<'_>) -> Found<'_>
+        ensures { FoundIn self.now run.now result }
+    {
+        if let Some(made) = self.finished.find(run) {
+            return Found::Done(made);
+        }
+        match self.begun.get(run) {
+            Some(Some(begin)) => Found::Begun(begin.by),
+            Some(None) => Found::Absent,
             None => Found::Absent,
-            Some(Slot::Begun(by)) => Found::Begun(*by),
-            Some(Slot::Done(made)) => Found::Done(made),
         }
     }
 
@@ -115,16 +175,15 @@ impl Table {
     pub fn finished_count(&self) -> usize
         ensures { result ≡ length self.now.finished }
     {
-        self.done
+        self.finished.len()
     }
 
     /// The run that was finished at this place, from 0 in finishing order, and its record.
     pub fn finished_at(&self, at: usize) -> Option<(&RunId, &RecordRef)>
         ensures { option_map seen_finished result ≡ slice_get (reverse self.now.finished) at }
     {
-        match self.slots.get_index(at) {
-            Some((run, Slot::Done(made))) => Some((run, made)),
-            Some((_, Slot::Begun(_))) => None,
+        match self.finished.at(at) {
+            Some((run, made)) => Some((run.get(), made)),
             None => None,
         }
     }
@@ -133,15 +192,29 @@ impl Table {
     pub fn each_once(&self)
         ensures { HasEachOnce self.now }
     {
-        let _ = self.slots.len();
+        let _ = self.begun.len();
     }
 }
 
-/// Writes a record into the entry at this place.
-fn put_record(slots: &mut IndexMap<RunId, Slot>, at: usize, made: RecordRef)
-    requires { at < index_map_len slots.old }
-    ensures { slots.new.entries ≡ set_value_at slots.old.entries at (Done made) }
+/// Adds a run that is not there, for which room was taken.
+fn put_begin(begun: &mut IndexMap<RunRef, Option<Begin>>, run: RunRef, begin: Begin)
+    requires absent { get same_run begun.old run ≡ None }
+    requires room { 0 < spare begun.old }
+    ensures entries { begun.new.entries ≡ begun.old.entries ++ (run, Some begin) ∷ [] }
+    ensures unique { IsUnique same_run begun.new }
 {
-    let (_, slot) = slots.pair_mut(at);
-    *slot = Slot::Done(made);
+    match begun.insert(run, Some(begin)) {
+        Ok(_) => {}
+        Err(_) => unreachable!(),
+    }
+}
+
+/// Takes what is kept of the run at this place.
+fn take_begin(begun: &mut IndexMap<RunRef, Option<Begin>>, at: usize) -> Option<Begin>
+    requires { at < index_map_len begun.old }
+    ensures taken { (run : RunId) × (slice_get begun.old.entries at ≡ Some (run, result)) }
+    ensures entries { begun.new.entries ≡ set_value_at begun.old.entries at None }
+{
+    let (_, begin) = begun.pair_mut(at);
+    mem::replace(begin, None)
 }

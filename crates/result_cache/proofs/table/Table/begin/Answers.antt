@@ -1,38 +1,55 @@
-use Rattle.std.proofs.Common.{◌≡◌, ◌∷◌, [], ◌++◌, length, None, ◌∙◌, ap, sym, subst}
-use Rattle.indexmap.specs.IndexMap.{insert_entry}
-use Rattle.indexmap.proofs.CallerLemmas.{insert_entry-new}
-use Rattle.result_cache.specs.declared.table.Slot.TheVariants.{Begun}
+use Rattle.std.proofs.Common.{◌≡◌, Some, [], ◌∷◌, ◌++◌, ap, sym, ◌∙◌}
+use Rattle.std.specs.Map.{lookup}
+use Rattle.result_cache.specs.declared.run.RunId.{RunId}
+use Rattle.result_cache.specs.declared.table.Begin.{Begin}
 use Rattle.result_cache.specs.Same.{same_run}
-use Rattle.result_cache.specs.Table.{found, request_of, TableRuns}
-use Rattle.result_cache.specs.Slots.{records_in, begun_in, FinishedFirst}
-use Rattle.result_cache.proofs.SlotEntries.{absent-lookup, records-push, begun-push, first-push}
+use Rattle.result_cache.specs.Slots.{Slots, begun_in}
+use Rattle.result_cache.specs.Table.{TableRuns}
+use Rattle.result_cache.proofs.SlotEntries.{begun-push}
+use Rattle.result_cache.proofs.TableSlots.{slots-same, slots-begun, table-found, table-absent}
 use Rattle.result_cache.proofs.table.Table.begin.Goals as goal
 
 -- the run's entry stands behind all others
-pushed : (c : goal.Joined-branch-3) → c.insert.new.self.entries ≡ c.self.inside.slots.entries ++ (c.args.run.now, Begun c.args.request) ∷ []
-pushed c =
-    let run = c.args.run.now in
-    let slots = c.self.inside.slots in
-    let unfinished : found (records_in slots.entries) run ≡ None = ap (λ (t : TableRuns). found t.finished run) c.self.view_is ∙ c.requires.unfinished in
-    let unbegun : request_of (begun_in slots.entries) run ≡ None = ap (λ (t : TableRuns). request_of t.begun run) c.self.view_is ∙ c.requires.unbegun in
-    c.in_ok-insert.ensures.entries
-    ∙ (ap (λ k. insert_entry same_run slots.entries k (Begun c.args.request)) c.in_ok-copy.ensures
-    ∙ insert_entry-new same_run slots run (Begun c.args.request) (absent-lookup run slots.entries c.self.invariant.distinct unfinished unbegun))
+behind : (es fs gs : Slots) (name run : RunId) (begin : Begin) → gs ≡ fs ++ (name, Some begin) ∷ []
+    → fs ≡ es → name ≡ run → gs ≡ es ++ (run, Some begin) ∷ []
+behind es fs gs name run begin pushed same own = pushed ∙ (λ j. same j ++ (own j, Some begin) ∷ [])
+
+pub invariant_of-self-in_err-reserve_one : goal.invariant_of-self-in_err-reserve_one
+invariant_of-self-in_err-reserve_one c =
+    slots-same c.self.inside.finished c.reserve_one.new.self c.self.inside.begun.entries
+    c.reserve.new.self.entries c.reserve_one.ensures.records c.in_err-reserve_one.ensures.err
+    c.reserve.ensures.entries c.self.invariant
+
+pub put_begin-requires-clause-absent : goal.put_begin-requires-clause-absent
+put_begin-requires-clause-absent c =
+    ap (lookup (same_run c.in_ok-name.name)) c.reserve.ensures.entries
+    ∙ (ap (λ r. lookup (same_run r) c.self.inside.begun.entries) c.in_ok-name.ensures
+    ∙ table-absent c.self.inside.finished c.self.inside.begun.entries c.self.invariant
+    c.args.self.now c.self.view_is c.args.run.now c.requires.unfinished c.requires.unbegun)
 
 pub invariant_of-self-2 : goal.invariant_of-self-2
 invariant_of-self-2 c =
-    let entries = c.self.inside.slots.entries in record {
-      distinct = c.insert.ensures.unique;
-      first = subst FinishedFirst (sym (pushed c)) (first-push entries c.args.run.now c.args.request c.self.invariant.first);
-      count = c.self.invariant.count ∙ ap length (sym (ap records_in (pushed c) ∙ records-push entries c.args.run.now c.args.request));
-    }
-
-pub returns-clause-finished : goal.returns-clause-finished
-returns-clause-finished c =
-    ap records_in (pushed c) ∙ (records-push c.self.inside.slots.entries c.args.run.now c.args.request ∙ ap (λ (t : TableRuns). t.finished) c.self.view_is)
+    let kept = c.self.inside.finished in
+    let es = c.self.inside.begun.entries in
+    let run = c.args.run.now in
+    let begin : Begin = record { by = c.args.request; run = c.in_ok-copy.field-0 } in
+    slots-begun kept c.reserve_one.new.self es c.put_begin.new.begun.entries run begin
+    c.self.invariant
+    (sym (table-found kept es c.self.invariant c.args.self.now c.self.view_is run)
+    ∙ c.requires.unfinished)
+    (c.in_ok-copy.ensures ∙ c.in_ok-name.ensures) c.reserve_one.ensures.records
+    c.in_ok-reserve_one.ensures.ok
+    (behind es c.reserve.new.self.entries c.put_begin.new.begun.entries c.in_ok-name.name run begin
+    c.put_begin.ensures.entries c.reserve.ensures.entries c.in_ok-name.ensures)
+    c.put_begin.ensures.unique
 
 pub returns-clause-begun : goal.returns-clause-begun
 returns-clause-begun c =
-    ap begun_in (pushed c)
-    ∙ (begun-push c.self.inside.slots.entries c.args.run.now c.args.request
-    ∙ ap (λ (t : TableRuns). record { run = c.args.run.now; by = c.args.request } ∷ t.begun) c.self.view_is)
+    let es = c.self.inside.begun.entries in
+    let run = c.args.run.now in
+    let begin : Begin = record { by = c.args.request; run = c.in_ok-copy.field-0 } in
+    ap begun_in (behind es c.reserve.new.self.entries c.put_begin.new.begun.entries
+    c.in_ok-name.name run begin c.put_begin.ensures.entries c.reserve.ensures.entries
+    c.in_ok-name.ensures)
+    ∙ (begun-push es run begin
+    ∙ ap (λ (t : TableRuns). record { run = run; by = c.args.request } ∷ t.begun) c.self.view_is)
