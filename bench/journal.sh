@@ -20,23 +20,24 @@ cat > "$work/crates/journal_bench/src/main.rt" <<'PROGRAM'
 use file_store::Tree;
 use msb_files::{FileView, Journal};
 use msb_values::{Act, Copied, InstanceKey, List, Name, NoMemory, Pairs, Put, Shared, Text, Text8};
-use result_cache::RunId;
+use result_cache::{RunId, RunRef};
 use std::alloc::Global;
 use std::io;
 use std::time::Instant;
 
-fn run(alloc: Global, number: u32) -> Result<RunId, NoMemory> {
+fn run(alloc: Global, number: u32) -> Result<RunRef, NoMemory> {
     let path = format!(in alloc; "src/part{number}/part{number}.proj")?;
-    match Name::read_target(alloc, "Compile") {
-        Ok(target) => Ok(RunId {
-            instance: InstanceKey {
-                path: Text::from(path),
-                globals: Pairs::new(alloc),
-            },
-            target,
-        }),
-        Err(_) => Err(NoMemory),
-    }
+    let Ok(target) = Name::read_target(alloc, "Compile") else {
+        return Err(NoMemory);
+    };
+    let run = RunId {
+        instance: InstanceKey {
+            path: Text::from(path),
+            globals: Pairs::new(alloc),
+        },
+        target,
+    };
+    RunRef::new(alloc, &run)
 }
 
 fn put(alloc: Global, number: u32) -> Result<Put, NoMemory> {

@@ -7,6 +7,7 @@ use Rattle.std.proofs.lemmas.List.Folds.{list_any-append}
 use Rattle.std.proofs.lemmas.Option.{slice_get-get_or}
 use Rattle.msb_values.specs.declared.act.Act.{Act}
 use Rattle.result_cache.specs.Journal.{Journal, Entry, Mark, has}
+use Rattle.result_cache.proofs.RunTests.{or_right}
 use Rattle.msb_files.specs.Indices.{last_act}
 use Rattle.msb_files.specs.Layers.{all_of}
 use Rattle.msb_files.specs.Views.{acts_of}
@@ -21,6 +22,14 @@ pub slice_get_back : {X : Type 0} (xs ys : List X) (n : ℕ) → length xs ≤ n
 slice_get_back [] ys n past = ap (slice_get ys) (omega arith)
 slice_get_back (x ∷ xs) ys zero past = absurd (omega arith)
 slice_get_back (x ∷ xs) ys (suc n) past = slice_get_back xs ys n (omega arith) ∙ ap (slice_get ys) (omega arith)
+
+pub has_dropped : (layers : List Journal) (i : ℕ) (m : Mark) →
+    has m (all_of (drop i layers)) ≡ true → has m (all_of layers) ≡ true
+has_dropped layers zero m there = there
+has_dropped [] (suc i) m there = there
+has_dropped (layer ∷ layers) (suc i) m there =
+    has-append m layer (all_of layers)
+    ∙ or_right (has m layer) (has m (all_of layers)) (has_dropped layers i m there)
 
 -- the layer at a place, which a loop has come to
 pub record IsAt (layers : List Journal) (i : ℕ) (layer : Journal) : Type 0 where

@@ -2,7 +2,7 @@
 use Rattle.std.proofs.Common.{◌≡◌, ℕ, ◌+◌, ◌-◌, ◌<◌, ◌≤◌, List, [], ◌∷◌, ◌++◌, length, take, drop, get_or, reverse, Bool, ◌||◌, Option, Some, None, inl, inr, refl, ap, ◌∙◌, sym, arith}
 use Rattle.std.specs.List.{list_any, slice_get}
 use Rattle.std.specs.Option.{option_or}
-use Rattle.std.proofs.lemmas.List.{drop_more, take_more, length-append, reverse-append, get_or-reverse}
+use Rattle.std.proofs.lemmas.List.{drop_more, take_more, length-append, reverse-append, reverse-reverse, get_or-reverse}
 use Rattle.std.proofs.lemmas.List.Folds.{list_any-append}
 use Rattle.std.proofs.lemmas.List.Sorted.{list_any-IsPermutation, IsPermutation-reverse}
 use Rattle.std.proofs.lemmas.Option.{none-some, slice_get-get_or, slice_get_cases, get_or_from_slice_get, slice_get_within}
@@ -36,6 +36,12 @@ one_reversed entries i e older within is = sym (ap (λ es. es ++ older)
 
 pub from_newest : (entries : Journal) (at : ℕ) (e : Entry) → at < length entries → e ≡ get_or entries (length entries - 1 - at) e → at < length (reverse entries) → slice_get (reverse entries) at ≡ Some e
 from_newest entries at e within is inside = slice_get-get_or (reverse entries) at e inside ∙ ap Some (get_or-reverse entries at e within ∙ sym is)
+
+pub reversed_over : (newer older : Journal) →
+    reverse (reverse older ++ reverse newer) ≡ newer ++ older
+reversed_over newer older = reverse-append (reverse older) (reverse newer)
+    ∙ (ap (λ es. es ++ reverse (reverse older)) (reverse-reverse newer)
+    ∙ ap (λ es. newer ++ es) (reverse-reverse older))
 
 -- ---- whether there is such an act
 

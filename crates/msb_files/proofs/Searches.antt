@@ -1,7 +1,7 @@
 -- What a walk along paths in byte order finds below a folder.
 use Rattle.std.proofs.Common.{◌≡◌, ℕ, ◌+◌, ◌<◌, ◌≤◌, List, [], ◌∷◌, length, get_or, Bool, true, false, ◌&&◌, refl, sym, ap, ◌∙◌, subst, arith, inl, inr}
 use Rattle.std.specs.List.{list_any}
-use Rattle.std.specs.List.Sorted.{IsSorted, IsPartitionedBy, IsPartitionPoint}
+use Rattle.std.specs.List.Sorted.{IsPartitionedBy, IsPartitionPoint}
 use Rattle.std.specs.declared.cmp.Ordering.{Ordering}
 use Rattle.std.specs.declared.cmp.Ordering.TheVariants.{Less, Equal, Greater}
 use Rattle.std.specs.Ordering.{is_lt, ordering_reverse, ordering_then, nat_cmp, MatchOrdering}
@@ -10,7 +10,7 @@ use Rattle.std.specs.Cmp.Lexicographic.{slice_cmp}
 use Rattle.std.proofs.lemmas.Bool.{eqb-true, eq-eqb, cases_lt}
 use Rattle.std.proofs.lemmas.Cmp.{ranked, nat_cmp_total, nat_list_cmp_total, tied_itself}
 use Rattle.std.proofs.lemmas.List.{get_or_default}
-use Rattle.std.proofs.lemmas.List.Sorted.{ranks_by, sorted_far}
+use Rattle.std.proofs.lemmas.List.Sorted.{ranks_by}
 use Rattle.std.proofs.lemmas.List.Folds.{list_any_none, list_any_at}
 use Rattle.file_store.specs.Files.{are_in_order}
 use Rattle.file_store.specs.Paths.{is_before}
@@ -18,9 +18,6 @@ use Rattle.file_store.specs.declared.tree.File.{File}
 use Rattle.file_store.proofs.Below.{begins}
 use Rattle.file_store.proofs.Lookups.{below_or_not}
 use Rattle.file_store.proofs.Order.{and_true, both_true, not_true, before_later}
-use Rattle.msb_values.specs.Acts.{act_path}
-use Rattle.msb_values.specs.declared.act.Act.{Act}
-use Rattle.msb_files.specs.Indices.{path_cmp}
 
 -- ---- what has paths in byte order
 
@@ -28,10 +25,6 @@ use Rattle.msb_files.specs.Indices.{path_cmp}
 abbrev pub Rises : {X : Type 0} → (X → List ℕ) → List X → Type 0
 Rises {X} key xs = (i j : ℕ) (d : X) → i ≤ j → j < length xs →
     is_before (key (get_or xs j d)) (key (get_or xs i d)) ≡ false
-
-pub acts_rise : (acts : List Act) → IsSorted path_cmp acts → Rises act_path acts
-acts_rise acts up =
-    sorted_far (λ p q. is_before (act_path p) (act_path q)) (ranks_by nat_list_cmp_total act_path) acts up
 
 not_both : (o : Ordering) → is_lt o ≡ true → is_lt (ordering_reverse o) ≡ false
 not_both Less h = refl

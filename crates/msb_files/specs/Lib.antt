@@ -8,6 +8,7 @@ pub mod Kept
 pub mod Layers
 pub mod Marks
 pub mod Ordered
+pub mod Places
 pub mod Recorded
 pub mod Seen
 pub mod Views

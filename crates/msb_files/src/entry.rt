@@ -4,9 +4,9 @@ ghost use Rattle.msb_values.specs.Acts.{act_path};
 ghost use Rattle.result_cache.specs.Journal.{acted, ended, mark};
 ghost use Rattle.msb_files.specs.Below.{has_file_below};
 ghost use Rattle.msb_files.specs.Indices.{last_act};
-ghost use Rattle.msb_files.specs.Marks.{run_in, number_in};
+ghost use Rattle.msb_files.specs.Places.{path_in};
 ghost use Rattle.msb_files.specs.Recorded.{act_at};
-ghost use Rattle.msb_files.specs.Seen.{entry_shown, act_in, mark_shown};
+ghost use Rattle.msb_files.specs.Seen.{entry_shown, act_in};
 ghost use Rattle.msb_files.specs.Views.{acts_of};
 
 use crate::FileView;
@@ -108,6 +108,16 @@ impl Entry {
         }
     }
 
+    /// The path of the act, or none where it is that of no act.
+    pub(crate) fn path(&self) -> &str
+        ensures { result.now ≡ path_in self.now }
+    {
+        match &self.kept {
+            JEntry::Acted(_, _, act) => act.get().path(),
+            JEntry::Ended(_, _) => "",
+        }
+    }
+
     /// The act, if it is one on this path.
     pub(crate) fn act_on(&self, path: &str) -> Option<&Act>
         ensures { option_copied result ≡ last_act (self.now ∷ []) path.now }
@@ -133,18 +143,17 @@ impl Entry {
     }
 
     pub(crate) fn mark(&self) -> Mark<'_>
-        ensures { mark_shown result ≡ mark self.now }
+        ensures { result ≡ mark self.now }
     {
         match &self.kept {
-            JEntry::Acted(run, number, _) => Mark::ActOf(run.get(), *number),
-            JEntry::Ended(run, _) => Mark::EndOf(run.get()),
+            JEntry::Acted(run, number, _) => Mark::act_of(run, *number),
+            JEntry::Ended(run, _) => Mark::end_of(run),
         }
     }
 
     /// The mark, as an index keeps it.
     pub(crate) fn kept_mark(&self) -> Result<KeptMark, NoMemory>
-        ensures run { IfOk result (λ kept. kept.run ≡ run_in (mark self.now)) }
-        ensures number { IfOk result (λ kept. kept.number ≡ number_in (mark self.now)) }
+        ensures { IfOk result (λ kept. kept ≡ mark self.now) }
     {
         match &self.kept {
             JEntry::Acted(run, number, _) => Ok(KeptMark {

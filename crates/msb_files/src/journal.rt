@@ -4,7 +4,7 @@ ghost use Rattle.msb_values.specs.Acts.{act_path};
 ghost use Rattle.result_cache.specs.Journal.{acted, ended, end_of, has, add};
 ghost use Rattle.msb_files.specs.Below.{has_file_below};
 ghost use Rattle.msb_files.specs.Indices.{last_act};
-ghost use Rattle.msb_files.specs.Seen.{entry_shown, mark_shown};
+ghost use Rattle.msb_files.specs.Seen.{entry_shown};
 ghost use Rattle.msb_files.specs.Views.{acts_of, with_paths};
 
 use crate::FileView;
@@ -14,7 +14,7 @@ use crate::layers::{entry_at, has_mark, is_any_below, last_act, with_new};
 use crate::mark::Mark;
 use crate::part::Part;
 use msb_values::{Act, Copied, List, NoMemory, Text};
-use result_cache::{RecordRef, RunId, RunRef, hash_of};
+use result_cache::{RecordRef, RunRef};
 use std::alloc::Global;
 use std::collections::BTreeSet;
 use std::marker::Model;
@@ -25,8 +25,9 @@ const MOST: usize = 16;
 /// What a request knows of what runs have done to files and of the runs that have ended. (MSBuild targets; MSBuild
 /// task.)
 ///
-/// A copy takes a time and room that grow with the logarithm of the number of entries, and shares the rest. So does the time
-/// of a look for the last act on a path, or for a run, which takes no memory; one for files below a folder takes the square.
+/// A copy takes a time and room that grow with the logarithm of the number of entries, and shares the
+/// rest. So does the time of a look for a run, which takes no memory; one for the last act on a path, or
+/// for files below a folder, takes the square.
 pub struct Journal {
     /// The newest entries, which no other journal shares.
     part: Part,
@@ -74,37 +75,35 @@ impl Journal {
     pub fn acted(
         &mut self,
         alloc: Global,
-        run: &RunId,
+        run: &RunRef,
         number: u64,
         act: Act,
     ) -> Result<(), NoMemory>
         ensures ok { OnOk result (self.new ≡ add self.old (acted run.now number act)) }
         ensures err { OnErr result (self.new ≡ self.old) }
     {
-        if self.has(Mark::ActOf(run, number)) {
+        if self.has(&Mark::act_of(run, number)) {
             return Ok(());
         }
-        let shared = RunRef::new(alloc, run)?;
-        self.enter(alloc, Entry::acted(alloc, shared, number, act)?)
+        self.enter(alloc, Entry::acted(alloc, run.copy()?, number, act)?)
     }
 
     /// A run that has ended, with its record; a run that has ended before is not taken again. Want of memory leaves the
     /// journal as it was.
-    pub fn ended(&mut self, alloc: Global, run: &RunId, made: RecordRef) -> Result<(), NoMemory>
+    pub fn ended(&mut self, alloc: Global, run: &RunRef, made: RecordRef) -> Result<(), NoMemory>
         ensures ok { OnOk result (self.new ≡ add self.old (ended run.now made)) }
         ensures err { OnErr result (self.new ≡ self.old) }
     {
         if self.has_ended(run) {
             return Ok(());
         }
-        let shared = made.name(alloc, run)?;
-        self.enter(alloc, Entry::ended(shared, made))
+        self.enter(alloc, Entry::ended(run.copy()?, made))
     }
 
-    pub fn has_ended(&self, run: &RunId) -> bool
+    pub fn has_ended(&self, run: &RunRef) -> bool
         ensures { result ≡ has (end_of run.now) self.now }
     {
-        self.has(Mark::EndOf(run))
+        self.has(&Mark::end_of(run))
     }
 
     /// How many entries there are.
@@ -155,11 +154,10 @@ impl Journal {
     }
 
     // Whether there is an entry with this mark.
-    fn has(&self, mark: Mark<'_>) -> bool
-        ensures { result ≡ has (mark_shown mark.entry) self.now }
+    fn has(&self, mark: &Mark<'_>) -> bool
+        ensures { result ≡ has mark.now self.now }
     {
-        let hash = hash_of(mark.run());
-        self.part.has(hash, mark) || has_mark(self.layers.as_slice(), hash, mark)
+        self.part.has(mark) || has_mark(self.layers.as_slice(), mark)
     }
 
     // The entry at a place, from the newest on.
@@ -178,24 +176,25 @@ impl Journal {
     }
 
     // Puts an entry in front, unless there is one with its mark.
-    pub(crate) fn add(&mut self, alloc: Global, entry: Entry) -> Result<(), NoMemory>
+    pub(crate) fn add(&mut self, entry: Entry) -> Result<(), NoMemory>
         ensures ok { OnOk result (self.new ≡ add self.old entry) }
         ensures err { OnErr result (self.new ≡ self.old) }
     {
-        if self.has(entry.mark()) {
+        if self.has(&entry.mark()) {
             return Ok(());
         }
-        self.push(alloc, entry)
+        self.push(entry)
     }
 
-    fn push(&mut self, alloc: Global, entry: Entry) -> Result<(), NoMemory>
+    // Puts an entry in front.
+    pub(crate) fn push(&mut self, entry: Entry) -> Result<(), NoMemory>
         ensures ok { OnOk result (self.new ≡ entry ∷ self.old) }
         ensures err { OnErr result (self.new ≡ self.old) }
     {
         let Some(count) = self.count.checked_add(1) else {
             return Err(NoMemory);
         };
-        self.part.push(alloc, entry)?;
+        self.part.push(entry)?;
         self.count = count;
         Ok(())
     }
@@ -206,10 +205,10 @@ impl Journal {
         ensures err { OnErr result (self.new ≡ self.old) }
     {
         if self.part.len() < MOST {
-            return self.push(alloc, entry);
+            return self.push(entry);
         }
         let mut settled = self.copy()?.settled(alloc)?;
-        settled.push(alloc, entry)?;
+        settled.push(entry)?;
         *self = settled;
         Ok(())
     }

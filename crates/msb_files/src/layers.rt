@@ -5,11 +5,8 @@ ghost use Rattle.std.specs.List.{list_any};
 ghost use Rattle.msb_values.specs.Acts.{act_path};
 ghost use Rattle.result_cache.specs.Journal.{has};
 ghost use Rattle.msb_files.specs.Below.{has_file_below};
-ghost use Rattle.result_cache.specs.Hashes.{run_hash};
 ghost use Rattle.msb_files.specs.Indices.{last_act};
 ghost use Rattle.msb_files.specs.Layers.{all_of};
-ghost use Rattle.msb_files.specs.Marks.{run_in};
-ghost use Rattle.msb_files.specs.Seen.{mark_shown};
 ghost use Rattle.msb_files.specs.Views.{acts_of};
 
 use crate::FileView;
@@ -32,7 +29,7 @@ pub(crate) fn with_new(
     let mut taken = 0;
     while taken < layers.len() {
         let older = layers[taken].get();
-        if older.entries().len() > newest.entries().len() {
+        if older.len() > newest.len() {
             break;
         }
         newest = newest.over(alloc, older)?;
@@ -68,13 +65,15 @@ pub(crate) fn is_any_below(layers: &[LayerRef], view: &FileView<'_>, folder: &st
     false
 }
 
-/// Whether there is an entry with this mark, whose run has this hash.
-pub(crate) fn has_mark(layers: &[LayerRef], hash: u64, mark: Mark<'_>) -> bool
-    requires { hash ≡ run_hash (run_in (mark_shown mark)) }
-    ensures { result ≡ has (mark_shown mark.entry) (all_of layers.now) }
+/// Whether there is an entry with this mark. The oldest layer, which has the most entries, is asked
+/// first.
+pub(crate) fn has_mark(layers: &[LayerRef], mark: &Mark<'_>) -> bool
+    ensures { result ≡ has mark.now (all_of layers.now) }
 {
-    for layer in layers {
-        if layer.get().has(hash, mark) {
+    let count = layers.len();
+    for at in 0..count {
+        let place = count - 1 - at;
+        if layers[place].get().has(mark) {
             return true;
         }
     }
@@ -87,11 +86,11 @@ pub(crate) fn entry_at(layers: &[LayerRef], at: usize) -> Option<&Entry>
 {
     let mut left = at;
     for layer in layers {
-        let entries = layer.get().entries();
-        if left < entries.len() {
-            return Some(&entries[left]);
+        let len = layer.get().len();
+        if left < len {
+            return Some(layer.get().entry(left));
         }
-        left -= entries.len();
+        left -= len;
     }
     None
 }

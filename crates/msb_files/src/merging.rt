@@ -13,19 +13,19 @@ impl Journal {
         ensures err { OnErr result (self.new ≡ self.old) }
     {
         let mut merged = self.copy()?;
-        add_all(alloc, &mut merged, other)?;
+        add_all(&mut merged, other)?;
         *self = merged.settled(alloc)?;
         Ok(())
     }
 }
 
 // Where there is no memory, some of the entries may be there.
-fn add_all(alloc: Global, journal: &mut Journal, other: &Journal) -> Result<(), NoMemory>
+fn add_all(journal: &mut Journal, other: &Journal) -> Result<(), NoMemory>
     ensures { OnOk result (journal.new ≡ merge journal.old other.now) }
 {
     let count = other.count();
     for at in 0..count {
-        journal.add(alloc, other.newest(count - 1 - at).copy()?)?;
+        journal.add(other.newest(count - 1 - at).copy()?)?;
     }
     Ok(())
 }

@@ -3,27 +3,24 @@ ghost use Rattle.std.specs.List.{list_any};
 ghost use Rattle.msb_values.specs.Acts.{act_path};
 ghost use Rattle.result_cache.specs.Journal.{has};
 ghost use Rattle.msb_files.specs.Below.{has_file_below};
-ghost use Rattle.result_cache.specs.Hashes.{run_hash};
 ghost use Rattle.msb_files.specs.Indices.{HasMarks, last_act};
-ghost use Rattle.msb_files.specs.Marks.{run_in};
-ghost use Rattle.msb_files.specs.Seen.{mark_shown};
 ghost use Rattle.msb_files.specs.Views.{acts_of};
 
 use crate::FileView;
 use crate::entry::Entry;
-use crate::hashed::{has_mark, insert_mark};
-use crate::mark::{KeptMark, Mark};
-use msb_values::{Act, Copied, List, NoMemory};
+use crate::hashed::{Marks, has_mark, insert_mark, insert_marks};
+use crate::mark::Mark;
+use indexmap::IndexSet;
+use msb_values::{Act, Copied, NoMemory};
 use std::alloc::Global;
-use std::collections::HashMap;
 use std::marker::Model;
 
 /// Entries to which others are added in place, with an index by mark. A path is looked for in one after the other.
 pub(crate) struct Part {
     /// The oldest first.
     entries: Vec<Entry>,
-    /// The marks of the entries, by the hashes of their runs.
-    marks: HashMap<u64, List<KeptMark>>,
+    /// The marks of the entries.
+    marks: Marks,
 }
 
 // A drop that is written out is proved here alone.
@@ -54,7 +51,7 @@ impl Part {
     {
         Part {
             entries: Vec::new(alloc),
-            marks: HashMap::new(alloc),
+            marks: IndexSet::new(alloc),
         }
     }
 
@@ -72,12 +69,11 @@ impl Part {
         &self.entries[self.entries.len() - 1 - at]
     }
 
-    /// Whether there is an entry with this mark, whose run has this hash.
-    pub(crate) fn has(&self, hash: u64, mark: Mark<'_>) -> bool
-        requires { hash ≡ run_hash (run_in (mark_shown mark)) }
-        ensures { result ≡ has (mark_shown mark.entry) self.now }
+    /// Whether there is an entry with this mark.
+    pub(crate) fn has(&self, mark: &Mark<'_>) -> bool
+        ensures { result ≡ has mark.now self.now }
     {
-        has_mark(&self.marks, hash, mark)
+        has_mark(&self.marks, mark)
     }
 
     /// The last act on a path here.
@@ -101,25 +97,22 @@ impl Part {
     }
 
     /// Puts an entry in front. Where there is no memory, nothing changes.
-    pub(crate) fn push(&mut self, alloc: Global, entry: Entry) -> Result<(), NoMemory>
+    pub(crate) fn push(&mut self, entry: Entry) -> Result<(), NoMemory>
         ensures ok { OnOk result (self.new ≡ entry ∷ self.old) }
         ensures err { OnErr result (self.new ≡ self.old) }
     {
         self.entries.reserve(1)?;
-        let mark = entry.kept_mark()?;
-        insert_mark(alloc, &mut self.marks, mark)?;
+        insert_mark(&mut self.marks, &entry)?;
         self.entries.push(entry)?;
         Ok(())
     }
 
-    /// The entries, the newest first, and their marks.
-    pub(crate) fn into_parts(self) -> (Vec<Entry>, HashMap<u64, List<KeptMark>>)
-        ensures entries { result.0.items ≡ self }
-        ensures marks { HasMarks result.0.items result.1 }
+    /// The entries, the oldest first, and their marks.
+    pub(crate) fn into_parts(self) -> (Vec<Entry>, Marks)
+        ensures entries { reverse result.0.items ≡ self }
+        ensures marks { HasMarks self result.1 }
     {
         let Part { entries, marks } = self;
-        let mut entries = entries;
-        entries.reverse();
         (entries, marks)
     }
 }
@@ -127,18 +120,20 @@ impl Part {
 impl Copied for Part {
     fn copy(&self) -> Result<Part, NoMemory> {
         let alloc = *self.entries.allocator();
-        let mut copy = Part::new(alloc);
-        push_copies(alloc, &mut copy, &self.entries)?;
-        Ok(copy)
+        let mut entries = Vec::with_capacity(alloc, self.entries.len())?;
+        push_copies(&mut entries, &self.entries)?;
+        let mut marks = IndexSet::new(alloc);
+        insert_marks(&mut marks, &entries)?;
+        Ok(Part { entries, marks })
     }
 }
 
-// The oldest first.
-fn push_copies(alloc: Global, part: &mut Part, entries: &[Entry]) -> Result<(), NoMemory>
-    ensures { OnOk result (part.new ≡ reverse entries.now ++ part.old) }
+/// Puts copies of entries behind others.
+pub(crate) fn push_copies(entries: &mut Vec<Entry>, more: &[Entry]) -> Result<(), NoMemory>
+    ensures { OnOk result (entries.new.items ≡ entries.old.items ++ more.now) }
 {
-    for entry in entries {
-        part.push(alloc, entry.copy()?)?;
+    for entry in more {
+        entries.push(entry.copy()?)?;
     }
     Ok(())
 }

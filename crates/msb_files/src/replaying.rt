@@ -1,12 +1,13 @@
 ghost use Rattle.std.specs.Prelude.{◌≡◌, Some, OnOk, OnErr, IsSome, false, map};
+ghost use Rattle.std.specs.List.{list_all};
 ghost use Rattle.result_cache.specs.Journal.{end_of, has};
-ghost use Rattle.result_cache.specs.Replay.{effects_of, replay, replays, replays_run};
+ghost use Rattle.result_cache.specs.Replay.{effects_of, replay, replay_all, replays, replays_run};
 ghost use Rattle.msb_files.specs.Before.{before};
 
 use crate::Journal;
 use crate::entry::Entry;
 use msb_values::{Copied, NoMemory};
-use result_cache::{Found, RecordRef, RunId, RunRef, Segment, Table};
+use result_cache::{Found, RecordRef, RunRef, Segment, Table};
 use std::alloc::Global;
 
 impl Journal {
@@ -14,7 +15,7 @@ impl Journal {
     /// lacks of the records of the runs that its calls made or used, and then the run's end. A run that has ended in the
     /// journal adds nothing. Every record that is taken has to be in the table before the one that calls for it. Want of
     /// memory leaves the journal as it was. (MSBuild task.)
-    pub fn replay(&mut self, alloc: Global, table: &Table, run: &RunId) -> Result<(), NoMemory>
+    pub fn replay(&mut self, alloc: Global, table: &Table, run: &RunRef) -> Result<(), NoMemory>
         requires { IsSome (replay table.now.finished run.now self.old) }
         ensures ok { OnOk result (replay table.now.finished run.now self.old ≡ Some self.new) }
         ensures err { OnErr result (self.new ≡ self.old) }
@@ -23,30 +24,66 @@ impl Journal {
             return Ok(());
         }
         let mut grown = self.copy()?;
-        take_run(alloc, &mut grown, table, run)?;
+        take_run(&mut grown, table, run)?;
         *self = grown.settled(alloc)?;
         Ok(())
+    }
+
+    /// Uses the records of runs, in order, as `replay` uses that of each. Want of memory leaves the
+    /// journal as it was.
+    pub fn replay_all(
+        &mut self,
+        alloc: Global,
+        table: &Table,
+        runs: &[RunRef],
+    ) -> Result<(), NoMemory>
+        requires { IsSome (replay_all table.now.finished runs.now self.old) }
+        ensures ok { OnOk result (replay_all table.now.finished runs.now self.old ≡ Some self.new) }
+        ensures err { OnErr result (self.new ≡ self.old) }
+    {
+        if self.have_ended(runs) {
+            return Ok(());
+        }
+        let mut grown = self.copy()?;
+        take_all(&mut grown, table, runs)?;
+        *self = grown.settled(alloc)?;
+        Ok(())
+    }
+
+    // Whether each of the runs has ended.
+    fn have_ended(&self, runs: &[RunRef]) -> bool
+        ensures { result ≡ list_all (λ run. has (end_of run) self.now) runs.now }
+    {
+        runs.iter().all(|run| self.has_ended(run))
     }
 }
 
 // Where there is no memory, these put in some of the entries.
 
+fn take_all(journal: &mut Journal, table: &Table, runs: &[RunRef]) -> Result<(), NoMemory>
+    requires { IsSome (replay_all table.now.finished runs.now journal.old) }
+    ensures { OnOk result (replay_all table.now.finished runs.now journal.old ≡ Some journal.new) }
+{
+    for run in runs {
+        if !journal.has_ended(run) {
+            take_run(journal, table, run)?;
+        }
+    }
+    Ok(())
+}
+
 #[cycle(replaying)]
-fn take_run(
-    alloc: Global,
-    journal: &mut Journal,
-    table: &Table,
-    run: &RunId,
-) -> Result<(), NoMemory>
+fn take_run(journal: &mut Journal, table: &Table, run: &RunRef) -> Result<(), NoMemory>
     requires goes_on { has (end_of run.now) journal.old ≡ false }
     requires defined { IsSome (replay table.now.finished run.now journal.old) }
     ensures { OnOk result (replay table.now.finished run.now journal.old ≡ Some journal.new) }
 {
-    match table.find(run) {
+    table.each_once();
+    match table.find_ref(run) {
         Found::Done(made) => {
-            let shared = made.name(alloc, run)?;
-            take_record(alloc, journal, table, &shared, made)?;
-            journal.add(alloc, Entry::ended(shared, made.copy()?))
+            take_record(journal, table, run, made)?;
+            // The records before that of a run don't end the run, so its end is not there yet.
+            journal.push(Entry::ended(run.copy()?, made.copy()?))
         }
         Found::Absent | Found::Begun(_) => unreachable!(),
     }
@@ -54,7 +91,6 @@ fn take_run(
 
 #[cycle(replaying)]
 fn take_record(
-    alloc: Global,
     journal: &mut Journal,
     table: &Table,
     run: &RunRef,
@@ -65,8 +101,8 @@ fn take_record(
 {
     for (number, segment) in made.get().segments.as_slice().iter().enumerate() {
         match segment {
-            Segment::File(_) => journal.add(alloc, Entry::recorded(run, made, number)?)?,
-            Segment::Call(_, runs) => take_runs(alloc, journal, table, run, runs.as_slice())?,
+            Segment::File(_) => journal.add(Entry::recorded(run, made, number)?)?,
+            Segment::Call(_, runs) => take_runs(journal, table, run, runs.as_slice())?,
         }
     }
     Ok(())
@@ -75,11 +111,10 @@ fn take_record(
 // The runs of a call that the outer run has made, of which each stands in the table before it.
 #[cycle(replaying)]
 fn take_runs(
-    alloc: Global,
     journal: &mut Journal,
     table: &Table,
     outer: &RunRef,
-    runs: &[RunId],
+    runs: &[RunRef],
 ) -> Result<(), NoMemory>
     requires { IsSome (replays (replay (before outer.now table.now.finished)) (map replays_run runs.now) journal.old) }
     ensures { OnOk result (replays (replay (before outer.now table.now.finished)) (map replays_run runs.now) journal.old ≡ Some journal.new) }
@@ -87,7 +122,7 @@ fn take_runs(
     table.each_once();
     for run in runs {
         if !journal.has_ended(run) {
-            take_run(alloc, journal, table, run)?;
+            take_run(journal, table, run)?;
         }
     }
     Ok(())

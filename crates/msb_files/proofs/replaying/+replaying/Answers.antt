@@ -1,9 +1,10 @@
-use Rattle.std.proofs.Common.{◌≡◌, ◌+◌, ◌<◌, Some, length, map, drop, get_or, false, IsSome, ap, ◌∙◌, sym, subst, rules, arith, tests}
+use Rattle.std.proofs.Common.{◌≡◌, ◌+◌, ◌<◌, ◌∷◌, Some, length, map, drop, get_or, false, IsSome, ap, ◌∙◌, sym, subst, rules, arith, tests}
 use Rattle.result_cache.specs.Journal.{ended, end_of, has, add}
-use Rattle.result_cache.specs.Replay.{effects_of, replay, replays, replays_run}
+use Rattle.result_cache.specs.Replay.{replay, replays, replays_run}
 use Rattle.result_cache.proofs.Closed.{replay-has}
 use Rattle.msb_files.specs.Before.{before}
 use Rattle.msb_files.proofs.Replays.{replays_before, before_fewer, replayed_in, taken_defined, taken_gives, not_found, never, if_ok, recorded_is}
+use Rattle.msb_files.proofs.Ending.{end_is_new}
 use Rattle.msb_files.proofs.ReplaySteps.{left, act_step, call_step, call_defined, run_step, run_defined}
 use Rattle.msb_files.proofs.replaying.+replaying.Goals as goal
 use Rattle.msb_files.proofs.replaying.+replaying.Goals.{take_record-in-File+in_ok-recorded-in-File+in_ok-add-in-File, take_record-in-Call+in_ok-take_runs-in-Call, take_runs-then-not-has_ended+in_ok-take_run, take_runs-else-not-has_ended}
@@ -11,17 +12,17 @@ use Rattle.msb_files.proofs.replaying.+replaying.Goals.{take_record-in-File+in_o
 pub take_run-take_record-requires : goal.take_run-take_record-requires
 take_run-take_record-requires t c =
     let table = c.args.table.now.finished in
-    let run = c.args.run.now in
-    let shared = c.in_ok-shared-in-Done.ensures in
-    let same : length (before c.in_ok-shared-in-Done.shared table) ≡ length (before run table) = ap (λ r. length (before r table)) shared in (
-      omega (arith, same),
-      subst (λ r. IsSome (replays (replay (before r table)) (effects_of r c.in-Done.made.now) c.args.journal.now)) (sym shared)
-          (taken_defined table run c.in-Done.made.now c.args.journal.now c.requires.goes_on c.in-Done.ensures c.requires.defined),
+    let run = c.args.run.now in (
+      omega arith,
+      taken_defined table run c.in-Done.made.now c.args.journal.now c.requires.goes_on
+          c.in-Done.ensures c.requires.defined,
     )
 
 pub take_run-unreachable-requires : goal.take_run-unreachable-requires
 take_run-unreachable-requires t c =
-    never c.args.table.now.finished c.args.run.now c.args.journal.now c.requires.goes_on c.requires.defined (not_found c.args.table.now c.args.run.now c.find.result c.find.ensures c.in-Absent.is)
+    never c.args.table.now.finished c.args.run.now c.args.journal.now c.requires.goes_on
+    c.requires.defined (not_found c.args.table.now c.args.run.now c.find_ref.result
+    c.find_ref.ensures c.in-Absent.is)
 
 pub take_run-returns : goal.take_run-returns
 take_run-returns t c =
@@ -30,10 +31,13 @@ take_run-returns t c =
     let table = c.args.table.now.finished in
     let run = c.args.run.now in
     let made = c.in-Done.made.now in
-    let shared = c.in_ok-shared-in-Done.ensures in
-    let gives = subst (λ r. replays (replay (before r table)) (effects_of r made) journal ≡ Some after) shared c.in_ok-take_record-in-Done.ensures in
-    let entry = c.ended.ensures ∙ (ap (ended c.in_ok-shared-in-Done.shared) c.in_ok-copy-in-Done.ensures ∙ ap (λ r. ended r made) shared) in
-    if_ok c.add.result c.add.ensures.ok (λ is. taken_gives table run made journal after c.requires.goes_on c.in-Done.ensures gives ∙ ap Some (sym (is ∙ ap (add after) entry)))
+    let on = c.requires.goes_on in
+    let gives = c.in_ok-take_record-in-Done.ensures in
+    let entry : c.ended.result ≡ ended run made = search rules in
+    if_ok c.push.result c.push.ensures.ok
+    (λ is. taken_gives table run made journal after on c.in-Done.ensures gives
+    ∙ ap Some (sym (is ∙ (ap (λ e. e ∷ after) entry
+    ∙ end_is_new table run made journal after c.each_once.ensures.finished_once on gives))))
 
 pub take_record-take_runs-requires : goal.take_record-take_runs-requires
 take_record-take_runs-requires t c =

@@ -1,13 +1,13 @@
-use Rattle.std.proofs.Common.{Some, ap, ◌∙◌}
-use Rattle.msb_files.specs.Indices.{last_act}
+use Rattle.std.proofs.Common.{reverse, sym, subst, ap, ◌∙◌}
+use Rattle.std.proofs.lemmas.List.{reverse-reverse}
+use Rattle.msb_files.specs.Indices.{IsByPath, last_act}
 use Rattle.msb_files.proofs.layer.Layer.last_act.Goals as goal
 
-pub returns-in-Some : goal.returns-in-Some
-returns-in-Some c =
-    let path = c.args.path.now in
-    ap Some c.get-in-Some.ensures ∙ (c.in-Some.ensures.value ∙ (c.self.invariant.last path ∙ ap (λ j. last_act j path) c.self.view_is))
+pub last_act-requires : goal.last_act-requires
+last_act-requires c = subst (λ es. IsByPath es c.places.result.now)
+    (sym c.entries.ensures) c.places.ensures
 
-pub returns-in-None : goal.returns-in-None
-returns-in-None c =
-    let path = c.args.path.now in
-    c.in-None.ensures.value ∙ (c.self.invariant.last path ∙ ap (λ j. last_act j path) c.self.view_is)
+pub returns : goal.returns
+returns c =
+    c.last_act.ensures ∙ ap (λ j. last_act j c.args.path.now)
+    (ap reverse c.entries.ensures ∙ reverse-reverse c.args.self.now)
