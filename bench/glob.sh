@@ -7,17 +7,18 @@ set -e
 root=$(cd "$(dirname "$0")/.." && pwd)
 work=$(mktemp -d)
 trap 'rm -rf "$work"' EXIT
-(cd "$root" && tar cf - crates/msb_laws crates/msb_values crates/msb_paths crates/msb_glob) | (cd "$work" && tar xf -)
-grep -E '^(msb_laws|msb_values|msb_paths|msb_glob)[ :]' "$root/crates.txt" > "$work/crates.txt"
-echo 'glob_bench: msb_glob msb_values anyhow' >> "$work/crates.txt"
+(cd "$root" && tar cf - crates/msb_laws crates/msb_values crates/msb_paths crates/file_store crates/msb_glob) | (cd "$work" && tar xf -)
+grep -E '^(msb_laws|msb_values|msb_paths|file_store|msb_glob)[ :]' "$root/crates.txt" > "$work/crates.txt"
+echo 'glob_bench: file_store msb_glob msb_values anyhow' >> "$work/crates.txt"
 mkdir -p "$work/crates/glob_bench/src" "$work/crates/glob_bench/specs" "$work/crates/glob_bench/proofs"
 : > "$work/crates/glob_bench/specs/Lib.antt"
 cat > "$work/crates/glob_bench/src/main.rt" <<'PROGRAM'
 #![tactic(auto)]
 
 use anyhow::{Result, anyhow};
+use file_store::{File, Tree};
 use msb_glob::{Pattern, SortedPaths, expand, expand_in};
-use msb_values::{List, Text};
+use msb_values::{Copied, List, Text, Text8};
 use std::alloc::Global;
 use std::time::Instant;
 
@@ -62,10 +63,21 @@ fn small_folders(alloc: Global, files: u32) -> Result<List<Text>> {
     Ok(paths)
 }
 
-fn sorted<'a>(alloc: Global, paths: &'a List<Text>) -> Result<SortedPaths<'a>> {
-    let texts = paths.as_slice().iter().map(|path| path.as_str());
-    match SortedPaths::of(texts.collect(alloc)?) {
-        Some(sorted) => Ok(sorted),
+/// Empty files at these paths.
+fn tree_of(alloc: Global, paths: &List<Text>) -> Result<Tree> {
+    let mut files = List::new(alloc);
+    for path in paths.as_slice() {
+        let bytes = Text8::new(alloc);
+        let Ok(path) = path.copy() else {
+            return Err(anyhow!("no memory"));
+        };
+        let file = File { path, bytes, stamp: 0 };
+        if files.push(file).is_err() {
+            return Err(anyhow!("no memory"));
+        }
+    }
+    match Tree::of(files) {
+        Some(tree) => Ok(tree),
         None => Err(anyhow!("not in byte order")),
     }
 }
@@ -97,8 +109,8 @@ fn count(alloc: Global, paths: &List<Text>, pattern: &Pattern) -> usize {
     }
 }
 
-fn count_in(alloc: Global, paths: &SortedPaths, pattern: &Pattern) -> usize {
-    match expand_in(alloc, paths, pattern) {
+fn count_in(alloc: Global, tree: &Tree, pattern: &Pattern) -> usize {
+    match expand_in(alloc, &SortedPaths::of_tree(tree), pattern) {
         Ok(found) => found.len(),
         Err(_) => 0,
     }
@@ -123,18 +135,14 @@ fn time_any_order(
 
 fn time_in_order(rt: &HostRuntime, paths: &List<Text>, pattern: &Pattern) -> Result<()> {
     let files = paths.len();
-    let start = Instant::now(rt)?;
-    let sorted = sorted(rt.alloc(), paths)?;
-    let made = start.elapsed(rt)?.as_micros();
+    let tree = tree_of(rt.alloc(), paths)?;
     let mut found = 0;
     let start = Instant::now(rt)?;
     for _ in 0..10_000 {
-        found = count_in(rt.alloc(), &sorted, pattern);
+        found = count_in(rt.alloc(), &tree, pattern);
     }
     let time = start.elapsed(rt)?.as_nanos() / 10_000;
-    println!(rt;
-        "{files} paths, 10 below the fixed part, byte order: {found} in {time} ns, made once in {made} us"
-    )?;
+    println!(rt; "{files} paths, 10 below the fixed part, byte order: {found} in {time} ns")?;
     Ok(())
 }
 

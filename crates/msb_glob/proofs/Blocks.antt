@@ -1,5 +1,5 @@
 -- In byte order, the paths that begin with a text stand together.
-use Rattle.std.proofs.Common.{◌≡◌, ℕ, zero, suc, ◌+◌, ◌<◌, ◌≤◌, List, [], ◌∷◌, ◌++◌, length, get_or, take, drop, map, filter, Bool, true, false, true≢false, cond, take-append-drop, eqb, Bor, refl, sym, ap, ◌∙◌, subst, arith, append-nil, IsSorted}
+use Rattle.std.proofs.Common.{◌≡◌, ℕ, zero, suc, ◌+◌, ◌<◌, ◌≤◌, List, [], ◌∷◌, ◌++◌, length, get_or, take, drop, map, filter, Bool, true, false, true≢false, cond, take-append-drop, eqb, refl, sym, ap, ◌∙◌, subst, arith, append-nil, IsSorted}
 use Rattle.std.specs.Cmp.{IsStrictWeakOrder}
 use Rattle.std.specs.Cmp.Lexicographic.{slice_cmp}
 use Rattle.std.specs.List.{starts_with}
@@ -9,7 +9,7 @@ use Rattle.std.specs.declared.cmp.Ordering.{Ordering}
 use Rattle.std.specs.declared.cmp.Ordering.TheVariants.{Less, Equal, Greater}
 use Rattle.std.proofs.lemmas.Bool.{eqb-true, eq-eqb}
 use Rattle.std.proofs.lemmas.Cmp.{ranked, nat_cmp_total, nat_list_cmp_total, tied_itself}
-use Rattle.std.proofs.lemmas.List.{get_or-drop, length-map, length-drop, length-take, get_or-take}
+use Rattle.std.proofs.lemmas.List.{get_or-drop, get_or-map, length-map, length-drop, length-take, get_or-take}
 use Rattle.std.proofs.lemmas.List.Elements.{filter-append}
 use Rattle.std.proofs.lemmas.List.Kept.{IsSortedBy-filter}
 use Rattle.std.proofs.lemmas.List.Sorted.{ranks_by, sorted_far, IsPermutation-refl}
@@ -18,7 +18,6 @@ use Rattle.msb_glob.specs.Front.{front_of}
 use Rattle.msb_glob.specs.Parsed.{Reading}
 use Rattle.msb_glob.specs.declared.expansion.Match.{Match}
 use Rattle.msb_glob.proofs.Fronts.{both_true, not_below}
-use Rattle.msb_glob.proofs.Sorting.{now_at}
 
 abbrev pub is_ahead : List ℕ → List ℕ → Bool
 is_ahead front path = is_lt (slice_cmp nat_cmp path front)
@@ -83,29 +82,40 @@ between (a ∷ front) (x ∷ path) (y ∷ later) h b s =
     let tie = on_tie x a (nat_cmp x a) (nat_cmp a x) (slice_cmp nat_cmp path front) (slice_cmp nat_cmp later path) refl refl h (ap (λ z. is_lt (ordering_then (nat_cmp z x) (slice_cmp nat_cmp later path))) (sym same) ∙ b) in
     rw (eq-eqb a x (sym tie.0)) (between front path later tie.1 tie.2 both.1)
 
--- ---- sorted paths, seen through references to them
+-- ---- entries in byte order of their paths
 
-sorted_pair : (refs : List (Bor (List ℕ))) → IsSorted (slice_cmp nat_cmp) (map (λ r. r.now) refs) → (i j : ℕ) (d : Bor (List ℕ)) → i ≤ j → j < length refs → is_ahead (get_or refs i d).now (get_or refs j d).now ≡ false
-sorted_pair refs sorted i j d le within =
-    let texts : List (List ℕ) = map (λ r. r.now) refs in
-    ap (λ x. is_ahead (get_or refs i d).now x) (sym (now_at refs d j d.now within))
-    ∙ ap (λ y. is_ahead y (get_or texts j d.now)) (sym (now_at refs d i d.now (omega arith)))
-    ∙ sorted_far (λ x y. is_lt (slice_cmp nat_cmp x y)) byte_order texts sorted i j d.now le (omega (arith, length-map refs (λ (r : Bor (List ℕ)). r.now)))
+sorted_pair : {X : Type 0} (path : X → List ℕ) (entries : List X) → IsSorted (slice_cmp nat_cmp) (map path entries)
+    → (i j : ℕ) (d : X) → i ≤ j → j < length entries
+    → is_ahead (path (get_or entries i d)) (path (get_or entries j d)) ≡ false
+sorted_pair path entries sorted i j d le within =
+    let paths = map path entries in
+    ap (is_ahead (path (get_or entries i d))) (sym (get_or-map path entries j d (path d) within))
+    ∙ ap (λ y. is_ahead y (get_or paths j (path d))) (sym (get_or-map path entries i d (path d) (omega arith)))
+    ∙ sorted_far (λ x y. is_lt (slice_cmp nat_cmp x y)) byte_order paths sorted i j (path d) le
+    (omega (arith, length-map entries path))
 
--- the paths ahead of a text come first
-pub ahead_parted : (front : List ℕ) (refs : List (Bor (List ℕ))) → IsSorted (slice_cmp nat_cmp) (map (λ r. r.now) refs) → IsPartitionedBy (λ r. is_ahead front r.now) refs
-ahead_parted front refs sorted i j d le within is =
-    not_false _ (λ fails. true≢false (sym is ∙ byte_order.chain (get_or refs j d).now (get_or refs i d).now front (sorted_pair refs sorted i j d le within) fails))
+-- those ahead of a text come first
+pub ahead_parted : {X : Type 0} (path : X → List ℕ) (front : List ℕ) (entries : List X)
+    → IsSorted (slice_cmp nat_cmp) (map path entries) → IsPartitionedBy (λ x. is_ahead front (path x)) entries
+ahead_parted path front entries sorted i j d le within is =
+    not_false _ (λ fails. true≢false (sym is
+    ∙ byte_order.chain (path (get_or entries j d)) (path (get_or entries i d)) front
+    (sorted_pair path entries sorted i j d le within) fails))
 
--- among those from the text on, so do the paths that begin with it
-pub begins_parted : (front : List ℕ) (refs rest : List (Bor (List ℕ))) (n : ℕ) → IsSorted (slice_cmp nat_cmp) (map (λ r. r.now) refs) → IsPartitionPoint (λ r. is_ahead front r.now ≡ true) (λ r. is_ahead front r.now ≡ false) refs n
-    → rest ≡ drop n refs → IsPartitionedBy (λ r. begins_with front r.now) rest
-begins_parted front refs rest n sorted split is i j d le within begun =
-    let inside : n + j < length refs = omega (arith, ap length is, length-drop n refs) in
-    let at_i : get_or rest i d ≡ get_or refs (n + i) d = ap (λ rs. get_or rs i d) is ∙ get_or-drop n refs i d in
-    let at_j : get_or rest j d ≡ get_or refs (n + j) d = ap (λ rs. get_or rs j d) is ∙ get_or-drop n refs j d in
-    ap (λ r. begins_with front r.now) at_i
-    ∙ between front (get_or refs (n + i) d).now (get_or refs (n + j) d).now (split.1 (n + i) d (omega arith) (omega arith)) (sorted_pair refs sorted (n + i) (n + j) d (omega arith) inside) (ap (λ r. begins_with front r.now) (sym at_j) ∙ begun)
+-- among those from the text on, so do those that begin with it
+pub begins_parted : {X : Type 0} (path : X → List ℕ) (front : List ℕ) (entries rest : List X) (n : ℕ)
+    → IsSorted (slice_cmp nat_cmp) (map path entries)
+    → IsPartitionPoint (λ x. is_ahead front (path x) ≡ true) (λ x. is_ahead front (path x) ≡ false) entries n
+    → rest ≡ drop n entries → IsPartitionedBy (λ x. begins_with front (path x)) rest
+begins_parted path front entries rest n sorted split is i j d le within begun =
+    let inside : n + j < length entries = omega (arith, ap length is, length-drop n entries) in
+    let at_i : get_or rest i d ≡ get_or entries (n + i) d = ap (λ xs. get_or xs i d) is ∙ get_or-drop n entries i d in
+    let at_j : get_or rest j d ≡ get_or entries (n + j) d = ap (λ xs. get_or xs j d) is ∙ get_or-drop n entries j d in
+    ap (λ x. begins_with front (path x)) at_i
+    ∙ between front (path (get_or entries (n + i) d)) (path (get_or entries (n + j) d))
+    (split.1 (n + i) d (omega arith) (omega arith))
+    (sorted_pair path entries sorted (n + i) (n + j) d (omega arith) inside)
+    (ap (λ x. begins_with front (path x)) (sym at_j) ∙ begun)
 
 -- ---- what a test keeps
 
@@ -147,31 +157,44 @@ filter_parts p xs n = ap (filter p) (sym (take-append-drop n xs)) ∙ filter-app
 
 -- ---- the block
 
-pub block_is : (front : List ℕ) (refs rest : List (Bor (List ℕ))) (n e : ℕ) → IsPartitionPoint (λ r. is_ahead front r.now ≡ true) (λ r. is_ahead front r.now ≡ false) refs n → rest ≡ drop n refs
-    → IsPartitionPoint (λ r. begins_with front r.now ≡ true) (λ r. begins_with front r.now ≡ false) rest e → map (λ r. r.now) (take e rest) ≡ filter (begins_with front) (map (λ r. r.now) refs)
-block_is front refs rest n e split is inner =
-    let q : Bor (List ℕ) → Bool = λ r. begins_with front r.now in
-    let before = filter_none q (take n refs) (λ k d w. ap q (get_or-take n refs k d (omega (arith, length-take n refs))) ∙ ahead_not front (get_or refs k d).now (split.0 k d (omega arith) (omega (arith, length-take n refs)))) in
-    let among = filter_every q (take e rest) (λ k d w. ap q (get_or-take e rest k d (omega (arith, length-take e rest))) ∙ inner.0 k d (omega arith) (omega (arith, length-take e rest))) in
-    let behind = filter_none q (drop e rest) (λ k d w. ap q (get_or-drop e rest k d) ∙ inner.1 (e + k) d (omega arith) (omega (arith, length-drop e rest))) in
-    let all : filter q refs ≡ take e rest =
-    filter_parts q refs n ∙ ap (λ xs. xs ++ filter q (drop n refs)) before ∙ ap (filter q) (sym is)
-    ∙ filter_parts q rest e ∙ ap (λ xs. xs ++ filter q (drop e rest)) among ∙ ap (λ xs. take e rest ++ xs) behind ∙ append-nil (take e rest) in
-    sym (filter_map_is (λ (r : Bor (List ℕ)). r.now) (begins_with front) refs ∙ ap (map (λ r. r.now)) all)
+pub block_is : {X : Type 0} (path : X → List ℕ) (front : List ℕ) (entries rest : List X) (n e : ℕ)
+    → IsPartitionPoint (λ x. is_ahead front (path x) ≡ true) (λ x. is_ahead front (path x) ≡ false) entries n
+    → rest ≡ drop n entries
+    → IsPartitionPoint (λ x. begins_with front (path x) ≡ true) (λ x. begins_with front (path x) ≡ false) rest e
+    → map path (take e rest) ≡ filter (begins_with front) (map path entries)
+block_is {X} path front entries rest n e split is inner =
+    let q : X → Bool = λ x. begins_with front (path x) in
+    let before = filter_none q (take n entries) (λ k d w.
+    ap q (get_or-take n entries k d (omega (arith, length-take n entries)))
+    ∙ ahead_not front (path (get_or entries k d)) (split.0 k d (omega arith) (omega (arith, length-take n entries)))) in
+    let among = filter_every q (take e rest) (λ k d w.
+    ap q (get_or-take e rest k d (omega (arith, length-take e rest)))
+    ∙ inner.0 k d (omega arith) (omega (arith, length-take e rest))) in
+    let behind = filter_none q (drop e rest) (λ k d w.
+    ap q (get_or-drop e rest k d) ∙ inner.1 (e + k) d (omega arith) (omega (arith, length-drop e rest))) in
+    let all : filter q entries ≡ take e rest =
+    filter_parts q entries n ∙ ap (λ xs. xs ++ filter q (drop n entries)) before ∙ ap (filter q) (sym is)
+    ∙ filter_parts q rest e ∙ ap (λ xs. xs ++ filter q (drop e rest)) among ∙ ap (λ xs. take e rest ++ xs) behind
+    ∙ append-nil (take e rest) in
+    sym (filter_map_is path (begins_with front) entries ∙ ap (map path) all)
 
 -- ---- the paths of a pattern, of those in the block
 
-pub found_is : (pattern : Reading) (texts : List (List ℕ)) (block found : List (Bor (List ℕ))) → map (λ r. r.now) block ≡ filter (begins_with (front_of pattern.parts)) texts → found ≡ filter (λ r. is_match pattern r.now) block
-    → map (λ r. r.now) found ≡ filter (is_match pattern) texts
-found_is pattern texts block found is kept_is =
-    ap (map (λ (r : Bor (List ℕ)). r.now)) kept_is ∙ sym (filter_map_is (λ (r : Bor (List ℕ)). r.now) (is_match pattern) block) ∙ ap (filter (is_match pattern)) is
-    ∙ filter_within (is_match pattern) (begins_with (front_of pattern.parts)) (λ path other. sym (not_below pattern.parts path (sym other))) texts
+pub found_is : (pattern : Reading) (paths block found : List (List ℕ))
+    → block ≡ filter (begins_with (front_of pattern.parts)) paths → found ≡ filter (is_match pattern) block
+    → found ≡ filter (is_match pattern) paths
+found_is pattern paths block found is kept_is =
+    kept_is ∙ ap (filter (is_match pattern)) is
+    ∙ filter_within (is_match pattern) (begins_with (front_of pattern.parts))
+    (λ path other. sym (not_below pattern.parts path (sym other))) paths
 
 -- what a pattern keeps of sorted paths is its answer
-pub expands : (pattern : Reading) (texts found : List (List ℕ)) (matches : List Match) → IsSorted (slice_cmp nat_cmp) texts → found ≡ filter (is_match pattern) texts → matches ≡ map (match_of pattern) found → Expands pattern texts matches
-expands pattern texts found matches sorted is are = record {
-  found = filter (is_match pattern) texts;
-  all_matching = IsPermutation-refl (filter (is_match pattern) texts);
-  in_order = IsSortedBy-filter (λ x y. is_lt (slice_cmp nat_cmp x y)) byte_order (is_match pattern) texts sorted;
+pub expands : (pattern : Reading) (paths found : List (List ℕ)) (matches : List Match)
+    → IsSorted (slice_cmp nat_cmp) paths → found ≡ filter (is_match pattern) paths
+    → matches ≡ map (match_of pattern) found → Expands pattern paths matches
+expands pattern paths found matches sorted is are = record {
+  found = filter (is_match pattern) paths;
+  all_matching = IsPermutation-refl (filter (is_match pattern) paths);
+  in_order = IsSortedBy-filter (λ x y. is_lt (slice_cmp nat_cmp x y)) byte_order (is_match pattern) paths sorted;
   matches_are = are ∙ ap (map (match_of pattern)) is;
 }

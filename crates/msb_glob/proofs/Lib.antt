@@ -3,3 +3,4 @@ pub mod Segments
 pub mod Sorting
 pub mod Fronts
 pub mod Blocks
+pub mod Rising

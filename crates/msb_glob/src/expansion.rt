@@ -10,7 +10,7 @@ ghost use Rattle.msb_values.specs.Escapes.{escaped};
 
 use crate::errors::OutOfMemory;
 use crate::parts::{Part, are_gaps, first_segment, fits_left};
-use crate::{Pattern, SortedPaths};
+use crate::{HasPath, Pattern, SortedPaths};
 use msb_paths::{NoRoom, Word};
 use msb_values::{List, Text, escape};
 use std::alloc::Global;
@@ -48,9 +48,9 @@ pub fn expand(alloc: Global, paths: &List<Text>, pattern: &Pattern) -> Result<Li
 ///
 /// Those that begin as every match does are found by halves, and only they are matched: the time grows with their
 /// number, and with the logarithm of the number of all paths.
-pub fn expand_in(
+pub fn expand_in<P: HasPath>(
     alloc: Global,
-    paths: &SortedPaths,
+    paths: &SortedPaths<'_, P>,
     pattern: &Pattern,
 ) -> Result<List<Match>, NoRoom>
     ensures sorted { IfOk result (Expands pattern.now paths.now) }
@@ -61,15 +61,22 @@ pub fn expand_in(
     Ok(matches_of(alloc, &found, pattern)?)
 }
 
-fn matching<'a>(
+fn matching<'a, P: HasPath>(
     alloc: Global,
-    paths: &[&'a str],
+    entries: &'a [P],
     pattern: &Pattern,
 ) -> Result<Vec<&'a str>, OutOfMemory>
-    ensures { IfOk result (λ found. found.items ≡ filter (λ path. is_match pattern.now path.now) paths.now) }
+    ensures { IfOk result (λ found.
+        map (λ path. path.now) found.items ≡ filter (is_match pattern.now) (map P.path entries.now)) }
 {
-    let found = paths.iter().copied().filter(|path| pattern.matches(path));
-    Ok(found.collect(alloc)?)
+    let mut found = Vec::new(alloc);
+    for entry in entries {
+        let path = entry.path();
+        if pattern.matches(path) {
+            found.push(path)?;
+        }
+    }
+    Ok(found)
 }
 
 fn found_in<'a>(

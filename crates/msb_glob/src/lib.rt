@@ -19,4 +19,4 @@ pub use entries::{is_pattern, with_slashes};
 pub use errors::GlobFault;
 pub use expansion::{Match, expand, expand_in};
 pub use patterns::Pattern;
-pub use sorted::SortedPaths;
+pub use sorted::{HasPath, SortedPaths};

@@ -1,6 +1,5 @@
 pub mod Turning
 pub mod Stopping
-pub mod Rising
 pub mod Naming
 pub mod SetLemmas
 pub mod Changing

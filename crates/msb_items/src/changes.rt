@@ -17,6 +17,7 @@ use crate::place::Place;
 use crate::unnamed::unnamed;
 use crate::updates::{replacements, with_metadata};
 use build_world::{EvalFault, PlacedElement};
+use file_store::File;
 use msb_glob::SortedPaths;
 use msb_paths::Present;
 use msb_values::{Item, Name, Scope};
@@ -27,7 +28,7 @@ use std::alloc::Global;
 pub(crate) fn new_items<F: Present>(
     alloc: Global,
     place: &Place<'_, F>,
-    paths: &SortedPaths<'_>,
+    paths: &SortedPaths<'_, File>,
     kind: &Name,
     element: &PlacedElement<'_>,
     include: &str,
@@ -48,7 +49,7 @@ pub(crate) fn new_items<F: Present>(
 fn items_at<F: Present>(
     alloc: Global,
     place: &Place<'_, F>,
-    paths: &SortedPaths<'_>,
+    paths: &SortedPaths<'_, File>,
     element: &PlacedElement<'_>,
     include: &str,
 ) -> Result<Vec<Item>, EvalFault>

@@ -1,7 +1,5 @@
-ghost use Rattle.std.specs.Prelude.{◌≡◌, [], ◌∷◌, ◌++◌, map, IfOk, IsSorted, OnOk};
-ghost use Rattle.std.specs.Cmp.Lexicographic.{slice_cmp};
+ghost use Rattle.std.specs.Prelude.{◌≡◌, [], ◌∷◌, ◌++◌, map, IfOk, OnOk};
 ghost use Rattle.std.specs.List.{list_any};
-ghost use Rattle.std.specs.Ordering.{nat_cmp};
 ghost use Rattle.msb_laws.specs.Results.{map_ok};
 ghost use Rattle.msb_values.specs.Caused.{GivesCause, UnlessMemory};
 ghost use Rattle.msb_items.specs.Answers.{GivesCauseAs};
@@ -10,7 +8,7 @@ ghost use Rattle.msb_items.specs.Patterns.{is_pattern_entry, pattern_cause, patt
 
 use crate::files::ListedFiles;
 use msb_expand::{Entry, folder_of};
-use msb_glob::{GlobFault, Match, Pattern, SortedPaths, expand_in, is_pattern};
+use msb_glob::{GlobFault, HasPath, Match, Pattern, SortedPaths, expand_in, is_pattern};
 use msb_values::{Cause, Copied, Item, NoMemory, Pairs, Text};
 use std::alloc::Global;
 
@@ -46,9 +44,9 @@ fn pattern_cause(alloc: Global, text: &str, fault: GlobFault) -> Cause
 }
 
 /// The items of the entries of an Include, one entry after another. (MSBuild items, wildcards to specify items.)
-pub(crate) fn all_items(
+pub(crate) fn all_items<P: HasPath>(
     alloc: Global,
-    paths: &SortedPaths<'_>,
+    paths: &SortedPaths<'_, P>,
     project: &str,
     entries: &[Entry],
 ) -> Result<Vec<Item>, Cause>
@@ -88,9 +86,7 @@ fn listed_items<F: ListedFiles>(
     let Ok(paths) = files.paths(alloc) else {
         return Err(Cause::Memory);
     };
-    let Ok(paths) = sorted(alloc, paths.as_slice()) else {
-        return Err(Cause::Memory);
-    };
+    let paths = SortedPaths::of_texts(paths.as_slice());
     all_items(alloc, &paths, project, entries)
 }
 
@@ -110,21 +106,10 @@ fn copies_of(alloc: Global, entries: &[Entry]) -> Result<Vec<Item>, NoMemory>
     Ok(items)
 }
 
-fn sorted<'p>(alloc: Global, paths: &'p [Text]) -> Result<SortedPaths<'p>, NoMemory>
-    requires { IsSorted (slice_cmp nat_cmp) paths.now }
-    ensures { IfOk result (λ sorted. sorted ≡ paths.now) }
-{
-    let mut texts = Vec::with_capacity(alloc, paths.len())?;
-    for path in paths {
-        texts.push(path.as_str())?;
-    }
-    Ok(SortedPaths::of(texts).unwrap())
-}
-
-fn push_items(
+fn push_items<P: HasPath>(
     alloc: Global,
     items: &mut Vec<Item>,
-    paths: &SortedPaths<'_>,
+    paths: &SortedPaths<'_, P>,
     project: &str,
     entries: &[Entry],
 ) -> Result<(), Cause>
@@ -137,10 +122,10 @@ fn push_items(
 }
 
 /// Adds the files that a pattern matches, or the entry itself, be there a file or not.
-fn push_items_of(
+fn push_items_of<P: HasPath>(
     alloc: Global,
     items: &mut Vec<Item>,
-    paths: &SortedPaths<'_>,
+    paths: &SortedPaths<'_, P>,
     project: &str,
     entry: &Entry,
 ) -> Result<(), Cause>
@@ -155,10 +140,10 @@ fn push_items_of(
     }
 }
 
-fn push_pattern(
+fn push_pattern<P: HasPath>(
     alloc: Global,
     items: &mut Vec<Item>,
-    paths: &SortedPaths<'_>,
+    paths: &SortedPaths<'_, P>,
     project: &str,
     entry: &Entry,
 ) -> Result<(), Cause>
@@ -178,10 +163,10 @@ fn push_copy(items: &mut Vec<Item>, item: &Item) -> Result<(), NoMemory>
     Ok(items.push(item)?)
 }
 
-fn push_matches(
+fn push_matches<P: HasPath>(
     alloc: Global,
     items: &mut Vec<Item>,
-    paths: &SortedPaths<'_>,
+    paths: &SortedPaths<'_, P>,
     pattern: &Pattern,
 ) -> Result<(), NoMemory>
     ensures { OnOk result (items.new.items ≡ items.old.items ++ matched paths.now pattern.now) }

@@ -13,10 +13,11 @@ use crate::changes::{names_at, new_items, update_replacements};
 use crate::item_names::ItemNames;
 use crate::metadata::key_of;
 use crate::place::Place;
-use crate::source::{ItemSource, Source, project_path, sorted_paths};
+use crate::source::{ItemSource, Source, project_path};
 use crate::unnamed::unnamed;
 use build_world::{EvalFault, LaidOut, Placed, PlacedElement};
 use file_store::Tree;
+use msb_glob::SortedPaths;
 use msb_paths::Present;
 use msb_values::{Copied, Item, List, Name, NoMemory, Scope, SharedItems};
 use std::alloc::Global;
@@ -31,16 +32,13 @@ pub fn item_pass(
 ) -> Result<(), EvalFault>
     ensures { Changes result scope.new (all_itemed (paths_of tree.now.files) scope.old (map seen_placed laid.now.elements.items)) }
 {
-    let Ok(paths) = sorted_paths(alloc, tree) else {
-        return Err(EvalFault::memory(alloc));
-    };
     let elements = laid.elements.as_slice();
     let source = ItemSource {
         source: Source {
             files: tree,
             project: project_path(elements),
         },
-        paths,
+        paths: SortedPaths::of_tree(tree),
     };
     take_all(alloc, &source, elements, scope)
 }

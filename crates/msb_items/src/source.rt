@@ -1,14 +1,11 @@
-ghost use Rattle.std.specs.Prelude.{◌≡◌, map, IfOk};
-ghost use Rattle.file_store.specs.Files.{paths_of};
+ghost use Rattle.std.specs.Prelude.{◌≡◌, map};
 ghost use Rattle.build_world.specs.Elements.{seen_placed};
 ghost use Rattle.msb_items.specs.Definitions.{project_path};
 
 use build_world::Placed;
-use file_store::{File, Tree};
+use file_store::File;
 use msb_glob::SortedPaths;
 use msb_paths::Present;
-use msb_values::NoMemory;
-use std::alloc::Global;
 
 /// A view of the files, and the path of the root file of the project.
 #[derive(Drop)]
@@ -21,7 +18,7 @@ pub(crate) struct Source<'a, F> {
 #[derive(Drop)]
 pub(crate) struct ItemSource<'a, F: Present> {
     pub(crate) source: Source<'a, F>,
-    pub(crate) paths: SortedPaths<'a>,
+    pub(crate) paths: SortedPaths<'a, File>,
     pub(crate) ghost all: { paths ≡ F.files source.files.now },
 }
 
@@ -33,22 +30,4 @@ pub(crate) fn project_path(elements: &[Placed]) -> &str
         [first, ..] => first.file.as_str(),
         [] => "",
     }
-}
-
-/// The paths of the files, which stand in byte order.
-pub(crate) fn sorted_paths(alloc: Global, tree: &Tree) -> Result<SortedPaths<'_>, NoMemory>
-    ensures { IfOk result (λ paths. paths ≡ paths_of tree.now.files) }
-{
-    let paths = paths_of(alloc, tree.files.as_slice())?;
-    Ok(SortedPaths::of(paths).unwrap())
-}
-
-fn paths_of(alloc: Global, files: &[File]) -> Result<Vec<&str>, NoMemory>
-    ensures { IfOk result (λ paths. map (λ path. path.now) paths.items ≡ paths_of files.now) }
-{
-    let mut paths = Vec::with_capacity(alloc, files.len())?;
-    for file in files {
-        paths.push(file.path.as_str())?;
-    }
-    Ok(paths)
 }

@@ -1,8 +1,6 @@
-ghost use Rattle.std.specs.Prelude.{◌≡◌, [], ◌∷◌, ◌++◌, codes, map, IfOk, OnOk, IsSorted};
+ghost use Rattle.std.specs.Prelude.{◌≡◌, [], ◌∷◌, ◌++◌, codes, map, IfOk, OnOk};
 ghost use Rattle.std.specs.List.{list_any};
-ghost use Rattle.std.specs.Ordering.{nat_cmp};
 ghost use Rattle.std.specs.Str.{bytes_eq};
-ghost use Rattle.std.specs.Cmp.Lexicographic.{slice_cmp};
 ghost use Rattle.msb_laws.specs.Results.{all_ok, map_ok};
 ghost use Rattle.msb_values.specs.Changes.{with_metadata};
 ghost use Rattle.msb_values.specs.Pairs.{all_put};
@@ -132,35 +130,17 @@ fn items_included(
     ensures { Gives result (items_included dir.now (paths view.now) entries.now) }
 {
     let paths = view.paths(alloc)?;
-    let sorted = sorted_paths(alloc, paths.as_slice())?;
+    let sorted = SortedPaths::of_texts(paths.as_slice());
     let mut items = List::new(alloc);
     push_items(alloc, &mut items, dir, &sorted, entries)?;
     Ok(items)
-}
-
-fn sorted_paths(alloc: Global, paths: &[Text]) -> Result<SortedPaths<'_>, NoMemory>
-    requires { IsSorted (slice_cmp nat_cmp) paths.now }
-    ensures { IfOk result (λ sorted. sorted ≡ paths.now) }
-{
-    let texts = texts_of(alloc, paths)?;
-    Ok(SortedPaths::of(texts).unwrap())
-}
-
-fn texts_of(alloc: Global, paths: &[Text]) -> Result<Vec<&str>, NoMemory>
-    ensures { IfOk result (λ texts. map (λ text. text.now) texts.items ≡ paths.now) }
-{
-    let mut texts = Vec::with_capacity(alloc, paths.len())?;
-    for path in paths {
-        texts.push(path.as_str())?;
-    }
-    Ok(texts)
 }
 
 fn push_items(
     alloc: Global,
     items: &mut List<Item>,
     dir: &str,
-    paths: &SortedPaths<'_>,
+    paths: &SortedPaths<'_, Text>,
     entries: &[Item],
 ) -> Result<(), Failure>
     ensures { GivesAs (λ _. items.new) result (map_ok (λ more. items.old ++ more) (items_included dir.now paths.now entries.now)) }
@@ -176,7 +156,7 @@ fn push_items_of(
     alloc: Global,
     items: &mut List<Item>,
     dir: &str,
-    paths: &SortedPaths<'_>,
+    paths: &SortedPaths<'_, Text>,
     entry: &Item,
 ) -> Result<(), Failure>
     ensures { GivesAs (λ _. items.new) result (map_ok (λ more. items.old ++ more) (items_of_entry dir.now paths.now entry.now)) }
@@ -192,7 +172,7 @@ fn push_pattern(
     alloc: Global,
     items: &mut List<Item>,
     dir: &str,
-    paths: &SortedPaths<'_>,
+    paths: &SortedPaths<'_, Text>,
     entry: &Item,
 ) -> Result<(), Failure>
     ensures { GivesAs (λ _. items.new) result (map_ok (λ more. items.old ++ more) (map_ok (items_matched paths.now entry.now) (pattern_in dir.now (codes "include") entry.now))) }
@@ -205,7 +185,7 @@ fn push_pattern(
 fn push_matches(
     alloc: Global,
     items: &mut List<Item>,
-    paths: &SortedPaths<'_>,
+    paths: &SortedPaths<'_, Text>,
     entry: &Item,
     pattern: &Pattern,
 ) -> Result<(), NoMemory>

@@ -4,5 +4,5 @@ use Rattle.std.specs.Ordering.{nat_cmp}
 use Rattle.task_kit.proofs.Rising.{paths_sorted}
 use Rattle.task_kit.proofs.included.items_included.Goals as goal
 
-pub sorted_paths-requires : goal.sorted_paths-requires
-sorted_paths-requires c = subst (IsSorted (slice_cmp nat_cmp)) (sym (c.as_slice.ensures ∙ c.in_ok-paths.ensures)) (paths_sorted c.args.view.now)
+pub of_texts-sorted-requires : goal.of_texts-sorted-requires
+of_texts-sorted-requires c = subst (IsSorted (slice_cmp nat_cmp)) (sym (c.as_slice.ensures ∙ c.in_ok-paths.ensures)) (paths_sorted c.args.view.now)
