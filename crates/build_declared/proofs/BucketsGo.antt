@@ -2,7 +2,7 @@
 use Rattle.std.proofs.Common.{◌≡◌, ℕ, List, [], ◌∷◌, ◌++◌, Option, Some, refl, ap, sym, ◌∙◌, subst}
 use Rattle.std.specs.Prelude.{Result, Ok, Err, unwrap_or}
 use Rattle.std.specs.Option.{option_or}
-use Rattle.msb_values.specs.declared.mode.Mode.TheVariants.{Clean}
+use Rattle.msb_values.specs.declared.mode.Mode.{Mode}
 use Rattle.msb_values.specs.declared.note.Note.{Note}
 use Rattle.msb_values.specs.declared.act.Act.{Act}
 use Rattle.msb_values.specs.declared.scope.Scope.{Scope}
@@ -28,12 +28,9 @@ use Rattle.build_declared.specs.Ends.{End, end_of}
 use Rattle.build_declared.specs.Pieces.{Piece, piece_if, then_pieces, pieces_among}
 use Rattle.build_declared.proofs.Alones.{some-same, end-bound, KeepsNotes, keeps-each}
 
--- a run in the build's mode, and the same run in a clean build; the journals with which they begin
+-- a run, in a build and in the clean one; the journals with which they begin
 module _ (tools : List ℕ → ToolInput → ToolAnswer) (id : RunId) (run : Run) (scope : Scope)
     (j k : Journal) where
-  abbrev pub clean_run : Run
-  clean_run = record run { mode = Clean }
-
   abbrev T : List ℕ → Option (List ℕ)
   T = bytes_in run.files
 
@@ -86,11 +83,11 @@ module _ (tools : List ℕ → ToolInput → ToolAnswer) (id : RunId) (run : Run
     pub w_step : InStep E.value E.journal
     pub c_step : InStep F.value F.journal
 
-  abbrev pub first_of : Bucket → State → Work (Result State Stopped)
-  first_of bucket s = bucket_by (choice_of run) run scope bucket s
+  abbrev pub first_of : Mode → Bucket → State → Work (Result State Stopped)
+  first_of mode bucket s = bucket_by (choice_of mode run) run scope bucket s
 
   abbrev pub second_of : Bucket → State → Work (Result State Stopped)
-  second_of bucket t = bucket_by all_of clean_run scope bucket t
+  second_of bucket t = bucket_by all_of run scope bucket t
 
   -- one bucket goes alike, where notes are as Fine says, and pieces of the clean run as S says
   abbrev pub IsFine : (Note → Type 0) → Result State Stopped → Type 0
@@ -99,13 +96,13 @@ module _ (tools : List ℕ → ToolInput → ToolAnswer) (id : RunId) (run : Run
   abbrev pub AreSo : (Piece → Type 0) → List Piece → Type 0
   AreSo S pieces = (p : Piece) → In p pieces → S p
 
-  abbrev pub BucketGoes : (Note → Type 0) → (Piece → Type 0) → Type 0
-  BucketGoes Fine S = (bucket : Bucket) (s t : State) (ps pt : List Act) → Carry s t ps pt →
-      (E F : End (Result State Stopped)) → end_of tools id (first_of bucket s) s.journal ps
+  abbrev pub BucketGoes : Mode → (Note → Type 0) → (Piece → Type 0) → Type 0
+  BucketGoes mode Fine S = (bucket : Bucket) (s t : State) (ps pt : List Act) → Carry s t ps pt →
+      (E F : End (Result State Stopped)) → end_of tools id (first_of mode bucket s) s.journal ps
       ≡ Some E → end_of tools id (second_of bucket t) t.journal pt ≡ Some F →
       IsFine Fine E.value → IsFine Fine F.value →
       AreSo S (piece_if bucket (entered scope bucket t) pt
-      (lists_at clean_run bucket (entered scope bucket t))) → GoAlike E F
+      (lists_at run bucket (entered scope bucket t))) → GoAlike E F
 
   -- the notes of a bucket are among those of the run
   pub rest-keeps : (part : Bucket → State → Work (Result State Stopped)) →
@@ -121,16 +118,17 @@ module _ (tools : List ℕ → ToolInput → ToolAnswer) (id : RunId) (run : Run
       some-same (record { value = Err d; journal = l; acts = qs }) E h in
       subst (λ (z : End (Result State Stopped)). In note (state_of z.value).notes) same i
 
-  module _ (Fine : Note → Type 0) (S : Piece → Type 0) (goes : BucketGoes Fine S)
-      (first-keeps : (bucket : Bucket) (s : State) → KeepsNotes tools id s (first_of bucket s))
+  module _ (mode : Mode) (Fine : Note → Type 0) (S : Piece → Type 0)
+      (goes : BucketGoes mode Fine S)
+      (first-keeps : (bucket : Bucket) (s : State) → KeepsNotes tools id s (first_of mode bucket s))
       (second-keeps : (bucket : Bucket) (t : State) →
       KeepsNotes tools id t (second_of bucket t)) where
     pub buckets-go : (buckets : List Bucket) (s t : State) (ps pt : List Act) → Carry s t ps pt →
         (E F : End (Result State Stopped)) → end_of tools id
-        (each_in_turn first_of buckets s) s.journal ps ≡ Some E →
+        (each_in_turn (first_of mode) buckets s) s.journal ps ≡ Some E →
         end_of tools id (each_in_turn second_of buckets t) t.journal pt ≡ Some F →
         IsFine Fine E.value → IsFine Fine F.value →
-        AreSo S (pieces_among tools id all_of clean_run scope buckets t pt) → GoAlike E F
+        AreSo S (pieces_among tools id all_of run scope buckets t pt) → GoAlike E F
     buckets-go [] s t ps pt c E F he hf fe ff so =
         let e : record { value = Ok s; journal = s.journal; acts = ps } ≡ E =
         some-same (record { value = Ok s; journal = s.journal; acts = ps }) E he in
@@ -143,45 +141,46 @@ module _ (tools : List ℕ → ToolInput → ToolAnswer) (id : RunId) (run : Run
           acts = ps;
         })) f (record { ends = c; w_step = refl; c_step = refl }))
     buckets-go (bucket ∷ buckets) s t ps pt c E F he hf fe ff so =
-        let x = end-bound tools id (first_of bucket s)
-        (λ end. unless_stopped end (each_in_turn first_of buckets)) s.journal ps E he in
+        let x = end-bound tools id (first_of mode bucket s)
+        (λ end. unless_stopped end (each_in_turn (first_of mode) buckets)) s.journal ps E he in
         let y = end-bound tools id (second_of bucket t)
         (λ end. unless_stopped end (each_in_turn second_of buckets)) t.journal pt F hf in
         let fine-e : IsFine Fine x.0.value = λ note i.
-        fe note (rest-keeps first_of first-keeps buckets x.0.value x.0.journal x.0.acts E x.2 note
-        i) in
+        fe note (rest-keeps (first_of mode) first-keeps buckets x.0.value x.0.journal x.0.acts E x.2
+        note i) in
         let fine-f : IsFine Fine y.0.value = λ note i.
         ff note (rest-keeps second_of second-keeps buckets y.0.value y.0.journal y.0.acts F y.2 note
         i) in
         let here = piece_if bucket (entered scope bucket t) pt
-        (lists_at clean_run bucket (entered scope bucket t)) in
+        (lists_at run bucket (entered scope bucket t)) in
         let later = then_pieces (end_of tools id (second_of bucket t) t.journal pt)
-        (pieces_among tools id all_of clean_run scope buckets) in
+        (pieces_among tools id all_of run scope buckets) in
         let one = goes bucket s t ps pt c x.0 y.0 x.1 y.1 fine-e fine-f
         (λ p i. so p (in-left p here later i)) in
         go x.0.value y.0.value x.0.journal y.0.journal x.0.acts y.0.acts one.ends one.w_step
         one.c_step x.2 y.2 (buckets-go buckets)
         (λ p i. so p (in-right p here later (subst
-        (λ z. In p (then_pieces z (pieces_among tools id all_of clean_run scope buckets)))
+        (λ z. In p (then_pieces z (pieces_among tools id all_of run scope buckets)))
         (sym y.1) i)))
       where
         go : (r q : Result State Stopped) (l m : Journal) (ps pt : List Act) → EndsAlike r q ps pt →
             InStep r l → InStep q m → end_of tools id
-            (unless_stopped r (each_in_turn first_of buckets)) l ps ≡ Some E →
+            (unless_stopped r (each_in_turn (first_of mode) buckets)) l ps ≡ Some E →
             end_of tools id (unless_stopped q (each_in_turn second_of buckets)) m pt ≡ Some F →
             ((s t : State) (ps pt : List Act) → Carry s t ps pt →
             (E F : End (Result State Stopped)) → end_of tools id
-            (each_in_turn first_of buckets s) s.journal ps ≡ Some E →
+            (each_in_turn (first_of mode) buckets s) s.journal ps ≡ Some E →
             end_of tools id (each_in_turn second_of buckets t) t.journal pt ≡ Some F →
             IsFine Fine E.value → IsFine Fine F.value →
-            AreSo S (pieces_among tools id all_of clean_run scope buckets t pt) →
+            AreSo S (pieces_among tools id all_of run scope buckets t pt) →
             GoAlike E F) →
             AreSo S (then_pieces (Some (record { value = q; journal = m; acts = pt }))
-            (pieces_among tools id all_of clean_run scope buckets)) → GoAlike E F
+            (pieces_among tools id all_of run scope buckets)) → GoAlike E F
         go (Ok s) (Ok t) l m ps pt c a b he hf ih so =
-            ih s t ps pt c E F (subst (λ z. end_of tools id (each_in_turn first_of buckets s) z ps
-            ≡ Some E) (sym a) he) (subst (λ z. end_of tools id
-            (each_in_turn second_of buckets t) z pt ≡ Some F) (sym b) hf) fe ff so
+            ih s t ps pt c E F (subst (λ z. end_of tools id
+            (each_in_turn (first_of mode) buckets s) z ps ≡ Some E) (sym a) he)
+            (subst (λ z. end_of tools id (each_in_turn second_of buckets t) z pt ≡ Some F)
+            (sym b) hf) fe ff so
         go (Ok s) (Err e) l m ps pt c a b he hf ih so = absurd c
         go (Err d) (Ok t) l m ps pt c a b he hf ih so = absurd c
         go (Err d) (Err e) l m ps pt c a b he hf ih so =

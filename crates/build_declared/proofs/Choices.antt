@@ -19,7 +19,6 @@ use Rattle.std.proofs.Common.{
   Some,
   refl,
   ap,
-  sym,
   ◌∙◌,
   subst,
   arith,
@@ -102,10 +101,9 @@ all-kept (mark ∷ marks) [] l e = absurd (omega arith)
 all-kept (true ∷ marks) (x ∷ xs) l e = let h = all-kept marks xs (omega arith) e in omega (arith, h)
 all-kept (false ∷ marks) (x ∷ xs) l e = absurd (cc)
 
-module _ (tools : List ℕ → ToolInput → ToolAnswer) (id : RunId) (run other : Run)
-    (mode : run.mode ≡ Incremental) where
+module _ (tools : List ℕ → ToolInput → ToolAnswer) (id : RunId) (run : Run) where
   abbrev May : Lists → Choice → Type 0
-  May lists choice = MayChoose tools id other lists choice
+  May lists choice = MayChoose tools id run lists choice
 
   may-part : (lists : Lists) (view : View) (kind : List ℕ) (items : List Item) →
       lists.items ≡ Some (kind, items) → all_or_nothing lists.inputs lists.outputs ≡ RunAll →
@@ -177,38 +175,35 @@ module _ (tools : List ℕ → ToolInput → ToolAnswer) (id : RunId) (run other
       (any_is_old view lists.inputs lists.outputs)
   may-shape lists view (Some typed) e all = may-items lists view typed.0 typed.1 e all
 
-  pub decided-may : (lists : Lists) (s : State) → May lists (choice_of run lists s)
+  pub decided-may : (lists : Lists) (s : State) → May lists (choice_of Incremental run lists s)
   decided-may lists s = go lists.inputs lists.outputs refl refl
     where
       go : (inputs outputs : List (List ℕ)) → lists.inputs ≡ inputs → lists.outputs ≡ outputs →
           May lists (decision (view_of run s) inputs outputs
-          (option_map (λ typed. typed.1) lists.items) run.mode)
+          (option_map (λ typed. typed.1) lists.items) Incremental)
       go [] outputs e f = ap (λ i. all_or_nothing i lists.outputs) e
       go (input ∷ inputs) [] e f = ap (λ i. all_or_nothing i lists.outputs) e
           ∙ ap (all_or_nothing (input ∷ inputs)) f
       go (input ∷ inputs) (output ∷ outputs) e f =
           let all : all_or_nothing lists.inputs lists.outputs ≡ RunAll =
           ap (λ i. all_or_nothing i lists.outputs) e ∙ ap (all_or_nothing (input ∷ inputs)) f in
-          subst (λ m. May lists (decision (view_of run s) (input ∷ inputs) (output ∷ outputs)
-          (option_map (λ typed. typed.1) lists.items) m)) (sym mode)
-          (subst (λ i. May lists (by_shape (view_of run s) i (output ∷ outputs)
+          subst (λ i. May lists (by_shape (view_of run s) i (output ∷ outputs)
           (option_map (λ typed. typed.1) lists.items))) e
           (subst (λ o. May lists (by_shape (view_of run s) lists.inputs o
           (option_map (λ typed. typed.1) lists.items))) f
-          (may-shape lists (view_of run s) lists.items refl all)))
+          (may-shape lists (view_of run s) lists.items refl all))
 
 -- a clean build
 ext2 : (f g : Chooser) → ((lists : Lists) (s : State) → f lists s ≡ g lists s) → f ≡ g
 ext2 f g h = λ i. λ lists s. h lists s i
 
-pub clean-all : (run : Run) → run.mode ≡ Clean → choice_of run ≡ all_of
-clean-all run mode = ext2 (choice_of run) all_of (λ lists s. go lists s lists.inputs lists.outputs)
+pub clean-all : (run : Run) → choice_of Clean run ≡ all_of
+clean-all run = ext2 (choice_of Clean run) all_of (λ lists s.
+    go lists s lists.inputs lists.outputs)
   where
     go : (lists : Lists) (s : State) (inputs outputs : List (List ℕ)) →
-        decision (view_of run s) inputs outputs (option_map (λ typed. typed.1) lists.items) run.mode
+        decision (view_of run s) inputs outputs (option_map (λ typed. typed.1) lists.items) Clean
         ≡ all_or_nothing inputs outputs
     go lists s [] outputs = refl
     go lists s (input ∷ inputs) [] = refl
-    go lists s (input ∷ inputs) (output ∷ outputs) =
-        ap (λ m. decision (view_of run s) (input ∷ inputs) (output ∷ outputs)
-        (option_map (λ typed. typed.1) lists.items) m) mode
+    go lists s (input ∷ inputs) (output ∷ outputs) = refl

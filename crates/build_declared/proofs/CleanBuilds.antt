@@ -48,8 +48,8 @@ module _ (tools : List ℕ → ToolInput → ToolAnswer) (files : List File) whe
       FreshAt tools files (Some target) scope id k →
       TakesLists target → HasNotActed id j → HasNotActed id k →
       AlikeRuns (bytes_in files) AnyPath tools id j k
-      (body (run_at files Incremental id target) scope j)
-      (body (run_at files Clean id target) scope k) made (λ first. Unit {0})
+      (body Incremental (run_at files id target) scope j)
+      (body Clean (run_at files id target) scope k) made (λ first. Unit {0})
 
   module _ (go : RunsGo) (root : RequestKey) (instances : RequestKey → Result Instance Reply)
       (out : Given ToolInput RequestResult) where

@@ -1,5 +1,5 @@
 -- An incremental build of a declared and fresh world is a clean one, by its files and its projects.
-use Rattle.std.proofs.Common.{◌≡◌, ℕ, List, refl, sym, ◌∙◌, subst}
+use Rattle.std.proofs.Common.{◌≡◌, ℕ, List, sym, ◌∙◌, subst}
 use Rattle.std.specs.Prelude.{Result}
 use Rattle.msb_values.specs.declared.mode.Mode.TheVariants.{Incremental, Clean}
 use Rattle.msb_values.specs.declared.scope.Scope.{Scope}
@@ -40,14 +40,13 @@ module _ (tools : List ℕ → ToolInput → ToolAnswer) (files : List File) whe
   nothings : (target : UsedTarget) (scope : Scope) (id : RunId) (j k : Journal)
       (a : AlikeJournals (bytes_in files) AnyPath j k) (fw : HasNotActed id j)
       (fc : HasNotActed id k) →
-      GoesBy tools id (run_at files Incremental id target) scope j k a fw fc
-      (IsNothing tools id (run_at files Incremental id target) scope j k a fw fc)
+      GoesBy tools id (run_at files id target) scope j k a fw fc Incremental
+      (IsNothing tools id (run_at files id target) scope j k a fw fc)
   nothings target scope id j k a fw fc bucket lists s t ps pt c lw lc all Nothing e w E F he hf fe
       ff said =
-      let may : MayChoose tools id (run_at files Clean id target) lists Nothing =
-      subst (MayChoose tools id (run_at files Clean id target) lists) e
-      (decided-may tools id (run_at files Incremental id target)
-      (run_at files Clean id target) refl lists (entered scope bucket s)) in
+      let may : MayChoose tools id (run_at files id target) lists Nothing =
+      subst (MayChoose tools id (run_at files id target) lists) e
+      (decided-may tools id (run_at files id target) lists (entered scope bucket s)) in
       absurd (let g : Nothing ≡ RunAll = sym may ∙ all in apart g)
     where
       apart : Nothing ≡ RunAll → ⊥
@@ -62,12 +61,12 @@ module _ (tools : List ℕ → ToolInput → ToolAnswer) (files : List File) whe
   -- each piece of a run goes alike
   pub pieces-go : (target : UsedTarget) (scope : Scope) (id : RunId) (j k : Journal)
       (a : AlikeJournals (bytes_in files) AnyPath j k) → HasNotActed id j → HasNotActed id k →
-      PieceGoes tools id (run_at files Incremental id target) scope j k a
+      PieceGoes tools id (run_at files id target) scope j k a Incremental
   pieces-go target scope id j k a fw fc =
-      piece-goes tools id (run_at files Incremental id target) scope j k a fw fc
-      (skip-goes tools id (run_at files Incremental id target) refl scope j k a fw fc
-      (skips-same tools id (run_at files Incremental id target) refl scope j k a fw fc))
-      (part-goes tools id (run_at files Incremental id target) refl scope j k a fw fc)
+      piece-goes tools id (run_at files id target) scope j k a fw fc Incremental
+      (skip-goes tools id (run_at files id target) scope j k a fw fc
+      (skips-same tools id (run_at files id target) scope j k a fw fc))
+      (part-goes tools id (run_at files id target) scope j k a fw fc)
       (nothings target scope id j k a fw fc)
 
   -- the incremental world is whole, and gives what the clean one gives

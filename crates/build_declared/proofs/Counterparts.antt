@@ -167,17 +167,14 @@ the-one p q (input ∷ inputs) [] i = absurd i
 the-one p q (input ∷ inputs) (output ∷ outputs) (inl e) = (refl, e)
 the-one p q (input ∷ inputs) (output ∷ outputs) (inr i) = absurd i
 
--- a build's mode, and the clean build's run; the journals with which they begin
+-- a run, in a build and in the clean one; the journals with which they begin
 module _ (tools : List ℕ → ToolInput → ToolAnswer) (id : RunId) (run : Run) (scope : Scope)
     (j k : Journal) (a : AlikeJournals (bytes_in run.files) AnyPath j k)
     (fw : HasNotActed id j) (fc : HasNotActed id k) where
-  abbrev clean : Run
-  clean = record run { mode = Clean }
-
   -- as it is decided, the piece succeeds, and these are the acts of the run then
-  abbrev pub Ends : Piece → List Act → Type 0
-  Ends p acts = (t : State)
-      × (end_of_piece tools id run p (choice_of run p.lists p.from)
+  abbrev pub Ends : Mode → Piece → List Act → Type 0
+  Ends mode p acts = (t : State)
+      × (end_of_piece tools id run p (choice_of mode run p.lists p.from)
       ≡ Some (record { value = Ok t; journal = t.journal; acts = acts }))
 
   -- p is the piece in the build, q in the clean one, where it succeeds too; total are the acts of
@@ -185,7 +182,7 @@ module _ (tools : List ℕ → ToolInput → ToolAnswer) (id : RunId) (run : Run
   pub record Fares (total : List Act) (p q : Piece) (acts : List Act) : Type 0 where
     pub after : State
     pub more : List Act
-    pub succeeds : SucceedsWith tools id clean q after more
+    pub succeeds : SucceedsWith tools id run q after more
     pub new : List Act
     pub own : acts ≡ new ++ p.before
     pub rest : List Act
@@ -193,14 +190,14 @@ module _ (tools : List ℕ → ToolInput → ToolAnswer) (id : RunId) (run : Run
     pub each : (pair : Pairing) → IsPaired q pair →
         Fate (view_of run p.from) new (since q.before more) pair
 
-  pub record Counterpart (total : List Act) (p q : Piece) : Type 0 where
+  pub record Counterpart (mode : Mode) (total : List Act) (p q : Piece) : Type 0 where
     pub lists : p.lists ≡ q.lists
     pub begins : p.from.journal ≡ numbered id p.before ++ j
-    pub fares : (acts : List Act) → Ends p acts → Fares total p q acts
+    pub fares : (acts : List Act) → Ends mode p acts → Fares total p q acts
 
   -- the piece has one in the build
-  abbrev pub HasCounterpart : List Act → List Piece → Piece → Type 0
-  HasCounterpart total ps q = (p : Piece) × In p ps × Counterpart total p q
+  abbrev pub HasCounterpart : Mode → List Act → List Piece → Piece → Type 0
+  HasCounterpart mode total ps q = (p : Piece) × In p ps × Counterpart mode total p q
 
   -- both come to an end
   ok-both : (r q : Result State Stopped) (l : Journal) (ps pt : List Act) →
@@ -216,8 +213,8 @@ module _ (tools : List ℕ → ToolInput → ToolAnswer) (id : RunId) (run : Run
       ap (λ r. record { value = r; journal = F.journal; acts = F.acts }) v
       ∙ ap (λ m. record { value = Ok u; journal = m; acts = F.acts }) (sym l)
 
-  module _ (mode : Mode) (in_mode : run.mode ≡ mode) (goes : PieceGoes tools id run scope j k a)
-      (takes : (bucket : Bucket) (y : State) → lists_at clean bucket y ≡ Ok None → ⊥) where
+  module _ (mode : Mode) (goes : PieceGoes tools id run scope j k a mode)
+      (takes : (bucket : Bucket) (y : State) → lists_at run bucket y ≡ Ok None → ⊥) where
     abbrev Good : Note → Type 0
     Good = Fine tools id run scope j k a
 
@@ -230,13 +227,13 @@ module _ (tools : List ℕ → ToolInput → ToolAnswer) (id : RunId) (run : Run
 
     abbrev here_c : Bucket → State → List Act → List Piece
     here_c bucket t pt =
-        piece_if bucket (entered scope bucket t) pt (lists_at clean bucket (entered scope bucket t))
+        piece_if bucket (entered scope bucket t) pt (lists_at run bucket (entered scope bucket t))
 
     -- ---- one bucket
 
     module _ (bucket : Bucket) (s t : State) (ps pt : List Act)
         (c : Carry tools id run scope j k s t ps pt) (E F : End (Result State Stopped))
-        (he : end_of tools id (first_of tools id run scope j k bucket s) s.journal ps ≡ Some E)
+        (he : end_of tools id (first_of tools id run scope j k mode bucket s) s.journal ps ≡ Some E)
         (hf : end_of tools id (second_of tools id run scope j k bucket t) t.journal pt ≡ Some F)
         (fe : IsFine tools id run scope j k Good E.value)
         (ff : IsFine tools id run scope j k Good F.value)
@@ -252,37 +249,37 @@ module _ (tools : List ℕ → ToolInput → ToolAnswer) (id : RunId) (run : Run
       pub record PieceEnds (lists : Lists) : Type 0 where
         pub U : End (Result State Stopped)
         pub V : End (Result State Stopped)
-        pub first : end_of tools id (decided run bucket (choice_of run lists x) lists.items x)
+        pub first : end_of tools id (decided run bucket (choice_of mode run lists x) lists.items x)
             s.journal ps ≡ Some U
-        pub second : end_of tools id (decided clean bucket RunAll lists.items y) t.journal pt
+        pub second : end_of tools id (decided run bucket RunAll lists.items y) t.journal pt
             ≡ Some V
         pub first_fine : IsFine tools id run scope j k Good U.value
         pub second_fine : IsFine tools id run scope j k Good V.value
         pub acts_so : U.acts ≡ E.acts
 
-      piece-ends : (lists : Lists) → lists_at clean bucket y ≡ Ok (Some lists) →
+      piece-ends : (lists : Lists) → lists_at run bucket y ≡ Ok (Some lists) →
           lists_at run bucket x ≡ Ok (Some lists) →
           all_or_nothing lists.inputs lists.outputs ≡ RunAll → PieceEnds lists
       piece-ends lists e same all =
           let he' : end_of tools id (followed_by (decided run bucket
-          (choice_of run lists x) lists.items x) (λ end. done (or_failed end))) s.journal ps
+          (choice_of mode run lists x) lists.items x) (λ end. done (or_failed end))) s.journal ps
           ≡ Some E =
           subst (λ z. end_of tools id (followed_by (unless_stopped (or_stop x z)
-          (chosen_or_run (choice_of run) run bucket x))
+          (chosen_or_run (choice_of mode run) run bucket x))
           (λ end. done (or_failed end))) s.journal ps ≡ Some E) same he in
-          let hf' : end_of tools id (followed_by (decided clean bucket
+          let hf' : end_of tools id (followed_by (decided run bucket
           (all_or_nothing lists.inputs lists.outputs) lists.items y)
           (λ end. done (or_failed end))) t.journal pt ≡ Some F =
           subst (λ z. end_of tools id (followed_by (unless_stopped (or_stop y z)
-          (chosen_or_run all_of clean bucket y))
+          (chosen_or_run all_of run bucket y))
           (λ end. done (or_failed end))) t.journal pt ≡ Some F) e hf in
-          let hf2 : end_of tools id (followed_by (decided clean bucket RunAll lists.items y)
+          let hf2 : end_of tools id (followed_by (decided run bucket RunAll lists.items y)
           (λ end. done (or_failed end))) t.journal pt ≡ Some F =
-          subst (λ z. end_of tools id (followed_by (decided clean bucket z lists.items y)
+          subst (λ z. end_of tools id (followed_by (decided run bucket z lists.items y)
           (λ end. done (or_failed end))) t.journal pt ≡ Some F) all hf' in
-          let u = end-bound tools id (decided run bucket (choice_of run lists x) lists.items x)
+          let u = end-bound tools id (decided run bucket (choice_of mode run lists x) lists.items x)
           (λ end. done (or_failed end)) s.journal ps E he' in
-          let v = end-bound tools id (decided clean bucket RunAll lists.items y)
+          let v = end-bound tools id (decided run bucket RunAll lists.items y)
           (λ end. done (or_failed end)) t.journal pt F hf2 in
           let ew : record {
             value = or_failed u.0.value;
@@ -322,10 +319,10 @@ module _ (tools : List ℕ → ToolInput → ToolAnswer) (id : RunId) (run : Run
       abbrev as_clean : Lists → Piece
       as_clean lists = piece_at tools id run scope j k a bucket lists t pt
 
-      how-fares : (lists : Lists) → lists_at clean bucket y ≡ Ok (Some lists) →
+      how-fares : (lists : Lists) → lists_at run bucket y ≡ Ok (Some lists) →
           lists_at run bucket x ≡ Ok (Some lists) →
           all_or_nothing lists.inputs lists.outputs ≡ RunAll → Known (as_clean lists) →
-          PieceEnds lists → (acts : List Act) → Ends (as_decided lists) acts →
+          PieceEnds lists → (acts : List Act) → Ends mode (as_decided lists) acts →
           Fares total (as_decided lists) (as_clean lists) acts
       how-fares lists e same all known p acts ended =
           let ours : p.U ≡ record { value = Ok ended.0; journal = ended.0.journal; acts = acts } =
@@ -337,7 +334,7 @@ module _ (tools : List ℕ → ToolInput → ToolAnswer) (id : RunId) (run : Run
           p.second_fine known in
           let theirs = ok-both p.U.value p.V.value p.V.journal p.U.acts p.V.acts g.ends g.c_step
           ended.0 (ap (λ (z : End (Result State Stopped)). z.value) ours) in
-          let second : end_of tools id (decided clean bucket RunAll lists.items y) t.journal pt
+          let second : end_of tools id (decided run bucket RunAll lists.items y) t.journal pt
           ≡ Some (record {
             value = Ok theirs.0;
             journal = theirs.0.journal;
@@ -346,7 +343,7 @@ module _ (tools : List ℕ → ToolInput → ToolAnswer) (id : RunId) (run : Run
           let fine : IsFine tools id run scope j k Good (Ok theirs.0) =
           subst (IsFine tools id run scope j k Good) theirs.1 p.second_fine in
           let f = fates tools id run scope j k a fw fc bucket lists s t ps pt c all p.U theirs.0
-          p.V.acts second p.first_fine fine known mode in_mode p.first in
+          p.V.acts second p.first_fine fine known mode p.first in
           record {
             after = theirs.0;
             more = p.V.acts;
@@ -359,11 +356,11 @@ module _ (tools : List ℕ → ToolInput → ToolAnswer) (id : RunId) (run : Run
           }
 
       one-counter : (q : Piece) → In q (here_c bucket t pt) →
-          HasCounterpart total (here_w bucket s ps) q
-      one-counter q i = go (lists_at clean bucket y) refl i
+          HasCounterpart mode total (here_w bucket s ps) q
+      one-counter q i = go (lists_at run bucket y) refl i
         where
-          go : (l : Result (Option Lists) EvalFault) → lists_at clean bucket y ≡ l →
-              In q (piece_if bucket y pt l) → HasCounterpart total (here_w bucket s ps) q
+          go : (l : Result (Option Lists) EvalFault) → lists_at run bucket y ≡ l →
+              In q (piece_if bucket y pt l) → HasCounterpart mode total (here_w bucket s ps) q
           go (Ok None) e i = absurd i
           go (Err fault) e i = absurd i
           go (Ok (Some lists)) e i =
@@ -374,13 +371,13 @@ module _ (tools : List ℕ → ToolInput → ToolAnswer) (id : RunId) (run : Run
               let there : In (as_clean lists) (here_c bucket t pt) =
               subst (λ z. In (as_clean lists) (piece_if bucket y pt z)) (sym e)
               (in-one (as_clean lists) lists.inputs lists.outputs one.0) in
-              let counter : Counterpart total (as_decided lists) (as_clean lists) = record {
+              let counter : Counterpart mode total (as_decided lists) (as_clean lists) = record {
                 lists = refl;
                 begins = c.w_is;
                 fares = how-fares lists e same one.0 (so (as_clean lists) there)
                     (piece-ends lists e same one.0);
               } in
-              subst (HasCounterpart total (here_w bucket s ps)) one.1 (
+              subst (HasCounterpart mode total (here_w bucket s ps)) one.1 (
                 as_decided lists,
                 subst (λ z. In (as_decided lists) (piece_if bucket x ps z)) (sym same)
                     (in-one (as_decided lists) lists.inputs lists.outputs one.0),
@@ -390,20 +387,20 @@ module _ (tools : List ℕ → ToolInput → ToolAnswer) (id : RunId) (run : Run
     -- ---- the buckets in turn
 
     abbrev first : Bucket → State → Work (Result State Stopped)
-    first = first_of tools id run scope j k
+    first = first_of tools id run scope j k mode
 
     abbrev second : Bucket → State → Work (Result State Stopped)
     second = second_of tools id run scope j k
 
     abbrev all_w : List Bucket → State → List Act → List Piece
-    all_w = pieces_among tools id (choice_of run) run scope
+    all_w = pieces_among tools id (choice_of mode run) run scope
 
     abbrev all_c : List Bucket → State → List Act → List Piece
-    all_c = pieces_among tools id all_of clean scope
+    all_c = pieces_among tools id all_of run scope
 
     wider : (total : List Act) (ps qs rs : List Piece) (q : Piece) →
-        ((p : Piece) → In p ps → In p (qs ++ rs)) → HasCounterpart total ps q →
-        HasCounterpart total (qs ++ rs) q
+        ((p : Piece) → In p ps → In p (qs ++ rs)) → HasCounterpart mode total ps q →
+        HasCounterpart mode total (qs ++ rs) q
     wider total ps qs rs q f x = (x.0, f x.0 x.1, x.2)
 
     abbrev Counters : List Bucket → Type 0
@@ -413,7 +410,7 @@ module _ (tools : List ℕ → ToolInput → ToolAnswer) (id : RunId) (run : Run
         end_of tools id (each_in_turn second buckets t) t.journal pt ≡ Some F →
         IsFine tools id run scope j k Good E.value → IsFine tools id run scope j k Good F.value →
         AreSo tools id run scope j k Known (all_c buckets t pt) → (q : Piece) →
-        In q (all_c buckets t pt) → HasCounterpart E.acts (all_w buckets s ps) q
+        In q (all_c buckets t pt) → HasCounterpart mode E.acts (all_w buckets s ps) q
 
     -- the pieces of the later buckets, by how the first one ends
     later-counters : (buckets : List Bucket) → Counters buckets → (E F : End (Result State Stopped))
@@ -425,7 +422,7 @@ module _ (tools : List ℕ → ToolInput → ToolAnswer) (id : RunId) (run : Run
         IsFine tools id run scope j k Good E.value → IsFine tools id run scope j k Good F.value →
         AreSo tools id run scope j k Known (then_pieces (Some Y) (all_c buckets)) → (q : Piece) →
         In q (then_pieces (Some Y) (all_c buckets)) →
-        HasCounterpart E.acts (then_pieces (Some X) (all_w buckets)) q
+        HasCounterpart mode E.acts (then_pieces (Some X) (all_w buckets)) q
     later-counters buckets ih E F X Y g he hf fe ff so q i =
         go X.value Y.value g.ends g.w_step g.c_step he hf so i
       where
@@ -437,7 +434,7 @@ module _ (tools : List ℕ → ToolInput → ToolAnswer) (id : RunId) (run : Run
             ≡ Some F →
             AreSo tools id run scope j k Known (next_by v Y.acts (all_c buckets)) →
             In q (next_by v Y.acts (all_c buckets)) →
-            HasCounterpart E.acts (next_by r X.acts (all_w buckets)) q
+            HasCounterpart mode E.acts (next_by r X.acts (all_w buckets)) q
         go (Ok s) (Ok t) c sw sc he hf so i = ih s t X.acts Y.acts c E F
             (subst (λ z. end_of tools id (each_in_turn first buckets s) z X.acts ≡ Some E)
             (sym sw) he)
@@ -456,11 +453,11 @@ module _ (tools : List ℕ → ToolInput → ToolAnswer) (id : RunId) (run : Run
         (λ end. unless_stopped end (each_in_turn second buckets)) t.journal pt F hf in
         let fx : IsFine tools id run scope j k Good X.0.value = λ note u.
         fe note (rest-keeps tools id run scope j k first
-        (bucket-keeps tools id run (choice_of run) scope) buckets
+        (bucket-keeps tools id run (choice_of mode run) scope) buckets
         X.0.value X.0.journal X.0.acts E X.2 note u) in
         let fy : IsFine tools id run scope j k Good Y.0.value = λ note u.
         ff note (rest-keeps tools id run scope j k second
-        (bucket-keeps tools id clean all_of scope) buckets
+        (bucket-keeps tools id run all_of scope) buckets
         Y.0.value Y.0.journal Y.0.acts F Y.2 note u) in
         let here = here_c bucket t pt in
         let later = then_pieces (end_of tools id (second bucket t) t.journal pt)
@@ -471,8 +468,8 @@ module _ (tools : List ℕ → ToolInput → ToolAnswer) (id : RunId) (run : Run
         λ p u. so p (in-left p here later u) in
         let grown = end-grows tools id (unless_stopped X.0.value (each_in_turn first buckets))
         X.0.journal X.0.acts E X.2 in
-        let g = bucket-goes tools id run scope j k a goes takes bucket s t ps pt c X.0 Y.0 X.1 Y.1
-        fx fy so_here in
+        let g = bucket-goes tools id run scope j k a mode goes takes bucket s t ps pt c X.0 Y.0 X.1
+        Y.1 fx fy so_here in
         elim (in-parts q here later i) [
           | inl u ↦ wider E.acts (here_w bucket s ps) (here_w bucket s ps) later_w q
               (λ p v. in-left p (here_w bucket s ps) later_w v)
@@ -548,47 +545,43 @@ no-pieces tools id run scope takes (bucket ∷ buckets) s acts q i =
 module _ (tools : List ℕ → ToolInput → ToolAnswer) (files : List File) (target : UsedTarget)
     (scope : Scope) (id : RunId) (j k : Journal) (a : AlikeJournals (bytes_in files) AnyPath j k)
     (fw : HasNotActed id j) (fc : HasNotActed id k) where
-  abbrev pub clean_run : Run
-  clean_run = run_at files Clean id target
+  abbrev pub run : Run
+  run = run_at files id target
 
   abbrev pub t0 : State
   t0 = begun scope k
 
   -- a clean build chooses nothing else
   never-chosen : (C : Choice → Type 0) → (C RunAll → ⊥) →
-      GoesBy tools id clean_run scope j k a fw fc C
+      GoesBy tools id run scope j k a fw fc Clean C
   never-chosen C not_all bucket lists s t ps pt c lw lc all choice e w E F he hf fe ff said =
       let is : choice ≡ RunAll =
-      sym e ∙ (ap (λ (f : Chooser). f lists (entered scope bucket s)) (clean-all clean_run refl)
+      sym e ∙ (ap (λ (f : Chooser). f lists (entered scope bucket s)) (clean-all run)
       ∙ all) in
       absurd (not_all (subst C is w))
 
-  pub piece-goes-in : (mode : Mode) → PieceGoes tools id (run_at files mode id target) scope j k a
+  pub piece-goes-in : (mode : Mode) → PieceGoes tools id run scope j k a mode
   piece-goes-in Incremental = pieces-go tools files target scope id j k a fw fc
-  piece-goes-in Clean = piece-goes tools id clean_run scope j k a fw fc
-      (never-chosen (IsSkip tools id clean_run scope j k a fw fc) (λ h. h))
-      (never-chosen (IsPart tools id clean_run scope j k a fw fc) (λ h. h))
-      (never-chosen (IsNothing tools id clean_run scope j k a fw fc) (λ h. h))
+  piece-goes-in Clean = piece-goes tools id run scope j k a fw fc Clean
+      (never-chosen (IsSkip tools id run scope j k a fw fc) (λ h. h))
+      (never-chosen (IsPart tools id run scope j k a fw fc) (λ h. h))
+      (never-chosen (IsNothing tools id run scope j k a fw fc) (λ h. h))
 
   -- all buckets of the run come to an end
-  abbrev pub RunEnds : Mode → Chooser → Type 0
-  RunEnds mode choose = (end : End Outcome)
-      × (end_of tools id (work_by choose (run_at files mode id target) scope j) j [] ≡ Some end)
-      × ((note : Note) → In note end.value.notes → IsNotTooLarge tools id clean_run note)
+  abbrev pub RunEnds : Chooser → Type 0
+  RunEnds choose = (end : End Outcome)
+      × (end_of tools id (work_by choose run scope j) j [] ≡ Some end)
+      × ((note : Note) → In note end.value.notes → IsNotTooLarge tools id run note)
 
-  pub run-ends : (mode : Mode) (ps : List Piece) → RunIsDeclared tools id clean_run scope k ps →
-      RunEnds mode (choice_of (run_at files mode id target))
-  run-ends Incremental ps r = r.never_large Incremental j a
-      (choice_of (run_at files Incremental id target))
-      (decided-may tools id (run_at files Incremental id target) clean_run refl)
-  run-ends Clean ps r = subst (RunEnds Clean) (sym (clean-all clean_run refl))
-      (r.never_large Clean j a all_of (λ lists s. all-may tools id clean_run lists
+  pub run-ends : (mode : Mode) (ps : List Piece) → RunIsDeclared tools id run scope k ps →
+      RunEnds (choice_of mode run)
+  run-ends Incremental ps r = r.never_large j a (choice_of Incremental run)
+      (decided-may tools id run)
+  run-ends Clean ps r = subst RunEnds (sym (clean-all run))
+      (r.never_large j a all_of (λ lists s. all-may tools id run lists
       (all_or_nothing lists.inputs lists.outputs) refl))
 
   module _ (mode : Mode) where
-    abbrev pub run : Run
-    run = run_at files mode id target
-
     abbrev pub s0 : State
     s0 = begun scope j
 
@@ -598,14 +591,14 @@ module _ (tools : List ℕ → ToolInput → ToolAnswer) (files : List File) (ta
       pub total : List Act
       pub ends : alone tools id (body_at files mode id (Some target) scope j) j []
           ≡ Some (outcome, total)
-      pub counter : HasCounterpart tools id run scope j k a fw fc total
-          (pieces_of tools id (choice_of run) run scope j) q
+      pub counter : HasCounterpart tools id run scope j k a fw fc mode total
+          (pieces_of tools id (choice_of mode run) run scope j) q
 
     abbrev pub found_w : Result (List Bucket) EvalFault
     found_w = target_buckets (place_in run s0 scope) target.element
 
     abbrev pub found_c : Result (List Bucket) EvalFault
-    found_c = target_buckets (place_in clean_run t0 scope) target.element
+    found_c = target_buckets (place_in run t0 scope) target.element
 
     pub buckets-same : found_w ≡ found_c
     buckets-same = ap (λ l. target_buckets (item_place l id.instance.path scope) target.element)
@@ -621,20 +614,20 @@ module _ (tools : List ℕ → ToolInput → ToolAnswer) (files : List File) (ta
     }
 
     abbrev all_clean : List Bucket → List Piece
-    all_clean found = pieces_among tools id all_of clean_run scope found t0 []
+    all_clean found = pieces_among tools id all_of run scope found t0 []
 
     by-run : (found : List Bucket) → found_w ≡ Ok found → found_c ≡ Ok found →
-        (ps : List Piece) → RunIsDeclared tools id clean_run scope k ps → all_clean found ≡ ps →
-        ((p : Piece) → In p (all_clean found) → PieceIsFresh tools id clean_run p) →
-        NeverNone clean_run → (q : Piece) → In q (all_clean found) → RunFares q
+        (ps : List Piece) → RunIsDeclared tools id run scope k ps → all_clean found ≡ ps →
+        ((p : Piece) → In p (all_clean found) → PieceIsFresh tools id run p) →
+        NeverNone run → (q : Piece) → In q (all_clean found) → RunFares q
     by-run found ew ec ps r e fresh takes q i =
         let w = run-ends mode ps r in
-        let c = r.never_large Clean k (alike-self files k) all_of
-        (λ lists s. all-may tools id clean_run lists
+        let c = r.never_large k (alike-self files k) all_of
+        (λ lists s. all-may tools id run lists
         (all_or_nothing lists.inputs lists.outputs) refl) in
-        let x = end-bound tools id (buckets_by (choice_of run) run scope s0)
+        let x = end-bound tools id (buckets_by (choice_of mode run) run scope s0)
         (λ end. done (outcome_of end)) j [] w.0 w.1 in
-        let y = end-bound tools id (buckets_by all_of clean_run scope t0)
+        let y = end-bound tools id (buckets_by all_of run scope t0)
         (λ end. done (outcome_of end)) k [] c.0 c.1 in
         let ox : outcome_of x.0.value ≡ w.0.value =
         ap (λ (z : End Outcome). z.value) (some-same (record {
@@ -648,60 +641,61 @@ module _ (tools : List ℕ → ToolInput → ToolAnswer) (files : List File) (ta
           journal = y.0.journal;
           acts = y.0.acts;
         }) c.0 y.2) in
-        let hx : end_of tools id (each_in_turn (bucket_by (choice_of run) run scope) found s0) j []
-        ≡ Some x.0 =
+        let hx : end_of tools id (each_in_turn (bucket_by (choice_of mode run) run scope) found s0)
+        j [] ≡ Some x.0 =
         sym (ap (λ z. end_of tools id (unless_stopped (or_failed (or_stop s0 z))
-        (λ found. each_in_turn (bucket_by (choice_of run) run scope) found s0)) j []) ew) ∙ x.1 in
-        let hy : end_of tools id (each_in_turn (bucket_by all_of clean_run scope) found t0) k []
+        (λ found. each_in_turn (bucket_by (choice_of mode run) run scope) found s0)) j []) ew)
+        ∙ x.1 in
+        let hy : end_of tools id (each_in_turn (bucket_by all_of run scope) found t0) k []
         ≡ Some y.0 =
         sym (ap (λ z. end_of tools id (unless_stopped (or_failed (or_stop t0 z))
-        (λ found. each_in_turn (bucket_by all_of clean_run scope) found t0)) k []) ec) ∙ y.1 in
-        let work : end_of tools id (work_by (choice_of run) run scope j) j []
+        (λ found. each_in_turn (bucket_by all_of run scope) found t0)) k []) ec) ∙ y.1 in
+        let work : end_of tools id (work_by (choice_of mode run) run scope j) j []
         ≡ Some (record { value = outcome_of x.0.value; journal = x.0.journal; acts = x.0.acts }) =
-        bound-end tools id (buckets_by (choice_of run) run scope s0)
+        bound-end tools id (buckets_by (choice_of mode run) run scope s0)
         (λ end. done (outcome_of end)) j [] x.0 x.1 in
-        let counted = counters tools id run scope j k a fw fc mode refl (piece-goes-in mode) takes
+        let counted = counters tools id run scope j k a fw fc mode (piece-goes-in mode) takes
         found s0 t0 [] [] at-start x.0 y.0 hx hy
         (λ note u. w.2 note (subst (λ (o : Outcome). In note o.notes) ox
         (notes-of x.0.value note u)))
         (λ note u. c.2 note (subst (λ (o : Outcome). In note o.notes) oy
         (notes-of y.0.value note u)))
         (λ p u. (r.each p (subst (In p) e u), fresh p u)) q i in
-        let listed : all_w tools id run scope j k a fw fc mode refl (piece-goes-in mode) takes
-        found s0 [] ≡ pieces_of tools id (choice_of run) run scope j =
-        sym (ap (λ z. pieces_in tools id (choice_of run) run scope (or_stop s0 z) s0) ew) in
+        let listed : all_w tools id run scope j k a fw fc mode (piece-goes-in mode) takes
+        found s0 [] ≡ pieces_of tools id (choice_of mode run) run scope j =
+        sym (ap (λ z. pieces_in tools id (choice_of mode run) run scope (or_stop s0 z) s0) ew) in
         record {
           outcome = outcome_of x.0.value;
           total = x.0.acts;
-          ends = alone-end tools id (work_by (choice_of run) run scope j) j [] (record {
+          ends = alone-end tools id (work_by (choice_of mode run) run scope j) j [] (record {
             value = outcome_of x.0.value;
             journal = x.0.journal;
             acts = x.0.acts;
           }) work;
-          counter = subst (λ l. HasCounterpart tools id run scope j k a fw fc x.0.acts l q) listed
-              counted;
+          counter = subst (λ l. HasCounterpart tools id run scope j k a fw fc mode x.0.acts l q)
+              listed counted;
         }
 
     by-buckets : (x : Result (List Bucket) EvalFault) → found_w ≡ x → found_c ≡ x →
-        DeclaredBy tools id clean_run scope k
-        (pieces_in tools id all_of clean_run scope (or_stop t0 x) t0) →
-        ((p : Piece) → In p (pieces_in tools id all_of clean_run scope (or_stop t0 x) t0) →
-        PieceIsFresh tools id clean_run p) → (q : Piece) →
-        In q (pieces_in tools id all_of clean_run scope (or_stop t0 x) t0) → RunFares q
+        DeclaredBy tools id run scope k
+        (pieces_in tools id all_of run scope (or_stop t0 x) t0) →
+        ((p : Piece) → In p (pieces_in tools id all_of run scope (or_stop t0 x) t0) →
+        PieceIsFresh tools id run p) → (q : Piece) →
+        In q (pieces_in tools id all_of run scope (or_stop t0 x) t0) → RunFares q
     by-buckets (Err fault) ew ec declared fresh q i = absurd i
     by-buckets (Ok found) ew ec declared fresh q i = go (all_clean found) refl declared
       where
-        never_none : NeverNone clean_run
-        never_none = elim (takes-or-none clean_run) [
+        never_none : NeverNone run
+        never_none = elim (takes-or-none run) [
           | inl h ↦ h
-          | inr h ↦ absurd (no-pieces tools id clean_run scope h found t0 [] q i)
+          | inr h ↦ absurd (no-pieces tools id run scope h found t0 [] q i)
         ]
 
         go : (ps : List Piece) → all_clean found ≡ ps →
-            DeclaredBy tools id clean_run scope k (all_clean found) → RunFares q
+            DeclaredBy tools id run scope k (all_clean found) → RunFares q
         go [] e d = absurd (subst (In q) e i)
         go (p ∷ ps) e d = by-run found ew ec (p ∷ ps)
-            (subst (DeclaredBy tools id clean_run scope k) e d) e fresh never_none q i
+            (subst (DeclaredBy tools id run scope k) e d) e fresh never_none q i
 
     pub run-fares : DeclaredAt tools files (Some target) scope id k →
         FreshAt tools files (Some target) scope id k → (q : Piece) →

@@ -36,7 +36,6 @@ use Rattle.msb_values.specs.Acts.{act_path, act_bytes}
 use Rattle.msb_values.specs.Keys.{key_of}
 use Rattle.msb_values.specs.declared.change.Change.{Change}
 use Rattle.msb_values.specs.declared.item.Item.{Item}
-use Rattle.msb_values.specs.declared.mode.Mode.TheVariants.{Clean}
 use Rattle.msb_values.specs.declared.act.Act.{Act}
 use Rattle.msb_elements.specs.Nodes.{name_of}
 use Rattle.msb_expand.specs.declared.lens.Bucket.{Bucket}
@@ -195,9 +194,6 @@ use Rattle.msb_values.specs.Changes.{applied}
 
 module _ (tools : List ℕ → ToolInput → ToolAnswer) (id : RunId) (run : Run) (j k : Journal)
     (fw : HasNotActed id j) (fc : HasNotActed id k) where
-  abbrev clean : Run
-  clean = record run { mode = Clean }
-
   abbrev T : List ℕ → Option (List ℕ)
   T = bytes_in run.files
 
@@ -219,7 +215,7 @@ module _ (tools : List ℕ → ToolInput → ToolAnswer) (id : RunId) (run : Run
   CousinEnd r q ps pt = ⊥
 
   abbrev pub Fine : List Note → Type 0
-  Fine notes = (note : Note) → In note notes → IsNotTooLarge tools id clean note
+  Fine notes = (note : Note) → In note notes → IsNotTooLarge tools id run note
 
   abbrev pub journal_of : Result State Stopped → Journal
   journal_of r = (state_of r).journal
@@ -242,19 +238,19 @@ module _ (tools : List ℕ → ToolInput → ToolAnswer) (id : RunId) (run : Run
   -- ---- places
 
   place-same : (s t : State) (ps pt : List Act) → Cousin s t ps pt →
-      place_in run s s.scope ≡ place_in clean t t.scope
+      place_in run s s.scope ≡ place_in run t t.scope
   place-same s t ps pt h = ap (λ l. item_place l run.instance.path s.scope)
       ((looks-same run.files AnyPath).paths s.journal t.journal h.alike)
-      ∙ ap (place_in clean t) h.scope
+      ∙ ap (place_in run t) h.scope
 
   scopes-same : (s t : State) (ps pt : List Act) → Cousin s t ps pt → task_scope s ≡ task_scope t
   scopes-same s t ps pt h = ap (λ p. with_part p s.scope) h.part ∙ ap (with_part t.part) h.scope
 
   tasks-same : (s t : State) (ps pt : List Act) → Cousin s t ps pt →
-      place_in run s (task_scope s) ≡ place_in clean t (task_scope t)
+      place_in run s (task_scope s) ≡ place_in run t (task_scope t)
   tasks-same s t ps pt h = ap (λ l. item_place l run.instance.path (task_scope s))
       ((looks-same run.files AnyPath).paths s.journal t.journal h.alike)
-      ∙ ap (place_in clean t) (scopes-same s t ps pt h)
+      ∙ ap (place_in run t) (scopes-same s t ps pt h)
 
   -- ---- parts that are over, and parts in turn
 
@@ -700,7 +696,7 @@ module _ (tools : List ℕ → ToolInput → ToolAnswer) (id : RunId) (run : Run
       go false = λ ps pt c E F he hf fe ff. absurd (cc)
 
   msbuild-both : (params : List Param) (s t : State) →
-      AnswerBoth s t (msbuild run s params) (msbuild clean t params)
+      AnswerBoth s t (msbuild run s params) (msbuild run t params)
   msbuild-both params s t = go plan.parallel
     where
       plan : Plan
@@ -739,7 +735,7 @@ module _ (tools : List ℕ → ToolInput → ToolAnswer) (id : RunId) (run : Run
           params).calls s t
 
   built-both : (b : Bool) (name : List ℕ) (params : List Param) (s t : State) →
-      AnswerBoth s t (not_built_in b run s name params) (not_built_in b clean t name params)
+      AnswerBoth s t (not_built_in b run s name params) (not_built_in b run t name params)
   built-both true name params s t = msbuild-both params s t
   built-both false name params s t = λ ps pt c.
       subst (λ x. (E F : End (State × TaskOutput)) →
@@ -753,7 +749,7 @@ module _ (tools : List ℕ → ToolInput → ToolAnswer) (id : RunId) (run : Run
 
   by-answers : (x y : ToolAnswer) → AnswersAlike x y →
       (name : List ℕ) (params : List Param) (s t : State) →
-      AnswerBoth s t (answered_by x run s name params) (answered_by y clean t name params)
+      AnswerBoth s t (answered_by x run s name params) (answered_by y run t name params)
   by-answers (MadeBy x) (MadeBy y) h name params s t = outputs-both x y h s t
   by-answers (MadeBy x) Unknown h name params s t = absurd h
   by-answers Unknown (MadeBy y) h name params s t = absurd h
@@ -761,19 +757,19 @@ module _ (tools : List ℕ → ToolInput → ToolAnswer) (id : RunId) (run : Run
       built-both (bytes_eq name (codes "msbuild")) name params s t
 
   answered-both : (name : List ℕ) (params : List Param) (s t : State) →
-      AnswerBoth s t (answered run s name params) (answered clean t name params)
+      AnswerBoth s t (answered run s name params) (answered run t name params)
   answered-both name params s t = λ ps pt c.
       let dir = folder_of run.instance.path in
       let alike : AnswersAlike (answer name dir (view_of run s) params s.written)
-      (answer name dir (view_of clean t) params t.written) =
+      (answer name dir (view_of run t) params t.written) =
       subst (λ x. AnswersAlike (answer name dir (view_of run s) params s.written) x)
       ((looks-same run.files AnyPath).answers s.journal t.journal c.alike name dir params
       t.written) (answers-alike name dir (view_of run s) params s.written t.written) in
       by-answers (answer name dir (view_of run s) params s.written)
-      (answer name dir (view_of clean t) params t.written) alike name params s t ps pt c
+      (answer name dir (view_of run t) params t.written) alike name params s t ps pt c
 
   if-both : (name : Option (List ℕ)) (e : At) (params : List Param) (s t : State) →
-      AnswerBoth s t (answered_if name run s e params) (answered_if name clean t e params)
+      AnswerBoth s t (answered_if name run s e params) (answered_if name run t e params)
   if-both (Some name) e params s t = answered-both name params s t
   if-both None e params s t = output-over s t (failed_output (task_of e) UnknownTask)
 
@@ -791,8 +787,8 @@ module _ (tools : List ℕ → ToolInput → ToolAnswer) (id : RunId) (run : Run
   fine-notes Continue notes f = f
   fine-notes Warn notes f = λ note i. go note (f (as_warning note) (in-map note notes i))
     where
-      go : (note : Note) → IsNotTooLarge tools id clean (as_warning note) →
-          IsNotTooLarge tools id clean note
+      go : (note : Note) → IsNotTooLarge tools id run (as_warning note) →
+          IsNotTooLarge tools id run note
       go (Low text) h = tt
       go (Message text) h = tt
       go (Warning text) h = h
@@ -832,19 +828,19 @@ module _ (tools : List ℕ → ToolInput → ToolAnswer) (id : RunId) (run : Run
   and-journal (Err d) f g = refl
 
   call-place : (s t : State) (bucket : Bucket) (ps pt : List Act) → Cousin s t ps pt →
-      called_place run s bucket ≡ called_place clean t bucket
+      called_place run s bucket ≡ called_place run t bucket
   call-place s t bucket ps pt c = ap (λ p. in_bucket p bucket) (tasks-same s t ps pt c)
 
   answered-to : (e : At) (gives : Bool) (bucket : Bucket) (on_error : OnError) (s t : State)
       (o : TaskOutput) (ps pt : List Act) → Cousin s t ps pt →
       CousinEnd (answered_to run e gives bucket on_error (s, o))
-      (answered_to clean e gives bucket on_error (t, o)) ps pt
+      (answered_to run e gives bucket on_error (t, o)) ps pt
   answered-to e gives bucket on_error s t o ps pt c =
       let ns = notes_by on_error o.notes in
       let x = with_notes ns s in
       let y = with_notes ns t in
       and-ends (taken (outputs_if gives (called_place run s bucket) o.outputs e) x)
-      (taken (outputs_if gives (called_place clean t bucket) o.outputs e) y)
+      (taken (outputs_if gives (called_place run t bucket) o.outputs e) y)
       (ended_by on_error o.ok) (ended_by on_error o.ok) ps pt
       (subst (λ m. CousinEnd (taken (outputs_if gives (called_place run s bucket) o.outputs e) x)
       (taken m y) ps pt) (ap (λ p. outputs_if gives p o.outputs e)
@@ -876,14 +872,14 @@ module _ (tools : List ℕ → ToolInput → ToolAnswer) (id : RunId) (run : Run
 
   with-both : (e : At) (gives : Bool) (bucket : Bucket) (s t : State)
       (ready : Option (OnError × List Param)) → Both s t (called_with run e gives bucket s ready)
-      (called_with clean e gives bucket t ready)
+      (called_with run e gives bucket t ready)
   with-both e gives bucket s t None = over-both s t (Ok s) (Ok t) (λ ps pt c. c) refl refl
   with-both e gives bucket s t (Some ready) = λ ps pt c E F he hf fe ff.
       let name = key_of (name_of e.node) in
       let x = end-bound tools id (answered_if name run s e ready.1)
       (λ x. done (answered_to run e gives bucket ready.0 x)) s.journal ps E he in
-      let y = end-bound tools id (answered_if name clean t e ready.1)
-      (λ x. done (answered_to clean e gives bucket ready.0 x)) t.journal pt F hf in
+      let y = end-bound tools id (answered_if name run t e ready.1)
+      (λ x. done (answered_to run e gives bucket ready.0 x)) t.journal pt F hf in
       let ex : record {
         value = answered_to run e gives bucket ready.0 x.0.value;
         journal =
@@ -897,20 +893,20 @@ module _ (tools : List ℕ → ToolInput → ToolAnswer) (id : RunId) (run : Run
             x.0.acts;
       }) E x.2 in
       let ey : record {
-        value = answered_to clean e gives bucket ready.0 y.0.value;
+        value = answered_to run e gives bucket ready.0 y.0.value;
         journal =
             y.0.journal;
         acts = y.0.acts;
       } ≡ F = some-same (record {
         value =
-            answered_to clean e gives bucket ready.0 y.0.value;
+            answered_to run e gives bucket ready.0 y.0.value;
         journal = y.0.journal;
         acts =
             y.0.acts;
       }) F y.2 in
       let fx : Fine x.0.value.1.notes = answered-notes run e gives bucket ready.0 x.0.value
       (subst (λ (z : End (Result State Stopped)). Fine (state_of z.value).notes) (sym ex) fe) in
-      let fy : Fine y.0.value.1.notes = answered-notes clean e gives bucket ready.0 y.0.value
+      let fy : Fine y.0.value.1.notes = answered-notes run e gives bucket ready.0 y.0.value
       (subst (λ (z : End (Result State Stopped)). Fine (state_of z.value).notes) (sym ey) ff) in
       let b = if-both name e ready.1 s t ps pt c x.0 y.0 x.1 y.1 fx fy in
       subst (λ z. BothEnd ps pt z F) ex (subst (BothEnd ps pt (record {
@@ -921,39 +917,39 @@ module _ (tools : List ℕ → ToolInput → ToolAnswer) (id : RunId) (run : Run
             x.0.acts;
       })) ey (record {
         cousins = subst (λ o. CousinEnd (answered_to run e gives bucket ready.0 x.0.value)
-            (answered_to clean e gives bucket ready.0 (y.0.value.0, o)) x.0.acts y.0.acts) b.output
+            (answered_to run e gives bucket ready.0 (y.0.value.0, o)) x.0.acts y.0.acts) b.output
             (answered-to e gives bucket ready.0 x.0.value.0 y.0.value.0 x.0.value.1 x.0.acts
             y.0.acts b.cousins);
         w_step = answered-journal run e gives bucket ready.0 x.0.value ∙ b.w_step;
-        c_step = answered-journal clean e gives bucket ready.0 y.0.value ∙ b.c_step;
+        c_step = answered-journal run e gives bucket ready.0 y.0.value ∙ b.c_step;
         new = b.new;
         w_acts = b.w_acts;
         c_acts = b.c_acts;
       }))
 
   call-both : (e : At) (gives : Bool) (bucket : Bucket) (s t : State) →
-      Both s t (call run e gives bucket s) (call clean e gives bucket t)
+      Both s t (call run e gives bucket s) (call run e gives bucket t)
   call-both e gives bucket s t =
       read-both s t (readied (called_place run s bucket) e)
-      (readied (called_place clean t bucket) e) (called_with run e gives bucket s)
-      (called_with clean e gives bucket t)
+      (readied (called_place run t bucket) e) (called_with run e gives bucket s)
+      (called_with run e gives bucket t)
       (λ ps pt c. ap (λ p. readied p e) (call-place s t bucket ps pt c))
       (with-both e gives bucket s t)
 
   called-both : (e : At) (gives : Bool) (s t : State) →
-      Both s t (called run e gives s) (called clean e gives t)
+      Both s t (called run e gives s) (called run e gives t)
   called-both e gives s t =
       read-both s t (task_buckets (place_in run s (task_scope s)) e)
-      (task_buckets (place_in clean t (task_scope t)) e)
+      (task_buckets (place_in run t (task_scope t)) e)
       (λ buckets. each_in_turn (call run e gives) buckets s)
-      (λ buckets. each_in_turn (call clean e gives) buckets t)
+      (λ buckets. each_in_turn (call run e gives) buckets t)
       (λ ps pt c. ap (λ p. task_buckets p e) (tasks-same s t ps pt c))
-      (λ buckets. each-both (call run e gives) (call clean e gives)
-      (call-keeps tools id run e gives) (call-keeps tools id clean e gives)
+      (λ buckets. each-both (call run e gives) (call run e gives)
+      (call-keeps tools id run e gives) (call-keeps tools id run e gives)
       (call-both e gives) buckets s t)
 
   inferred-both : (e : At) (s t : State) (ps pt : List Act) → Cousin s t ps pt →
-      CousinEnd (inferred run e s) (inferred clean e t) ps pt
+      CousinEnd (inferred run e s) (inferred run e t) ps pt
   inferred-both e s t ps pt c =
       subst (λ m. CousinEnd (inferred run e s) (taken m t) ps pt)
       (ap (λ p. inferred_at p e) (place-same s t ps pt c))
@@ -975,7 +971,7 @@ module _ (tools : List ℕ → ToolInput → ToolAnswer) (id : RunId) (run : Run
   state-both (Err (failed d)) (Err (faulted e)) ps pt c = absurd c
 
   then-inferred : (e : At) (r q : Result State Stopped) (ps pt : List Act) → CousinEnd r q ps pt →
-      CousinEnd (then_inferred run e r) (then_inferred clean e q) ps pt
+      CousinEnd (then_inferred run e r) (then_inferred run e q) ps pt
   then-inferred e (Ok s) (Ok t) ps pt c = inferred-both e s t ps pt c
   then-inferred e (Ok s) (Err (faulted d)) ps pt c = absurd c
   then-inferred e (Ok s) (Err (failed d)) ps pt c = absurd c
@@ -983,7 +979,7 @@ module _ (tools : List ℕ → ToolInput → ToolAnswer) (id : RunId) (run : Run
   then-inferred e (Err (failed d)) (Ok t) ps pt c = absurd c
   then-inferred e (Err (faulted s)) (Err (faulted t)) ps pt c = c
   then-inferred e (Err (failed s)) (Err (failed t)) ps pt c =
-      state-both (inferred run e s) (inferred clean e t) ps pt (inferred-both e s t ps pt c)
+      state-both (inferred run e s) (inferred run e t) ps pt (inferred-both e s t ps pt c)
   then-inferred e (Err (faulted d)) (Err (failed f)) ps pt c = absurd c
   then-inferred e (Err (failed d)) (Err (faulted f)) ps pt c = absurd c
 
@@ -1045,20 +1041,20 @@ module _ (tools : List ℕ → ToolInput → ToolAnswer) (id : RunId) (run : Run
   fine-then q e r f note i = f note (then-has tools id q e (state_of r) r (has-self r) note i)
 
   task-both : (choice : Choice) (e : At) (s t : State) →
-      Both s t (task run choice e s) (task clean choice e t)
+      Both s t (task run choice e s) (task run choice e t)
   task-both RunAll e s t = called-both e true s t
-  task-both Skip e s t = over-both s t (inferred run e s) (inferred clean e t) (inferred-both e s t)
-      (inferred-journal run e s) (inferred-journal clean e t)
+  task-both Skip e s t = over-both s t (inferred run e s) (inferred run e t) (inferred-both e s t)
+      (inferred-journal run e s) (inferred-journal run e t)
   task-both Nothing e s t = over-both s t (Ok s) (Ok t) (λ ps pt c. c) refl refl
   task-both (Part old) e s t =
-      then-both s t (called run e false s) (called clean e false t) (then_inferred run e)
-      (then_inferred clean e) (called-both e false s t) (then-inferred e) (then-journal run e)
-      (then-journal clean e) (fine-then run e) (fine-then clean e)
+      then-both s t (called run e false s) (called run e false t) (then_inferred run e)
+      (then_inferred run e) (called-both e false s t) (then-inferred e) (then-journal run e)
+      (then-journal run e) (fine-then run e) (fine-then run e)
 
   -- ---- children
 
   group-both : (e : At) (s t : State) (ps pt : List Act) → Cousin s t ps pt →
-      CousinEnd (group run e s) (group clean e t) ps pt
+      CousinEnd (group run e s) (group run e t) ps pt
   group-both e s t ps pt c =
       subst (λ x. CousinEnd (group run e s) (map_ok (λ changes. with_changes_seen changes t)
       (or_stop (without_scope t) x)) ps pt) (ap (λ p. group_changes p e)
@@ -1160,25 +1156,25 @@ module _ (tools : List ℕ → ToolInput → ToolAnswer) (id : RunId) (run : Run
   fine-settled r f note i = f note (settled-has (state_of r) r (has-self r) note i)
 
   child-both : (choice : Choice) (e : At) (s t : State) →
-      Both s t (child run choice e s) (child clean choice e t)
+      Both s t (child run choice e s) (child run choice e t)
   child-both choice e s t =
       then-both s t (child_by (kind_of (name_of e.node)) run choice e s)
-      (child_by (kind_of (name_of e.node)) clean choice e t) (map_ok settled) (map_ok settled)
+      (child_by (kind_of (name_of e.node)) run choice e t) (map_ok settled) (map_ok settled)
       (go (kind_of (name_of e.node)))
       (λ r q ps pt c. map-ends settled settled r q ps pt c (λ a b d. settled-state a b ps pt d))
       settled-journal settled-journal fine-settled fine-settled
     where
-      go : (kind : Kind) → Both s t (child_by kind run choice e s) (child_by kind clean choice e t)
-      go group_element = over-both s t (group run e s) (group clean e t) (group-both e s t)
-          (group-journal run e s) (group-journal clean e t)
+      go : (kind : Kind) → Both s t (child_by kind run choice e s) (child_by kind run choice e t)
+      go group_element = over-both s t (group run e s) (group run e t) (group-both e s t)
+          (group-journal run e s) (group-journal run e t)
       go on_error_element = over-both s t (Ok s) (Ok t) (λ ps pt c. c) refl refl
       go task_element = task-both choice e s t
 
   children-both : (choice : Choice) (s t : State) →
-      Both s t (children run choice s) (children clean choice t)
+      Both s t (children run choice s) (children run choice t)
   children-both choice s t =
-      each-both (child run choice) (child clean choice) (child-keeps tools id run choice)
-      (child-keeps tools id clean choice) (child-both choice)
+      each-both (child run choice) (child run choice) (child-keeps tools id run choice)
+      (child-keeps tools id run choice) (child-both choice)
       (children_of run.target.element) s t
 
   on-old : (items : Option (List ℕ × List Item)) (old : List Item) (s t : State)
@@ -1198,7 +1194,7 @@ module _ (tools : List ℕ → ToolInput → ToolAnswer) (id : RunId) (run : Run
   }
 
   treated-both : (choice : Choice) (items : Option (List ℕ × List Item)) (s t : State) →
-      Both s t (treated run choice items s) (treated clean choice items t)
+      Both s t (treated run choice items s) (treated run choice items t)
   treated-both RunAll items s t = children-both RunAll s t
   treated-both Skip items s t = children-both Skip s t
   treated-both Nothing items s t = over-both s t (Ok s) (Ok t) (λ ps pt c. c) refl refl
@@ -1208,15 +1204,15 @@ module _ (tools : List ℕ → ToolInput → ToolAnswer) (id : RunId) (run : Run
       (on-old (Some typed) old s t ps pt c)
 
   items-same : (bucket : Bucket) (s t : State) (ps pt : List Act) → Cousin s t ps pt →
-      (written : Option (List ℕ)) → items_if run bucket s written ≡ items_if clean bucket t written
+      (written : Option (List ℕ)) → items_if run bucket s written ≡ items_if run bucket t written
   items-same bucket s t ps pt c None = refl
   items-same bucket s t ps pt c (Some written) =
       ap (λ p. returned_items p bucket run.target.element s.items written) (place-same s t ps pt c)
-      ∙ ap (λ l. returned_items (place_in clean t t.scope) bucket run.target.element l written)
+      ∙ ap (λ l. returned_items (place_in run t t.scope) bucket run.target.element l written)
       c.items
 
   returned-both : (bucket : Bucket) (s t : State) (ps pt : List Act) → Cousin s t ps pt →
-      CousinEnd (returned run bucket s) (returned clean bucket t) ps pt
+      CousinEnd (returned run bucket s) (returned run bucket t) ps pt
   returned-both bucket s t ps pt c =
       subst (λ x. CousinEnd (returned run bucket s)
       (map_ok (λ items. with_items items t) (or_stop t x)) ps pt)
@@ -1262,18 +1258,18 @@ module _ (tools : List ℕ → ToolInput → ToolAnswer) (id : RunId) (run : Run
   -- a bucket that is done in the same way
   pub decided-both : (bucket : Bucket) (choice : Choice) (items : Option (List ℕ × List Item))
       (s t : State) → Both s t (decided run bucket choice items s)
-      (decided clean bucket choice items t)
+      (decided run bucket choice items t)
   decided-both bucket choice items s t =
-      and-both s t (treated run choice items s) (treated clean choice items t)
+      and-both s t (treated run choice items s) (treated run choice items t)
       (λ end. done (map_ok (with_decision (word_of choice items)) (returned run bucket end)))
-      (λ end. done (map_ok (with_decision (word_of choice items)) (returned clean bucket end)))
+      (λ end. done (map_ok (with_decision (word_of choice items)) (returned run bucket end)))
       (treated-both choice items s t) (after-keeps run bucket (word_of choice items))
-      (after-keeps clean bucket (word_of choice items))
+      (after-keeps run bucket (word_of choice items))
       (λ x y. over-both x y (map_ok (with_decision (word_of choice items)) (returned run bucket x))
-      (map_ok (with_decision (word_of choice items)) (returned clean bucket y))
+      (map_ok (with_decision (word_of choice items)) (returned run bucket y))
       (λ ps pt c. map-ends (with_decision (word_of choice items))
       (with_decision (word_of choice items)) (returned run bucket x)
-      (returned clean bucket y) ps pt (returned-both bucket x y ps pt c)
+      (returned run bucket y) ps pt (returned-both bucket x y ps pt c)
       (λ a b d. record {
         scope = d.scope;
         part = d.part;
@@ -1286,5 +1282,5 @@ module _ (tools : List ℕ → ToolInput → ToolAnswer) (id : RunId) (run : Run
         alike = d.alike;
       }))
       (word-journal (word_of choice items) (returned run bucket x) ∙ returned-journal run bucket x)
-      (word-journal (word_of choice items) (returned clean bucket y)
-      ∙ returned-journal clean bucket y))
+      (word-journal (word_of choice items) (returned run bucket y)
+      ∙ returned-journal run bucket y))

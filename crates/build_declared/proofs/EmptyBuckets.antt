@@ -21,7 +21,7 @@ use Rattle.std.proofs.Common.{
 use Rattle.std.specs.Prelude.{Result, Ok, Err, option_map, codes}
 use Rattle.msb_laws.specs.Results.{map_ok}
 use Rattle.msb_values.specs.declared.item.Item.{Item}
-use Rattle.msb_values.specs.declared.mode.Mode.TheVariants.{Clean}
+use Rattle.msb_values.specs.declared.mode.Mode.{Mode}
 use Rattle.msb_values.specs.declared.note.Note.TheVariants.{Fail}
 use Rattle.msb_values.specs.declared.act.Act.{Act}
 use Rattle.msb_values.specs.declared.scope.Scope.{Scope}
@@ -81,9 +81,6 @@ use Rattle.build_declared.proofs.Looks.{looks-same}
 
 module _ (tools : List ℕ → ToolInput → ToolAnswer) (id : RunId) (run : Run) (scope : Scope)
     (j k : Journal) (a : AlikeJournals (bytes_in run.files) AnyPath j k) where
-  abbrev clean : Run
-  clean = record run { mode = Clean }
-
   abbrev Ends : Result State Stopped → Result State Stopped → List Act → List Act → Type 0
   Ends = EndsAlike tools id run scope j k
 
@@ -96,12 +93,12 @@ module _ (tools : List ℕ → ToolInput → ToolAnswer) (id : RunId) (run : Run
     pub carry : Carry tools id run scope j k x y ps pt
 
   place-same : (x y : State) (ps pt : List Act) → Pairs x y ps pt →
-      place_in run x x.scope ≡ place_in clean y y.scope
+      place_in run x x.scope ≡ place_in run y y.scope
   place-same x y ps pt h =
       ap (λ l. item_place l run.instance.path x.scope)
       ((looks-same run.files AnyPath).paths x.journal y.journal
       (carry-alike tools id run scope j k a x y ps pt h.carry))
-      ∙ ap (place_in clean y) h.scope_same
+      ∙ ap (place_in run y) h.scope_same
 
   -- the state in which a bucket begins
   pub entered-pair : (bucket : Bucket) (s t : State) (ps pt : List Act) →
@@ -121,18 +118,18 @@ module _ (tools : List ℕ → ToolInput → ToolAnswer) (id : RunId) (run : Run
   }
 
   pub lists-same : (bucket : Bucket) (x y : State) (ps pt : List Act) → Pairs x y ps pt →
-      lists_at run bucket x ≡ lists_at clean bucket y
+      lists_at run bucket x ≡ lists_at run bucket y
   lists-same bucket x y ps pt h =
       ap (λ p. lists_by (in_target p bucket) run.target.element
       (attribute_of (codes "Inputs") run.target.element)
       (attribute_of (codes "Outputs") run.target.element)) (place-same x y ps pt h)
 
   items-same : (bucket : Bucket) (x y : State) (ps pt : List Act) → Pairs x y ps pt →
-      (written : Option (List ℕ)) → items_if run bucket x written ≡ items_if clean bucket y written
+      (written : Option (List ℕ)) → items_if run bucket x written ≡ items_if run bucket y written
   items-same bucket x y ps pt h None = refl
   items-same bucket x y ps pt h (Some written) =
       ap (λ p. returned_items p bucket run.target.element x.items written) (place-same x y ps pt h)
-      ∙ ap (λ l. returned_items (place_in clean y y.scope) bucket run.target.element l written)
+      ∙ ap (λ l. returned_items (place_in run y y.scope) bucket run.target.element l written)
       h.carry.items
 
   -- after the children: the items that are returned, and the word
@@ -144,7 +141,7 @@ module _ (tools : List ℕ → ToolInput → ToolAnswer) (id : RunId) (run : Run
         acts = ps;
       })
       (record {
-        value = or_failed (map_ok (with_decision other) (returned clean bucket y));
+        value = or_failed (map_ok (with_decision other) (returned run bucket y));
         journal = y.journal;
         acts = pt;
       })
@@ -205,26 +202,26 @@ module _ (tools : List ℕ → ToolInput → ToolAnswer) (id : RunId) (run : Run
   none-chosen (input ∷ inputs) [] e = inr refl
   none-chosen (input ∷ inputs) (output ∷ outputs) e = absurd (cc)
 
-  pub nothing-chosen : (lists : Lists) (s : State) →
-      all_or_nothing lists.inputs lists.outputs ≡ Nothing → choice_of run lists s ≡ Nothing
-  nothing-chosen lists s e = go lists.inputs lists.outputs e
+  pub nothing-chosen : (mode : Mode) (lists : Lists) (s : State) →
+      all_or_nothing lists.inputs lists.outputs ≡ Nothing → choice_of mode run lists s ≡ Nothing
+  nothing-chosen mode lists s e = go lists.inputs lists.outputs e
     where
       go : (inputs outputs : List (List ℕ)) → all_or_nothing inputs outputs ≡ Nothing →
           decision (view_of run s) inputs outputs (option_map (λ typed. typed.1) lists.items)
-          run.mode ≡ Nothing
+          mode ≡ Nothing
       go [] outputs e = refl
       go (input ∷ inputs) [] e = refl
       go (input ∷ inputs) (output ∷ outputs) e = absurd (cc)
 
-  pub empty-goes : (bucket : Bucket) (s t : State) (ps pt : List Act) →
+  pub empty-goes : (mode : Mode) (bucket : Bucket) (s t : State) (ps pt : List Act) →
       Carry tools id run scope j k s t ps pt → IsEmpty
-      (lists_at clean bucket (entered scope bucket t)) →
+      (lists_at run bucket (entered scope bucket t)) →
       (E : End (Result State Stopped)) × (F : End (Result State Stopped))
-      × (end_of tools id (first_of tools id run scope j k bucket s) s.journal ps ≡ Some E)
+      × (end_of tools id (first_of tools id run scope j k mode bucket s) s.journal ps ≡ Some E)
       × (end_of tools id (second_of tools id run scope j k bucket t) t.journal pt ≡ Some F)
       × Goes E F
-  empty-goes bucket s t ps pt c empty =
-      go (lists_at clean bucket y) empty (lists-same bucket x y ps pt pair) refl
+  empty-goes mode bucket s t ps pt c empty =
+      go (lists_at run bucket y) empty (lists-same bucket x y ps pt pair) refl
     where
       x : State
       x = entered scope bucket s
@@ -237,9 +234,9 @@ module _ (tools : List ℕ → ToolInput → ToolAnswer) (id : RunId) (run : Run
 
       go : (l : Result (Option Lists) EvalFault) → IsEmpty l →
           lists_at run bucket (entered scope bucket s) ≡ l →
-          lists_at clean bucket (entered scope bucket t) ≡ l →
+          lists_at run bucket (entered scope bucket t) ≡ l →
           (E : End (Result State Stopped)) × (F : End (Result State Stopped))
-          × (end_of tools id (first_of tools id run scope j k bucket s) s.journal ps ≡ Some E)
+          × (end_of tools id (first_of tools id run scope j k mode bucket s) s.journal ps ≡ Some E)
           × (end_of tools id (second_of tools id run scope j k bucket t) t.journal pt ≡ Some F)
           × Goes E F
       go (Ok None) m e f = absurd m
@@ -262,17 +259,17 @@ module _ (tools : List ℕ → ToolInput → ToolAnswer) (id : RunId) (run : Run
             F,
             ap (λ z. end_of tools id (followed_by (unless_stopped
                 (or_stop (entered scope bucket s) z)
-                (chosen_or_run (choice_of run) run bucket (entered scope bucket s)))
+                (chosen_or_run (choice_of mode run) run bucket (entered scope bucket s)))
                 (λ end. done (or_failed end))) s.journal ps) e,
             ap (λ z. end_of tools id (followed_by (unless_stopped
                 (or_stop (entered scope bucket t) z)
-                (chosen_or_run all_of clean bucket (entered scope bucket t)))
+                (chosen_or_run all_of run bucket (entered scope bucket t)))
                 (λ end. done (or_failed end))) t.journal pt) f,
             record { ends = (c.changes, c.lacks); w_step = tt; c_step = tt },
           )
       go (Ok (Some lists)) m e f =
-          let cw : choice_of run lists (entered scope bucket s) ≡ Nothing =
-          nothing-chosen lists (entered scope bucket s) m in
+          let cw : choice_of mode run lists (entered scope bucket s) ≡ Nothing =
+          nothing-chosen mode lists (entered scope bucket s) m in
           let E : End (Result State Stopped) = record {
             value =
                 or_failed (map_ok (with_decision (word_of Nothing lists.items))
@@ -283,7 +280,7 @@ module _ (tools : List ℕ → ToolInput → ToolAnswer) (id : RunId) (run : Run
           let F : End (Result State Stopped) = record {
             value =
                 or_failed (map_ok (with_decision (word_of Nothing lists.items))
-                (returned clean bucket (entered scope bucket t)));
+                (returned run bucket (entered scope bucket t)));
             journal = t.journal;
             acts = pt;
           } in (
@@ -291,15 +288,15 @@ module _ (tools : List ℕ → ToolInput → ToolAnswer) (id : RunId) (run : Run
             F,
             ap (λ z. end_of tools id (followed_by (unless_stopped
                 (or_stop (entered scope bucket s) z)
-                (chosen_or_run (choice_of run) run bucket (entered scope bucket s)))
+                (chosen_or_run (choice_of mode run) run bucket (entered scope bucket s)))
                 (λ end. done (or_failed end))) s.journal ps) e
                 ∙ ap (λ z. end_of tools id (followed_by (decided run bucket z lists.items
                 (entered scope bucket s)) (λ end. done (or_failed end))) s.journal ps) cw,
             ap (λ z. end_of tools id (followed_by (unless_stopped
                 (or_stop (entered scope bucket t) z)
-                (chosen_or_run all_of clean bucket (entered scope bucket t)))
+                (chosen_or_run all_of run bucket (entered scope bucket t)))
                 (λ end. done (or_failed end))) t.journal pt) f
-                ∙ ap (λ z. end_of tools id (followed_by (decided clean bucket z lists.items
+                ∙ ap (λ z. end_of tools id (followed_by (decided run bucket z lists.items
                 (entered scope bucket t)) (λ end. done (or_failed end))) t.journal pt) m,
             finish bucket (word_of Nothing lists.items) (word_of Nothing lists.items)
                 (entered scope bucket s) (entered scope bucket t) ps pt
@@ -332,12 +329,13 @@ module _ (tools : List ℕ → ToolInput → ToolAnswer) (id : RunId) (run : Run
   append-none (x ∷ xs) ys e = absurd (cc)
 
   -- no bucket has lists that are absent, since the target has both Inputs and Outputs
-  module _ (takes : (bucket : Bucket) (y : State) → lists_at clean bucket y ≡ Ok None → ⊥) where
+  module _ (mode : Mode)
+      (takes : (bucket : Bucket) (y : State) → lists_at run bucket y ≡ Ok None → ⊥) where
     pub none-goes : (buckets : List Bucket) (s t : State) (ps pt : List Act) →
-        Carry tools id run scope j k s t ps pt → pieces_among tools id all_of clean scope buckets t
+        Carry tools id run scope j k s t ps pt → pieces_among tools id all_of run scope buckets t
         pt ≡ [] →
         (E : End (Result State Stopped)) × (F : End (Result State Stopped))
-        × (end_of tools id (each_in_turn (first_of tools id run scope j k) buckets s) s.journal
+        × (end_of tools id (each_in_turn (first_of tools id run scope j k mode) buckets s) s.journal
         ps ≡ Some E)
         × (end_of tools id (each_in_turn (second_of tools id run scope j k) buckets t) t.journal pt
         ≡ Some F) × Goes E F
@@ -350,22 +348,23 @@ module _ (tools : List ℕ → ToolInput → ToolAnswer) (id : RunId) (run : Run
     )
     none-goes (bucket ∷ buckets) s t ps pt c e =
         let here = piece_if bucket (entered scope bucket t) pt
-        (lists_at clean bucket (entered scope bucket t)) in
+        (lists_at run bucket (entered scope bucket t)) in
         let later = then_pieces (end_of tools id (second_of tools id run scope j k bucket t)
-        t.journal pt) (pieces_among tools id all_of clean scope buckets) in
+        t.journal pt) (pieces_among tools id all_of run scope buckets) in
         let both = append-none here later e in
-        let x = empty-goes bucket s t ps pt c (no-piece bucket (entered scope bucket t) pt
-        (lists_at clean bucket (entered scope bucket t))
+        let x = empty-goes mode bucket s t ps pt c (no-piece bucket (entered scope bucket t) pt
+        (lists_at run bucket (entered scope bucket t))
         (takes bucket (entered scope bucket t)) both.0) in
-        let rest : then_pieces (Some x.1) (pieces_among tools id all_of clean scope buckets) ≡ [] =
-        sym (ap (λ z. then_pieces z (pieces_among tools id all_of clean scope buckets)) x.3)
+        let rest : then_pieces (Some x.1) (pieces_among tools id all_of run scope buckets) ≡ [] =
+        sym (ap (λ z. then_pieces z (pieces_among tools id all_of run scope buckets)) x.3)
         ∙ both.1 in
         let y = go x.0.value x.1.value x.0.journal x.1.journal x.0.acts x.1.acts x.4.ends x.4.w_step
         x.4.c_step rest (none-goes buckets) in (
           y.0,
           y.1,
-          bound-end tools id (first_of tools id run scope j k bucket s)
-              (λ end. unless_stopped end (each_in_turn (first_of tools id run scope j k) buckets))
+          bound-end tools id (first_of tools id run scope j k mode bucket s)
+              (λ end. unless_stopped end
+              (each_in_turn (first_of tools id run scope j k mode) buckets))
               s.journal ps x.0 x.2 ∙ y.2,
           bound-end tools id (second_of tools id run scope j k bucket t)
               (λ end. unless_stopped end (each_in_turn (second_of tools id run scope j k) buckets))
@@ -376,17 +375,17 @@ module _ (tools : List ℕ → ToolInput → ToolAnswer) (id : RunId) (run : Run
         go : (r q : Result State Stopped) (l m : Journal) (ps pt : List Act) → Ends r q ps pt →
             InStep tools id run scope j k r l → InStep tools id run scope j k q m →
             then_pieces (Some (record { value = q; journal = m; acts = pt }))
-            (pieces_among tools id all_of clean scope buckets) ≡ [] →
+            (pieces_among tools id all_of run scope buckets) ≡ [] →
             ((s t : State) (ps pt : List Act) → Carry tools id run scope j k s t ps pt →
-            pieces_among tools id all_of clean scope buckets t pt ≡ [] →
+            pieces_among tools id all_of run scope buckets t pt ≡ [] →
             (E : End (Result State Stopped)) × (F : End (Result State Stopped))
-            × (end_of tools id (each_in_turn (first_of tools id run scope j k) buckets s)
+            × (end_of tools id (each_in_turn (first_of tools id run scope j k mode) buckets s)
             s.journal ps ≡ Some E)
             × (end_of tools id (each_in_turn (second_of tools id run scope j k) buckets t)
             t.journal pt ≡ Some F) × Goes E F) →
             (E : End (Result State Stopped)) × (F : End (Result State Stopped))
             × (end_of tools id (unless_stopped r (each_in_turn
-            (first_of tools id run scope j k) buckets)) l ps ≡ Some E)
+            (first_of tools id run scope j k mode) buckets)) l ps ≡ Some E)
             × (end_of tools id (unless_stopped q (each_in_turn
             (second_of tools id run scope j k) buckets)) m pt ≡ Some F) × Goes E F
         go (Ok s) (Ok t) l m ps pt c u v e ih =
@@ -394,7 +393,7 @@ module _ (tools : List ℕ → ToolInput → ToolAnswer) (id : RunId) (run : Run
               x.0,
               x.1,
               subst (λ z. end_of tools id (each_in_turn
-                  (first_of tools id run scope j k) buckets s) z ps ≡ Some x.0) u x.2,
+                  (first_of tools id run scope j k mode) buckets s) z ps ≡ Some x.0) u x.2,
               subst (λ z. end_of tools id (each_in_turn
                   (second_of tools id run scope j k) buckets t) z pt ≡ Some x.1) v x.3,
               x.4,

@@ -27,7 +27,7 @@ use Rattle.std.proofs.Common.{
   length-append,
 }
 use Rattle.std.specs.Prelude.{Result, Ok, Err}
-use Rattle.msb_values.specs.declared.mode.Mode.TheVariants.{Incremental, Clean}
+use Rattle.msb_values.specs.declared.mode.Mode.TheVariants.{Incremental}
 use Rattle.msb_values.specs.declared.note.Note.{Note}
 use Rattle.msb_values.specs.declared.act.Act.{Act}
 use Rattle.msb_values.specs.declared.scope.Scope.{Scope}
@@ -161,11 +161,8 @@ one-at p (input ∷ inputs) (output ∷ outputs) e = refl
 
 module _ (tools : List ℕ → ToolInput → ToolAnswer) (id : RunId) (run : Run) (scope : Scope)
     (j k : Journal) where
-  abbrev clean : Run
-  clean = record run { mode = Clean }
-
   abbrev first : Bucket → State → Work (Result State Stopped)
-  first = first_of tools id run scope j k
+  first = first_of tools id run scope j k Incremental
 
   abbrev second : Bucket → State → Work (Result State Stopped)
   second = second_of tools id run scope j k
@@ -179,7 +176,7 @@ module _ (tools : List ℕ → ToolInput → ToolAnswer) (id : RunId) (run : Run
     pub words : AllIdle true s.decisions → HasIdle end
     pub as_many : up_to_date (state_of end).decisions
         ≡ up_to_date s.decisions + length pieces
-    pub skips : (p : Piece) → In p pieces → choice_of run p.lists p.from ≡ Skip
+    pub skips : (p : Piece) → In p pieces → choice_of Incremental run p.lists p.from ≡ Skip
 
   abbrev pub pieces_here : Bucket → State → List Piece
   pieces_here bucket s = let begins : State = entered scope bucket s in
@@ -188,7 +185,8 @@ module _ (tools : List ℕ → ToolInput → ToolAnswer) (id : RunId) (run : Run
   idle-over : (word : Decision) → IsIdle true word → (bucket : Bucket) (s : State)
       (pieces : List Piece) → (o : IsOver word s.decisions (first bucket s)) →
       gain word o.end ≡ length pieces →
-      ((p : Piece) → In p pieces → choice_of run p.lists p.from ≡ Skip) → IdleAt bucket s pieces
+      ((p : Piece) → In p pieces → choice_of Incremental run p.lists p.from ≡ Skip) →
+      IdleAt bucket s pieces
   idle-over word known bucket s pieces o g skips = record {
     end = o.end;
     at_once = o.at_once;
@@ -208,14 +206,14 @@ module _ (tools : List ℕ → ToolInput → ToolAnswer) (id : RunId) (run : Run
             IsEmpty tools id run scope j k a l → IdleAt bucket s (pieces_here bucket s)
         go (Ok None) e m = absurd m
         go (Err fault) e m =
-            let o = fault-over run (choice_of run) scope bucket s fault e in
+            let o = fault-over run (choice_of Incremental run) scope bucket s fault e in
             subst (IdleAt bucket s) (sym (ap (piece_if bucket (entered scope bucket s) []) e))
             (idle-over NothingToDo tt bucket s [] o (no-gain o.end) (λ p i. absurd i))
         go (Ok (Some lists)) e m =
             let x : State = entered scope bucket s in
             let p : Piece = record { bucket = bucket; lists = lists; from = x; before = [] } in
-            let o = nothing-over run (choice_of run) scope bucket s lists e
-            (nothing-chosen tools id run scope j k a lists x m) in
+            let o = nothing-over run (choice_of Incremental run) scope bucket s lists e
+            (nothing-chosen tools id run scope j k a Incremental lists x m) in
             subst (IdleAt bucket s) (sym (ap (piece_if bucket x []) e
             ∙ none-at p lists.inputs lists.outputs m))
             (idle-over NothingToDo tt bucket s [] o (no-gain o.end) (λ p i. absurd i))
@@ -231,28 +229,28 @@ module _ (tools : List ℕ → ToolInput → ToolAnswer) (id : RunId) (run : Run
     SaidNew p = Said tools id run scope j k a p × IsNew p
 
     -- a bucket with such a piece
-    pub piece-idle : run.mode ≡ Incremental → (bucket : Bucket) (lists : Lists) (s t : State)
+    pub piece-idle : (bucket : Bucket) (lists : Lists) (s t : State)
         (pt : List Act) → Carry tools id run scope j k s t [] pt →
         lists_at run bucket (entered scope bucket s) ≡ Ok (Some lists) →
-        lists_at clean bucket (entered scope bucket t) ≡ Ok (Some lists) →
+        lists_at run bucket (entered scope bucket t) ≡ Ok (Some lists) →
         all_or_nothing lists.inputs lists.outputs ≡ RunAll → (E F : End (Result State Stopped)) →
         end_of tools id (first bucket s) s.journal [] ≡ Some E →
         end_of tools id (second bucket t) t.journal pt ≡ Some F →
         GoAlike tools id run scope j k E F →
         SaidNew (piece_at tools id run scope j k a bucket lists t pt) →
         IdleAt bucket s (pieces_here bucket s)
-    piece-idle mode bucket lists s t pt c lw lc all E F he hf g said =
+    piece-idle bucket lists s t pt c lw lc all E F he hf g said =
         let p : Piece = piece_at tools id run scope j k a bucket lists t pt in
         let x : State = entered scope bucket s in
         let y : State = entered scope bucket t in
         let met : Piece = record { bucket = bucket; lists = lists; from = x; before = [] } in
-        let chosen : choice_of run lists x ≡ Skip =
-        new-skips run mode p said.1.no_older x
+        let chosen : choice_of Incremental run lists x ≡ Skip =
+        new-skips run p said.1.no_older x
         (λ path i. ap (λ l. is_some (content l path)) c.w_is
         ∙ ap is_some (said.1.untouched path i)) all in
-        let over = skip-over run (choice_of run) scope bucket s lists lw chosen in
+        let over = skip-over run (choice_of Incremental run) scope bucket s lists lw chosen in
         let alike = carry-alike tools id run scope j k a s t [] pt c in
-        let kept = skip-kept tools id run clean mode p said.0.1 x refl alike.same chosen in
+        let kept = skip-kept tools id run p said.0.1 x alike.same chosen in
         let output = first-output lists.inputs lists.outputs all in
         let w = (kept output.0 output.1).2 in
         let whole : End (Result State Stopped) = record {
@@ -260,18 +258,18 @@ module _ (tools : List ℕ → ToolInput → ToolAnswer) (id : RunId) (run : Run
           journal = w.0.journal;
           acts = w.1;
         } in
-        let hf1 : end_of tools id (followed_by (decided clean bucket
+        let hf1 : end_of tools id (followed_by (decided run bucket
         (all_or_nothing lists.inputs lists.outputs) lists.items y)
         (λ end. done (or_failed end))) t.journal pt ≡ Some F =
         subst (λ z. end_of tools id (followed_by (unless_stopped (or_stop y z)
-        (chosen_or_run all_of clean bucket y))
+        (chosen_or_run all_of run bucket y))
         (λ end. done (or_failed end))) t.journal pt ≡ Some F) lc hf in
-        let hf2 : end_of tools id (followed_by (decided clean bucket RunAll lists.items y)
+        let hf2 : end_of tools id (followed_by (decided run bucket RunAll lists.items y)
         (λ end. done (or_failed end))) t.journal pt ≡ Some F =
-        subst (λ z. end_of tools id (followed_by (decided clean bucket z lists.items y)
+        subst (λ z. end_of tools id (followed_by (decided run bucket z lists.items y)
         (λ end. done (or_failed end))) t.journal pt ≡ Some F) all hf1 in
         let f : whole ≡ F = some-same whole F (sym (bound-end tools id
-        (decided clean bucket RunAll lists.items y) (λ end. done (or_failed end)) t.journal pt
+        (decided run bucket RunAll lists.items y) (λ end. done (or_failed end)) t.journal pt
         whole w.2) ∙ hf2) in
         let e : record { value = over.end; journal = s.journal; acts = [] } ≡ E =
         some-same (record { value = over.end; journal = s.journal; acts = [] }) E
@@ -285,7 +283,8 @@ module _ (tools : List ℕ → ToolInput → ToolAnswer) (id : RunId) (run : Run
         ∙ one-at met lists.inputs lists.outputs all))
         (idle-over UpToDate tt bucket s (met ∷ []) over (gains over.end w.0 w.1 ends)
         (λ q i. elim i [
-          | inl same ↦ subst (λ (z : Piece). choice_of run z.lists z.from ≡ Skip) same chosen
+          | inl same ↦
+              subst (λ (z : Piece). choice_of Incremental run z.lists z.from ≡ Skip) same chosen
           | inr n ↦ absurd n
         ]))
       where
@@ -302,10 +301,10 @@ module _ (tools : List ℕ → ToolInput → ToolAnswer) (id : RunId) (run : Run
     pub at_once : each_in_turn first buckets s ≡ done end
     pub words : HasIdle end
     pub as_many : up_to_date (state_of end).decisions ≡ up_to_date s.decisions
-        + length (pieces_among tools id (choice_of run) run scope buckets s [])
+        + length (pieces_among tools id (choice_of Incremental run) run scope buckets s [])
     pub skips : (p : Piece) →
-        In p (pieces_among tools id (choice_of run) run scope buckets s []) →
-        choice_of run p.lists p.from ≡ Skip
+        In p (pieces_among tools id (choice_of Incremental run) run scope buckets s []) →
+        choice_of Incremental run p.lists p.from ≡ Skip
 
   abbrev pub BucketIdles : (Piece → Type 0) → Type 0
   BucketIdles S = (bucket : Bucket) (s t : State) (pt : List Act) →
@@ -314,10 +313,10 @@ module _ (tools : List ℕ → ToolInput → ToolAnswer) (id : RunId) (run : Run
       end_of tools id (second bucket t) t.journal pt ≡ Some F →
       GoAlike tools id run scope j k E F →
       AreSo tools id run scope j k S (piece_if bucket (entered scope bucket t) pt
-      (lists_at clean bucket (entered scope bucket t))) → IdleAt bucket s (pieces_here bucket s)
+      (lists_at run bucket (entered scope bucket t))) → IdleAt bucket s (pieces_here bucket s)
 
   module _ (Fine : Note → Type 0) (S : Piece → Type 0)
-      (goes : BucketGoes tools id run scope j k Fine S) (idles : BucketIdles S)
+      (goes : BucketGoes tools id run scope j k Incremental Fine S) (idles : BucketIdles S)
       (first-keeps : (bucket : Bucket) (s : State) → KeepsNotes tools id s (first bucket s))
       (second-keeps : (bucket : Bucket) (t : State) →
       KeepsNotes tools id t (second bucket t)) where
@@ -328,13 +327,13 @@ module _ (tools : List ℕ → ToolInput → ToolAnswer) (id : RunId) (run : Run
         end_of tools id (each_in_turn first buckets s) s.journal [] ≡ Some E →
         end_of tools id (each_in_turn second buckets t) t.journal pt ≡ Some F →
         IsFine tools id run scope j k Fine E.value → IsFine tools id run scope j k Fine F.value →
-        AreSo tools id run scope j k S (pieces_among tools id all_of clean scope buckets t pt) →
+        AreSo tools id run scope j k S (pieces_among tools id all_of run scope buckets t pt) →
         IdleAll buckets s
 
     -- the pieces of some buckets behind one that is over
     abbrev rest : Journal → List Bucket → Result State Stopped → List Piece
     rest l buckets r = then_pieces (end_of tools id (done r) l [])
-        (pieces_among tools id (choice_of run) run scope buckets)
+        (pieces_among tools id (choice_of Incremental run) run scope buckets)
 
     -- what follows from the end of a bucket
     record Next (l : Journal) (buckets : List Bucket) (r : Result State Stopped) : Type 0 where
@@ -343,7 +342,8 @@ module _ (tools : List ℕ → ToolInput → ToolAnswer) (id : RunId) (run : Run
       words : HasIdle end
       as_many : up_to_date (state_of end).decisions ≡ up_to_date (state_of r).decisions
           + length (rest l buckets r)
-      skips : (p : Piece) → In p (rest l buckets r) → choice_of run p.lists p.from ≡ Skip
+      skips : (p : Piece) → In p (rest l buckets r) →
+          choice_of Incremental run p.lists p.from ≡ Skip
 
     then-idle : (bucket : Bucket) (buckets : List Bucket) (s : State) →
         (o : IdleAt bucket s (pieces_here bucket s)) → Next s.journal buckets o.end →
@@ -351,10 +351,10 @@ module _ (tools : List ℕ → ToolInput → ToolAnswer) (id : RunId) (run : Run
     then-idle bucket buckets s o n =
         let here : List Piece = pieces_here bucket s in
         let later : List Piece = rest s.journal buckets o.end in
-        let all : pieces_among tools id (choice_of run) run scope (bucket ∷ buckets) s []
-        ≡ here ++ later =
+        let all : pieces_among tools id (choice_of Incremental run) run scope
+        (bucket ∷ buckets) s [] ≡ here ++ later =
         ap (λ v. here ++ then_pieces (end_of tools id v s.journal [])
-        (pieces_among tools id (choice_of run) run scope buckets)) o.at_once in
+        (pieces_among tools id (choice_of Incremental run) run scope buckets)) o.at_once in
         let long : length (here ++ later) ≡ length here + length later =
         length-append here later in
         let one : up_to_date (state_of o.end).decisions ≡ up_to_date s.decisions + length here =
@@ -387,14 +387,14 @@ module _ (tools : List ℕ → ToolInput → ToolAnswer) (id : RunId) (run : Run
         ff note (rest-keeps tools id run scope j k second second-keeps buckets y.0.value
         y.0.journal y.0.acts F y.2 note i) in
         let here = piece_if bucket (entered scope bucket t) pt
-        (lists_at clean bucket (entered scope bucket t)) in
+        (lists_at run bucket (entered scope bucket t)) in
         let later = then_pieces (end_of tools id (second bucket t) t.journal pt)
-        (pieces_among tools id all_of clean scope buckets) in
+        (pieces_among tools id all_of run scope buckets) in
         let so-here : AreSo tools id run scope j k S here = λ p i. so p (in-left p here later i) in
         let so-later : AreSo tools id run scope j k S (then_pieces (Some y.0)
-        (pieces_among tools id all_of clean scope buckets)) =
+        (pieces_among tools id all_of run scope buckets)) =
         λ p i. so p (in-right p here later (subst (λ z. In p (then_pieces z
-        (pieces_among tools id all_of clean scope buckets))) (sym y.1) i)) in
+        (pieces_among tools id all_of run scope buckets))) (sym y.1) i)) in
         let g = goes bucket s t [] pt c x.0 y.0 x.1 y.1 fine-e fine-f so-here in
         let o = idles bucket s t pt c x.0 y.0 x.1 y.1 g so-here in
         let e : record { value = o.end; journal = s.journal; acts = [] } ≡ x.0 =
@@ -419,7 +419,7 @@ module _ (tools : List ℕ → ToolInput → ToolAnswer) (id : RunId) (run : Run
               value = q;
               journal = m;
               acts = qt;
-            })) (pieces_among tools id all_of clean scope buckets)) → Idles buckets →
+            })) (pieces_among tools id all_of run scope buckets)) → Idles buckets →
             Next s.journal buckets r
         go (Ok u) (Ok v) m qt w ends a b he hf so ih =
             let n = ih u v qt ends w E F

@@ -40,7 +40,6 @@ use Rattle.target_incremental.specs.Decisions.{
   old_items,
   of_items,
   by_shape,
-  in_mode,
   decision,
 }
 use Rattle.target_incremental.specs.declared.decision.Choice.TheVariants.{Run as RunAll, Skip}
@@ -102,8 +101,7 @@ old-none v (input ∷ inputs) (output ∷ outputs) (item ∷ items) h =
     ap (λ b. item_if b item (old_items v inputs outputs items)) (h pair (inl refl) input (inl refl))
     ∙ old-none v inputs outputs items (λ other i. h other (inr i))
 
-module _ (run : Run) (mode : run.mode ≡ Incremental) (p : Piece)
-    (new : PieceIsNoOlder run.files p) (x : State)
+module _ (run : Run) (p : Piece) (new : PieceIsNoOlder run.files p) (x : State)
     (off : (path : List ℕ) → In path p.lists.inputs ⊎ In path p.lists.outputs →
     written (view_of run x) path ≡ false) where
   abbrev v : View
@@ -145,18 +143,16 @@ module _ (run : Run) (mode : run.mode ≡ Incremental) (p : Piece)
       go false g = ap (λ b. if b then RunAll else Skip) (by-every (counts-no-items p typed t g))
 
   pub new-skips : all_or_nothing p.lists.inputs p.lists.outputs ≡ RunAll →
-      choice_of run p.lists x ≡ Skip
+      choice_of Incremental run p.lists x ≡ Skip
   new-skips all = go p.lists.inputs p.lists.outputs refl refl all
     where
       go : (ins outs : List (List ℕ)) → p.lists.inputs ≡ ins → p.lists.outputs ≡ outs →
           all_or_nothing ins outs ≡ RunAll →
-          decision v ins outs (option_map (λ typed. typed.1) p.lists.items) run.mode ≡ Skip
+          decision v ins outs (option_map (λ typed. typed.1) p.lists.items) Incremental ≡ Skip
       go [] outs a b h = absurd (cc)
       go (first ∷ ins) [] a b h = absurd (cc)
       go (first ∷ ins) (o ∷ outs) a b h =
-          ap (λ m. in_mode m v (first ∷ ins) (o ∷ outs)
-          (option_map (λ typed. typed.1) p.lists.items)) mode
-          ∙ subst (λ l. by_shape v l (o ∷ outs) (option_map (λ typed. typed.1) p.lists.items)
+          subst (λ l. by_shape v l (o ∷ outs) (option_map (λ typed. typed.1) p.lists.items)
           ≡ Skip) a
           (subst (λ l. by_shape v p.lists.inputs l (option_map (λ typed. typed.1) p.lists.items)
           ≡ Skip) b (shape-skips p.lists.items refl))

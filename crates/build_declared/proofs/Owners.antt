@@ -28,7 +28,6 @@ use Rattle.msb_laws.specs.Results.{map_ok}
 use Rattle.msb_values.specs.declared.act.Act.{Act}
 use Rattle.msb_values.specs.declared.item.Item.{Item}
 use Rattle.msb_values.specs.declared.mode.Mode.{Mode}
-use Rattle.msb_values.specs.declared.mode.Mode.TheVariants.{Clean}
 use Rattle.msb_values.specs.declared.note.Note.TheVariants.{Fail}
 use Rattle.msb_values.specs.declared.scope.Scope.{Scope}
 use Rattle.msb_expand.specs.declared.lens.Bucket.{Bucket}
@@ -341,11 +340,8 @@ module _ (tools : List ℕ → ToolInput → ToolAnswer) (id : RunId) (run : Run
 module _ (tools : List ℕ → ToolInput → ToolAnswer) (files : List File) (target : UsedTarget)
     (scope : Scope) (id : RunId) (j k : Journal) (a : AlikeJournals (bytes_in files) AnyPath j k)
     (fw : HasNotActed id j) (fc : HasNotActed id k) (mode : Mode) where
-  abbrev clean : Run
-  clean = run_at files Clean id target
-
-  abbrev here : Run
-  here = run_at files mode id target
+  abbrev run : Run
+  run = run_at files id target
 
   abbrev from_w : State
   from_w = begun scope j
@@ -361,15 +357,15 @@ module _ (tools : List ℕ → ToolInput → ToolAnswer) (files : List File) (ta
     pub ends : alone tools id (body_at files mode id (Some target) scope j) j []
         ≡ Some (outcome, total)
     pub owned : ((q : Piece) → In q pieces →
-        (u : State) × (more : List Act) × SucceedsWith tools id clean q u more) →
+        (u : State) × (more : List Act) × SucceedsWith tools id run q u more) →
         (path : List ℕ) → is_some (last_bytes total path) ≡ true →
         (q : Piece) × In q pieces × In path q.lists.outputs
 
   -- by the ends of the buckets
   by-end : (pieces : List Piece) (E : End (Result State Stopped)) →
-      end_of tools id (buckets_by (choice_of here) here scope from_w) j [] ≡ Some E →
+      end_of tools id (buckets_by (choice_of mode run) run scope from_w) j [] ≡ Some E →
       (((q : Piece) → In q pieces →
-      (u : State) × (more : List Act) × SucceedsWith tools id clean q u more) →
+      (u : State) × (more : List Act) × SucceedsWith tools id run q u more) →
       (path : List ℕ) → is_some (last_bytes E.acts path) ≡ true →
       (q : Piece) × In q pieces × In path q.lists.outputs) → RunOwns pieces
   by-end pieces E he owned =
@@ -378,51 +374,53 @@ module _ (tools : List ℕ → ToolInput → ToolAnswer) (files : List File) (ta
       record {
         outcome = outcome_of E.value;
         total = E.acts;
-        ends = alone-end tools id (work_by (choice_of here) here scope j) j [] end
-            (bound-end tools id (buckets_by (choice_of here) here scope from_w)
+        ends = alone-end tools id (work_by (choice_of mode run) run scope j) j [] end
+            (bound-end tools id (buckets_by (choice_of mode run) run scope from_w)
             (λ end. done (outcome_of end)) j [] E he);
         owned = owned;
       }
 
   abbrev Pieces : List Bucket → List Piece
-  Pieces found = pieces_among tools id all_of clean scope found from_c []
+  Pieces found = pieces_among tools id all_of run scope found from_c []
 
   -- the ends of all buckets, in the build and in the clean one
   by-both : (found : List Bucket) →
-      found_w tools files target scope id j k a fw fc mode ≡ Ok found → NeverNone clean → (E F : End (Result State Stopped)) →
-      end_of tools id (each_in_turn (bucket_by (choice_of here) here scope) found from_w) j []
+      found_w tools files target scope id j k a fw fc mode ≡ Ok found → NeverNone run →
+      (E F : End (Result State Stopped)) →
+      end_of tools id (each_in_turn (bucket_by (choice_of mode run) run scope) found from_w) j []
       ≡ Some E →
-      end_of tools id (each_in_turn (bucket_by all_of clean scope) found from_c) k [] ≡ Some F →
+      end_of tools id (each_in_turn (bucket_by all_of run scope) found from_c) k [] ≡ Some F →
       LacksOnly (bytes_in files) j E.acts F.acts →
-      ((q : Piece) → In q (Pieces found) → PieceIsDeclared tools id clean q) →
+      ((q : Piece) → In q (Pieces found) → PieceIsDeclared tools id run q) →
       RunOwns (Pieces found)
   by-both found ew takes E F he hf lacks declared = by-end (Pieces found) E
       (ap (λ z. end_of tools id (unless_stopped (or_failed (or_stop from_w z))
-      (λ found. each_in_turn (bucket_by (choice_of here) here scope) found from_w)) j []) ew ∙ he)
+      (λ found. each_in_turn (bucket_by (choice_of mode run) run scope) found from_w)) j []) ew
+      ∙ he)
       (λ succeed path h.
       let there : is_some (last_bytes F.acts path) ≡ true = elim (lacks.acted path) [
         | inl n ↦ absurd (let no : false ≡ true = sym (ap is_some n) ∙ h in cc)
         | inr e ↦ sym (ap is_some e) ∙ h
       ] in
-      elim (buckets-owned tools id clean scope takes found from_c [] F hf
+      elim (buckets-owned tools id run scope takes found from_c [] F hf
       (λ q i. (declared q i, succeed q i)) path there) [
         | inl n ↦ absurd (cc)
         | inr x ↦ x
       ])
 
   by-run : (found : List Bucket) → found_w tools files target scope id j k a fw fc mode ≡ Ok found →
-      found_c tools files target scope id j k a fw fc mode ≡ Ok found → NeverNone clean →
-      (ps : List Piece) → RunIsDeclared tools id clean scope k ps → Pieces found ≡ ps →
-      ((p : Piece) → In p (Pieces found) → PieceIsFresh tools id clean p) →
+      found_c tools files target scope id j k a fw fc mode ≡ Ok found → NeverNone run →
+      (ps : List Piece) → RunIsDeclared tools id run scope k ps → Pieces found ≡ ps →
+      ((p : Piece) → In p (Pieces found) → PieceIsFresh tools id run p) →
       RunOwns (Pieces found)
   by-run found ew ec takes ps r e fresh =
       let w = run-ends tools files target scope id j k a fw fc mode ps r in
-      let c = r.never_large Clean k (alike-self files k) all_of
-      (λ lists s. all-may tools id clean lists
+      let c = r.never_large k (alike-self files k) all_of
+      (λ lists s. all-may tools id run lists
       (all_or_nothing lists.inputs lists.outputs) refl) in
-      let x = end-bound tools id (buckets_by (choice_of here) here scope from_w)
+      let x = end-bound tools id (buckets_by (choice_of mode run) run scope from_w)
       (λ end. done (outcome_of end)) j [] w.0 w.1 in
-      let y = end-bound tools id (buckets_by all_of clean scope from_c)
+      let y = end-bound tools id (buckets_by all_of run scope from_c)
       (λ end. done (outcome_of end)) k [] c.0 c.1 in
       let ox : outcome_of x.0.value ≡ w.0.value =
       ap (λ (z : End Outcome). z.value) (some-same (record {
@@ -436,39 +434,39 @@ module _ (tools : List ℕ → ToolInput → ToolAnswer) (files : List File) (ta
         journal = y.0.journal;
         acts = y.0.acts;
       }) c.0 y.2) in
-      let hx : end_of tools id (each_in_turn (bucket_by (choice_of here) here scope) found from_w)
-      j [] ≡ Some x.0 =
+      let hx : end_of tools id
+      (each_in_turn (bucket_by (choice_of mode run) run scope) found from_w) j [] ≡ Some x.0 =
       sym (ap (λ z. end_of tools id (unless_stopped (or_failed (or_stop from_w z))
-      (λ found. each_in_turn (bucket_by (choice_of here) here scope) found from_w)) j []) ew)
+      (λ found. each_in_turn (bucket_by (choice_of mode run) run scope) found from_w)) j []) ew)
       ∙ x.1 in
-      let hy : end_of tools id (each_in_turn (bucket_by all_of clean scope) found from_c) k []
+      let hy : end_of tools id (each_in_turn (bucket_by all_of run scope) found from_c) k []
       ≡ Some y.0 =
       sym (ap (λ z. end_of tools id (unless_stopped (or_failed (or_stop from_c z))
-      (λ found. each_in_turn (bucket_by all_of clean scope) found from_c)) k []) ec) ∙ y.1 in
-      let declared : (q : Piece) → In q (Pieces found) → PieceIsDeclared tools id clean q =
+      (λ found. each_in_turn (bucket_by all_of run scope) found from_c)) k []) ec) ∙ y.1 in
+      let declared : (q : Piece) → In q (Pieces found) → PieceIsDeclared tools id run q =
       λ q i. r.each q (subst (In q) e i) in
-      let g = buckets-go tools id here scope j k (Fine tools id here scope j k a)
-      (Said tools id here scope j k a)
-      (bucket-goes tools id here scope j k a
+      let g = buckets-go tools id run scope j k mode (Fine tools id run scope j k a)
+      (Said tools id run scope j k a)
+      (bucket-goes tools id run scope j k a mode
       (piece-goes-in tools files target scope id j k a fw fc mode) takes)
-      (bucket-keeps tools id here (choice_of here) scope)
-      (bucket-keeps tools id clean all_of scope) found from_w from_c [] []
+      (bucket-keeps tools id run (choice_of mode run) scope)
+      (bucket-keeps tools id run all_of scope) found from_w from_c [] []
       (at-start tools files target scope id j k a fw fc mode) x.0 y.0 hx hy
       (λ note u. w.2 note (subst (λ (o : Outcome). In note o.notes) ox (notes-of x.0.value note u)))
       (λ note u. c.2 note (subst (λ (o : Outcome). In note o.notes) oy (notes-of y.0.value note u)))
       (λ q i. (declared q i, fresh q i)) in
       by-both found ew takes x.0 y.0 hx hy
-      (outcomes-alike tools id here scope j k x.0.value y.0.value x.0.acts y.0.acts g.ends).1
+      (outcomes-alike tools id run scope j k x.0.value y.0.value x.0.acts y.0.acts g.ends).1
       declared
 
   by-buckets : (x : Result (List Bucket) EvalFault) →
       found_w tools files target scope id j k a fw fc mode ≡ x →
-      found_c tools files target scope id j k a fw fc mode ≡ x → NeverNone clean →
-      DeclaredBy tools id clean scope k
-      (pieces_in tools id all_of clean scope (or_stop from_c x) from_c) →
-      ((p : Piece) → In p (pieces_in tools id all_of clean scope (or_stop from_c x) from_c) →
-      PieceIsFresh tools id clean p) →
-      RunOwns (pieces_in tools id all_of clean scope (or_stop from_c x) from_c)
+      found_c tools files target scope id j k a fw fc mode ≡ x → NeverNone run →
+      DeclaredBy tools id run scope k
+      (pieces_in tools id all_of run scope (or_stop from_c x) from_c) →
+      ((p : Piece) → In p (pieces_in tools id all_of run scope (or_stop from_c x) from_c) →
+      PieceIsFresh tools id run p) →
+      RunOwns (pieces_in tools id all_of run scope (or_stop from_c x) from_c)
   by-buckets (Err fault) ew ec takes declared fresh =
       let E : End (Result State Stopped) = record {
         value = or_failed (Err (faulted (with_notes (Fail (fault_text fault) ∷ []) from_w)));
@@ -477,26 +475,26 @@ module _ (tools : List ℕ → ToolInput → ToolAnswer) (files : List File) (ta
       } in
       by-end [] E
       (ap (λ z. end_of tools id (unless_stopped (or_failed (or_stop from_w z))
-      (λ found. each_in_turn (bucket_by (choice_of here) here scope) found from_w)) j []) ew)
+      (λ found. each_in_turn (bucket_by (choice_of mode run) run scope) found from_w)) j []) ew)
       (λ succeed path h. absurd (cc))
   by-buckets (Ok found) ew ec takes declared fresh = go (Pieces found) refl declared
     where
       go : (ps : List Piece) → Pieces found ≡ ps →
-          DeclaredBy tools id clean scope k (Pieces found) → RunOwns (Pieces found)
+          DeclaredBy tools id run scope k (Pieces found) → RunOwns (Pieces found)
       go [] e d =
-          let x = none-goes tools id here scope j k a takes found from_w from_c [] []
+          let x = none-goes tools id run scope j k a mode takes found from_w from_c [] []
           (at-start tools files target scope id j k a fw fc mode) e in
           by-both found ew takes x.0 x.1 x.2 x.3
-          (outcomes-alike tools id here scope j k x.0.value x.1.value x.0.acts x.1.acts x.4.ends).1
+          (outcomes-alike tools id run scope j k x.0.value x.1.value x.0.acts x.1.acts x.4.ends).1
           (λ q i. absurd (subst (In q) e i))
       go (p ∷ ps) e d = by-run found ew ec takes (p ∷ ps)
-          (subst (DeclaredBy tools id clean scope k) e d) e fresh
+          (subst (DeclaredBy tools id run scope k) e d) e fresh
 
   pub run-owns : found_w tools files target scope id j k a fw fc mode
-      ≡ found_c tools files target scope id j k a fw fc mode → NeverNone clean →
-      DeclaredBy tools id clean scope k (clean_pieces tools files (Some target) scope id k) →
+      ≡ found_c tools files target scope id j k a fw fc mode → NeverNone run →
+      DeclaredBy tools id run scope k (clean_pieces tools files (Some target) scope id k) →
       ((p : Piece) → In p (clean_pieces tools files (Some target) scope id k) →
-      PieceIsFresh tools id clean p) →
+      PieceIsFresh tools id run p) →
       RunOwns (clean_pieces tools files (Some target) scope id k)
   run-owns same takes declared fresh =
       by-buckets (found_c tools files target scope id j k a fw fc mode) same refl takes declared

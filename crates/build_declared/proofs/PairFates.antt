@@ -251,8 +251,8 @@ unmarked-old v (one ∷ inputs) (output ∷ outputs) (item ∷ items) l pair k h
     go false e n (inr u) rest = rest n u
 
 -- where all of a piece is skipped, each pair is not out of date
-module _ (run : Run) (mode : run.mode ≡ Incremental) (p : Piece) (x : State) (pair : Pairing)
-    (paired : IsPaired p pair) (input : List ℕ) (one : In input pair.inputs) where
+module _ (run : Run) (p : Piece) (x : State) (pair : Pairing) (paired : IsPaired p pair)
+    (input : List ℕ) (one : In input pair.inputs) where
   abbrev v : View
   v = view_of run x
 
@@ -286,23 +286,19 @@ module _ (run : Run) (mode : run.mode ≡ Incremental) (p : Piece) (x : State) (
       go false g h (inr y) =
           by-every (pairs-skip (any_is_old v p.lists.inputs p.lists.outputs) h) y.1 y.2
 
-  skip-current : choice_of run p.lists x ≡ Skip → Current
+  skip-current : choice_of Incremental run p.lists x ≡ Skip → Current
   skip-current e = go p.lists.inputs p.lists.outputs refl refl e
     where
       go : (ins outs : List (List ℕ)) → p.lists.inputs ≡ ins → p.lists.outputs ≡ outs →
-          decision v ins outs (option_map (λ typed. typed.1) p.lists.items) run.mode ≡ Skip →
+          decision v ins outs (option_map (λ typed. typed.1) p.lists.items) Incremental ≡ Skip →
           Current
       go [] outs a b h = let k : false ≡ true = ap is-skip h in absurd (cc)
       go (first ∷ ins) [] a b h = let k : false ≡ true = ap is-skip h in absurd (cc)
       go (first ∷ ins) (o ∷ outs) a b h =
-          let h1 : by_shape v (first ∷ ins) (o ∷ outs)
-          (option_map (λ typed. typed.1) p.lists.items) ≡ Skip =
-          subst (λ m. decision v (first ∷ ins) (o ∷ outs)
-          (option_map (λ typed. typed.1) p.lists.items) m ≡ Skip) mode h in
           let h2 : by_shape v p.lists.inputs (o ∷ outs)
           (option_map (λ typed. typed.1) p.lists.items) ≡ Skip =
           subst (λ l. by_shape v l (o ∷ outs) (option_map (λ typed. typed.1) p.lists.items)
-          ≡ Skip) (sym a) h1 in
+          ≡ Skip) (sym a) h in
           let h3 : by_shape v p.lists.inputs p.lists.outputs
           (option_map (λ typed. typed.1) p.lists.items) ≡ Skip =
           subst (λ l. by_shape v p.lists.inputs l (option_map (λ typed. typed.1) p.lists.items)
@@ -371,7 +367,7 @@ module _ (tools : List ℕ → ToolInput → ToolAnswer) (id : RunId) (run : Run
     (s t : State) (ps pt : List Act) (c : Carry tools id run scope j k s t ps pt)
     (all : all_or_nothing lists.inputs lists.outputs ≡ RunAll)
     (E : End (Result State Stopped)) (after : State) (acts : List Act)
-    (hf : end_of tools id (decided (record run { mode = Clean }) bucket RunAll lists.items
+    (hf : end_of tools id (decided run bucket RunAll lists.items
     (entered scope bucket t)) t.journal pt ≡ Some (record {
       value = Ok after;
       journal = after.journal;
@@ -381,9 +377,6 @@ module _ (tools : List ℕ → ToolInput → ToolAnswer) (id : RunId) (run : Run
     (ff : IsFine tools id run scope j k (Fine tools id run scope j k a) (Ok after))
     (said : Said tools id run scope j k a (piece_at tools id run scope j k a bucket lists t pt))
   where
-    abbrev clean : Run
-    clean = record run { mode = Clean }
-
     abbrev x : State
     x = entered scope bucket s
 
@@ -410,7 +403,7 @@ module _ (tools : List ℕ → ToolInput → ToolAnswer) (id : RunId) (run : Run
         (write.0, left.1 ∙ ap Some (sym last.3 ∙ write.1))
 
     -- what a trusted output gets
-    same-writes : (output : List ℕ) (file : File) → WritesSame tools id clean q output file →
+    same-writes : (output : List ℕ) (file : File) → WritesSame tools id run q output file →
         last_bytes (since pt acts) output ≡ Some (Some file.bytes)
     same-writes output file w =
         let other : End (Result State Stopped) =
@@ -437,114 +430,113 @@ module _ (tools : List ℕ → ToolInput → ToolAnswer) (id : RunId) (run : Run
               }),
         )
 
-    module _ (mode : run.mode ≡ Incremental) where
-      skip-fates : choice_of run lists x ≡ Skip →
-          end_of tools id (decided run bucket Skip lists.items x) s.journal ps ≡ Some E → Fates
-      skip-fates e he =
-          let alike = carry-alike tools id run scope j k a s t ps pt c in
-          let kept = skip-kept tools id run clean mode q said.1 x refl alike.same e in
-          let sk = skips-same tools id run mode scope j k a fw fc bucket lists t pt after acts
-          said.0 c.c_is hf (λ o i. ap is_some (kept o i).1.unchanged) in
-          let mid : End (Result State Stopped) =
-          record { value = Ok sk.0; journal = t.journal; acts = pt } in
-          let fine : IsFine tools id run scope j k (Fine tools id run scope j k a) (Ok sk.0) =
-          λ note i. ff note (sk.4 note i) in
-          let both = same-goes tools id run scope j k a fw fc bucket lists Skip s t ps pt c E mid he
-          sk.1 fe fine in
-          let none : both.new ≡ [] = no-front both.new pt both.c_acts in (
-            [],
-            both.w_acts ∙ ap (λ l. l ++ ps) none,
-            λ pair paired.
-                let f = kept pair.output (paired-output q pair paired) in
-                inr (left-it (view_of run x) [] (since pt acts) pair f.0 f.1.there refl
-                (same-writes pair.output f.0 f.2) (some-input q pair all paired)
-                (λ input i. skip-current run mode q x pair paired input i e)),
-          )
+    skip-fates : choice_of Incremental run lists x ≡ Skip →
+        end_of tools id (decided run bucket Skip lists.items x) s.journal ps ≡ Some E → Fates
+    skip-fates e he =
+        let alike = carry-alike tools id run scope j k a s t ps pt c in
+        let kept = skip-kept tools id run q said.1 x alike.same e in
+        let sk = skips-same tools id run scope j k a fw fc bucket lists t pt after acts
+        said.0 c.c_is hf (λ o i. ap is_some (kept o i).1.unchanged) in
+        let mid : End (Result State Stopped) =
+        record { value = Ok sk.0; journal = t.journal; acts = pt } in
+        let fine : IsFine tools id run scope j k (Fine tools id run scope j k a) (Ok sk.0) =
+        λ note i. ff note (sk.4 note i) in
+        let both = same-goes tools id run scope j k a fw fc bucket lists Skip s t ps pt c E mid he
+        sk.1 fe fine in
+        let none : both.new ≡ [] = no-front both.new pt both.c_acts in (
+          [],
+          both.w_acts ∙ ap (λ l. l ++ ps) none,
+          λ pair paired.
+              let f = kept pair.output (paired-output q pair paired) in
+              inr (left-it (view_of run x) [] (since pt acts) pair f.0 f.1.there refl
+              (same-writes pair.output f.0 f.2) (some-input q pair all paired)
+              (λ input i. skip-current run q x pair paired input i e)),
+        )
 
-      -- the items that are out of date are marked
-      abbrev marks : List Item → List Bool
-      marks items = marks_of (view_of run x) lists.inputs lists.outputs items
+    -- the items that are out of date are marked
+    abbrev marks : List Item → List Bool
+    marks items = marks_of (view_of run x) lists.inputs lists.outputs items
 
-      part-fate : (items : List Item) → ByItems q items → (new ends : List Act) →
-          since pt ends ≡ new → ((path : List ℕ) →
-          is_one_of path (kept (marks items) lists.outputs) ≡ true →
-          last_bytes (since pt ends) path ≡ last_bytes (since pt acts) path) →
-          ((path : List ℕ) → is_one_of path (kept (marks items) lists.outputs) ≡ false →
-          last_bytes (since pt ends) path ≡ None) → (pair : Pairing) → IsPaired q pair →
-          Fate (view_of run x) new (since pt acts) pair
-      part-fate items by new ends new-is bytes none pair (inr y) = absurd (y.0 items by)
-      part-fate items by new ends new-is bytes none pair (inl y) =
-          elim (tells (is_one_of pair.output (kept (marks items) lists.outputs))) [
-            | inl h ↦
-                let w = whole-writes pair.output
-                (pairs-output lists.inputs lists.outputs pair y.2) in
-                inl (record {
-                  bytes = w.0;
-                  ours = sym (ap (λ l. last_bytes l pair.output) new-is)
-                      ∙ (bytes pair.output h ∙ w.1);
-                  theirs = w.1;
-                })
-            | inr h ↦
-                let one = pairs-input lists.inputs lists.outputs pair y.2 in
-                let there : In one.0 pair.inputs = subst (In one.0) (sym one.1) (inl refl) in
-                let current = unmarked-old (view_of run x) lists.inputs lists.outputs items
-                by.inputs pair y.2 h in
-                let alike = carry-alike tools id run scope j k a s t ps pt c in
-                let trusted = pair-trusted (view_of run x) (view_of clean q.from) refl alike.same
-                pair one.0 one.1 (current one.0 there) in
-                inr (left-it (view_of run x) new (since pt acts) pair trusted.0
-                trusted.1.output_there.there
-                (sym (ap (λ l. last_bytes l pair.output) new-is) ∙ none pair.output h)
-                (same-writes pair.output trusted.0
-                (said.1.by_items items by pair y.2 trusted.0 trusted.1))
-                (one.0, there) current)
-          ]
+    part-fate : (items : List Item) → ByItems q items → (new ends : List Act) →
+        since pt ends ≡ new → ((path : List ℕ) →
+        is_one_of path (kept (marks items) lists.outputs) ≡ true →
+        last_bytes (since pt ends) path ≡ last_bytes (since pt acts) path) →
+        ((path : List ℕ) → is_one_of path (kept (marks items) lists.outputs) ≡ false →
+        last_bytes (since pt ends) path ≡ None) → (pair : Pairing) → IsPaired q pair →
+        Fate (view_of run x) new (since pt acts) pair
+    part-fate items by new ends new-is bytes none pair (inr y) = absurd (y.0 items by)
+    part-fate items by new ends new-is bytes none pair (inl y) =
+        elim (tells (is_one_of pair.output (kept (marks items) lists.outputs))) [
+          | inl h ↦
+              let w = whole-writes pair.output
+              (pairs-output lists.inputs lists.outputs pair y.2) in
+              inl (record {
+                bytes = w.0;
+                ours = sym (ap (λ l. last_bytes l pair.output) new-is)
+                    ∙ (bytes pair.output h ∙ w.1);
+                theirs = w.1;
+              })
+          | inr h ↦
+              let one = pairs-input lists.inputs lists.outputs pair y.2 in
+              let there : In one.0 pair.inputs = subst (In one.0) (sym one.1) (inl refl) in
+              let current = unmarked-old (view_of run x) lists.inputs lists.outputs items
+              by.inputs pair y.2 h in
+              let alike = carry-alike tools id run scope j k a s t ps pt c in
+              let trusted = pair-trusted (view_of run x) (view_of run q.from) refl alike.same
+              pair one.0 one.1 (current one.0 there) in
+              inr (left-it (view_of run x) new (since pt acts) pair trusted.0
+              trusted.1.output_there.there
+              (sym (ap (λ l. last_bytes l pair.output) new-is) ∙ none pair.output h)
+              (same-writes pair.output trusted.0
+              (said.1.by_items items by pair y.2 trusted.0 trusted.1))
+              (one.0, there) current)
+        ]
 
-      part-fates : (old : List Item) → choice_of run lists x ≡ Part old →
-          end_of tools id (decided run bucket (Part old) lists.items x) s.journal ps ≡ Some E →
-          Fates
-      part-fates old e he =
-          let facts = part-facts run mode lists x old e in
-          let by : ByItems q facts.items = record {
-            kind = facts.kind;
-            typed = facts.typed;
-            inputs = facts.li;
-            outputs = facts.lo;
-          } in
-          let part = said.0.parts after acts hf facts.items by (marks facts.items) facts.part in
-          let ended : End (Result State Stopped) = record {
-            value = Ok part.after;
-            journal = part.after.journal;
-            acts = part.acts;
-          } in
-          let partly : end_of tools id (decided run bucket (Part (kept (marks facts.items)
-          facts.items)) lists.items x) s.journal ps ≡ Some E =
-          subst (λ l. end_of tools id (decided run bucket (Part l) lists.items x) s.journal ps
-          ≡ Some E) facts.old_is he in
-          let both = same-goes tools id run scope j k a fw fc bucket lists
-          (Part (kept (marks facts.items) facts.items)) s t ps pt c E ended partly part.succeeds
-          fe part.never_large in
-          let new-is : since pt part.acts ≡ both.new =
-          ap (since pt) both.c_acts ∙ since-front both.new pt in (
-            both.new,
-            both.w_acts,
-            part-fate facts.items by both.new part.acts new-is part.bytes part.no_other,
-          )
+    part-fates : (old : List Item) → choice_of Incremental run lists x ≡ Part old →
+        end_of tools id (decided run bucket (Part old) lists.items x) s.journal ps ≡ Some E →
+        Fates
+    part-fates old e he =
+        let facts = part-facts run lists x old e in
+        let by : ByItems q facts.items = record {
+          kind = facts.kind;
+          typed = facts.typed;
+          inputs = facts.li;
+          outputs = facts.lo;
+        } in
+        let part = said.0.parts after acts hf facts.items by (marks facts.items) facts.part in
+        let ended : End (Result State Stopped) = record {
+          value = Ok part.after;
+          journal = part.after.journal;
+          acts = part.acts;
+        } in
+        let partly : end_of tools id (decided run bucket (Part (kept (marks facts.items)
+        facts.items)) lists.items x) s.journal ps ≡ Some E =
+        subst (λ l. end_of tools id (decided run bucket (Part l) lists.items x) s.journal ps
+        ≡ Some E) facts.old_is he in
+        let both = same-goes tools id run scope j k a fw fc bucket lists
+        (Part (kept (marks facts.items) facts.items)) s t ps pt c E ended partly part.succeeds
+        fe part.never_large in
+        let new-is : since pt part.acts ≡ both.new =
+        ap (since pt) both.c_acts ∙ since-front both.new pt in (
+          both.new,
+          both.w_acts,
+          part-fate facts.items by both.new part.acts new-is part.bytes part.no_other,
+        )
 
-    pub fates : (m : Mode) → run.mode ≡ m →
-        end_of tools id (decided run bucket (choice_of run lists x) lists.items x) s.journal ps
+    pub fates : (mode : Mode) →
+        end_of tools id (decided run bucket (choice_of mode run lists x) lists.items x) s.journal ps
         ≡ Some E → Fates
-    fates Clean e he = whole-fates (subst (λ z. end_of tools id (decided run bucket z lists.items x)
-        s.journal ps ≡ Some E) (ap (λ (f : Chooser). f lists x) (clean-all run e) ∙ all) he)
-    fates Incremental e he = by-choice (choice_of run lists x) refl he
+    fates Clean he = whole-fates (subst (λ z. end_of tools id (decided run bucket z lists.items x)
+        s.journal ps ≡ Some E) (ap (λ (f : Chooser). f lists x) (clean-all run) ∙ all) he)
+    fates Incremental he = by-choice (choice_of Incremental run lists x) refl he
       where
-        by-choice : (choice : Choice) → choice_of run lists x ≡ choice →
+        by-choice : (choice : Choice) → choice_of Incremental run lists x ≡ choice →
             end_of tools id (decided run bucket choice lists.items x) s.journal ps ≡ Some E → Fates
         by-choice RunAll h g = whole-fates g
-        by-choice Skip h g = skip-fates e h g
-        by-choice (Part old) h g = part-fates e old h g
+        by-choice Skip h g = skip-fates h g
+        by-choice (Part old) h g = part-fates old h g
         by-choice Nothing h g =
-            let may : MayChoose tools id clean lists Nothing =
-            subst (MayChoose tools id clean lists) h (decided-may tools id run clean e lists x) in
+            let may : MayChoose tools id run lists Nothing =
+            subst (MayChoose tools id run lists) h (decided-may tools id run lists x) in
             let no : Nothing ≡ RunAll = sym may ∙ all in
             absurd (cc)

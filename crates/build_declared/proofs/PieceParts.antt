@@ -32,7 +32,7 @@ use Rattle.std.specs.Prelude.{Result, Ok, Err, option_map, IsSome, if◌then◌e
 use Rattle.std.specs.List.{list_any}
 use Rattle.std.specs.Str.{bytes_eq}
 use Rattle.std.proofs.lemmas.Slice.Eq.{bytes_eq-Decides}
-use Rattle.msb_values.specs.declared.mode.Mode.TheVariants.{Incremental, Clean}
+use Rattle.msb_values.specs.declared.mode.Mode.TheVariants.{Incremental}
 use Rattle.msb_values.specs.declared.act.Act.{Act}
 use Rattle.msb_values.specs.declared.scope.Scope.{Scope}
 use Rattle.msb_expand.specs.declared.lens.Bucket.{Bucket}
@@ -257,25 +257,20 @@ module _ (v : View) (lists : Lists) (old : List Item) where
           (old_items v lists.inputs lists.outputs typed.1) refl h
       go false g h = absurd (pairs-not (any_is_old v lists.inputs lists.outputs) h)
 
-pub part-facts : (run : Run) → run.mode ≡ Incremental → (lists : Lists) (x : State)
-    (old : List Item) →
-    choice_of run lists x ≡ Part old → PartFacts (view_of run x) lists old
-part-facts run mode lists x old e = go lists.inputs lists.outputs refl refl e
+pub part-facts : (run : Run) (lists : Lists) (x : State) (old : List Item) →
+    choice_of Incremental run lists x ≡ Part old → PartFacts (view_of run x) lists old
+part-facts run lists x old e = go lists.inputs lists.outputs refl refl e
   where
     go : (ins outs : List (List ℕ)) → lists.inputs ≡ ins → lists.outputs ≡ outs →
-        decision (view_of run x) ins outs (option_map (λ typed. typed.1) lists.items) run.mode
+        decision (view_of run x) ins outs (option_map (λ typed. typed.1) lists.items) Incremental
         ≡ Part old → PartFacts (view_of run x) lists old
     go [] outs a b h = absurd (let k : false ≡ true = ap is-part h in clash false k refl)
     go (first ∷ ins) [] a b h = absurd (let k : false ≡ true = ap is-part h in clash false k refl)
     go (first ∷ ins) (o ∷ outs) a b h =
-        let h1 : by_shape (view_of run x) (first ∷ ins) (o ∷ outs)
-        (option_map (λ typed. typed.1) lists.items) ≡ Part old =
-        subst (λ m. decision (view_of run x) (first ∷ ins) (o ∷ outs)
-        (option_map (λ typed. typed.1) lists.items) m ≡ Part old) mode h in
         let h2 : by_shape (view_of run x) lists.inputs (o ∷ outs)
         (option_map (λ typed. typed.1) lists.items) ≡ Part old =
         subst (λ l. by_shape (view_of run x) l (o ∷ outs)
-        (option_map (λ typed. typed.1) lists.items) ≡ Part old) (sym a) h1 in
+        (option_map (λ typed. typed.1) lists.items) ≡ Part old) (sym a) h in
         shape-facts (view_of run x) lists old lists.items refl
         (subst (λ l. by_shape (view_of run x) lists.inputs l
         (option_map (λ typed. typed.1) lists.items) ≡ Part old) (sym b) h2)
@@ -304,13 +299,9 @@ parts-lack files from new own outs marks ml same other writes there = record {
   ];
 }
 
-module _ (tools : List ℕ → ToolInput → ToolAnswer) (id : RunId) (run : Run)
-    (mode : run.mode ≡ Incremental) (scope : Scope) (j k : Journal)
-    (a : AlikeJournals (bytes_in run.files) AnyPath j k) (fw : HasNotActed id j)
+module _ (tools : List ℕ → ToolInput → ToolAnswer) (id : RunId) (run : Run) (scope : Scope)
+    (j k : Journal) (a : AlikeJournals (bytes_in run.files) AnyPath j k) (fw : HasNotActed id j)
     (fc : HasNotActed id k) where
-  abbrev clean : Run
-  clean = record run { mode = Clean }
-
   -- the end of the whole, and that of the part in the clean world
   abbrev whole-end : State → List Act → End (Result State Stopped)
   whole-end after acts = record { value = Ok after; journal = after.journal; acts = acts }
@@ -344,7 +335,7 @@ module _ (tools : List ℕ → ToolInput → ToolAnswer) (id : RunId) (run : Run
   module _ (bucket : Bucket) (lists : Lists) (s t : State) (ps pt : List Act)
       (c : Carry tools id run scope j k s t ps pt) (marks : List Bool) (items : List Item)
       (after : State) (acts : List Act)
-      (hf : end_of tools id (decided clean bucket RunAll lists.items (entered scope bucket t))
+      (hf : end_of tools id (decided run bucket RunAll lists.items (entered scope bucket t))
       t.journal pt ≡ Some (whole-end after acts)) where
     abbrev p : Piece
     p = piece_at tools id run scope j k a bucket lists t pt
@@ -354,12 +345,12 @@ module _ (tools : List ℕ → ToolInput → ToolAnswer) (id : RunId) (run : Run
 
     -- what the whole has done itself
     grown : (own : List Act) × (acts ≡ own ++ pt) × (after.journal ≡ numbered id acts ++ k)
-    grown = let st = decided-steps tools id clean k fc bucket RunAll lists.items y pt c.c_is
+    grown = let st = decided-steps tools id run k fc bucket RunAll lists.items y pt c.c_is
         (whole-end after acts) hf in (st.more, st.grown, st.numbered_so)
 
     -- what is kept of a trusted output
     kept-bytes : (own : List Act) → acts ≡ own ++ pt → (q : List ℕ) (left : Option (List ℕ))
-        (file : File) → IsAsInTree (view_of clean y) q file → WritesSame tools id clean p q file →
+        (file : File) → IsAsInTree (view_of run y) q file → WritesSame tools id run p q file →
         last_bytes own q ≡ Some left → seen (bytes_in run.files) s.journal q ≡ left
     kept-bytes own pf q left file tree (t1, acts1, e1, b1) h =
         let same : whole-end t1 acts1 ≡ whole-end after acts =
@@ -373,8 +364,8 @@ module _ (tools : List ℕ → ToolInput → ToolAnswer) (id : RunId) (run : Run
 
     part-whole : length marks ≡ length lists.outputs →
         ((q : List ℕ) → is_one_of q (kept (map not marks) lists.outputs) ≡ true →
-        (file : File) × IsAsInTree (view_of clean y) q file × WritesSame tools id clean p q file) →
-        PieceIsDeclared tools id clean p → PartIsDeclared tools id clean p after acts items marks →
+        (file : File) × IsAsInTree (view_of run y) q file × WritesSame tools id run p q file) →
+        PieceIsDeclared tools id run p → PartIsDeclared tools id run p after acts items marks →
         (E : End (Result State Stopped)) → end_of tools id
         (decided run bucket (Part (kept marks items)) lists.items (entered scope bucket s))
         s.journal ps ≡ Some E →
@@ -392,7 +383,7 @@ module _ (tools : List ℕ → ToolInput → ToolAnswer) (id : RunId) (run : Run
       where
         changed : (part.after.changes ≡ after.changes) × (part.after.items ≡ after.items)
         changed = part.changes (λ q h. let r = there q h in
-            is-some-of (views.content (view_of clean y) q) r.0.bytes r.1.unchanged)
+            is-some-of (views.content (view_of run y) q) r.0.bytes r.1.unchanged)
 
         with-both : BothEnd tools id run j k fw fc ps pt E (record {
           value =
@@ -422,22 +413,23 @@ module _ (tools : List ℕ → ToolInput → ToolAnswer) (id : RunId) (run : Run
             finish after acts E.value E.journal E.acts part.acts part.after both.cousins
             both.w_step lacks changed.0 changed.1 grown.2
 
-  pub part-goes : GoesBy tools id run scope j k a fw fc (IsPart tools id run scope j k a fw fc)
+  pub part-goes : GoesBy tools id run scope j k a fw fc Incremental
+      (IsPart tools id run scope j k a fw fc)
   part-goes bucket lists s t ps pt c lw lc all RunAll e w E F he hf fe ff said = absurd w
   part-goes bucket lists s t ps pt c lw lc all Nothing e w E F he hf fe ff said = absurd w
   part-goes bucket lists s t ps pt c lw lc all Skip e w E F he hf fe ff said = absurd w
   part-goes bucket lists s t ps pt c lw lc all (Part old) e w E F he hf fe ff said =
-      by-facts (part-facts run mode lists (entered scope bucket s) old e)
+      by-facts (part-facts run lists (entered scope bucket s) old e)
     where
       by-whole : (facts : PartFacts (view_of run (entered scope bucket s)) lists old) →
           ((q : List ℕ) → is_one_of q (kept (map not
           (marks_of (view_of run (entered scope bucket s)) lists.inputs lists.outputs
           facts.items)) lists.outputs) ≡ true →
-          (file : File) × IsAsInTree (view_of clean (entered scope bucket t)) q file
-          × WritesSame tools id clean (piece_at tools id run scope j k a bucket lists t pt)
+          (file : File) × IsAsInTree (view_of run (entered scope bucket t)) q file
+          × WritesSame tools id run (piece_at tools id run scope j k a bucket lists t pt)
           q file) →
           (after : State) (acts : List Act) → end_of tools id
-          (decided clean bucket RunAll lists.items (entered scope bucket t)) t.journal pt
+          (decided run bucket RunAll lists.items (entered scope bucket t)) t.journal pt
           ≡ Some (whole-end after acts) → GoAlike tools id run scope j k E F
       by-whole facts there after acts w1 =
           let marks : List Bool = marks_of (view_of run (entered scope bucket s)) lists.inputs
@@ -474,18 +466,18 @@ module _ (tools : List ℕ → ToolInput → ToolAnswer) (id : RunId) (run : Run
                 facts.lo;
           } in
           let there : (q : List ℕ) → is_one_of q (kept (map not marks) lists.outputs) ≡ true →
-          (file : File) × IsAsInTree (view_of clean (entered scope bucket t)) q file
-          × WritesSame tools id clean (piece_at tools id run scope j k a bucket lists t
+          (file : File) × IsAsInTree (view_of run (entered scope bucket t)) q file
+          × WritesSame tools id run (piece_at tools id run scope j k a bucket lists t
           pt) q file =
           λ q h.
           let r = unmarked-trusted (view_of run (entered scope bucket s))
-          (view_of clean (entered scope bucket t)) refl
+          (view_of run (entered scope bucket t)) refl
           (carry-alike tools id run scope j k a s t ps pt c).same q lists.inputs
           lists.outputs facts.items h in (
             r.3.0,
-            subst (λ o. IsAsInTree (view_of clean (entered scope bucket t)) o r.3.0)
+            subst (λ o. IsAsInTree (view_of run (entered scope bucket t)) o r.3.0)
                 r.2 r.3.1.output_there,
-            subst (λ o. WritesSame tools id clean
+            subst (λ o. WritesSame tools id run
                 (piece_at tools id run scope j k a bucket lists t pt) o r.3.0) r.2
                 (said.1.by_items facts.items by r.0 r.1 r.3.0 r.3.1),
           ) in

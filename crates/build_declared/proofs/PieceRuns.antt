@@ -25,7 +25,7 @@ use Rattle.std.specs.Prelude.{Result, Ok, Err, unwrap_or}
 use Rattle.std.specs.Option.{option_or}
 use Rattle.std.specs.Str.{bytes_eq}
 use Rattle.msb_values.specs.Acts.{act_path, act_bytes}
-use Rattle.msb_values.specs.declared.mode.Mode.TheVariants.{Clean}
+use Rattle.msb_values.specs.declared.mode.Mode.{Mode}
 use Rattle.msb_values.specs.declared.act.Act.{Act}
 use Rattle.msb_values.specs.declared.scope.Scope.{Scope}
 use Rattle.msb_expand.specs.declared.lens.Bucket.{Bucket}
@@ -222,10 +222,9 @@ module _ (tools : List ℕ → ToolInput → ToolAnswer) (id : RunId) (run : Run
       (ps pt : List Act) → Carry tools id run scope j k s t ps pt →
       (E F : End (Result State Stopped)) →
       end_of tools id (decided run bucket choice lists.items (entered scope bucket s)) s.journal ps
-      ≡ Some E → end_of tools id (decided (record run {
-        mode =
-            Clean;
-      }) bucket choice lists.items (entered scope bucket t)) t.journal pt ≡ Some F →
+      ≡ Some E →
+      end_of tools id (decided run bucket choice lists.items (entered scope bucket t)) t.journal pt
+      ≡ Some F →
       IsFine tools id run scope j k (Fine tools id run scope j k a) E.value →
       IsFine tools id run scope j k (Fine tools id run scope j k a) F.value →
       BothEnd tools id run j k fw fc ps pt E F
@@ -234,19 +233,18 @@ module _ (tools : List ℕ → ToolInput → ToolAnswer) (id : RunId) (run : Run
       (entered scope bucket t) ps pt (entered-cousin bucket s t ps pt c) E F he hf fe ff
 
   -- still to be shown: a piece that is skipped, or runs in part
-  abbrev pub GoesBy : (Choice → Type 0) → Type 0
-  GoesBy C = (bucket : Bucket) (lists : Lists) (s t : State) (ps pt : List Act) →
+  abbrev pub GoesBy : Mode → (Choice → Type 0) → Type 0
+  GoesBy mode C = (bucket : Bucket) (lists : Lists) (s t : State) (ps pt : List Act) →
       Carry tools id run scope j k s t ps pt → lists_at run bucket (entered scope bucket s)
-      ≡ Ok (Some lists) → lists_at (record run { mode = Clean }) bucket (entered scope bucket t)
+      ≡ Ok (Some lists) → lists_at run bucket (entered scope bucket t)
       ≡ Ok (Some lists) →
       all_or_nothing lists.inputs lists.outputs ≡ RunAll → (choice : Choice) →
-      choice_of run lists (entered scope bucket s) ≡ choice → C choice →
+      choice_of mode run lists (entered scope bucket s) ≡ choice → C choice →
       (E F : End (Result State Stopped)) →
       end_of tools id (decided run bucket choice lists.items (entered scope bucket s)) s.journal ps
-      ≡ Some E → end_of tools id (decided (record run {
-        mode =
-            Clean;
-      }) bucket RunAll lists.items (entered scope bucket t)) t.journal pt ≡ Some F →
+      ≡ Some E →
+      end_of tools id (decided run bucket RunAll lists.items (entered scope bucket t)) t.journal pt
+      ≡ Some F →
       IsFine tools id run scope j k (Fine tools id run scope j k a) E.value →
       IsFine tools id run scope j k (Fine tools id run scope j k a) F.value →
       Said tools id run scope j k a (piece_at tools id run scope j k a bucket lists t pt) →
@@ -264,12 +262,12 @@ module _ (tools : List ℕ → ToolInput → ToolAnswer) (id : RunId) (run : Run
   IsNothing Nothing = Unit {0}
   IsNothing choice = ⊥
 
-  pub piece-goes : GoesBy IsSkip → GoesBy IsPart → GoesBy IsNothing →
-      PieceGoes tools id run scope j k a
-  piece-goes skips parts nothings bucket lists s t ps pt c lw lc all E F he hf fe ff said =
-      go (choice_of run lists (entered scope bucket s)) refl he
+  pub piece-goes : (mode : Mode) → GoesBy mode IsSkip → GoesBy mode IsPart →
+      GoesBy mode IsNothing → PieceGoes tools id run scope j k a mode
+  piece-goes mode skips parts nothings bucket lists s t ps pt c lw lc all E F he hf fe ff said =
+      go (choice_of mode run lists (entered scope bucket s)) refl he
     where
-      go : (choice : Choice) → choice_of run lists (entered scope bucket s) ≡ choice →
+      go : (choice : Choice) → choice_of mode run lists (entered scope bucket s) ≡ choice →
           end_of tools id (decided run bucket choice lists.items (entered scope bucket s)) s.journal
           ps ≡ Some E → GoAlike tools id run scope j k E F
       go RunAll e h = both-goes s t ps pt c E F (same-goes bucket lists RunAll s t ps pt c E F h hf

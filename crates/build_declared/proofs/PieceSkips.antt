@@ -26,7 +26,7 @@ use Rattle.std.specs.Prelude.{Result, Ok, Err}
 use Rattle.std.specs.List.{list_any}
 use Rattle.std.specs.Str.{bytes_eq}
 use Rattle.std.proofs.lemmas.Slice.Eq.{bytes_eq-Decides}
-use Rattle.msb_values.specs.declared.mode.Mode.TheVariants.{Incremental, Clean}
+use Rattle.msb_values.specs.declared.mode.Mode.TheVariants.{Incremental}
 use Rattle.msb_values.specs.declared.note.Note.{Note}
 use Rattle.msb_values.specs.declared.act.Act.{Act}
 use Rattle.msb_values.specs.declared.scope.Scope.{Scope}
@@ -100,24 +100,20 @@ no-front [] pt e = refl
 no-front (act ∷ new) pt e = let l : length pt ≡ length ((act ∷ new) ++ pt) = ap length e in
     absurd (omega (arith, length-append (act ∷ new) pt))
 
-module _ (tools : List ℕ → ToolInput → ToolAnswer) (id : RunId) (run : Run)
-    (mode : run.mode ≡ Incremental) (scope : Scope) (j k : Journal)
-    (a : AlikeJournals (bytes_in run.files) AnyPath j k) (fw : HasNotActed id j)
+module _ (tools : List ℕ → ToolInput → ToolAnswer) (id : RunId) (run : Run) (scope : Scope)
+    (j k : Journal) (a : AlikeJournals (bytes_in run.files) AnyPath j k) (fw : HasNotActed id j)
     (fc : HasNotActed id k) where
-  abbrev clean : Run
-  clean = record run { mode = Clean }
-
   -- shown in SkipsSame, by returns_given: where all outputs are there, skipping a piece that
   -- succeeds writes nothing, and changes and returns what the whole does
   abbrev pub SkipsSame : Type 0
   SkipsSame = (bucket : Bucket) (lists : Lists) (t : State) (pt : List Act) (after : State)
-      (acts : List Act) → PieceIsDeclared tools id clean
+      (acts : List Act) → PieceIsDeclared tools id run
       (piece_at tools id run scope j k a bucket lists t pt) → t.journal ≡ numbered id pt ++ k →
-      end_of tools id (decided clean bucket RunAll lists.items (entered scope bucket t)) t.journal
+      end_of tools id (decided run bucket RunAll lists.items (entered scope bucket t)) t.journal
       pt ≡ Some (record { value = Ok after; journal = after.journal; acts = acts }) →
       ((output : List ℕ) → In output lists.outputs →
       is_some (seen (bytes_in run.files) t.journal output) ≡ true) →
-      (skipped : State) × (end_of tools id (decided clean bucket Skip lists.items
+      (skipped : State) × (end_of tools id (decided run bucket Skip lists.items
       (entered scope bucket t)) t.journal pt ≡ Some (record {
         value = Ok skipped;
         journal =
@@ -127,7 +123,7 @@ module _ (tools : List ℕ → ToolInput → ToolAnswer) (id : RunId) (run : Run
       × (skipped.changes ≡ after.changes) × (skipped.items ≡ after.items)
       × ((note : Note) → In note skipped.notes → In note after.notes)
 
-  pub skip-goes : SkipsSame → GoesBy tools id run scope j k a fw fc
+  pub skip-goes : SkipsSame → GoesBy tools id run scope j k a fw fc Incremental
       (IsSkip tools id run scope j k a fw fc)
   skip-goes skips bucket lists s t ps pt c lw lc all RunAll e w E F he hf fe ff said = absurd w
   skip-goes skips bucket lists s t ps pt c lw lc all Nothing e w E F he hf fe ff said = absurd w
@@ -137,7 +133,7 @@ module _ (tools : List ℕ → ToolInput → ToolAnswer) (id : RunId) (run : Run
       let x : State = entered scope bucket s in
       let y : State = entered scope bucket t in
       let alike = carry-alike tools id run scope j k a s t ps pt c in
-      let kept = skip-kept tools id run clean mode p said.1 x refl alike.same e in
+      let kept = skip-kept tools id run p said.1 x alike.same e in
       let o = first-output lists.inputs lists.outputs all in
       let w1 = (kept o.0 o.1).2 in
       let after : State = w1.0 in
@@ -160,7 +156,7 @@ module _ (tools : List ℕ → ToolInput → ToolAnswer) (id : RunId) (run : Run
       sk.1 fe fine-mid in
       let none : both.new ≡ [] = no-front both.new pt both.c_acts in
       let ep : E.acts ≡ ps = both.w_acts ∙ ap (λ l. l ++ ps) none in
-      let st = decided-steps tools id clean k fc bucket RunAll lists.items y pt c.c_is F hf in
+      let st = decided-steps tools id run k fc bucket RunAll lists.items y pt c.c_is F hf in
       let own : List Act = st.more in
       let fp : F.acts ≡ own ++ pt = st.grown in
       let pf : acts ≡ own ++ pt = ap (λ (z : End (Result State Stopped)). z.acts) whole ∙ fp in

@@ -17,6 +17,7 @@ use Rattle.std.proofs.Common.{
   subst,
 }
 use Rattle.std.specs.Prelude.{Result, Ok, Err, codes}
+use Rattle.msb_values.specs.declared.mode.Mode.{Mode}
 use Rattle.msb_values.specs.declared.mode.Mode.TheVariants.{Incremental, Clean}
 use Rattle.msb_values.specs.declared.note.Note.{Note}
 use Rattle.msb_values.specs.declared.note.Note.TheVariants.{Fail}
@@ -137,14 +138,11 @@ never (input ∷ inputs) (output ∷ outputs) choice e h = subst IsOther (sym e)
 
 module _ (tools : List ℕ → ToolInput → ToolAnswer) (id : RunId) (run : Run) (scope : Scope)
     (j k : Journal) (a : AlikeJournals (bytes_in run.files) AnyPath j k) where
-  abbrev clean : Run
-  clean = record run { mode = Clean }
-
   abbrev pub Fine : Note → Type 0
-  Fine = IsNotTooLarge tools id clean
+  Fine = IsNotTooLarge tools id run
 
   abbrev pub Said : Piece → Type 0
-  Said p = PieceIsDeclared tools id clean p × PieceIsFresh tools id clean p
+  Said p = PieceIsDeclared tools id run p × PieceIsFresh tools id run p
 
   abbrev pub piece_at : Bucket → Lists → State → List Act → Piece
   piece_at bucket lists t pt = record {
@@ -156,14 +154,14 @@ module _ (tools : List ℕ → ToolInput → ToolAnswer) (id : RunId) (run : Run
   }
 
   -- what is still to be shown: a piece goes alike, done as is decided and done whole
-  abbrev pub PieceGoes : Type 0
-  PieceGoes = (bucket : Bucket) (lists : Lists) (s t : State) (ps pt : List Act) →
+  abbrev pub PieceGoes : Mode → Type 0
+  PieceGoes mode = (bucket : Bucket) (lists : Lists) (s t : State) (ps pt : List Act) →
       Carry tools id run scope j k s t ps pt → lists_at run bucket (entered scope bucket s)
-      ≡ Ok (Some lists) → lists_at clean bucket (entered scope bucket t) ≡ Ok (Some lists) →
+      ≡ Ok (Some lists) → lists_at run bucket (entered scope bucket t) ≡ Ok (Some lists) →
       all_or_nothing lists.inputs lists.outputs ≡ RunAll → (E F : End (Result State Stopped)) →
-      end_of tools id (decided run bucket (choice_of run lists (entered scope bucket s))
+      end_of tools id (decided run bucket (choice_of mode run lists (entered scope bucket s))
       lists.items (entered scope bucket s)) s.journal ps ≡ Some E →
-      end_of tools id (decided clean bucket RunAll lists.items (entered scope bucket t)) t.journal
+      end_of tools id (decided run bucket RunAll lists.items (entered scope bucket t)) t.journal
       pt ≡ Some F → IsFine tools id run scope j k Fine E.value →
       IsFine tools id run scope j k Fine F.value → Said (piece_at bucket lists t pt) →
       GoAlike tools id run scope j k E F
@@ -212,26 +210,26 @@ module _ (tools : List ℕ → ToolInput → ToolAnswer) (id : RunId) (run : Run
   fine-failed (Err (faulted s)) f = f
   fine-failed (Err (failed s)) f = f
 
-  module _ (goes : PieceGoes) (takes : (bucket : Bucket) (y : State) →
-      lists_at clean bucket y ≡ Ok None → ⊥) where
+  module _ (mode : Mode) (goes : PieceGoes mode) (takes : (bucket : Bucket) (y : State) →
+      lists_at run bucket y ≡ Ok None → ⊥) where
     pub both-same : (bucket : Bucket) (s t : State) (ps pt : List Act) →
         Carry tools id run scope j k s t ps pt → (E F : End (Result State Stopped)) →
-        end_of tools id (first_of tools id run scope j k bucket s) s.journal ps ≡ Some E →
+        end_of tools id (first_of tools id run scope j k mode bucket s) s.journal ps ≡ Some E →
         end_of tools id (second_of tools id run scope j k bucket t) t.journal pt ≡ Some F →
-        IsEmpty tools id run scope j k a (lists_at clean bucket (entered scope bucket t)) →
+        IsEmpty tools id run scope j k a (lists_at run bucket (entered scope bucket t)) →
         GoAlike tools id run scope j k E F
     both-same bucket s t ps pt c E F he hf empty =
-        let x = empty-goes tools id run scope j k a bucket s t ps pt c empty in
+        let x = empty-goes tools id run scope j k a mode bucket s t ps pt c empty in
         let e : x.0 ≡ E = some-same x.0 E (sym x.2 ∙ he) in
         let f : x.1 ≡ F = some-same x.1 F (sym x.3 ∙ hf) in
         subst (λ z. GoAlike tools id run scope j k z F) e
         (subst (GoAlike tools id run scope j k x.0) f x.4)
 
-    pub bucket-goes : BucketGoes tools id run scope j k Fine Said
+    pub bucket-goes : BucketGoes tools id run scope j k mode Fine Said
     bucket-goes bucket s t ps pt c E F he hf fe ff so =
-        go (lists_at clean bucket (entered scope bucket t)) refl
+        go (lists_at run bucket (entered scope bucket t)) refl
       where
-        whole : (lists : Lists) → lists_at clean bucket (entered scope bucket t) ≡ Ok (Some lists) →
+        whole : (lists : Lists) → lists_at run bucket (entered scope bucket t) ≡ Ok (Some lists) →
             all_or_nothing lists.inputs lists.outputs ≡ RunAll → GoAlike tools id run scope j k E F
         whole lists e all =
             let x : State = entered scope bucket s in
@@ -240,24 +238,25 @@ module _ (tools : List ℕ → ToolInput → ToolAnswer) (id : RunId) (run : Run
             lists-same tools id run scope j k a bucket x y ps pt
             (entered-pair tools id run scope j k a bucket s t ps pt c) ∙ e in
             let he' : end_of tools id (followed_by (decided run bucket
-            (choice_of run lists x) lists.items x) (λ end. done (or_failed end))) s.journal ps
+            (choice_of mode run lists x) lists.items x) (λ end. done (or_failed end))) s.journal ps
             ≡ Some E =
             subst (λ z. end_of tools id (followed_by (unless_stopped (or_stop x z)
-            (chosen_or_run (choice_of run) run bucket x))
+            (chosen_or_run (choice_of mode run) run bucket x))
             (λ end. done (or_failed end))) s.journal ps ≡ Some E) same he in
-            let hf' : end_of tools id (followed_by (decided clean bucket
+            let hf' : end_of tools id (followed_by (decided run bucket
             (all_or_nothing lists.inputs lists.outputs) lists.items y)
             (λ end. done (or_failed end))) t.journal pt ≡ Some F =
             subst (λ z. end_of tools id (followed_by (unless_stopped (or_stop y z)
-            (chosen_or_run all_of clean bucket y))
+            (chosen_or_run all_of run bucket y))
             (λ end. done (or_failed end))) t.journal pt ≡ Some F) e hf in
-            let hf2 : end_of tools id (followed_by (decided clean bucket RunAll lists.items y)
+            let hf2 : end_of tools id (followed_by (decided run bucket RunAll lists.items y)
             (λ end. done (or_failed end))) t.journal pt ≡ Some F =
-            subst (λ z. end_of tools id (followed_by (decided clean bucket z lists.items y)
+            subst (λ z. end_of tools id (followed_by (decided run bucket z lists.items y)
             (λ end. done (or_failed end))) t.journal pt ≡ Some F) all hf' in
-            let u = end-bound tools id (decided run bucket (choice_of run lists x) lists.items x)
+            let u = end-bound tools id
+            (decided run bucket (choice_of mode run lists x) lists.items x)
             (λ end. done (or_failed end)) s.journal ps E he' in
-            let v = end-bound tools id (decided clean bucket RunAll lists.items y)
+            let v = end-bound tools id (decided run bucket RunAll lists.items y)
             (λ end. done (or_failed end)) t.journal pt F hf2 in
             let ew : record {
               value = or_failed u.0.value;
@@ -288,7 +287,7 @@ module _ (tools : List ℕ → ToolInput → ToolAnswer) (id : RunId) (run : Run
             fine-failed v.0.value (subst (λ (z : End (Result State Stopped)).
             IsFine tools id run scope j k Fine z.value) (sym ec) ff) in
             let there : In (piece_at bucket lists t pt)
-            (piece_if bucket y pt (lists_at clean bucket y)) =
+            (piece_if bucket y pt (lists_at run bucket y)) =
             subst (λ z. In (piece_at bucket lists t pt) (piece_if bucket y pt z)) (sym e)
             (in-one (piece_at bucket lists t pt) lists.inputs lists.outputs all) in
             let g = goes bucket lists s t ps pt c same e all u.0 v.0 u.1 v.1 fu fv
@@ -302,7 +301,7 @@ module _ (tools : List ℕ → ToolInput → ToolAnswer) (id : RunId) (run : Run
             })) ec
             (failed-goes u.0 v.0 g))
 
-        piece : (lists : Lists) → lists_at clean bucket (entered scope bucket t) ≡ Ok (Some lists) →
+        piece : (lists : Lists) → lists_at run bucket (entered scope bucket t) ≡ Ok (Some lists) →
             (choice : Choice) → all_or_nothing lists.inputs lists.outputs ≡ choice →
             GoAlike tools id run scope j k E F
         piece lists e RunAll all = whole lists e all
@@ -312,7 +311,7 @@ module _ (tools : List ℕ → ToolInput → ToolAnswer) (id : RunId) (run : Run
         piece lists e (Part old) all = absurd (never lists.inputs lists.outputs (Part old) all tt)
 
         go : (l : Result (Option Lists) EvalFault) →
-            lists_at clean bucket (entered scope bucket t) ≡ l → GoAlike tools id run scope j k E F
+            lists_at run bucket (entered scope bucket t) ≡ l → GoAlike tools id run scope j k E F
         go (Ok None) e = absurd (takes bucket (entered scope bucket t) e)
         go (Err fault) e = both-same bucket s t ps pt c E F he hf
             (subst (IsEmpty tools id run scope j k a) (sym e) tt)
@@ -373,15 +372,12 @@ notes-of (Err stop) note i = i
 module _ (tools : List ℕ → ToolInput → ToolAnswer) (files : List File)
     (goes : (target : UsedTarget) (scope : Scope) (id : RunId) (j k : Journal)
     (a : AlikeJournals (bytes_in files) AnyPath j k) → HasNotActed id j → HasNotActed id k →
-    PieceGoes tools id (run_at files Incremental id target) scope j k a) where
+    PieceGoes tools id (run_at files id target) scope j k a Incremental) where
   module _ (target : UsedTarget) (scope : Scope) (id : RunId) (j k : Journal) (made : Record)
       (a : AlikeJournals (bytes_in files) AnyPath j k) (takes : TakesLists target)
       (fw : HasNotActed id j) (fc : HasNotActed id k) where
     abbrev pub run : Run
-    run = run_at files Incremental id target
-
-    abbrev pub clean-run : Run
-    clean-run = run_at files Clean id target
+    run = run_at files id target
 
     abbrev pub s0 : State
     s0 = begun scope j
@@ -390,8 +386,8 @@ module _ (tools : List ℕ → ToolInput → ToolAnswer) (files : List File)
     t0 = begun scope k
 
     abbrev Went : Type 0
-    Went = AlikeRuns (bytes_in files) AnyPath tools id j k (body run scope j)
-        (body clean-run scope k) made (λ first. Unit {0})
+    Went = AlikeRuns (bytes_in files) AnyPath tools id j k (body Incremental run scope j)
+        (body Clean run scope k) made (λ first. Unit {0})
 
     pub at-start : Carry tools id run scope j k s0 t0 [] []
     at-start = record {
@@ -404,54 +400,54 @@ module _ (tools : List ℕ → ToolInput → ToolAnswer) (files : List File)
     }
 
     pub buckets-same : target_buckets (place_in run s0 scope) target.element
-        ≡ target_buckets (place_in clean-run t0 scope) target.element
+        ≡ target_buckets (place_in run t0 scope) target.element
     buckets-same = ap (λ l. target_buckets (item_place l id.instance.path scope) target.element)
         ((looks-same files AnyPath).paths j k a)
 
     -- by the ends of the buckets
     done-so : (E F : End (Result State Stopped)) →
-        end_of tools id (buckets_by (choice_of run) run scope s0) j [] ≡ Some E →
-        end_of tools id (buckets_by all_of clean-run scope t0) k [] ≡ Some F →
+        end_of tools id (buckets_by (choice_of Incremental run) run scope s0) j [] ≡ Some E →
+        end_of tools id (buckets_by all_of run scope t0) k [] ≡ Some F →
         AlikeOutcomes (outcome_of E.value) (outcome_of F.value) →
         LacksOnly (bytes_in files) j E.acts F.acts → Went
     done-so E F he hf o lacks =
-        let ew : end_of tools id (work_by (choice_of run) run scope j) j []
+        let ew : end_of tools id (work_by (choice_of Incremental run) run scope j) j []
         ≡ Some (record { value = outcome_of E.value; journal = E.journal; acts = E.acts }) =
-        bound-end tools id (buckets_by (choice_of run) run scope s0)
+        bound-end tools id (buckets_by (choice_of Incremental run) run scope s0)
         (λ end. done (outcome_of end)) j [] E he in
-        let ec : end_of tools id (work_by all_of clean-run scope k) k []
+        let ec : end_of tools id (work_by all_of run scope k) k []
         ≡ Some (record { value = outcome_of F.value; journal = F.journal; acts = F.acts }) =
-        bound-end tools id (buckets_by all_of clean-run scope t0)
+        bound-end tools id (buckets_by all_of run scope t0)
         (λ end. done (outcome_of end)) k [] F hf in
-        let aw : alone tools id (body_by (choice_of run) run scope j) j []
+        let aw : alone tools id (body_by (choice_of Incremental run) run scope j) j []
         ≡ Some (outcome_of E.value, E.acts) = alone-end tools id
-        (work_by (choice_of run) run scope j) j [] (record {
+        (work_by (choice_of Incremental run) run scope j) j [] (record {
           value =
               outcome_of E.value;
           journal = E.journal;
           acts = E.acts;
         }) ew in
-        let ac : alone tools id (body_by all_of clean-run scope k) k [] ≡ Some (
+        let ac : alone tools id (body_by all_of run scope k) k [] ≡ Some (
           outcome_of F.value,
           F.acts,
-        ) = alone-end tools id (work_by all_of clean-run scope k) k [] (record {
+        ) = alone-end tools id (work_by all_of run scope k) k [] (record {
           value =
               outcome_of F.value;
           journal = F.journal;
           acts = F.acts;
         }) ec in
         in_part (outcome_of E.value) (outcome_of F.value) E.acts F.acts aw
-        (subst (λ c. alone tools id (body_by c clean-run scope k) k [] ≡ Some (
+        (subst (λ c. alone tools id (body_by c run scope k) k [] ≡ Some (
           outcome_of F.value,
           F.acts,
-        )) (sym (clean-all clean-run refl)) ac) o lacks (λ act i. tt) tt
+        )) (sym (clean-all run)) ac) o lacks (λ act i. tt) tt
 
-    pub takes-clean : (bucket : Bucket) (y : State) → lists_at clean-run bucket y ≡ Ok None → ⊥
-    takes-clean bucket y e = lists-there (in_target (place_in clean-run y y.scope) bucket) target
+    pub takes-clean : (bucket : Bucket) (y : State) → lists_at run bucket y ≡ Ok None → ⊥
+    takes-clean bucket y e = lists-there (in_target (place_in run y y.scope) bucket) target
         takes e
 
     abbrev pub first : Bucket → State → Work (Result State Stopped)
-    first = first_of tools id run scope j k
+    first = first_of tools id run scope j k Incremental
 
     abbrev pub second : Bucket → State → Work (Result State Stopped)
     second = second_of tools id run scope j k
@@ -467,31 +463,31 @@ module _ (tools : List ℕ → ToolInput → ToolAnswer) (files : List File)
 
     from-w : (found : List Bucket) → target_buckets (place_in run s0 scope) target.element
         ≡ Ok found → (E : End (Result State Stopped)) →
-        end_of tools id (buckets_by (choice_of run) run scope s0) j [] ≡ Some E →
+        end_of tools id (buckets_by (choice_of Incremental run) run scope s0) j [] ≡ Some E →
         end_of tools id (each_in_turn first found s0) j [] ≡ Some E
     from-w found ew E h = sym (ap (λ z. end_of tools id (unless_stopped (or_failed (or_stop s0 z))
         (λ found. each_in_turn first found s0)) j []) ew) ∙ h
 
-    from-c : (found : List Bucket) → target_buckets (place_in clean-run t0 scope) target.element
+    from-c : (found : List Bucket) → target_buckets (place_in run t0 scope) target.element
         ≡ Ok found → (F : End (Result State Stopped)) →
-        end_of tools id (buckets_by all_of clean-run scope t0) k [] ≡ Some F →
+        end_of tools id (buckets_by all_of run scope t0) k [] ≡ Some F →
         end_of tools id (each_in_turn second found t0) k [] ≡ Some F
     from-c found ec F h = sym (ap (λ z. end_of tools id (unless_stopped (or_failed (or_stop t0 z))
         (λ found. each_in_turn second found t0)) k []) ec) ∙ h
 
     pub both-end : (found : List Bucket) → target_buckets (place_in run s0 scope) target.element
-        ≡ Ok found → target_buckets (place_in clean-run t0 scope) target.element ≡ Ok found →
-        (pieces : List Piece) → RunIsDeclared tools id clean-run scope k pieces →
+        ≡ Ok found → target_buckets (place_in run t0 scope) target.element ≡ Ok found →
+        (pieces : List Piece) → RunIsDeclared tools id run scope k pieces →
         BothEnd (Fine tools id run scope j k a) found
     both-end found ew ec pieces r =
-        let w = r.never_large Incremental j a (choice_of run)
-        (decided-may tools id run clean-run refl) in
-        let c = r.never_large Clean k (alike-self files k) all_of
-        (λ lists s. all-may tools id clean-run lists
+        let w = r.never_large j a (choice_of Incremental run)
+        (decided-may tools id run) in
+        let c = r.never_large k (alike-self files k) all_of
+        (λ lists s. all-may tools id run lists
         (all_or_nothing lists.inputs lists.outputs) refl) in
-        let x = end-bound tools id (buckets_by (choice_of run) run scope s0)
+        let x = end-bound tools id (buckets_by (choice_of Incremental run) run scope s0)
         (λ end. done (outcome_of end)) j [] w.0 w.1 in
-        let y = end-bound tools id (buckets_by all_of clean-run scope t0)
+        let y = end-bound tools id (buckets_by all_of run scope t0)
         (λ end. done (outcome_of end)) k [] c.0 c.1 in
         let ox : outcome_of x.0.value ≡ w.0.value =
         ap (λ (z : End Outcome). z.value) (some-same (record {
@@ -519,19 +515,19 @@ module _ (tools : List ℕ → ToolInput → ToolAnswer) (files : List File)
         }
 
     finish-alike : (E F : End (Result State Stopped)) →
-        end_of tools id (buckets_by (choice_of run) run scope s0) j [] ≡ Some E →
-        end_of tools id (buckets_by all_of clean-run scope t0) k [] ≡ Some F →
+        end_of tools id (buckets_by (choice_of Incremental run) run scope s0) j [] ≡ Some E →
+        end_of tools id (buckets_by all_of run scope t0) k [] ≡ Some F →
         GoAlike tools id run scope j k E F → Went
     finish-alike E F he hf g = let o = outcomes-alike tools id run scope j k E.value F.value E.acts
         F.acts g.ends in done-so E F he hf o.0 o.1
 
     by-buckets : (x : Result (List Bucket) EvalFault) →
         target_buckets (place_in run s0 scope) target.element ≡ x →
-        target_buckets (place_in clean-run t0 scope) target.element ≡ x →
-        DeclaredBy tools id clean-run scope k (pieces_in tools id all_of clean-run scope
+        target_buckets (place_in run t0 scope) target.element ≡ x →
+        DeclaredBy tools id run scope k (pieces_in tools id all_of run scope
         (or_stop t0 x) t0) → ((p : Piece) → In p
-        (pieces_in tools id all_of clean-run scope (or_stop t0 x) t0) →
-        PieceIsFresh tools id clean-run p) → Went
+        (pieces_in tools id all_of run scope (or_stop t0 x) t0) →
+        PieceIsFresh tools id run p) → Went
     by-buckets (Err fault) ew ec declared fresh =
         let E : End (Result State Stopped) = record {
           value =
@@ -549,41 +545,45 @@ module _ (tools : List ℕ → ToolInput → ToolAnswer) (files : List File)
         } in
         done-so E F
         (ap (λ z. end_of tools id (unless_stopped (or_failed (or_stop s0 z))
-        (λ found. each_in_turn (bucket_by (choice_of run) run scope) found s0)) j []) ew)
+        (λ found. each_in_turn (bucket_by (choice_of Incremental run) run scope) found s0)) j [])
+        ew)
         (ap (λ z. end_of tools id (unless_stopped (or_failed (or_stop t0 z))
-        (λ found. each_in_turn (bucket_by all_of clean-run scope) found t0)) k []) ec)
+        (λ found. each_in_turn (bucket_by all_of run scope) found t0)) k []) ec)
         (record { ok = refl; items = refl; changes = refl })
         (record { acted = λ p. inl refl; left_out = λ p b n e. absurd (cc) })
     by-buckets (Ok found) ew ec declared fresh =
-        go (pieces_among tools id all_of clean-run scope found t0 []) refl declared
+        go (pieces_among tools id all_of run scope found t0 []) refl declared
       where
         to-w : (E : End (Result State Stopped)) → end_of tools id
-            (each_in_turn (bucket_by (choice_of run) run scope) found s0) j [] ≡ Some E →
-            end_of tools id (buckets_by (choice_of run) run scope s0) j [] ≡ Some E
+            (each_in_turn (bucket_by (choice_of Incremental run) run scope) found s0) j []
+            ≡ Some E →
+            end_of tools id (buckets_by (choice_of Incremental run) run scope s0) j [] ≡ Some E
         to-w E h = ap (λ z. end_of tools id (unless_stopped (or_failed (or_stop s0 z))
-            (λ found. each_in_turn (bucket_by (choice_of run) run scope) found s0)) j []) ew ∙ h
+            (λ found. each_in_turn (bucket_by (choice_of Incremental run) run scope) found s0))
+            j []) ew ∙ h
 
         to-c : (F : End (Result State Stopped)) → end_of tools id
-            (each_in_turn (bucket_by all_of clean-run scope) found t0) k [] ≡ Some F →
-            end_of tools id (buckets_by all_of clean-run scope t0) k [] ≡ Some F
+            (each_in_turn (bucket_by all_of run scope) found t0) k [] ≡ Some F →
+            end_of tools id (buckets_by all_of run scope t0) k [] ≡ Some F
         to-c F h = ap (λ z. end_of tools id (unless_stopped (or_failed (or_stop t0 z))
-            (λ found. each_in_turn (bucket_by all_of clean-run scope) found t0)) k []) ec ∙ h
+            (λ found. each_in_turn (bucket_by all_of run scope) found t0)) k []) ec ∙ h
 
-        go : (pieces : List Piece) → pieces_among tools id all_of clean-run scope found t0 []
-            ≡ pieces → DeclaredBy tools id clean-run scope k
-            (pieces_among tools id all_of clean-run scope found t0 []) → Went
+        go : (pieces : List Piece) → pieces_among tools id all_of run scope found t0 []
+            ≡ pieces → DeclaredBy tools id run scope k
+            (pieces_among tools id all_of run scope found t0 []) → Went
         go [] e d =
-            let x = none-goes tools id run scope j k a takes-clean found s0 t0 [] [] at-start e in
+            let x = none-goes tools id run scope j k a Incremental takes-clean found s0 t0 [] []
+            at-start e in
             finish-alike x.0 x.1 (to-w x.0 x.2) (to-c x.1 x.3) x.4
         go (p ∷ ps) e d =
-            let r : RunIsDeclared tools id clean-run scope k (p ∷ ps) =
-            subst (DeclaredBy tools id clean-run scope k) e d in
+            let r : RunIsDeclared tools id run scope k (p ∷ ps) =
+            subst (DeclaredBy tools id run scope k) e d in
             let x = both-end found ew ec (p ∷ ps) r in
-            let g = buckets-go tools id run scope j k (Fine tools id run scope j k a)
-            (Said tools id run scope j k a) (bucket-goes tools id run scope j k a
+            let g = buckets-go tools id run scope j k Incremental (Fine tools id run scope j k a)
+            (Said tools id run scope j k a) (bucket-goes tools id run scope j k a Incremental
             (goes target scope id j k a fw fc) takes-clean)
-            (bucket-keeps tools id run (choice_of run) scope)
-            (bucket-keeps tools id clean-run all_of scope) found s0 t0 []
+            (bucket-keeps tools id run (choice_of Incremental run) scope)
+            (bucket-keeps tools id run all_of scope) found s0 t0 []
             [] at-start x.E x.F x.first_ends x.second_ends x.first_fine x.second_fine
             (λ q i. (r.each q (subst (In q) e i), fresh q i)) in
             finish-alike x.E x.F (to-w x.E x.first_ends) (to-c x.F x.second_ends) g
@@ -591,6 +591,6 @@ module _ (tools : List ℕ → ToolInput → ToolAnswer) (files : List File)
   pub runs-go : RunsGo tools files
   runs-go target scope id j k made a declared fresh takes fw fc =
       by-buckets target scope id j k made a takes fw fc
-      (target_buckets (place_in (run_at files Clean id target)
+      (target_buckets (place_in (run_at files id target)
       (begun scope k) scope) target.element) (buckets-same target scope id j k made a takes fw
       fc) refl declared fresh

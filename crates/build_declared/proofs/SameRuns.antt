@@ -1,4 +1,5 @@
--- A run in two modes, whose buckets are done in the same way, goes step by step alike.
+-- A run from two journals that are alike, whose buckets are done in the same way, goes step by step
+-- alike.
 use Rattle.std.proofs.Common.{
   ◌≡◌,
   ℕ,
@@ -24,7 +25,6 @@ use Rattle.msb_laws.specs.Results.{map_ok}
 use Rattle.msb_values.specs.Keys.{key_of}
 use Rattle.msb_values.specs.declared.change.Change.{Change}
 use Rattle.msb_values.specs.declared.item.Item.{Item}
-use Rattle.msb_values.specs.declared.mode.Mode.{Mode}
 use Rattle.msb_values.specs.declared.act.Act.{Act}
 use Rattle.msb_values.specs.declared.scope.Scope.{Scope}
 use Rattle.msb_elements.specs.Nodes.{name_of}
@@ -183,10 +183,7 @@ pub record LooksSame (files : List File) (W : List ℕ → Type 0) : Type 0 wher
       foreign_input dir (record { files = files; journal = j }) params
       ≡ foreign_input dir (record { files = files; journal = k }) params
 
-module _ (run : Run) (mode : Mode) (W : List ℕ → Type 0) (looks : LooksSame run.files W) where
-  abbrev pub other : Run
-  other = record run { mode = mode }
-
+module _ (run : Run) (W : List ℕ → Type 0) (looks : LooksSame run.files W) where
   abbrev T : List ℕ → Option (List ℕ)
   T = bytes_in run.files
 
@@ -200,7 +197,7 @@ module _ (run : Run) (mode : Mode) (W : List ℕ → Type 0) (looks : LooksSame 
   Ends = TwinEnd T W
 
   place-same : (s t : State) (scope : Scope) → Same s t →
-      place_in run s scope ≡ place_in other t scope
+      place_in run s scope ≡ place_in run t scope
   place-same s t scope h = ap (λ ps. item_place ps run.instance.path scope)
       (looks.paths s.journal t.journal h.alike)
 
@@ -211,12 +208,12 @@ module _ (run : Run) (mode : Mode) (W : List ℕ → Type 0) (looks : LooksSame 
   acted-same s t h = ap (λ (z : State). z.written) h.same
 
   -- where the texts of a place give the same
-  at-place : (s t : State) → Same s t → place_in run s s.scope ≡ place_in other t t.scope
-  at-place s t h = place-same s t s.scope h ∙ ap (place_in other t) (scope-same s t h)
+  at-place : (s t : State) → Same s t → place_in run s s.scope ≡ place_in run t t.scope
+  at-place s t h = place-same s t s.scope h ∙ ap (place_in run t) (scope-same s t h)
 
   at-tasks : (s t : State) → Same s t → place_in run s (task_scope s)
-      ≡ place_in other t (task_scope t)
-  at-tasks s t h = place-same s t (task_scope s) h ∙ ap (place_in other t) (ap task_scope h.same)
+      ≡ place_in run t (task_scope t)
+  at-tasks s t h = place-same s t (task_scope s) h ∙ ap (place_in run t) (ap task_scope h.same)
 
   -- ---- what is made in a state
 
@@ -323,7 +320,7 @@ module _ (run : Run) (mode : Mode) (W : List ℕ → Type 0) (looks : LooksSame 
       go false = order-twin plan [] plan.calls s t h
 
   msbuild-twin : (params : List Param) (s t : State) → Same s t →
-      Answers (msbuild run s params) (msbuild other t params)
+      Answers (msbuild run s params) (msbuild run t params)
   msbuild-twin params s t h =
       let plan : Plan = plan_of run.files (folder_of run.instance.path) run.instance.globals params
       in
@@ -343,7 +340,7 @@ module _ (run : Run) (mode : Mode) (W : List ℕ → Type 0) (looks : LooksSame 
   tool-twin name (Err failure) s t h = (h, refl)
 
   built-twin : (b : Bool) (name : List ℕ) (params : List Param) (s t : State) → Same s t →
-      Answers (not_built_in b run s name params) (not_built_in b other t name params)
+      Answers (not_built_in b run s name params) (not_built_in b run t name params)
   built-twin true name params s t h = msbuild-twin params s t h
   built-twin false name params s t h =
       subst (λ x. Answers (tool name s (foreign_input (folder_of run.instance.path)
@@ -352,23 +349,23 @@ module _ (run : Run) (mode : Mode) (W : List ℕ → Type 0) (looks : LooksSame 
       (tool-twin name (foreign_input (folder_of run.instance.path) (view_of run s) params) s t h)
 
   by-answer : (x : ToolAnswer) (name : List ℕ) (params : List Param) (s t : State) → Same s t →
-      Answers (answered_by x run s name params) (answered_by x other t name params)
+      Answers (answered_by x run s name params) (answered_by x run t name params)
   by-answer (MadeBy output) name params s t h = given-twin output s t h
   by-answer Unknown name params s t h = built-twin
       (bytes_eq name (codes "msbuild")) name params s t h
 
   answered-twin : (name : List ℕ) (params : List Param) (s t : State) → Same s t →
-      Answers (answered run s name params) (answered other t name params)
+      Answers (answered run s name params) (answered run t name params)
   answered-twin name params s t h =
-      subst (λ x. Answers (answered run s name params) (answered_by x other t name params))
+      subst (λ x. Answers (answered run s name params) (answered_by x run t name params))
       (looks.answers s.journal t.journal h.alike name (folder_of run.instance.path) params s.written
-      ∙ ap (λ n. answer name (folder_of run.instance.path) (view_of other t) params n)
+      ∙ ap (λ n. answer name (folder_of run.instance.path) (view_of run t) params n)
       (acted-same s t h))
       (by-answer (answer name (folder_of run.instance.path)
       (view_of run s) params s.written) name params s t h)
 
   answered-if : (name : Option (List ℕ)) (e : At) (params : List Param) (s t : State) → Same s t →
-      Answers (answered_if name run s e params) (answered_if name other t e params)
+      Answers (answered_if name run s e params) (answered_if name run t e params)
   answered-if (Some name) e params s t h = answered-twin name params s t h
   answered-if None e params s t h = (h, refl)
 
@@ -394,22 +391,22 @@ module _ (run : Run) (mode : Mode) (W : List ℕ → Type 0) (looks : LooksSame 
   and-twin (Err d) (Err e) f g h next = h
 
   call-place : (s t : State) (bucket : Bucket) → Same s t →
-      called_place run s bucket ≡ called_place other t bucket
+      called_place run s bucket ≡ called_place run t bucket
   call-place s t bucket h = ap (λ p. in_bucket p bucket) (at-tasks s t h)
 
   answered-to : (e : At) (gives : Bool) (bucket : Bucket) (on_error : OnError)
       (x y : State × TaskOutput) → TwinOutput x y →
-      Ends (answered_to run e gives bucket on_error x) (answered_to other e gives bucket on_error y)
+      Ends (answered_to run e gives bucket on_error x) (answered_to run e gives bucket on_error y)
   answered-to e gives bucket on_error x y h =
       subst (λ o. Ends (answered_to run e gives bucket on_error x)
-      (answered_to other e gives bucket on_error (y.0, o))) h.1
+      (answered_to run e gives bucket on_error (y.0, o))) h.1
       (and-twin (taken (outputs_if gives (called_place run x.0 bucket) x.1.outputs e)
       (with_notes (notes_by on_error x.1.notes) x.0))
-      (taken (outputs_if gives (called_place other y.0 bucket) x.1.outputs e)
+      (taken (outputs_if gives (called_place run y.0 bucket) x.1.outputs e)
       (with_notes (notes_by on_error x.1.notes) y.0))
       (ended_by on_error x.1.ok) (ended_by on_error x.1.ok)
       (taken-same (outputs_if gives (called_place run x.0 bucket) x.1.outputs e)
-      (outputs_if gives (called_place other y.0 bucket) x.1.outputs e)
+      (outputs_if gives (called_place run y.0 bucket) x.1.outputs e)
       (with_notes (notes_by on_error x.1.notes) x.0)
       (with_notes (notes_by on_error x.1.notes) y.0)
       (ap (λ p. outputs_if gives p x.1.outputs e) (call-place x.0 y.0 bucket h.0))
@@ -418,13 +415,13 @@ module _ (run : Run) (mode : Mode) (W : List ℕ → Type 0) (looks : LooksSame 
 
   called-with : (e : At) (gives : Bool) (bucket : Bucket) (s t : State) → Same s t →
       (ready : Option (OnError × List Param)) → Goes (called_with run e gives bucket s ready)
-      (called_with other e gives bucket t ready)
+      (called_with run e gives bucket t ready)
   called-with e gives bucket s t h None = h
   called-with e gives bucket s t h (Some ready) =
       bound T W TwinOutput Ends (answered_if (key_of (name_of e.node)) run s e ready.1)
-      (answered_if (key_of (name_of e.node)) other t e ready.1)
+      (answered_if (key_of (name_of e.node)) run t e ready.1)
       (λ x. done (answered_to run e gives bucket ready.0 x))
-      (λ x. done (answered_to other e gives bucket ready.0 x))
+      (λ x. done (answered_to run e gives bucket ready.0 x))
       (answered-if (key_of (name_of e.node)) e ready.1 s t h)
       (answered-to e gives bucket ready.0)
 
@@ -439,26 +436,26 @@ module _ (run : Run) (mode : Mode) (W : List ℕ → Type 0) (looks : LooksSame 
       (λ a b q. subst (λ z. Goes (next a) (then z)) q (f a)))
 
   call-twin : (e : At) (gives : Bool) (bucket : Bucket) (s t : State) → Same s t →
-      Goes (call run e gives bucket s) (call other e gives bucket t)
+      Goes (call run e gives bucket s) (call run e gives bucket t)
   call-twin e gives bucket s t h =
       read-twin (readied (called_place run s bucket) e)
-      (readied (called_place other t bucket) e) s t (called_with run e gives bucket s)
-      (called_with other e gives bucket t)
+      (readied (called_place run t bucket) e) s t (called_with run e gives bucket s)
+      (called_with run e gives bucket t)
       (ap (λ p. readied p e) (call-place s t bucket h)) h (called-with e gives bucket s t h)
 
   called-twin : (e : At) (gives : Bool) (s t : State) → Same s t →
-      Goes (called run e gives s) (called other e gives t)
+      Goes (called run e gives s) (called run e gives t)
   called-twin e gives s t h =
       read-twin (task_buckets (place_in run s (task_scope s)) e)
-      (task_buckets (place_in other t (task_scope t)) e) s t
+      (task_buckets (place_in run t (task_scope t)) e) s t
       (λ buckets. each_in_turn (call run e gives) buckets s)
-      (λ buckets. each_in_turn (call other e gives) buckets t)
+      (λ buckets. each_in_turn (call run e gives) buckets t)
       (ap (λ p. task_buckets p e) (at-tasks s t h)) h (λ buckets. each-twin T W (call run e gives)
-      (call other e gives) (call-twin e gives) buckets s t h)
+      (call run e gives) (call-twin e gives) buckets s t h)
 
-  inferred-twin : (e : At) (s t : State) → Same s t → Ends (inferred run e s) (inferred other e t)
+  inferred-twin : (e : At) (s t : State) → Same s t → Ends (inferred run e s) (inferred run e t)
   inferred-twin e s t h = taken-same (inferred_at (place_in run s s.scope) e)
-      (inferred_at (place_in other t t.scope) e) s t (ap (λ p. inferred_at p e) (at-place s t h)) h
+      (inferred_at (place_in run t t.scope) e) s t (ap (λ p. inferred_at p e) (at-place s t h)) h
 
   state-twin : (x y : Result State Stopped) → Ends x y → Same (state_of x) (state_of y)
   state-twin (Ok s) (Ok t) h = h
@@ -470,29 +467,29 @@ module _ (run : Run) (mode : Mode) (W : List ℕ → Type 0) (looks : LooksSame 
   state-twin (Err (failed s)) (Err (faulted t)) h = absurd h
 
   then-inferred : (e : At) (x y : Result State Stopped) → Ends x y →
-      Ends (then_inferred run e x) (then_inferred other e y)
+      Ends (then_inferred run e x) (then_inferred run e y)
   then-inferred e (Ok s) (Ok t) h = inferred-twin e s t h
   then-inferred e (Ok s) (Err d) h = absurd h
   then-inferred e (Err d) (Ok t) h = absurd h
   then-inferred e (Err (failed s)) (Err (failed t)) h =
-      state-twin (inferred run e s) (inferred other e t) (inferred-twin e s t h)
+      state-twin (inferred run e s) (inferred run e t) (inferred-twin e s t h)
   then-inferred e (Err (faulted s)) (Err (faulted t)) h = h
   then-inferred e (Err (faulted s)) (Err (failed t)) h = absurd h
   then-inferred e (Err (failed s)) (Err (faulted t)) h = absurd h
 
   pub task-twin : (choice : Choice) (e : At) (s t : State) → Same s t →
-      Goes (task run choice e s) (task other choice e t)
+      Goes (task run choice e s) (task run choice e t)
   task-twin RunAll e s t h = called-twin e true s t h
   task-twin Skip e s t h = inferred-twin e s t h
   task-twin Nothing e s t h = h
   task-twin (Part old) e s t h =
-      bound T W Ends Ends (called run e false s) (called other e false t)
-      (λ end. done (then_inferred run e end)) (λ end. done (then_inferred other e end))
+      bound T W Ends Ends (called run e false s) (called run e false t)
+      (λ end. done (then_inferred run e end)) (λ end. done (then_inferred run e end))
       (called-twin e false s t h) (then-inferred e)
 
   -- ---- children
 
-  group-twin : (e : At) (s t : State) → Same s t → Ends (group run e s) (group other e t)
+  group-twin : (e : At) (s t : State) → Same s t → Ends (group run e s) (group run e t)
   group-twin e s t h =
       subst (λ x. Ends (group run e s) (map_ok (λ changes. with_changes_seen changes t)
       (or_stop (without_scope t) x))) (ap (λ p. group_changes p e) (at-place s t h))
@@ -508,7 +505,7 @@ module _ (run : Run) (mode : Mode) (W : List ℕ → Type 0) (looks : LooksSame 
           (or_stop (without_scope z) (Err fault)))) s t h (λ k a. record { alike = a; same = refl })
 
   child-by : (kind : Kind) (choice : Choice) (e : At) (s t : State) → Same s t →
-      Goes (child_by kind run choice e s) (child_by kind other choice e t)
+      Goes (child_by kind run choice e s) (child_by kind run choice e t)
   child-by group_element choice e s t h = group-twin e s t h
   child-by on_error_element choice e s t h = h
   child-by task_element choice e s t h = task-twin choice e s t h
@@ -521,17 +518,17 @@ module _ (run : Run) (mode : Mode) (W : List ℕ → Type 0) (looks : LooksSame 
   map-twin f g (Err d) (Err e) h n = h
 
   pub child-twin : (choice : Choice) (e : At) (s t : State) → Same s t →
-      Goes (child run choice e s) (child other choice e t)
+      Goes (child run choice e s) (child run choice e t)
   child-twin choice e s t h =
       bound T W Ends Ends (child_by (kind_of (name_of e.node)) run choice e s)
-      (child_by (kind_of (name_of e.node)) other choice e t) (λ end. done (map_ok settled end))
+      (child_by (kind_of (name_of e.node)) run choice e t) (λ end. done (map_ok settled end))
       (λ end. done (map_ok settled end))
       (child-by (kind_of (name_of e.node)) choice e s t h)
       (λ x y q. map-twin settled settled x y q (settled-twin T W))
 
   pub children-twin : (choice : Choice) (s t : State) → Same s t →
-      Goes (children run choice s) (children other choice t)
-  children-twin choice s t h = each-twin T W (child run choice) (child other choice)
+      Goes (children run choice s) (children run choice t)
+  children-twin choice s t h = each-twin T W (child run choice) (child run choice)
       (child-twin choice) (children_of run.target.element) s t h
 
   -- ---- buckets
@@ -543,7 +540,7 @@ module _ (run : Run) (mode : Mode) (W : List ℕ → Type 0) (looks : LooksSame 
       (on_old (Some typed) old z)) s t h (λ k a. record { alike = a; same = refl })
 
   treated-twin : (choice : Choice) (items : Option (List ℕ × List Item)) (s t : State) → Same s t →
-      Goes (treated run choice items s) (treated other choice items t)
+      Goes (treated run choice items s) (treated run choice items t)
   treated-twin RunAll items s t h = children-twin RunAll s t h
   treated-twin Skip items s t h = children-twin Skip s t h
   treated-twin Nothing items s t h = h
@@ -551,17 +548,17 @@ module _ (run : Run) (mode : Mode) (W : List ℕ → Type 0) (looks : LooksSame 
       (on_old items old t) (on-old items old s t h)
 
   returned-twin : (bucket : Bucket) (s t : State) → Same s t →
-      Ends (returned run bucket s) (returned other bucket t)
+      Ends (returned run bucket s) (returned run bucket t)
   returned-twin bucket s t h = subst (λ x. Ends (returned run bucket s)
       (map_ok (λ items. with_items items t) (or_stop t x))) (same (returns_of run.target))
       (go (items_if run bucket s (returns_of run.target)))
     where
       same : (written : Option (List ℕ)) → items_if run bucket s written
-          ≡ items_if other bucket t written
+          ≡ items_if run bucket t written
       same None = refl
       same (Some written) =
           ap (λ p. returned_items p bucket run.target.element s.items written) (at-place s t h)
-          ∙ ap (λ l. returned_items (place_in other t t.scope) bucket run.target.element l written)
+          ∙ ap (λ l. returned_items (place_in run t t.scope) bucket run.target.element l written)
           (ap (λ (z : State). z.items) h.same)
 
       go : (x : Result (List Item) EvalFault) → Ends (map_ok (λ items. with_items items s)
@@ -574,14 +571,14 @@ module _ (run : Run) (mode : Mode) (W : List ℕ → Type 0) (looks : LooksSame 
 
   pub decided-twin : (bucket : Bucket) (choice : Choice) (items : Option (List ℕ × List Item))
       (s t : State) → Same s t → Goes (decided run bucket choice items s)
-      (decided other bucket choice items t)
+      (decided run bucket choice items t)
   decided-twin bucket choice items s t h =
-      then-twin T W (treated run choice items s) (treated other choice items t)
+      then-twin T W (treated run choice items s) (treated run choice items t)
       (λ end. done (map_ok (with_decision (word_of choice items)) (returned run bucket end)))
-      (λ end. done (map_ok (with_decision (word_of choice items)) (returned other bucket end)))
+      (λ end. done (map_ok (with_decision (word_of choice items)) (returned run bucket end)))
       (treated-twin choice items s t h)
       (λ x y q. map-twin (with_decision (word_of choice items))
-      (with_decision (word_of choice items)) (returned run bucket x) (returned other bucket y)
+      (with_decision (word_of choice items)) (returned run bucket x) (returned run bucket y)
       (returned-twin bucket x y q)
       (λ a b r. by-twin T W (λ z. Same (with_decision (word_of choice items) a)
       (with_decision (word_of choice items) z)) a b r (λ k u. record {
@@ -591,7 +588,7 @@ module _ (run : Run) (mode : Mode) (W : List ℕ → Type 0) (looks : LooksSame 
       })))
 
   lists-same : (bucket : Bucket) (s t : State) → Same s t →
-      lists_at run bucket s ≡ lists_at other bucket t
+      lists_at run bucket s ≡ lists_at run bucket t
   lists-same bucket s t h = ap (λ p. lists_by (in_target p bucket) run.target.element
       (attribute_of (codes "Inputs") run.target.element)
       (attribute_of (codes "Outputs") run.target.element)) (at-place s t h)
@@ -621,18 +618,18 @@ module _ (run : Run) (mode : Mode) (W : List ℕ → Type 0) (looks : LooksSame 
         (entered scope bucket z)) s t h (λ k a. record { alike = a; same = refl })
 
     pub bucket-twin : (bucket : Bucket) (s t : State) → Same s t →
-        Goes (bucket_by choose run scope bucket s) (bucket_by choose' other scope bucket t)
+        Goes (bucket_by choose run scope bucket s) (bucket_by choose' run scope bucket t)
     bucket-twin bucket s t h =
         let x : State = entered scope bucket s in
         let y : State = entered scope bucket t in
         let q = entered-twin bucket s t h in
         bound T W Ends Ends (unless_stopped (or_stop x (lists_at run bucket x))
         (chosen_or_run choose run bucket x)) (unless_stopped
-        (or_stop y (lists_at other bucket y)) (chosen_or_run choose' other bucket y))
+        (or_stop y (lists_at run bucket y)) (chosen_or_run choose' run bucket y))
         (λ end. done (or_failed end)) (λ end. done (or_failed end))
         (subst (λ z. Goes (unless_stopped (or_stop x (lists_at run bucket x))
         (chosen_or_run choose run bucket x)) (unless_stopped (or_stop y z)
-        (chosen_or_run choose' other bucket y))) (lists-same bucket x y q)
+        (chosen_or_run choose' run bucket y))) (lists-same bucket x y q)
         (go (lists_at run bucket x) refl)) failed-so
       where
         go : (l : Result (Option Lists) EvalFault) →
@@ -640,12 +637,12 @@ module _ (run : Run) (mode : Mode) (W : List ℕ → Type 0) (looks : LooksSame 
             Goes (unless_stopped (or_stop (entered scope bucket s) l)
             (chosen_or_run choose run bucket (entered scope bucket s)))
             (unless_stopped (or_stop (entered scope bucket t) l)
-            (chosen_or_run choose' other bucket (entered scope bucket t)))
+            (chosen_or_run choose' run bucket (entered scope bucket t)))
         go (Ok None) e = decided-twin bucket RunAll None (entered scope bucket s)
             (entered scope bucket t) (entered-twin bucket s t h)
         go (Ok (Some lists)) e =
             subst (λ c. Goes (decided run bucket (choose lists (entered scope bucket s)) lists.items
-            (entered scope bucket s)) (decided other bucket c lists.items
+            (entered scope bucket s)) (decided run bucket c lists.items
             (entered scope bucket t)))
             (agree bucket lists (entered scope bucket s) (entered scope bucket t)
             (entered-twin bucket s t h) e)
@@ -657,11 +654,11 @@ module _ (run : Run) (mode : Mode) (W : List ℕ → Type 0) (looks : LooksSame 
             (entered-twin bucket s t h)
 
     pub buckets-twin : (s t : State) → Same s t →
-        Goes (buckets_by choose run scope s) (buckets_by choose' other scope t)
+        Goes (buckets_by choose run scope s) (buckets_by choose' run scope t)
     buckets-twin s t h =
         subst (λ z. Goes (buckets_by choose run scope s)
         (unless_stopped (or_failed (or_stop t z))
-        (λ found. each_in_turn (bucket_by choose' other scope) found t)))
+        (λ found. each_in_turn (bucket_by choose' run scope) found t)))
         (ap (λ p. target_buckets p run.target.element) (at-place s t h))
         (go (target_buckets (place_in run s s.scope) run.target.element))
       where
@@ -669,9 +666,9 @@ module _ (run : Run) (mode : Mode) (W : List ℕ → Type 0) (looks : LooksSame 
             Goes (unless_stopped (or_failed (or_stop s x))
             (λ found. each_in_turn (bucket_by choose run scope) found s))
             (unless_stopped (or_failed (or_stop t x))
-            (λ found. each_in_turn (bucket_by choose' other scope) found t))
+            (λ found. each_in_turn (bucket_by choose' run scope) found t))
         go (Ok found) = each-twin T W (bucket_by choose run scope)
-            (bucket_by choose' other scope) bucket-twin found s t h
+            (bucket_by choose' run scope) bucket-twin found s t h
         go (Err fault) =
             by-twin T W (λ z. TwinStop T W (as_failed
             (faulted (with_notes (Fail (fault_text fault) ∷ []) s)))
@@ -680,15 +677,15 @@ module _ (run : Run) (mode : Mode) (W : List ℕ → Type 0) (looks : LooksSame 
 
     pub work-twin : (j k : Journal) → AlikeJournals T W j k →
         AlikeWork T W (λ (o p : Outcome). o ≡ p) (work_by choose run scope j)
-        (work_by choose' other scope k)
+        (work_by choose' run scope k)
     work-twin j k a =
         bound T W Ends (λ o p. o ≡ p) (buckets_by choose run scope (begun scope j))
-        (buckets_by choose' other scope (begun scope k)) (λ end. done (outcome_of end))
+        (buckets_by choose' run scope (begun scope k)) (λ end. done (outcome_of end))
         (λ end. done (outcome_of end))
         (buckets-twin (begun scope j) (begun scope k) (record { alike = a; same = refl }))
         (outcome-twin T W)
 
     pub body-twin : (j k : Journal) → AlikeJournals T W j k →
-        AlikeBodies T W (body_by choose run scope j) (body_by choose' other scope k)
-    body-twin j k a = bodies T W (work_by choose run scope j) (work_by choose' other scope k)
+        AlikeBodies T W (body_by choose run scope j) (body_by choose' run scope k)
+    body-twin j k a = bodies T W (work_by choose run scope j) (work_by choose' run scope k)
         (work-twin j k a)

@@ -216,8 +216,8 @@ module _ (tools : List ℕ → ToolInput → ToolAnswer) (files : List File) (ro
       }) ≡ []
   no-piece None scope id k made n = refl
   no-piece (Some target) scope id k made n =
-      let run : Run = run_at files Clean id target in
-      pieces-none tools id (choice_of run) run scope
+      let run : Run = run_at files id target in
+      pieces-none tools id (choice_of Clean run) run scope
       (λ bucket s. no-lists (in_target (place_in run s s.scope) bucket) target
       (attribute_of (codes "Inputs") target.element)
       (attribute_of (codes "Outputs") target.element) refl refl (n target refl)) k
@@ -243,11 +243,11 @@ module _ (tools : List ℕ → ToolInput → ToolAnswer) (files : List File) (ro
       (a : AlikeJournals (bytes_in files) KeepsOff j k) →
       Known (record { target = Some target; scope = scope }) id k made →
       (p : Piece) → In p (clean_pieces tools files (Some target) scope id k) →
-      IsNew tools id (run_at files Incremental id target) scope j k (any-path j k a) p
+      IsNew tools id (run_at files id target) scope j k (any-path j k a) p
   new target scope id j k made a q p i =
-      let run : Run = run_at files Clean id target in
-      let met : In p (pieces_of tools id (choice_of run) run scope k) =
-      subst (λ (c : Chooser). In p (pieces_of tools id c run scope k)) (sym (clean-all run refl)) i
+      let run : Run = run_at files id target in
+      let met : In p (pieces_of tools id (choice_of Clean run) run scope k) =
+      subst (λ (c : Chooser). In p (pieces_of tools id c run scope k)) (sym (clean-all run)) i
       in
       record {
         no_older = q.listed.older p i;
@@ -267,8 +267,8 @@ module _ (tools : List ℕ → ToolInput → ToolAnswer) (files : List File) (ro
       Known (record { target = Some target; scope = scope }) id k made → TakesLists target →
       HasNotActed id j → HasNotActed id k →
       AlikeRuns (bytes_in files) KeepsOff tools id j k
-      (body (run_at files Incremental id target) scope j)
-      (body (run_at files Clean id target) scope k) made
+      (body Incremental (run_at files id target) scope j)
+      (body Clean (run_at files id target) scope k) made
       (Skips (record { target = Some target; scope = scope }) id j)
   with-lists target scope id j k made a q takes fw fc =
       let any = any-path j k a in
@@ -285,8 +285,8 @@ module _ (tools : List ℕ → ToolInput → ToolAnswer) (files : List File) (ro
         words = idle.words;
         as_many = idle.as_many;
       })
-      (body (run_at files Incremental id target) scope j)
-      (body (run_at files Clean id target) scope k) idle.at_once
+      (body Incremental (run_at files id target) scope j)
+      (body Clean (run_at files id target) scope k) idle.at_once
       (runs-go tools files (pieces-go tools files) target scope id j k made any q.clean_so.1
       q.clean_so.2 takes fw fc)
 

@@ -110,28 +110,28 @@ module _ (tools : List ℕ → ToolInput → ToolAnswer) (files : List File) (W 
     (made : Record) → AlikeJournals (bytes_in files) W j k →
     Q (record { target = Some target; scope = scope }) id k made → TakesLists target →
     HasNotActed id j → HasNotActed id k →
-    AlikeRuns (bytes_in files) W tools id j k (body
-    (run_at files Incremental id target) scope j)
-    (body (run_at files Clean id target) scope k) made
+    AlikeRuns (bytes_in files) W tools id j k
+    (body Incremental (run_at files id target) scope j)
+    (body Clean (run_at files id target) scope k) made
     (Q' (record { target = Some target; scope = scope }) id j)) where
   without-lists : (target : UsedTarget) (scope : Scope) (id : RunId) (j k : Journal)
       (made : Record) → AlikeJournals (bytes_in files) W j k →
       Q (record { target = Some target; scope = scope }) id k made → (TakesLists target → ⊥) →
-      AlikeRuns (bytes_in files) W tools id j k (body (run_at files Incremental id target) scope j)
-      (body (run_at files Clean id target) scope k) made
+      AlikeRuns (bytes_in files) W tools id j k (body Incremental (run_at files id target) scope j)
+      (body Clean (run_at files id target) scope k) made
       (Q' (record { target = Some target; scope = scope }) id j)
   without-lists target scope id j k made a q n =
-      let run : Run = run_at files Incremental id target in
+      let run : Run = run_at files id target in
       let none : (target' : UsedTarget) → Some target ≡ Some target' → TakesLists target' → ⊥ =
       λ target' e t. n (subst TakesLists (sym (let same : target ≡ target' = cc in same)) t) in
-      let agree : ChooseSame run Clean W (looks-same files W) (choice_of run)
-      (choice_of (run_at files Clean id target)) = λ bucket lists s t h e.
+      let agree : ChooseSame run W (looks-same files W) (choice_of Incremental run)
+      (choice_of Clean run) = λ bucket lists s t h e.
       absurd (never (lists_at run bucket s) lists
       (no-lists (in_target (place_in run s s.scope) bucket) target
       (attribute_of (codes "Inputs") target.element)
       (attribute_of (codes "Outputs") target.element) refl refl n) e) in
-      step_by_step (body-twin run Clean W (looks-same files W) (choice_of run)
-      (choice_of (run_at files Clean id target)) agree scope j k a)
+      step_by_step (body-twin run W (looks-same files W) (choice_of Incremental run)
+      (choice_of Clean run) agree scope j k a)
       (may (record { target = Some target; scope = scope }) id k made q none)
       (said (record { target = Some target; scope = scope }) id j k made a q none)
     where
@@ -156,8 +156,8 @@ module _ (tools : List ℕ → ToolInput → ToolAnswer) (files : List File) (W 
     where
       go : (b : Bool) → (b ≡ true → TakesLists target) → (b ≡ false → TakesLists target → ⊥) →
           AlikeRuns (bytes_in files) W tools id j k
-          (body (run_at files Incremental id target) scope j)
-          (body (run_at files Clean id target) scope k) made
+          (body Incremental (run_at files id target) scope j)
+          (body Clean (run_at files id target) scope k) made
           (Q' (record { target = Some target; scope = scope }) id j)
       go true y n = with_lists target scope id j k made a q (y refl) fw fc
       go false y n = without-lists target scope id j k made a q (n refl)

@@ -105,19 +105,18 @@ names-none p t items b = none p.lists.items t b.typed
     none : (o : Option (List ℕ × List Item)) {s : List ℕ × List Item} → o ≡ None → o ≡ Some s → ⊥
     none o a b = cc
 
-module _ (tools : List ℕ → ToolInput → ToolAnswer) (id : RunId) (run clean : Run)
-    (mode : run.mode ≡ Incremental) (p : Piece) (fresh : PieceIsFresh tools id clean p) (x : State)
-    (files : run.files ≡ clean.files) (same : (path : List ℕ) →
-    views.content (view_of run x) path ≡ views.content (view_of clean p.from) path) where
+module _ (tools : List ℕ → ToolInput → ToolAnswer) (id : RunId) (run : Run) (p : Piece)
+    (fresh : PieceIsFresh tools id run p) (x : State) (same : (path : List ℕ) →
+    views.content (view_of run x) path ≡ views.content (view_of run p.from) path) where
   abbrev v : View
   v = view_of run x
 
   abbrev u : View
-  u = view_of clean p.from
+  u = view_of run p.from
 
   -- the output is there, and the whole piece writes it
   abbrev pub Kept : List ℕ → Type 0
-  Kept output = (file : File) × IsAsInTree u output file × WritesSame tools id clean p output file
+  Kept output = (file : File) × IsAsInTree u output file × WritesSame tools id run p output file
 
   by-every : (first : List ℕ) (inputs : List (List ℕ)) → p.lists.inputs ≡ first ∷ inputs →
       ((items : List Item) → ByItems p items → ⊥) →
@@ -126,7 +125,7 @@ module _ (tools : List ℕ → ToolInput → ToolAnswer) (id : RunId) (run clean
   by-every first inputs e apart old output i =
       let all : (o : List ℕ) → In o p.lists.outputs →
       (file : File) × IsTrusted u p.lists.inputs o file =
-      λ o q. let t = all-trusted v u files same first inputs p.lists.outputs old o q in
+      λ o q. let t = all-trusted v u refl same first inputs p.lists.outputs old o q in
       (t.0, subst (λ l. IsTrusted u l o t.0) (sym e) t.1) in
       let t = all output i in
       (t.0, t.1.output_there, fresh.by_pairs apart all output i t.0 t.1.output_there.there)
@@ -135,12 +134,12 @@ module _ (tools : List ℕ → ToolInput → ToolAnswer) (id : RunId) (run clean
       old_items v p.lists.inputs p.lists.outputs items ≡ [] → (output : List ℕ) →
       In output p.lists.outputs → Kept output
   by-each items b old output i =
-      let t = pairs-trusted v u files same p.lists.inputs p.lists.outputs items b.inputs b.outputs
+      let t = pairs-trusted v u refl same p.lists.inputs p.lists.outputs items b.inputs b.outputs
       old output i in
       let w = fresh.by_items items b t.0 t.1 t.3.0 t.3.1 in (
         t.3.0,
         subst (λ o. IsAsInTree u o t.3.0) t.2 t.3.1.output_there,
-        subst (λ o. WritesSame tools id clean p o t.3.0) t.2 w,
+        subst (λ o. WritesSame tools id run p o t.3.0) t.2 w,
       )
 
   by-shape : (first : List ℕ) (inputs : List (List ℕ)) → p.lists.inputs ≡ first ∷ inputs →
@@ -167,24 +166,20 @@ module _ (tools : List ℕ → ToolInput → ToolAnswer) (id : RunId) (run clean
           (subst (λ l. any_is_old v l p.lists.outputs ≡ false) e
           (pairs-skip (any_is_old v p.lists.inputs p.lists.outputs) h))
 
-  pub skip-kept : choice_of run p.lists x ≡ Skip → (output : List ℕ) → In output p.lists.outputs →
-      Kept output
+  pub skip-kept : choice_of Incremental run p.lists x ≡ Skip → (output : List ℕ) →
+      In output p.lists.outputs → Kept output
   skip-kept e output i = go p.lists.inputs p.lists.outputs refl refl e
     where
       go : (ins outs : List (List ℕ)) → p.lists.inputs ≡ ins → p.lists.outputs ≡ outs →
-          decision v ins outs (option_map (λ typed. typed.1) p.lists.items) run.mode ≡ Skip →
+          decision v ins outs (option_map (λ typed. typed.1) p.lists.items) Incremental ≡ Skip →
           Kept output
       go [] outs a b h = let k : false ≡ true = ap is-skip h in absurd (cc)
       go (first ∷ ins) [] a b h = absurd (subst (In output) b i)
       go (first ∷ ins) (o ∷ outs) a b h =
-          let h1 : by_shape v (first ∷ ins) (o ∷ outs)
-          (option_map (λ typed. typed.1) p.lists.items) ≡ Skip =
-          subst (λ m. decision v (first ∷ ins) (o ∷ outs)
-          (option_map (λ typed. typed.1) p.lists.items) m ≡ Skip) mode h in
           let h2 : by_shape v p.lists.inputs (o ∷ outs)
           (option_map (λ typed. typed.1) p.lists.items) ≡ Skip =
           subst (λ l. by_shape v l (o ∷ outs) (option_map (λ typed. typed.1) p.lists.items)
-          ≡ Skip) (sym a) h1 in
+          ≡ Skip) (sym a) h in
           let h3 : by_shape v p.lists.inputs p.lists.outputs
           (option_map (λ typed. typed.1) p.lists.items) ≡ Skip =
           subst (λ l. by_shape v p.lists.inputs l (option_map (λ typed. typed.1) p.lists.items)

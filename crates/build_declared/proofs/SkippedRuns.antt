@@ -22,7 +22,7 @@ use Rattle.std.proofs.Common.{
   arith,
 }
 use Rattle.std.specs.Prelude.{Result, Ok, Err}
-use Rattle.msb_values.specs.declared.mode.Mode.TheVariants.{Incremental, Clean}
+use Rattle.msb_values.specs.declared.mode.Mode.TheVariants.{Incremental}
 use Rattle.msb_values.specs.declared.note.Note.TheVariants.{Fail}
 use Rattle.msb_values.specs.declared.act.Act.{Act}
 use Rattle.msb_values.specs.declared.scope.Scope.{Scope}
@@ -126,10 +126,7 @@ module _ (tools : List ℕ → ToolInput → ToolAnswer) (files : List File) (ta
     (a : AlikeJournals (bytes_in files) AnyPath j k) (takes : TakesLists target)
     (fw : HasNotActed id j) (fc : HasNotActed id k) where
   abbrev run : Run
-  run = run_at files Incremental id target
-
-  abbrev clean : Run
-  clean = run_at files Clean id target
+  run = run_at files id target
 
   abbrev s0 : State
   s0 = begun scope j
@@ -140,18 +137,18 @@ module _ (tools : List ℕ → ToolInput → ToolAnswer) (files : List File) (ta
   -- the body of the run does nothing but to say its outcome
   pub record IdleBody : Type 0 where
     pub outcome : Outcome
-    pub at_once : body run scope j ≡ makes outcome
+    pub at_once : body Incremental run scope j ≡ makes outcome
     pub words : (word : Decision) → In word outcome.decisions → IsIdle outcome.ok word
     pub as_many : up_to_date outcome.decisions
         ≡ length (pieces_met tools files target scope id j)
     pub skips : (p : Piece) → In p (pieces_met tools files target scope id j) →
-        choice_of run p.lists p.from ≡ Skip
+        choice_of Incremental run p.lists p.from ≡ Skip
 
-  by-end : (r : Result State Stopped) → buckets_by (choice_of run) run scope s0 ≡ done r →
-      HasIdle r → up_to_date (state_of r).decisions
-      ≡ length (pieces_met tools files target scope id j) →
+  by-end : (r : Result State Stopped) →
+      buckets_by (choice_of Incremental run) run scope s0 ≡ done r → HasIdle r →
+      up_to_date (state_of r).decisions ≡ length (pieces_met tools files target scope id j) →
       ((p : Piece) → In p (pieces_met tools files target scope id j) →
-      choice_of run p.lists p.from ≡ Skip) → IdleBody
+      choice_of Incremental run p.lists p.from ≡ Skip) → IdleBody
   by-end r over words many skips = record {
     outcome = outcome_of r;
     at_once = ap (λ v. body_of (followed_by v (λ end. done (outcome_of end)))) over;
@@ -160,7 +157,7 @@ module _ (tools : List ℕ → ToolInput → ToolAnswer) (files : List File) (ta
     skips = skips;
   }
 
-  none-taken : (bucket : Bucket) (y : State) → lists_at clean bucket y ≡ Ok None → ⊥
+  none-taken : (bucket : Bucket) (y : State) → lists_at run bucket y ≡ Ok None → ⊥
   none-taken = takes-clean tools files (pieces-go tools files) target scope id j k made a takes fw
       fc
 
@@ -169,7 +166,7 @@ module _ (tools : List ℕ → ToolInput → ToolAnswer) (files : List File) (ta
 
   same-lists : (bucket : Bucket) (s t : State) (pt : List Act) →
       Carry tools id run scope j k s t [] pt → lists_at run bucket (entered scope bucket s)
-      ≡ lists_at clean bucket (entered scope bucket t)
+      ≡ lists_at run bucket (entered scope bucket t)
   same-lists bucket s t pt c =
       lists-same tools id run scope j k a bucket (entered scope bucket s) (entered scope bucket t)
       [] pt (entered-pair tools id run scope j k a bucket s t [] pt c)
@@ -181,17 +178,18 @@ module _ (tools : List ℕ → ToolInput → ToolAnswer) (files : List File) (ta
 
   is-empty : (bucket : Bucket) (t : State) (pt : List Act) →
       AreSo tools id run scope j k NoPiece (piece_if bucket (entered scope bucket t) pt
-      (lists_at clean bucket (entered scope bucket t))) →
-      IsEmpty tools id run scope j k a (lists_at clean bucket (entered scope bucket t))
+      (lists_at run bucket (entered scope bucket t))) →
+      IsEmpty tools id run scope j k a (lists_at run bucket (entered scope bucket t))
   is-empty bucket t pt so =
       let y : State = entered scope bucket t in
-      no-piece tools id run scope j k a bucket y pt (lists_at clean bucket y) (none-taken bucket y)
-      (nothing-in (piece_if bucket y pt (lists_at clean bucket y)) so)
+      no-piece tools id run scope j k a bucket y pt (lists_at run bucket y) (none-taken bucket y)
+      (nothing-in (piece_if bucket y pt (lists_at run bucket y)) so)
 
-  empty-goes-on : BucketGoes tools id run scope j k (λ note. Unit {0}) NoPiece
+  empty-goes-on : BucketGoes tools id run scope j k Incremental (λ note. Unit {0}) NoPiece
   empty-goes-on bucket s t ps pt c E F he hf fe ff so =
-      both-same tools id run scope j k a (pieces-go tools files target scope id j k a fw fc)
-      none-taken bucket s t ps pt c E F he hf (is-empty bucket t pt so)
+      both-same tools id run scope j k a Incremental
+      (pieces-go tools files target scope id j k a fw fc) none-taken bucket s t ps pt c E F
+      he hf (is-empty bucket t pt so)
 
   empty-idles : BucketIdles tools id run scope j k NoPiece
   empty-idles bucket s t pt c E F he hf g so =
@@ -203,103 +201,105 @@ module _ (tools : List ℕ → ToolInput → ToolAnswer) (files : List File) (ta
 
   new-idles : BucketIdles tools id run scope j k (SaidNew tools id run scope j k a)
   new-idles bucket s t pt c E F he hf g so =
-      go (lists_at clean bucket (entered scope bucket t)) refl
+      go (lists_at run bucket (entered scope bucket t)) refl
     where
       none : (l : Result (Option Lists) EvalFault) →
-          lists_at clean bucket (entered scope bucket t) ≡ l →
+          lists_at run bucket (entered scope bucket t) ≡ l →
           IsEmpty tools id run scope j k a l →
           IdleAt tools id run scope j k bucket s (pieces_here tools id run scope j k bucket s)
       none l e m = empty-idle tools id run scope j k a bucket s
           (subst (IsEmpty tools id run scope j k a) (sym (same-lists bucket s t pt c ∙ e)) m)
 
       piece : (lists : Lists) →
-          lists_at clean bucket (entered scope bucket t) ≡ Ok (Some lists) → (choice : Choice) →
+          lists_at run bucket (entered scope bucket t) ≡ Ok (Some lists) → (choice : Choice) →
           all_or_nothing lists.inputs lists.outputs ≡ choice →
           IdleAt tools id run scope j k bucket s (pieces_here tools id run scope j k bucket s)
       piece lists e RunAll all =
           let y : State = entered scope bucket t in
           let p : Piece = piece_at tools id run scope j k a bucket lists t pt in
-          let there : In p (piece_if bucket y pt (lists_at clean bucket y)) =
+          let there : In p (piece_if bucket y pt (lists_at run bucket y)) =
           subst (λ z. In p (piece_if bucket y pt z)) (sym e)
           (in-one p lists.inputs lists.outputs all) in
-          piece-idle tools id run scope j k a refl bucket lists s t pt c
+          piece-idle tools id run scope j k a bucket lists s t pt c
           (same-lists bucket s t pt c ∙ e) e all E F he hf g (so p there)
       piece lists e Nothing all = none (Ok (Some lists)) e all
       piece lists e Skip all = absurd (never lists.inputs lists.outputs Skip all tt)
       piece lists e (Part old) all = absurd (never lists.inputs lists.outputs (Part old) all tt)
 
       go : (l : Result (Option Lists) EvalFault) →
-          lists_at clean bucket (entered scope bucket t) ≡ l →
+          lists_at run bucket (entered scope bucket t) ≡ l →
           IdleAt tools id run scope j k bucket s (pieces_here tools id run scope j k bucket s)
       go (Ok None) e = absurd (none-taken bucket (entered scope bucket t) e)
       go (Err fault) e = none (Err fault) e tt
       go (Ok (Some lists)) e = piece lists e (all_or_nothing lists.inputs lists.outputs) refl
 
-  new-goes-on : BucketGoes tools id run scope j k (Fine tools id run scope j k a)
+  new-goes-on : BucketGoes tools id run scope j k Incremental (Fine tools id run scope j k a)
       (SaidNew tools id run scope j k a)
   new-goes-on bucket s t ps pt c E F he hf fe ff so =
-      bucket-goes tools id run scope j k a (pieces-go tools files target scope id j k a fw fc)
-      none-taken bucket s t ps pt c E F he hf fe ff (λ p i. (so p i).0)
+      bucket-goes tools id run scope j k a Incremental
+      (pieces-go tools files target scope id j k a fw fc) none-taken bucket s t ps pt c E F
+      he hf fe ff (λ p i. (so p i).0)
 
   -- ---- both
 
   by-buckets : (x : Result (List Bucket) EvalFault) →
       target_buckets (place_in run s0 scope) target.element ≡ x →
-      target_buckets (place_in clean t0 scope) target.element ≡ x →
-      DeclaredBy tools id clean scope k (pieces_in tools id all_of clean scope (or_stop t0 x) t0) →
-      ((p : Piece) → In p (pieces_in tools id all_of clean scope (or_stop t0 x) t0) →
-      PieceIsFresh tools id clean p) →
-      ((p : Piece) → In p (pieces_in tools id all_of clean scope (or_stop t0 x) t0) →
+      target_buckets (place_in run t0 scope) target.element ≡ x →
+      DeclaredBy tools id run scope k (pieces_in tools id all_of run scope (or_stop t0 x) t0) →
+      ((p : Piece) → In p (pieces_in tools id all_of run scope (or_stop t0 x) t0) →
+      PieceIsFresh tools id run p) →
+      ((p : Piece) → In p (pieces_in tools id all_of run scope (or_stop t0 x) t0) →
       IsNew tools id run scope j k a p) → IdleBody
   by-buckets (Err fault) ew ec declared fresh new =
       let r : Result State Stopped =
       or_failed (Err (faulted (with_notes (Fail (fault_text fault) ∷ []) s0))) in
       let met : pieces_met tools files target scope id j ≡ [] =
-      ap (λ z. pieces_in tools id (choice_of run) run scope (or_stop s0 z) s0) ew in
+      ap (λ z. pieces_in tools id (choice_of Incremental run) run scope (or_stop s0 z) s0) ew in
       by-end r
       (ap (λ z. unless_stopped (or_failed (or_stop s0 z))
-      (λ found. each_in_turn (bucket_by (choice_of run) run scope) found s0)) ew)
+      (λ found. each_in_turn (bucket_by (choice_of Incremental run) run scope) found s0)) ew)
       (λ word i. elim i [ inl e ↦ subst (IsIdle false) e refl | inr n ↦ absurd n ])
       (ap length (sym met)) (λ p i. absurd (subst (In p) met i))
   by-buckets (Ok found) ew ec declared fresh new =
-      go (pieces_among tools id all_of clean scope found t0 []) refl declared
+      go (pieces_among tools id all_of run scope found t0 []) refl declared
     where
       met : pieces_met tools files target scope id j
-          ≡ pieces_among tools id (choice_of run) run scope found s0 []
-      met = ap (λ z. pieces_in tools id (choice_of run) run scope (or_stop s0 z) s0) ew
+          ≡ pieces_among tools id (choice_of Incremental run) run scope found s0 []
+      met = ap (λ z. pieces_in tools id (choice_of Incremental run) run scope (or_stop s0 z) s0) ew
 
       finish : IdleAll tools id run scope j k found s0 → IdleBody
       finish all =
           let many : up_to_date (state_of all.end).decisions
-          ≡ 0 + length (pieces_among tools id (choice_of run) run scope found s0 []) =
+          ≡ 0 + length (pieces_among tools id (choice_of Incremental run) run scope found s0 []) =
           all.as_many in
           let same : up_to_date (state_of all.end).decisions
-          ≡ length (pieces_among tools id (choice_of run) run scope found s0 []) =
+          ≡ length (pieces_among tools id (choice_of Incremental run) run scope found s0 []) =
           omega (arith, many) in
           by-end all.end
           (ap (λ z. unless_stopped (or_failed (or_stop s0 z))
-          (λ found. each_in_turn (bucket_by (choice_of run) run scope) found s0)) ew
+          (λ found. each_in_turn (bucket_by (choice_of Incremental run) run scope) found s0)) ew
           ∙ all.at_once) all.words (same ∙ ap length (sym met))
           (λ p i. all.skips p (subst (In p) met i))
 
-      go : (pieces : List Piece) → pieces_among tools id all_of clean scope found t0 [] ≡ pieces →
-          DeclaredBy tools id clean scope k
-          (pieces_among tools id all_of clean scope found t0 []) → IdleBody
+      go : (pieces : List Piece) → pieces_among tools id all_of run scope found t0 [] ≡ pieces →
+          DeclaredBy tools id run scope k
+          (pieces_among tools id all_of run scope found t0 []) → IdleBody
       go [] e d =
-          let x = none-goes tools id run scope j k a none-taken found s0 t0 [] [] start e in
+          let x = none-goes tools id run scope j k a Incremental none-taken found s0 t0 [] [] start
+          e in
           finish (idle-go tools id run scope j k (λ note. Unit {0}) NoPiece empty-goes-on
-          empty-idles (bucket-keeps tools id run (choice_of run) scope)
-          (bucket-keeps tools id clean all_of scope) found s0 t0 [] start (λ word i. absurd i)
+          empty-idles (bucket-keeps tools id run (choice_of Incremental run) scope)
+          (bucket-keeps tools id run all_of scope) found s0 t0 [] start (λ word i. absurd i)
           x.0 x.1 x.2 x.3 (λ note i. tt) (λ note i. tt) (λ p i. subst (In p) e i))
       go (p ∷ ps) e d =
-          let r : RunIsDeclared tools id clean scope k (p ∷ ps) =
-          subst (DeclaredBy tools id clean scope k) e d in
+          let r : RunIsDeclared tools id run scope k (p ∷ ps) =
+          subst (DeclaredBy tools id run scope k) e d in
           let x = both-end tools files (pieces-go tools files) target scope id j k made a takes fw
           fc found ew ec (p ∷ ps) r in
           finish (idle-go tools id run scope j k (Fine tools id run scope j k a)
           (SaidNew tools id run scope j k a) new-goes-on new-idles
-          (bucket-keeps tools id run (choice_of run) scope)
-          (bucket-keeps tools id clean all_of scope) found s0 t0 [] start (λ word i. absurd i)
+          (bucket-keeps tools id run (choice_of Incremental run) scope)
+          (bucket-keeps tools id run all_of scope) found s0 t0 [] start (λ word i. absurd i)
           x.E x.F x.first_ends x.second_ends x.first_fine x.second_fine
           (λ q i. ((r.each q (subst (In q) e i), fresh q i), new q i)))
 
@@ -309,6 +309,6 @@ module _ (tools : List ℕ → ToolInput → ToolAnswer) (files : List File) (ta
       ((p : Piece) → In p (clean_pieces tools files (Some target) scope id k) →
       IsNew tools id run scope j k a p) → IdleBody
   idle-run declared fresh new =
-      by-buckets (target_buckets (place_in clean t0 scope) target.element)
+      by-buckets (target_buckets (place_in run t0 scope) target.element)
       (buckets-same tools files (pieces-go tools files) target scope id j k made a takes fw fc)
       refl declared fresh new

@@ -29,7 +29,6 @@ use Rattle.msb_laws.specs.Results.{map_ok}
 use Rattle.msb_values.specs.Keys.{key_of}
 use Rattle.msb_values.specs.declared.change.Change.{Change}
 use Rattle.msb_values.specs.declared.item.Item.{Item}
-use Rattle.msb_values.specs.declared.mode.Mode.TheVariants.{Clean}
 use Rattle.msb_values.specs.Acts.{act_path, act_bytes}
 use Rattle.msb_values.specs.declared.act.Act.{Act}
 use Rattle.msb_values.specs.declared.scope.Scope.{Scope}
@@ -124,7 +123,6 @@ use Rattle.msb_items.specs.Places.{element_holds}
 use Rattle.msb_values.specs.Changes.{applied}
 use Rattle.std.proofs.Common.{append-nil, is_some}
 use Rattle.std.proofs.lemmas.Slice.Eq.{bytes_eq-Decides}
-use Rattle.msb_values.specs.declared.mode.Mode.TheVariants.{Incremental}
 use Rattle.target_texts.specs.Inferred.{inference, inference_if}
 use Rattle.target_texts.specs.Made.{all_made, or_fault_made, made_before, up_to_fault}
 use Rattle.target_texts.specs.Outputs.{
@@ -876,21 +874,18 @@ module _ (tools : List ℕ → ToolInput → ToolAnswer) (id : RunId) (r : Run) 
 
 -- a piece that is skipped changes and returns what the whole does, and writes nothing
 pub skips-same : (tools : List ℕ → ToolInput → ToolAnswer) (id : RunId) (run : Run)
-    (mode : run.mode ≡ Incremental) (scope : Scope) (j k : Journal)
-    (a : AlikeJournals (bytes_in run.files) AnyPath j k) (fw : HasNotActed id j)
-    (fc : HasNotActed id k) →
-    SkipsSame tools id run mode scope j k a fw fc
-skips-same tools id run mode scope j k a fw fc bucket lists t pt after acts declared is he there =
-    let r : Run = record run { mode = Clean } in
+    (scope : Scope) (j k : Journal) (a : AlikeJournals (bytes_in run.files) AnyPath j k)
+    (fw : HasNotActed id j) (fc : HasNotActed id k) → SkipsSame tools id run scope j k a fw fc
+skips-same tools id run scope j k a fw fc bucket lists t pt after acts declared is he there =
     let E : End (Result State Stopped) = record {
       value = Ok after;
       journal = after.journal;
       acts =
           acts;
     } in
-    let st = decided-steps tools id r k fc bucket RunAll lists.items
+    let st = decided-steps tools id run k fc bucket RunAll lists.items
     (entered scope bucket t) pt is E he in
-    let tree : InTree tools id r k fc pt acts = λ own g act i.
+    let tree : InTree tools id run k fc pt acts = λ own g act i.
     let mine : In act (since pt acts) =
     subst (In act) (sym (ap (since pt) g ∙ since-front own pt)) i in
     let done_so : is_some (last_bytes (since pt acts) (act_path act)) ≡ true =
@@ -901,6 +896,6 @@ skips-same tools id run mode scope j k a fw fc bucket lists t pt after acts decl
           (there (act_path act) (one-in (act_path act) lists.outputs
           (sym (declared.writes_outputs after acts he (act_path act)) ∙ done_so))),
     ) in
-    let g = decided-aside tools id r k fc pt bucket lists.items
+    let g = decided-aside tools id run k fc pt bucket lists.items
     (entered scope bucket t) refl is E he after refl tree declared.returns_given in
     (g.0, ap (λ v. end_of tools id v t.journal pt) g.1, g.2.changes, g.2.items, g.2.notes)

@@ -26,7 +26,7 @@ use Rattle.std.specs.Prelude.{IsSome, unwrap_or}
 use Rattle.std.proofs.lemmas.Slice.Eq.{bytes_eq-Decides}
 use Rattle.msb_values.specs.Acts.{act_path}
 use Rattle.msb_values.specs.declared.item.Item.{Item}
-use Rattle.msb_values.specs.declared.mode.Mode.TheVariants.{Incremental, Clean}
+use Rattle.msb_values.specs.declared.mode.Mode.TheVariants.{Incremental}
 use Rattle.msb_values.specs.declared.act.Act.{Act}
 use Rattle.msb_values.specs.declared.scope.Scope.{Scope}
 use Rattle.file_store.specs.Commits.{AreDone, bytes_there}
@@ -255,8 +255,8 @@ module _ (tools : List ℕ → ToolInput → ToolAnswer) (w : Build) (left : Tre
       abbrev p : Piece
       p = fares.counter.0
 
-      abbrev counter : Counterpart tools id (run_at files w.mode id target) scope j k alike
-          here.not_yet there.not_yet fares.total p q
+      abbrev counter : Counterpart tools id (run_at files id target) scope j k alike
+          here.not_yet there.not_yet w.mode fares.total p q
       counter = fares.counter.2
 
       at-last : RunAtLast files after out.journal id j fares.total
@@ -278,7 +278,7 @@ module _ (tools : List ℕ → ToolInput → ToolAnswer) (w : Build) (left : Tre
       )
 
       module _ (acts : List Act)
-          (f : Fares tools id (run_at files w.mode id target) scope j k alike here.not_yet
+          (f : Fares tools id (run_at files id target) scope j k alike here.not_yet
           there.not_yet fares.total p q acts)
           (parts : fares.total ≡ f.rest ++ (f.new ++ p.before))
           (inputs_stood : (run : RunId) (n : ℕ) (act : Act) → In (acted run n act) out.journal →
@@ -311,7 +311,7 @@ module _ (tools : List ℕ → ToolInput → ToolAnswer) (w : Build) (left : Tre
             ≡ Some x.0) counter.begins x.1) none
 
         abbrev Fared : Pairing → Type 0
-        Fared pair = Fate (view_of (run_at files w.mode id target) p.from) f.new
+        Fared pair = Fate (view_of (run_at files id target) p.from) f.new
             (since q.before f.more) pair
 
         -- an output is there at last
@@ -382,13 +382,13 @@ module _ (tools : List ℕ → ToolInput → ToolAnswer) (w : Build) (left : Tre
       pub record WholeLeft : Type 0 where
         pub end : State
         pub acts : List Act
-        pub succeeds : SucceedsWith tools id (run_at files Clean id target) q end acts
+        pub succeeds : SucceedsWith tools id (run_at files id target) q end acts
         pub left_so : (pair : Pairing) → IsPaired q pair → IsLeft after (since q.before acts) pair
 
       -- how the piece fares, by what settled says of it
       record Faring : Type 0 where
         acts : List Act
-        f : Fares tools id (run_at files w.mode id target) scope j k alike here.not_yet
+        f : Fares tools id (run_at files id target) scope j k alike here.not_yet
             there.not_yet fares.total p q acts
         parts : fares.total ≡ f.rest ++ (f.new ++ p.before)
         inputs_stood : (run : RunId) (n : ℕ) (act : Act) → In (acted run n act) out.journal →
@@ -417,7 +417,7 @@ module _ (tools : List ℕ → ToolInput → ToolAnswer) (w : Build) (left : Tre
 
       -- it succeeds in the clean build
       whole-succeeds : (u : State) × (more : List Act)
-          × SucceedsWith tools id (run_at files Clean id target) q u more
+          × SucceedsWith tools id (run_at files id target) q u more
       whole-succeeds = (faring.f.after, faring.f.more, faring.f.succeeds)
 
       untouched-stays : (input : List ℕ) → In input p.lists.inputs →
@@ -453,11 +453,11 @@ module _ (tools : List ℕ → ToolInput → ToolAnswer) (w : Build) (left : Tre
         from = j;
         made = m;
       }) ≡ [] → ⊥) where
-    takes : NeverNone (run_at files Clean id target)
-    takes = elim (takes-or-none (run_at files Clean id target)) [
+    takes : NeverNone (run_at files id target)
+    takes = elim (takes-or-none (run_at files id target)) [
       | inl h ↦ h
-      | inr h ↦ absurd (pieces (pieces-none tools id (choice_of (run_at files w.mode id target))
-          (run_at files w.mode id target) scope h j))
+      | inr h ↦ absurd (pieces (pieces-none tools id (choice_of w.mode (run_at files id target))
+          (run_at files id target) scope h j))
     ]
 
     fares-of : (q : Piece) → In q (clean_pieces tools files (Some target) scope id k) →
@@ -560,7 +560,7 @@ module _ (tools : List ℕ → ToolInput → ToolAnswer) (w : Build) (left : Tre
     has-piece = not-empty p (pieces_over tools files after after this) i
 
     abbrev StaysSo : Type 0
-    StaysSo = PieceIsFresh tools id (run_at after Clean id target) p × PieceIsNoOlder after p
+    StaysSo = PieceIsFresh tools id (run_at after id target) p × PieceIsNoOlder after p
 
     by-twin : (other : Option UsedTarget) (place : Scope) (j l : Journal) (h n : Record) →
         KnownHere (record { target = other; scope = place }) id j h →
@@ -581,8 +581,8 @@ module _ (tools : List ℕ → ToolInput → ToolAnswer) (w : Build) (left : Tre
           from = l;
           made = n;
         } in
-        let first_run : Run = run_at files Clean id other in
-        let next_run : Run = run_at after Clean id target in
+        let first_run : Run = run_at files id other in
+        let next_run : Run = run_at after id target in
         let x = again-in tools id first_run next_run (pieces_over tools files after after this)
         (pieces_over tools files after files earlier)
         (r.repeated.same this later has-piece earlier there.said.1 refl) p i in

@@ -19,8 +19,6 @@ use Rattle.std.specs.Prelude.{
   Ok,
 }
 use Rattle.msb_values.specs.declared.item.Item.{Item}
-use Rattle.msb_values.specs.declared.mode.Mode.{Mode}
-use Rattle.msb_values.specs.declared.mode.Mode.TheVariants.{Clean}
 use Rattle.msb_values.specs.declared.note.Note.{Note}
 use Rattle.msb_values.specs.declared.note.Note.TheVariants.{Fail, Warning}
 use Rattle.msb_values.specs.declared.act.Act.{Act}
@@ -128,15 +126,14 @@ module _ (tools : List ℕ → ToolInput → ToolAnswer) (id : RunId) (run : Run
       × (lists.items ≡ Some (kind, items)) × ArePart marks items × (old ≡ kept marks items)
 
   -- A run that has a piece calls nothing, and no task of it fails because a file is too large,
-  -- whichever of its pieces are skipped or run in part. The journal and the mode from which this is
-  -- said make no difference but to what is chosen, where the journals are alike.
+  -- whichever of its pieces are skipped or run in part. The journal from which this is said makes
+  -- no difference but to what is chosen, where the journals are alike.
   pub record RunIsDeclared (scope : Scope) (journal : Journal) (pieces : List Piece) : Type 0 where
-    pub never_large : (mode : Mode) (from : Journal) →
+    pub never_large : (from : Journal) →
         AlikeJournals (bytes_in run.files) AnyPath from journal → (choose : Chooser) →
         ((lists : Lists) (s : State) → MayChoose lists (choose lists s)) →
         (end : End Outcome)
-        × (end_of tools id (work_by choose (record run { mode = mode }) scope from) from []
-        ≡ Some end)
+        × (end_of tools id (work_by choose run scope from) from [] ≡ Some end)
         × ((note : Note) → In note end.value.notes → IsNotTooLarge note)
     pub each : (p : Piece) → In p pieces → PieceIsDeclared p
 
@@ -152,12 +149,12 @@ module _ (tools : List ℕ → ToolInput → ToolAnswer) (files : List File) whe
   abbrev pub clean_pieces : Option UsedTarget → Scope → RunId → Journal → List Piece
   clean_pieces None scope id journal = []
   clean_pieces (Some target) scope id journal =
-      pieces_of tools id all_of (run_at files Clean id target) scope journal
+      pieces_of tools id all_of (run_at files id target) scope journal
 
   abbrev pub DeclaredAt : Option UsedTarget → Scope → RunId → Journal → Type 0
   DeclaredAt None scope id journal = Unit {0}
   DeclaredAt (Some target) scope id journal =
-      DeclaredBy tools id (run_at files Clean id target) scope journal
+      DeclaredBy tools id (run_at files id target) scope journal
       (clean_pieces (Some target) scope id journal)
 
   -- The clean world is whole and steady; each of its bodies is declared; and where calls made at

@@ -2,7 +2,6 @@
 -- (Incremental builds)
 use Rattle.std.specs.Prelude.{ℕ, ◌≡◌, ◌≤◌, List, [], ◌∷◌, Option, None, Some, Ok}
 use Rattle.msb_values.specs.declared.item.Item.{Item}
-use Rattle.msb_values.specs.declared.mode.Mode.TheVariants.{Clean}
 use Rattle.msb_values.specs.declared.act.Act.{Act}
 use Rattle.msb_values.specs.declared.scope.Scope.{Scope}
 use Rattle.file_store.specs.Files.{file_at}
@@ -78,7 +77,7 @@ module _ (tools : List ℕ → ToolInput → ToolAnswer) (files : List File) whe
   FreshAt None scope id journal = Unit {0}
   FreshAt (Some target) scope id journal =
       (p : Piece) → In p (clean_pieces tools files (Some target) scope id journal) →
-      PieceIsFresh tools id (run_at files Clean id target) p
+      PieceIsFresh tools id (run_at files id target) p
 
   -- each piece of the clean world is fresh
   abbrev pub IsFresh : PlacedWorld Site ToolInput ToolAnswer → RequestResult → Journal → Type 0

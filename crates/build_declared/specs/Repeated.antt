@@ -65,7 +65,7 @@ module _ (tools : List ℕ → ToolInput → ToolAnswer) (files after : List Fil
   -- by their targets, which a run with a piece has
   abbrev pub again_by : (target other : Option UsedTarget) → (o earlier : Occurrence Site) → Type 0
   again_by (Some target) (Some other) o earlier =
-      AreAgain tools o.run (run_at files Clean o.run other) (run_at after Clean o.run target)
+      AreAgain tools o.run (run_at files o.run other) (run_at after o.run target)
       (pieces_over after o) (pieces_over files earlier)
   again_by target other o earlier = ⊥
 

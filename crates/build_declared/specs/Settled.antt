@@ -39,8 +39,8 @@ module _ (tools : List ℕ → ToolInput → ToolAnswer) (files : List File) (mo
   abbrev pub pieces_by : Option UsedTarget → Occurrence Site → List Piece
   pieces_by None o = []
   pieces_by (Some target) o =
-      let run : Run = run_at files mode o.run target in
-      pieces_of tools o.run (choice_of run) run o.place.scope o.from
+      let run : Run = run_at files o.run target in
+      pieces_of tools o.run (choice_of mode run) run o.place.scope o.from
 
   abbrev pub pieces_at : Occurrence Site → List Piece
   pieces_at o = pieces_by o.place.target o
@@ -59,8 +59,8 @@ module _ (tools : List ℕ → ToolInput → ToolAnswer) (files : List File) (mo
   abbrev pub Succeeds : Option UsedTarget → Occurrence Site → Piece → (acts : List Act) → Type 0
   Succeeds None o p acts = ⊥
   Succeeds (Some target) o p acts =
-      let run : Run = run_at files mode o.run target in
-      (t : State) × (end_of_piece tools o.run run p (choice_of run p.lists p.from)
+      let run : Run = run_at files o.run target in
+      (t : State) × (end_of_piece tools o.run run p (choice_of mode run p.lists p.from)
       ≡ Some (record { value = Ok t; journal = t.journal; acts = acts }))
 
   -- an act had been done when the piece began, at each occurrence of its run: by the run itself, or

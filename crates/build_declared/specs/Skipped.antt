@@ -95,8 +95,8 @@ module _ (tools : List ℕ → ToolInput → ToolAnswer) (files : List File) whe
   -- the pieces of a run in an incremental build
   abbrev pub pieces_met : UsedTarget → Scope → RunId → Journal → List Piece
   pieces_met target scope id from =
-      let run : Run = run_at files Incremental id target in
-      pieces_of tools id (choice_of run) run scope from
+      let run : Run = run_at files id target in
+      pieces_of tools id (choice_of Incremental run) run scope from
 
   -- Each piece of a run is skipped. The body does nothing but to say its outcome: it writes and
   -- removes no file, uses no tool and calls nothing. And its record says `up to date` once for each
@@ -104,10 +104,10 @@ module _ (tools : List ℕ → ToolInput → ToolAnswer) (files : List File) whe
   pub record IsSkipped (target : UsedTarget) (scope : Scope) (id : RunId) (from : Journal)
       (made : Record) : Type 0 where
     pub outcome : Outcome
-    pub at_once : body (run_at files Incremental id target) scope from ≡ makes outcome
+    pub at_once : body Incremental (run_at files id target) scope from ≡ makes outcome
     pub made_so : made ≡ recorded outcome []
     pub skips : (p : Piece) → In p (pieces_met target scope id from) →
-        choice_of (run_at files Incremental id target) p.lists p.from ≡ Skip
+        choice_of Incremental (run_at files id target) p.lists p.from ≡ Skip
     pub words : (word : Decision) → In word made.decisions → IsIdle made.ok word
     pub as_many : up_to_date made.decisions ≡ length (pieces_met target scope id from)
 

@@ -25,8 +25,6 @@ use Rattle.ucd_table.specs.Rows.{value_in}
 use Rattle.ucd_case.specs.FullFoldingRows.{full_folding_rows as rows}
 use Rattle.msb_values.specs.declared.change.Change.TheVariants.{AddItems}
 use Rattle.msb_values.specs.declared.item.Item.{Item}
-use Rattle.msb_values.specs.declared.mode.Mode.{Mode}
-use Rattle.msb_values.specs.declared.mode.Mode.TheVariants.{Clean}
 use Rattle.msb_values.specs.declared.note.Note.{Note}
 use Rattle.msb_values.specs.declared.act.Act.{Act}
 use Rattle.msb_expression.specs.Machine.{run as read_on}
@@ -63,7 +61,7 @@ use Rattle.build_declared.proofs.Looks.{looks-same}
 use Rattle.build_declared.proofs.SameRuns.{work-twin}
 use Rattle.build_declared.proofs.Twins.{AlikeWork}
 use Rattle.declared_witness.proofs.Facts.{steps_of, ends-so, of-part}
-use Rattle.declared_witness.proofs.Pieces.{lists, begins, clean_run}
+use Rattle.declared_witness.proofs.Pieces.{lists, begins, run_over}
 use Rattle.declared_witness.specs.ThreeCopies.{
   sources,
   objects,
@@ -93,7 +91,7 @@ module _ (bytes : List ℕ) (stamp : ℕ) where
   tree = files_with bytes stamp
 
   abbrev over_tree : Run
-  over_tree = clean_run bytes stamp
+  over_tree = run_over bytes stamp
 
   abbrev GoesAs : Choice → List Act → Decision → Type 0
   GoesAs choice acts decision =
@@ -135,26 +133,24 @@ module _ (bytes : List ℕ) (stamp : ℕ) where
   not-first-go = refl
 
   module _ (tools : List ℕ → ToolInput → ToolAnswer) where
-    abbrev NeverBy : Chooser → Mode → Journal → Type 0
-    NeverBy choose mode from = (end : End Outcome)
-        × (end_of tools run (work_by choose (record over_tree { mode = mode }) scope from) from []
-        ≡ Some end)
+    abbrev NeverBy : Chooser → Journal → Type 0
+    NeverBy choose from = (end : End Outcome)
+        × (end_of tools run (work_by choose over_tree scope from) from [] ≡ Some end)
         × ((note : Note) → In note end.value.notes → IsNotTooLarge tools run over_tree note)
 
-    module _ (mode : Mode) (from : Journal)
-        (alike : AlikeJournals (bytes_in tree) AnyPath from []) where
+    module _ (from : Journal) (alike : AlikeJournals (bytes_in tree) AnyPath from []) where
       abbrev Never : Choice → Type 0
-      Never choice = NeverBy (always choice) mode from
+      Never choice = NeverBy (always choice) from
 
       by-choice : (choice : Choice) (acts : List Act) (decision : Decision) →
           GoesAs choice acts decision → Never choice
       by-choice choice acts decision goes =
           let t = subst (λ z. AlikeWork (bytes_in tree) AnyPath (λ (o p : Outcome). o ≡ p)
-          (work_by (always choice) (record over_tree { mode = mode }) scope from) z) goes
-          (work-twin (record over_tree { mode = mode }) Clean AnyPath (looks-same tree AnyPath)
+          (work_by (always choice) over_tree scope from) z) goes
+          (work-twin over_tree AnyPath (looks-same tree AnyPath)
           (always choice) (always choice) (λ bucket l s u h e. refl) scope from [] alike) in
           let x = ends-so (bytes_in tree) tools run
-          (work_by (always choice) (record over_tree { mode = mode }) scope from) acts
+          (work_by (always choice) over_tree scope from) acts
           (outcome_as decision) from [] t in (
             x.0,
             x.1,
@@ -195,10 +191,10 @@ module _ (bytes : List ℕ) (stamp : ℕ) where
           (by-part may.2 (subst (λ (z : List Item). ArePart may.2 z) (sym e) may.4))
 
     -- the run has an end without a failure of that kind
-    pub never-large : (mode : Mode) (from : Journal) →
+    pub never-large : (from : Journal) →
         AlikeJournals (bytes_in tree) AnyPath from [] → (choose : Chooser) →
         ((l : Lists) (s : State) → MayChoose tools run over_tree l (choose l s)) →
-        NeverBy choose mode from
+        NeverBy choose from
     unfolding read_on
-    never-large mode from alike choose may =
-        whichever mode from alike (choose lists (begins from)) (may lists (begins from))
+    never-large from alike choose may =
+        whichever from alike (choose lists (begins from)) (may lists (begins from))

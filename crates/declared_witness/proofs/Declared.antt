@@ -63,7 +63,7 @@ use Rattle.declared_witness.proofs.Facts.{EachPath, at-one, acted-on, of-part}
 use Rattle.declared_witness.proofs.Pieces.{
   lists,
   piece,
-  clean_run,
+  run_over,
   state_in,
   acts_in,
   EndsWell,
@@ -114,7 +114,7 @@ none-removed path (inr (inr (inr i))) = absurd i
 
 module _ (bytes : List ℕ) (stamp : ℕ) (tools : List ℕ → ToolInput → ToolAnswer) where
   abbrev over_tree : Run
-  over_tree = clean_run bytes stamp
+  over_tree = run_over bytes stamp
 
   abbrev whole_state : State
   whole_state = state_in (whole bytes stamp tools)

@@ -47,7 +47,7 @@ use Rattle.declared_witness.proofs.Derivations.{clean-each}
 use Rattle.declared_witness.proofs.Pieces.{
   lists,
   piece,
-  clean_run,
+  run_over,
   by-items,
   state_in,
   acts_in,
@@ -66,7 +66,7 @@ use Rattle.declared_witness.specs.ThreeCopies.{
 }
 
 abbrev the_run : Run
-the_run = clean_run (codes "old") 7
+the_run = run_over (codes "old") 7
 
 module _ (tools : List ℕ → ToolInput → ToolAnswer) where
   abbrev Fresh : Pairing → Type 0

@@ -53,8 +53,8 @@ begins journal = entered scope bucket (begun scope journal)
 abbrev pub piece : Piece
 piece = record { bucket = bucket; lists = lists; from = begins []; before = [] }
 
-abbrev pub clean_run : List ℕ → ℕ → Run
-clean_run bytes stamp = run_at (files_with bytes stamp) Clean run target
+abbrev pub run_over : List ℕ → ℕ → Run
+run_over bytes stamp = run_at (files_with bytes stamp) run target
 
 pub by-items : ByItems piece sources
 by-items = record { kind = codes "c"; typed = refl; inputs = refl; outputs = refl }
@@ -89,11 +89,11 @@ module _ (bytes : List ℕ) (stamp : ℕ) (tools : List ℕ → ToolInput → To
   placed-pieces made = refl
 
   abbrev pub whole : Option (End (Result State Stopped))
-  whole = end_of_piece tools run (clean_run bytes stamp) piece RunAll
+  whole = end_of_piece tools run (run_over bytes stamp) piece RunAll
 
   abbrev pub part : List Bool → Option (End (Result State Stopped))
   part marks =
-      end_of_piece tools run (clean_run bytes stamp) piece (Part (kept marks sources))
+      end_of_piece tools run (run_over bytes stamp) piece (Part (kept marks sources))
 
 pub settled-pieces : (tools : List ℕ → ToolInput → ToolAnswer) →
     pieces_at tools files Incremental (body_of part_record) ≡ piece ∷ []

@@ -66,7 +66,7 @@ use Rattle.declared_witness.proofs.Derivations.{clean-each}
 use Rattle.declared_witness.proofs.Pieces.{
   lists,
   piece,
-  clean_run,
+  run_over,
   by-items,
   state_in,
   pieces-so,
@@ -159,12 +159,12 @@ module _ (tools : List ℕ → ToolInput → ToolAnswer) where
   abbrev whole_left : State
   whole_left = state_in (whole (codes "two") 10 tools)
 
-  left-succeeds : SucceedsWith tools run (clean_run (codes "two") 10) piece whole_left all_acts
+  left-succeeds : SucceedsWith tools run (run_over (codes "two") 10) piece whole_left all_acts
   unfolding same_run same_instance read_on fold_case folding value_in rows chars
   left-succeeds = refl
 
   abbrev Again : Piece → Piece → Type 0
-  Again p q = IsAgain tools run (clean_run (codes "old") 7) (clean_run (codes "two") 10) p q
+  Again p q = IsAgain tools run (run_over (codes "old") 7) (run_over (codes "two") 10) p q
 
   is-again : Again piece piece
   is-again = record {
@@ -182,7 +182,7 @@ module _ (tools : List ℕ → ToolInput → ToolAnswer) where
   }
 
   abbrev Agains : List Piece → List Piece → Type 0
-  Agains ps qs = AreAgain tools run (clean_run (codes "old") 7) (clean_run (codes "two") 10) ps qs
+  Agains ps qs = AreAgain tools run (run_over (codes "old") 7) (run_over (codes "two") 10) ps qs
 
   agains : Agains (pieces_over tools files files_left files_left again)
       (pieces_over tools files files_left files again)

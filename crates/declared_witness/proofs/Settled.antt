@@ -86,10 +86,11 @@ module _ (tools : List ℕ → ToolInput → ToolAnswer) where
   -- ---- settled
 
   abbrev the_run : Run
-  the_run = run_at files Incremental run target
+  the_run = run_at files run target
 
   abbrev decided : Option (End (Result State Stopped))
-  decided = end_of_piece tools run the_run piece (choice_of the_run piece.lists piece.from)
+  decided = end_of_piece tools run the_run piece
+      (choice_of Incremental the_run piece.lists piece.from)
 
   abbrev SucceedsSo : Occurrence Site → Piece → List Act → Type 0
   SucceedsSo o p acts = Succeeds tools files Incremental o.place.target o p acts

@@ -14,7 +14,7 @@ use Rattle.task_trait.specs.declared.tools.ToolInput.{ToolInput}
 use Rattle.target_incremental.specs.declared.decision.Choice.{Choice}
 use Rattle.target_body.specs.Left.{bucket_frames, bucket_left, children_frames, children_left, waiting_task}
 use Rattle.target_body.specs.Moments.{Frames, GoesOn, Moment, Plays, done_at, moment, reached_by, state_at}
-use Rattle.target_body.specs.Pieces.{choice_of, bucket_of, in_bucket, or_failed, word_of}
+use Rattle.target_body.specs.Pieces.{Chooser, bucket_by, in_bucket, or_failed, word_of}
 use Rattle.target_body.specs.Played.{Player, over, played, reached_then, waits}
 use Rattle.target_body.specs.Returned.{returned}
 use Rattle.target_body.specs.Seen.{ended, seen_done, seen_state}
@@ -74,16 +74,26 @@ module _ (run : Run) (bucket : Bucket) (choice : Choice) (items : Option (List �
       ∙ sym (λ i. waits (waiting_task task) (λ results journal. nested results journal i) (done_at m))
 
 -- a bucket begins in the scope as the target found it
-pub all_entered : {E : Type 0} (run : Run) (bucket : Bucket) (p : Player) (found : Scope) (held begun : Held) (journal : Journal) (tools : List (List ℕ × ToolInput)) (after : Moment) (r : Result (Step AtBucket) E)
+pub all_entered : {E : Type 0} (choose : Chooser) (run : Run) (bucket : Bucket) (p : Player)
+    (found : Scope) (held begun : Held) (journal : Journal) (tools : List (List ℕ × ToolInput))
+    (after : Moment) (r : Result (Step AtBucket) E)
     → begun ≡ record held { scope = record found { items = all_put found.items bucket.lists }; part = None; unseen = [] }
-    → IfOk r (λ step. Plays (bucket_frames run) p (in_bucket (choice_of run) run bucket) (moment begun journal tools) step after)
-    → IfOk r (λ step. Plays (bucket_frames run) p (bucket_of run found bucket) (moment held journal tools) step after)
-all_entered run bucket p found held begun journal tools after r begun_so plays =
-    subst (λ (h : Held). IfOk r (λ step. Plays (bucket_frames run) p (in_bucket (choice_of run) run bucket) (moment h journal tools) step after)) begun_so plays
+    → IfOk r (λ step. Plays (bucket_frames run) p (in_bucket choose run bucket)
+    (moment begun journal tools) step after)
+    → IfOk r (λ step. Plays (bucket_frames run) p (bucket_by choose run found bucket)
+    (moment held journal tools) step after)
+all_entered choose run bucket p found held begun journal tools after r begun_so plays =
+    subst (λ (h : Held). IfOk r (λ step. Plays (bucket_frames run) p (in_bucket choose run bucket)
+    (moment h journal tools) step after)) begun_so plays
 
-pub entered : (run : Run) (bucket : Bucket) (p : Player) (found : Scope) (held begun : Held) (journal : Journal) (tools : List (List ℕ × ToolInput)) (after : Moment) (step : Step AtBucket)
+pub entered : (choose : Chooser) (run : Run) (bucket : Bucket) (p : Player) (found : Scope)
+    (held begun : Held) (journal : Journal) (tools : List (List ℕ × ToolInput)) (after : Moment)
+    (step : Step AtBucket)
     → begun ≡ record held { scope = record found { items = all_put found.items bucket.lists }; part = None; unseen = [] }
-    → Plays (bucket_frames run) p (in_bucket (choice_of run) run bucket) (moment begun journal tools) step after
-    → Plays (bucket_frames run) p (bucket_of run found bucket) (moment held journal tools) step after
-entered run bucket p found held begun journal tools after step begun_so plays =
-    subst (λ (h : Held). Plays (bucket_frames run) p (in_bucket (choice_of run) run bucket) (moment h journal tools) step after) begun_so plays
+    → Plays (bucket_frames run) p (in_bucket choose run bucket) (moment begun journal tools) step
+    after
+    → Plays (bucket_frames run) p (bucket_by choose run found bucket) (moment held journal tools)
+    step after
+entered choose run bucket p found held begun journal tools after step begun_so plays =
+    subst (λ (h : Held). Plays (bucket_frames run) p (in_bucket choose run bucket)
+    (moment h journal tools) step after) begun_so plays

@@ -27,7 +27,7 @@ use Rattle.target_body.specs.Tasks.{call, called, inferred, task, then_inferred}
 use Rattle.target_body.specs.Work.{Work, and_then, done, each_in_turn, followed_by, unless_stopped}
 use Rattle.target_body.specs.declared.frames.AtCall.{AtCall}
 use Rattle.target_body.specs.declared.frames.AtTask.{AtTask}
-use Rattle.target_body.specs.declared.site.Site.{Site}
+use Rattle.target_body.specs.declared.run_context.RunContext.{RunContext}
 use Rattle.target_body.specs.declared.state.State.{State as Held}
 use Rattle.target_body.specs.declared.steps.Ending.{Ending}
 use Rattle.target_body.specs.declared.steps.Ending.TheVariants.{Faulted}
@@ -139,54 +139,54 @@ module _ {E : Type 0} (answer : List ℕ → ToolInput → ToolAnswer) (t : AtTa
   resumed_on p run e (Err error) same plays goes goes_then = goes_then
 
   -- what its parts have done, by the run at hand and by whether the Outputs are its own
-  abbrev Resumed : At → Site → Bool → Type 0
-  Resumed e site gives =
-      let run : Run = seen_run site in
-      let p : Player = player site.id.now answer in
+  abbrev Resumed : At → RunContext → Bool → Type 0
+  Resumed e context gives =
+      let run : Run = seen_run context in
+      let p : Player = player context.id.now answer in
       Plays (call_frames run e gives t.bucket) p (λ s. call_left run e gives t.bucket t.call s results m.journal) m called_step m1
       × GoesOn (call_frames run e gives t.bucket) (calls_frames run) p (λ end. unless_stopped end (each_in_turn (call run e gives) t.later)) called_step m1 step m2
       × IfOk r (λ step_then. GoesOn (calls_frames run) (child_frames run) p (λ end. done (map_ok settled (inferred_unless gives run e end))) step m2 step_then m3)
 
-  resumed_here : (site : Site) (e : At) → e ≡ child_at (seen_run site) t.child → Resumed e site t.gives
-      → IfOk r (λ step_then. Plays (child_frames (seen_run site)) (player site.id.now answer) (λ s. child_left (seen_run site) t s results m.journal) m step_then m3)
-  resumed_here site e same (plays, goes, goes_then) = resumed_on (player site.id.now answer) (seen_run site) e r same plays goes goes_then
+  resumed_here : (context : RunContext) (e : At) → e ≡ child_at (seen_run context) t.child → Resumed e context t.gives
+      → IfOk r (λ step_then. Plays (child_frames (seen_run context)) (player context.id.now answer) (λ s. child_left (seen_run context) t s results m.journal) m step_then m3)
+  resumed_here context e same (plays, goes, goes_then) = resumed_on (player context.id.now answer) (seen_run context) e r same plays goes goes_then
 
-  pub task_resumed : (site held : Site) (e : At) (gives : Bool) → held ≡ site → gives ≡ t.gives → e ≡ child_at (seen_run site) t.child → Resumed e held gives
-      → IfOk r (λ step_then. Plays (child_frames (seen_run site)) (player site.id.now answer) (λ s. child_left (seen_run site) t s results m.journal) m step_then m3)
-  task_resumed site held e gives here own same parts =
-      resumed_here site e same (subst (λ (w : Site). Resumed e w t.gives) here (subst (λ (g : Bool). Resumed e held g) own parts))
+  pub task_resumed : (context held : RunContext) (e : At) (gives : Bool) → held ≡ context → gives ≡ t.gives → e ≡ child_at (seen_run context) t.child → Resumed e held gives
+      → IfOk r (λ step_then. Plays (child_frames (seen_run context)) (player context.id.now answer) (λ s. child_left (seen_run context) t s results m.journal) m step_then m3)
+  task_resumed context held e gives here own same parts =
+      resumed_here context e same (subst (λ (w : RunContext). Resumed e w t.gives) here (subst (λ (g : Bool). Resumed e held g) own parts))
 
 -- a task element by what is decided
-module _ {E : Type 0} (answer : List ℕ → ToolInput → ToolAnswer) (site : Site) (child : ℕ) (m after : Moment) (r : Result (Step AtTask) E) where
-  abbrev Called : Site → At → Bool → Type 0
-  Called site e gives =
-      let run : Run = seen_run site in
-      IfOk r (λ step. Plays (child_frames run) (player site.id.now answer) (λ s. followed_by (called run e gives s) (λ end. done (map_ok settled (inferred_unless gives run e end)))) m step after)
+module _ {E : Type 0} (answer : List ℕ → ToolInput → ToolAnswer) (context : RunContext) (child : ℕ) (m after : Moment) (r : Result (Step AtTask) E) where
+  abbrev Called : RunContext → At → Bool → Type 0
+  Called context e gives =
+      let run : Run = seen_run context in
+      IfOk r (λ step. Plays (child_frames run) (player context.id.now answer) (λ s. followed_by (called run e gives s) (λ end. done (map_ok settled (inferred_unless gives run e end)))) m step after)
 
   abbrev Treated : Choice → Type 0
   Treated choice =
-      let run : Run = seen_run site in
-      IfOk r (λ step. Plays (child_frames run) (player site.id.now answer) (λ s. followed_by (task run choice (child_at run child) s) (λ end. done (map_ok settled end))) m step after)
+      let run : Run = seen_run context in
+      IfOk r (λ step. Plays (child_frames run) (player context.id.now answer) (λ s. followed_by (task run choice (child_at run child) s) (λ end. done (map_ok settled end))) m step after)
 
-  called_here : (held : Site) (e : At) (gives own : Bool) → held ≡ site → e ≡ child_at (seen_run site) child → gives ≡ own → Called held e gives → Called site (child_at (seen_run site) child) own
+  called_here : (held : RunContext) (e : At) (gives own : Bool) → held ≡ context → e ≡ child_at (seen_run context) child → gives ≡ own → Called held e gives → Called context (child_at (seen_run context) child) own
   called_here held e gives own here same is plays =
-      subst (λ (w : Site). Called w (child_at (seen_run site) child) own) here (subst (λ (e : At). Called held e own) same (subst (λ (g : Bool). Called held e g) is plays))
+      subst (λ (w : RunContext). Called w (child_at (seen_run context) child) own) here (subst (λ (e : At). Called held e own) same (subst (λ (g : Bool). Called held e g) is plays))
 
-  pub runs_so : (held : Site) (e : At) (gives : Bool) (choice : Choice) → held ≡ site → e ≡ child_at (seen_run site) child → gives ≡ true → choice ≡ RunAll → Called held e gives → Treated choice
+  pub runs_so : (held : RunContext) (e : At) (gives : Bool) (choice : Choice) → held ≡ context → e ≡ child_at (seen_run context) child → gives ≡ true → choice ≡ RunAll → Called held e gives → Treated choice
   runs_so held e gives choice here same is chosen plays = subst Treated (sym chosen) (called_here held e gives true here same is plays)
 
-module _ {E : Type 0} (answer : List ℕ → ToolInput → ToolAnswer) (site : Site) (child : ℕ) (m after : Moment) where
-  in_part : (r : Result (Step AtTask) E) (old : List Item) → Called answer site child m after r site (child_at (seen_run site) child) false → Treated answer site child m after r (Part old)
+module _ {E : Type 0} (answer : List ℕ → ToolInput → ToolAnswer) (context : RunContext) (child : ℕ) (m after : Moment) where
+  in_part : (r : Result (Step AtTask) E) (old : List Item) → Called answer context child m after r context (child_at (seen_run context) child) false → Treated answer context child m after r (Part old)
   in_part (Ok step) old plays =
-      let run : Run = seen_run site in
+      let run : Run = seen_run context in
       let e : At = child_at run child in
-      regrouped (player site.id.now answer) (called run e false (state_at m)) (λ end. done (then_inferred run e end)) (λ end. done (map_ok settled end)) (done_at m) ∙ plays
+      regrouped (player context.id.now answer) (called run e false (state_at m)) (λ end. done (then_inferred run e end)) (λ end. done (map_ok settled end)) (done_at m) ∙ plays
   in_part (Err error) old plays = plays
 
-  pub runs_in_part : (r : Result (Step AtTask) E) (held : Site) (e : At) (gives : Bool) (choice : Choice) (old : List Item) → held ≡ site → e ≡ child_at (seen_run site) child → gives ≡ false → choice ≡ Part old
-      → Called answer site child m after r held e gives → Treated answer site child m after r choice
+  pub runs_in_part : (r : Result (Step AtTask) E) (held : RunContext) (e : At) (gives : Bool) (choice : Choice) (old : List Item) → held ≡ context → e ≡ child_at (seen_run context) child → gives ≡ false → choice ≡ Part old
+      → Called answer context child m after r held e gives → Treated answer context child m after r choice
   runs_in_part r held e gives choice old here same is chosen plays =
-      subst (Treated answer site child m after r) (sym chosen) (in_part r old (called_here answer site child m after r held e gives false here same is plays))
+      subst (Treated answer context child m after r) (sym chosen) (in_part r old (called_here answer context child m after r held e gives false here same is plays))
 
 -- where it is not called
 module _ (p : Player) (run : Run) (e : At) (held after : Held) (journal : Journal) (tools : List (List ℕ × ToolInput)) (final : Ending) where

@@ -1,5 +1,6 @@
 -- The run of a target: its body, bucket by bucket. (Target element; MSBuild batching)
 use Rattle.std.specs.Prelude.{List, Result}
+use Rattle.msb_values.specs.declared.mode.Mode.{Mode}
 use Rattle.msb_values.specs.declared.scope.Scope.{Scope}
 use Rattle.msb_expand.specs.declared.lens.Bucket.{Bucket}
 use Rattle.result_cache.specs.Journal.{Journal}
@@ -28,13 +29,6 @@ work_by choose run scope journal =
 abbrev pub body_by : Chooser → Run → Scope → Journal → Body ToolInput ToolAnswer
 body_by choose run scope journal = body_of (work_by choose run scope journal)
 
--- as the build decides
-abbrev pub buckets : Run → Scope → State → Work (Result State Stopped)
-buckets run = buckets_by (choice_of run) run
-
-abbrev pub work : Run → Scope → Journal → Work Outcome
-work run = work_by (choice_of run) run
-
--- the body of a run
-abbrev pub body : Run → Scope → Journal → Body ToolInput ToolAnswer
-body run = body_by (choice_of run) run
+-- the body of a run, as a build decides in its mode
+abbrev pub body : Mode → Run → Scope → Journal → Body ToolInput ToolAnswer
+body mode run = body_by (choice_of mode run) run

@@ -17,7 +17,7 @@ use Rattle.target_body.specs.Answers.{in_order}
 use Rattle.target_body.specs.Tasks.{answered_to, call, then_inferred}
 use Rattle.target_body.specs.Children.{child}
 use Rattle.target_body.specs.Returned.{returned}
-use Rattle.target_body.specs.Pieces.{bucket_of, or_failed, word_of}
+use Rattle.target_body.specs.Pieces.{Chooser, bucket_by, or_failed, word_of}
 use Rattle.target_body.specs.Seen.{child_at}
 use Rattle.target_body.specs.Moments.{Frames}
 use Rattle.target_body.specs.declared.frames.AtCall.{AtCall}
@@ -84,11 +84,15 @@ bucket_left run b s results journal =
     (λ end. done (or_failed end))
 
 -- and the buckets of the target that come later
-abbrev pub buckets_left : Run → AtRun → State → List RequestResult → Journal → Work (Result State Stopped)
-buckets_left run r s results journal = and_then (bucket_left run r.at s results journal) (λ s. each_in_turn (bucket_of run r.found) r.later s)
+abbrev pub buckets_left : Chooser → Run → AtRun → State → List RequestResult → Journal →
+    Work (Result State Stopped)
+buckets_left choose run r s results journal =
+    and_then (bucket_left run r.at s results journal)
+    (λ s. each_in_turn (bucket_by choose run r.found) r.later s)
 
-abbrev pub left : Run → AtRun → State → List RequestResult → Journal → Work Outcome
-left run r s results journal = followed_by (buckets_left run r s results journal) (λ end. done (outcome_of end))
+abbrev pub left : Chooser → Run → AtRun → State → List RequestResult → Journal → Work Outcome
+left choose run r s results journal =
+    followed_by (buckets_left choose run r s results journal) (λ end. done (outcome_of end))
 
 abbrev pub call_frames : Run → At → Bool → Bucket → Frames AtCall
 call_frames run e gives bucket = record { keys = waiting; left = call_left run e gives bucket }
@@ -114,8 +118,8 @@ children_frames run choice = record { keys = waiting_task; left = children_left 
 abbrev pub bucket_frames : Run → Frames AtBucket
 bucket_frames run = record { keys = waiting_bucket; left = bucket_left run }
 
-abbrev pub buckets_frames : Run → Frames AtRun
-buckets_frames run = record { keys = waiting_run; left = buckets_left run }
+abbrev pub buckets_frames : Chooser → Run → Frames AtRun
+buckets_frames choose run = record { keys = waiting_run; left = buckets_left choose run }
 
 -- a step of the task element at this place among the children, whose Outputs are its own or not
 abbrev pub IsOfChild : ℕ → Step AtTask → Type 0

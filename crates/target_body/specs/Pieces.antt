@@ -2,6 +2,7 @@
 use Rattle.std.specs.Prelude.{ℕ, List, length, Option, Some, None, option_map, Result, Ok, Err, codes}
 use Rattle.msb_laws.specs.Results.{map_ok}
 use Rattle.msb_values.specs.declared.item.Item.{Item}
+use Rattle.msb_values.specs.declared.mode.Mode.{Mode}
 use Rattle.msb_values.specs.declared.scope.Scope.{Scope}
 use Rattle.msb_expand.specs.declared.lens.Bucket.{Bucket}
 use Rattle.build_world.specs.Elements.{attribute_of}
@@ -29,9 +30,11 @@ lists_at run bucket s =
 abbrev pub Chooser : Type 0
 Chooser = Lists → State → Choice
 
--- what a build decides by the lists
-abbrev pub choice_of : Run → Chooser
-choice_of run lists s = decision (view_of run s) lists.inputs lists.outputs (option_map (λ typed. typed.1) lists.items) run.mode
+-- what a build decides by the lists, in its mode
+abbrev pub choice_of : Mode → Run → Chooser
+choice_of mode run lists s =
+    decision (view_of run s) lists.inputs lists.outputs (option_map (λ typed. typed.1) lists.items)
+    mode
 
 -- the state where the tasks of a bucket begin: they see of the type its items that are out of date
 abbrev pub on_old : Option (List ℕ × List Item) → List Item → State → State
@@ -87,7 +90,3 @@ in_bucket choose run bucket s =
 -- it sees the scope as the target found it
 abbrev pub bucket_by : Chooser → Run → Scope → Bucket → State → Work (Result State Stopped)
 bucket_by choose run scope bucket s = in_bucket choose run bucket (entered scope bucket s)
-
--- a bucket as the build decides
-abbrev pub bucket_of : Run → Scope → Bucket → State → Work (Result State Stopped)
-bucket_of run = bucket_by (choice_of run) run

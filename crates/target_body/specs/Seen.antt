@@ -10,21 +10,25 @@ use Rattle.result_cache.specs.declared.request.RequestResult.{RequestResult}
 use Rattle.task_trait.specs.declared.tools.ToolInput.{ToolInput}
 use Rattle.target_body.specs.Played.{Done}
 use Rattle.target_body.specs.Children.{Kind as TheKind, group_element, on_error_element, task_element}
+use Rattle.target_body.specs.Pieces.{Chooser, choice_of}
 use Rattle.target_body.specs.States.{Run, State, Stopped, faulted, failed}
 use Rattle.target_body.specs.declared.children.Kind.{Kind}
 use Rattle.target_body.specs.declared.children.Kind.TheVariants.{Group, OnError, Task}
-use Rattle.target_body.specs.declared.site.Site.{Site}
+use Rattle.target_body.specs.declared.run_context.RunContext.{RunContext}
 use Rattle.target_body.specs.declared.state.State.{State as Held}
 use Rattle.target_body.specs.declared.steps.Ending.{Ending}
 use Rattle.target_body.specs.declared.steps.Ending.TheVariants.{Fine, Faulted, Failed}
 
-abbrev pub seen_run : Site → Run
-seen_run site = record {
-  files = site.world.now.tree.files;
-  mode = site.world.now.mode;
-  instance = site.id.now.instance;
-  target = seen_target site.target.now;
+abbrev pub seen_run : RunContext → Run
+seen_run context = record {
+  files = context.world.now.tree.files;
+  instance = context.id.now.instance;
+  target = seen_target context.target.now;
 }
+
+-- what the build decides by the lists of a bucket
+abbrev pub seen_chooser : RunContext → Chooser
+seen_chooser context = choice_of context.world.now.mode (seen_run context)
 
 abbrev pub seen_state : Held → Journal → State
 seen_state s journal = record {

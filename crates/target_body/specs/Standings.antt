@@ -18,6 +18,7 @@ use Rattle.task_trait.specs.declared.tools.ToolInput.{ToolInput}
 use Rattle.target_body.specs.Work.{body_of}
 use Rattle.target_body.specs.States.{Run, run_at, outcome_of}
 use Rattle.target_body.specs.Bodies.{body}
+use Rattle.target_body.specs.Pieces.{Chooser, choice_of}
 use Rattle.target_body.specs.Left.{left, waiting_run}
 use Rattle.target_body.specs.Seen.{ended, seen_state}
 use Rattle.target_body.specs.declared.body.BodyAsk.{BodyAsk}
@@ -35,7 +36,11 @@ abbrev pub target_named : List UsedTarget → List ℕ → Option UsedTarget
 target_named targets name = find (λ target. bytes_eq target.name name) targets
 
 abbrev pub run_with : World → RunId → UsedTarget → Run
-run_with world = run_at world.tree.files world.mode
+run_with world = run_at world.tree.files
+
+-- what the run of a target does in a world
+abbrev pub body_in : World → RunId → UsedTarget → Scope → Journal → Body ToolInput ToolAnswer
+body_in world id target = body world.mode (run_with world id target)
 
 -- It has not begun, and will begin in this scope. Or it has done this to files and called this, and waits for the results
 -- of these requests, by which and by the journal then it goes on. Or it is over.
@@ -48,15 +53,22 @@ abbrev pub waits_if : List RequestKey → List Segment → (List RequestResult �
 waits_if [] segments go = over
 waits_if (key ∷ keys) segments go = waits segments key keys go
 
--- where the machine stands in a run
-abbrev pub standing_by : Run → Stand → Standing
-standing_by run (Begun scope) = begins scope
-standing_by run (Waiting w) =
-    waits_if (waiting_run w.at) w.state.segments (λ results journal. body_of (left run w.at (seen_state w.state journal) results journal))
-standing_by run Ended = over
+-- where the machine stands in a run, whose buckets are done as is chosen
+abbrev pub standing_by : Chooser → Run → Stand → Standing
+standing_by choose run (Begun scope) = begins scope
+standing_by choose run (Waiting w) =
+    waits_if (waiting_run w.at) w.state.segments
+    (λ results journal. body_of (left choose run w.at (seen_state w.state journal) results journal))
+standing_by choose run Ended = over
 
-abbrev pub standing : Run → Held → Standing
-standing run b = standing_by run b.stand
+abbrev pub standing : Chooser → Run → Held → Standing
+standing choose run b = standing_by choose run b.stand
+
+-- where it stands in the run of a target in a world
+abbrev pub standing_in : World → RunId → UsedTarget → Held → Standing
+standing_in world id target =
+    let run : Run = run_with world id target in
+    standing (choice_of world.mode run) run
 
 -- whether these are the results for which it waits: none at first, and later one for each request
 abbrev pub Fits : Standing → List RequestResult → Type 0
@@ -85,16 +97,23 @@ pub record Advances (answer : List ℕ → ToolInput → ToolAnswer) (run : RunI
       run_on answer run b before (record { segments = segments; tools = used })
       ≡ record { stop = stop; journal = after; so_far = record { segments = written; tools = used ++ map tool_use uses } }
 
--- one step of the machine, by the results that have come
-abbrev pub Goes : (answer : List ℕ → ToolInput → ToolAnswer) → RunId → Run → Standing → List RequestResult
-    → (before after : Journal) → (called called_then : List (List ℕ × ToolInput)) → BodyAsk → Standing → Type 0
-Goes answer id run (begins scope) results before after tools tools_then ask now =
-    Advances answer id (body run scope before) [] before after tools tools_then ask now
-Goes answer id run (waits segments key keys go) results before after tools tools_then ask now =
-    Advances answer id (go results before) (segments ++ called (key ∷ keys) results) before after tools tools_then ask now
-Goes answer id run over results before after tools tools_then ask now = Unit {0}
+-- one step of the machine, in a run of which this is the body, by the results that have come
+abbrev pub Goes : (answer : List ℕ → ToolInput → ToolAnswer) → RunId →
+    (Scope → Journal → Body ToolInput ToolAnswer) → Standing → List RequestResult →
+    (before after : Journal) → (called called_then : List (List ℕ × ToolInput)) → BodyAsk →
+    Standing → Type 0
+Goes answer id whole (begins scope) results before after tools tools_then ask now =
+    Advances answer id (whole scope before) [] before after tools tools_then ask now
+Goes answer id whole (waits segments key keys go) results before after tools tools_then ask now =
+    Advances answer id (go results before) (segments ++ called (key ∷ keys) results) before after
+    tools tools_then ask now
+Goes answer id whole over results before after tools tools_then ask now = Unit {0}
 
 -- what is asked behind a step of the machine, and where it stands then
-abbrev pub Tells : Run → State → Step AtRun → BodyAsk → Standing → Type 0
-Tells run state (Over ending) ask now = (ask ≡ Finished (recorded (outcome_of (ended ending (seen_state state []))) state.segments)) × (now ≡ over)
-Tells run state (Waits at) ask now = (ask ≡ Call (waiting_run at)) × (now ≡ standing_by run (Waiting (record { state = state; at = at })))
+abbrev pub Tells : Chooser → Run → State → Step AtRun → BodyAsk → Standing → Type 0
+Tells choose run state (Over ending) ask now =
+    (ask ≡ Finished (recorded (outcome_of (ended ending (seen_state state []))) state.segments))
+    × (now ≡ over)
+Tells choose run state (Waits at) ask now =
+    (ask ≡ Call (waiting_run at))
+    × (now ≡ standing_by choose run (Waiting (record { state = state; at = at })))

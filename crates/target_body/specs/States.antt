@@ -6,7 +6,6 @@ use Rattle.msb_values.specs.Pairs.{all_put}
 use Rattle.msb_values.specs.declared.change.Change.{Change}
 use Rattle.msb_values.specs.declared.item.Item.{Item}
 use Rattle.msb_values.specs.declared.key.InstanceKey.{InstanceKey}
-use Rattle.msb_values.specs.declared.mode.Mode.{Mode}
 use Rattle.msb_values.specs.declared.note.Note.{Note}
 use Rattle.msb_values.specs.declared.note.Note.TheVariants.{Fail}
 use Rattle.msb_values.specs.declared.act.Act.{Act}
@@ -26,15 +25,15 @@ use Rattle.msb_items.specs.TargetGroups.{all_applied}
 use Rattle.task_trait.specs.Tools.{act_size}
 use Rattle.target_texts.specs.Made.{Made}
 
--- a run: the files as they stood at the start, the mode of the build, the project with its global properties, and the target
+-- a run: the files as they stood at the start, the project with its global properties, and the
+-- target
 pub record Run : Type 0 where
   pub files : List File
-  pub mode : Mode
   pub instance : InstanceKey
   pub target : UsedTarget
 
-abbrev pub run_at : List File → Mode → RunId → UsedTarget → Run
-run_at files mode id target = record { files = files; mode = mode; instance = id.instance; target = target }
+abbrev pub run_at : List File → RunId → UsedTarget → Run
+run_at files id target = record { files = files; instance = id.instance; target = target }
 
 -- The scope of the bucket at hand. Where its tasks run on a part of a list, the type and the items that they see of it. The changes of the task
 -- element at hand, which the scope has not yet. The journal of files, and the number of bytes that the run itself has written. Then what its record says: what was decided

@@ -13,7 +13,7 @@ ghost use Rattle.target_body.specs.Played.{over, played};
 use crate::state::State;
 use msb_files::Journal;
 use msb_values::{Act, Copied, NoMemory};
-use result_cache::{RunId, Segment};
+use result_cache::{RunRef, Segment};
 use std::alloc::Global;
 
 impl State {
@@ -21,7 +21,7 @@ impl State {
     pub(crate) fn act_all(
         &mut self,
         alloc: Global,
-        run: &RunId,
+        run: &RunRef,
         acts: Vec<Act>,
         journal: &mut Journal,
     ) -> Result<(), NoMemory>
@@ -39,7 +39,7 @@ impl State {
     fn act(
         &mut self,
         alloc: Global,
-        run: &RunId,
+        run: &RunRef,
         act: Act,
         journal: &mut Journal,
     ) -> Result<(), NoMemory>

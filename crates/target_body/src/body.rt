@@ -3,21 +3,22 @@ ghost use Rattle.build_meaning.specs.SoFar.{called, recorded};
 ghost use Rattle.build_world.specs.Instances.{seen_instance};
 ghost use Rattle.result_cache.specs.Journal.{Journal as Files};
 ghost use Rattle.task_trait.specs.Tools.{BeginsWith};
-ghost use Rattle.target_body.specs.Bodies.{body};
+ghost use Rattle.target_body.specs.Bodies.{body_by};
 ghost use Rattle.target_body.specs.Left.{left, waiting_run};
-ghost use Rattle.target_body.specs.Seen.{ended, seen_run, seen_state};
-ghost use Rattle.target_body.specs.Standings.{Advances, Fits, Goes, Tells, begins, run_with, standing_by, target_named};
+ghost use Rattle.target_body.specs.Pieces.{Chooser};
+ghost use Rattle.target_body.specs.Seen.{ended, seen_chooser, seen_run, seen_state};
+ghost use Rattle.target_body.specs.Standings.{Advances, Fits, Goes, Tells, begins, body_in, standing_by, standing_in, target_named};
 ghost use Rattle.target_body.specs.States.{Run, outcome_of};
 ghost use Rattle.target_body.specs.Work.{body_of};
 
 use crate::frames::AtRun;
-use crate::site::Site;
+use crate::run_context::RunContext;
 use crate::state::State;
 use crate::steps::{Ending, Step};
 use build_world::{Instance, World};
 use msb_files::Journal;
 use msb_values::{Copied, List, NoMemory, Scope};
-use result_cache::{Record, RequestKey, RequestResult, RunId};
+use result_cache::{Record, RequestKey, RequestResult, RunRef};
 use std::alloc::Global;
 use std::mem;
 use task_trait::CountedTools;
@@ -34,7 +35,7 @@ pub enum BodyAsk {
 /// The body of a run: it goes on by itself, adds what it does to files to the journal and uses tools, until it calls
 /// requests or is over. (Target element; MSBuild task.)
 pub struct Body {
-    pub(crate) run: RunId,
+    pub(crate) run: RunRef,
     pub(crate) stand: Stand,
 }
 
@@ -78,15 +79,23 @@ impl Drop for Waiting {
 
 impl Body {
     /// The body of a run that begins in this scope.
-    pub fn start(alloc: Global, run: &RunId, scope: &Scope) -> Result<Body, NoMemory>
+    pub fn start(alloc: Global, run: &RunRef, scope: &Scope) -> Result<Body, NoMemory>
         ensures run { IfOk result (λ body. body.run ≡ run.now) }
-        ensures begins { (run : Run) → IfOk result (λ body. standing_by run body.stand ≡ begins scope.now) }
+        ensures begins { (choose : Chooser) (run : Run) →
+            IfOk result (λ body. standing_by choose run body.stand ≡ begins scope.now) }
     {
         let _ = alloc;
         Ok(Body {
             run: run.copy()?,
             stand: Stand::Begun(scope.copy()?),
         })
+    }
+
+    /// The name of the run.
+    pub fn run(&self) -> Result<RunRef, NoMemory>
+        ensures { IfOk result (λ run. run ≡ self.now.run) }
+    {
+        self.run.copy()
     }
 
     /// Goes on by the results of the requests that it called last, of which there are none at first, as the definition of bodies
@@ -103,23 +112,25 @@ impl Body {
     ) -> Result<BodyAsk, NoMemory>
         requires target { IsSome (target_named (seen_instance instance.now).targets self.old.run.target) }
         requires fits { IfSome (target_named (seen_instance instance.now).targets self.old.run.target) (λ target.
-            Fits (standing_by (run_with world.now self.old.run target) self.old.stand) results.now) }
+            Fits (standing_in world.now self.old.run target self.old) results.now) }
         ensures run { self.new.run ≡ self.old.run }
         ensures goes { IfOk result (λ ask. IfSome (target_named (seen_instance instance.now).targets self.old.run.target) (λ target.
-            let run = run_with world.now self.old.run target in
-            Goes T.answer self.old.run run (standing_by run self.old.stand) results.now journal.old journal.new (T.calls tools.old) (T.calls tools.new) ask (standing_by run self.new.stand))) }
+            Goes T.answer self.old.run (body_in world.now self.old.run target)
+            (standing_in world.now self.old.run target self.old) results.now
+            journal.old journal.new (T.calls tools.old) (T.calls tools.new) ask
+            (standing_in world.now self.old.run target self.new))) }
         ensures begun { OnErr result (BeginsWith (T.calls tools.old) (T.calls tools.new)) }
     {
-        let Some(target) = instance.targets.find(&self.run.target) else {
+        let Some(target) = instance.targets.find(&self.run.get().target) else {
             unreachable!()
         };
         let stand = mem::replace(&mut self.stand, Stand::Ended);
-        let site = Site {
+        let context = RunContext {
             world,
             id: &self.run,
             target,
         };
-        let (ask, stand) = stand.go_on(alloc, &site, results, tools, journal)?;
+        let (ask, stand) = stand.go_on(alloc, &context, results, tools, journal)?;
         self.stand = stand;
         Ok(ask)
     }
@@ -129,19 +140,23 @@ impl Stand {
     fn go_on<T: CountedTools>(
         self,
         alloc: Global,
-        site: &Site<'_>,
+        context: &RunContext<'_>,
         results: &List<RequestResult>,
         tools: &mut T,
         journal: &mut Journal,
     ) -> Result<(BodyAsk, Stand), NoMemory>
-        requires { Fits (standing_by (seen_run site.now) self) results.now }
-        ensures goes { IfOk result (λ r. let run = seen_run site.now in
-            Goes T.answer site.now.id.now run (standing_by run self) results.now journal.old journal.new (T.calls tools.old) (T.calls tools.new) r.0 (standing_by run r.1)) }
+        requires { let run = seen_run context.now in
+            Fits (standing_by (seen_chooser context.now) run self) results.now }
+        ensures goes { IfOk result (λ r. let run = seen_run context.now in
+            let choose = seen_chooser context.now in
+            Goes T.answer context.now.id.now (body_by choose run) (standing_by choose run self)
+            results.now journal.old journal.new (T.calls tools.old) (T.calls tools.new) r.0
+            (standing_by choose run r.1)) }
         ensures begun { BeginsWith (T.calls tools.old) (T.calls tools.new) }
     {
         match self {
-            Stand::Begun(scope) => begin(alloc, site, scope, tools, journal),
-            Stand::Waiting(waiting) => waiting.resume(alloc, site, results, tools, journal),
+            Stand::Begun(scope) => begin(alloc, context, scope, tools, journal),
+            Stand::Waiting(waiting) => waiting.resume(alloc, context, results, tools, journal),
             Stand::Ended => unreachable!(),
         }
     }
@@ -149,17 +164,19 @@ impl Stand {
 
 fn begin<T: CountedTools>(
     alloc: Global,
-    site: &Site<'_>,
+    context: &RunContext<'_>,
     scope: Scope,
     tools: &mut T,
     journal: &mut Journal,
 ) -> Result<(BodyAsk, Stand), NoMemory>
-    ensures goes { IfOk result (λ r. let run = seen_run site.now in
-        Advances T.answer site.now.id.now (body run scope journal.old) [] journal.old journal.new (T.calls tools.old) (T.calls tools.new) r.0 (standing_by run r.1)) }
+    ensures goes { IfOk result (λ r. let run = seen_run context.now in
+        let choose = seen_chooser context.now in
+        Advances T.answer context.now.id.now (body_by choose run scope journal.old) [] journal.old
+        journal.new (T.calls tools.old) (T.calls tools.new) r.0 (standing_by choose run r.1)) }
     ensures begun { BeginsWith (T.calls tools.old) (T.calls tools.new) }
 {
     let mut state = State::begun(alloc, scope.copy()?);
-    let step = state.begin(alloc, site, scope, tools, journal)?;
+    let step = state.begin(alloc, context, scope, tools, journal)?;
     tell(alloc, state, step)
 }
 
@@ -167,28 +184,34 @@ impl Waiting {
     fn resume<T: CountedTools>(
         self,
         alloc: Global,
-        site: &Site<'_>,
+        context: &RunContext<'_>,
         results: &List<RequestResult>,
         tools: &mut T,
         journal: &mut Journal,
     ) -> Result<(BodyAsk, Stand), NoMemory>
         requires waits { 0 < length (waiting_run self.at) }
         requires fits { length results.now ≡ length (waiting_run self.at) }
-        ensures goes { IfOk result (λ r. let run = seen_run site.now in
-            Advances T.answer site.now.id.now (body_of (left run self.at (seen_state self.state journal.old) results.now journal.old)) (self.state.segments ++ called (waiting_run self.at) results.now) journal.old journal.new (T.calls tools.old) (T.calls tools.new) r.0 (standing_by run r.1)) }
+        ensures goes { IfOk result (λ r. let run = seen_run context.now in
+            let choose = seen_chooser context.now in
+            Advances T.answer context.now.id.now
+            (body_of (left choose run self.at (seen_state self.state journal.old) results.now
+            journal.old))
+            (self.state.segments ++ called (waiting_run self.at) results.now) journal.old
+            journal.new (T.calls tools.old) (T.calls tools.new) r.0 (standing_by choose run r.1)) }
         ensures begun { BeginsWith (T.calls tools.old) (T.calls tools.new) }
     {
         let Waiting { state, at } = self;
         let mut state = state;
         state.add_calls(at.waiting(), results.as_slice())?;
-        let step = at.resume(alloc, &mut state, site, results.copy()?, tools, journal)?;
+        let step = at.resume(alloc, &mut state, context, results.copy()?, tools, journal)?;
         tell(alloc, state, step)
     }
 }
 
 // What is asked behind a step, and where the body stands then.
 fn tell(alloc: Global, state: State, step: Step<AtRun>) -> Result<(BodyAsk, Stand), NoMemory>
-    ensures { IfOk result (λ r. (run : Run) → Tells run state step r.0 (standing_by run r.1)) }
+    ensures { IfOk result (λ r. (choose : Chooser) (run : Run) →
+        Tells choose run state step r.0 (standing_by choose run r.1)) }
 {
     match step {
         Step::Over(ending) => Ok((

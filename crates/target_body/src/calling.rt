@@ -23,7 +23,7 @@ ghost use Rattle.target_body.specs.Work.{done, followed_by};
 
 use crate::frames::AtCall;
 use crate::part::{own_or, scope_of_part};
-use crate::site::Site;
+use crate::run_context::RunContext;
 use crate::state::State;
 use crate::steps::{Ending, Step};
 use build_world::{EvalFault, PlacedElement};
@@ -40,7 +40,7 @@ use task_trait::{CountedTools, Failure, Param, TaskOutput, ToolAnswer, ToolInput
 /// A task element in one of its buckets.
 #[derive(Clone, Copy)]
 pub(crate) struct TaskCall<'a> {
-    pub(crate) site: Site<'a>,
+    pub(crate) context: RunContext<'a>,
     pub(crate) element: PlacedElement<'a>,
     /// Whether its Outputs are what the task gives; else others are inferred in their place.
     pub(crate) gives: bool,
@@ -56,8 +56,8 @@ impl State {
         tools: &mut T,
         journal: &mut Journal,
     ) -> Result<Step<AtCall>, NoMemory>
-        ensures plays { IfOk result (λ step. let run = seen_run call.now.site in let e = seen_element call.now.element in
-            Plays (call_frames run e call.now.gives call.now.bucket.now) (player call.now.site.id.now T.answer) (call_in run e call.now.gives call.now.bucket.now) (moment self.old journal.old (T.calls tools.old)) step (moment self.new journal.new (T.calls tools.new))) }
+        ensures plays { IfOk result (λ step. let run = seen_run call.now.context in let e = seen_element call.now.element in
+            Plays (call_frames run e call.now.gives call.now.bucket.now) (player call.now.context.id.now T.answer) (call_in run e call.now.gives call.now.bucket.now) (moment self.old journal.old (T.calls tools.old)) step (moment self.new journal.new (T.calls tools.new))) }
         ensures begun { BeginsWith (T.calls tools.old) (T.calls tools.new) }
     {
         match self.ready(alloc, &*call, &*journal) {
@@ -79,15 +79,15 @@ impl State {
         call: &'x TaskCall<'x>,
         journal: &'x Journal,
     ) -> Result<Option<(OnError, List<Param>)>, EvalFault>
-        ensures { GivesFault (λ ready. ready) result (readied (called_place (seen_run call.entry.now.site) (seen_state self.entry.now journal.entry.now) call.entry.now.bucket.now) (seen_element call.entry.now.element)) }
+        ensures { GivesFault (λ ready. ready) result (readied (called_place (seen_run call.entry.now.context) (seen_state self.entry.now journal.entry.now) call.entry.now.bucket.now) (seen_element call.entry.now.element)) }
     {
         let Ok(own) = scope_of_part(&self.scope, &self.part) else {
             return Err(EvalFault::memory(alloc));
         };
-        let view = FileView::of(&call.site.world.tree, journal);
+        let view = FileView::of(&call.context.world.tree, journal);
         let place = Place {
             files: &view,
-            project: call.site.id.instance.path.as_str(),
+            project: call.context.project(),
             scope: own_or(&own, &self.scope),
             bucket: Some(call.bucket),
         };
@@ -103,8 +103,8 @@ impl State {
         tools: &mut T,
         journal: &mut Journal,
     ) -> Result<Step<AtCall>, NoMemory>
-        ensures plays { IfOk result (λ step. let run = seen_run call.now.site in let e = seen_element call.now.element in
-            Plays (call_frames run e call.now.gives call.now.bucket.now) (player call.now.site.id.now T.answer) (λ s. called_with run e call.now.gives call.now.bucket.now s (Some (on_error, params))) (moment self.old journal.old (T.calls tools.old)) step (moment self.new journal.new (T.calls tools.new))) }
+        ensures plays { IfOk result (λ step. let run = seen_run call.now.context in let e = seen_element call.now.element in
+            Plays (call_frames run e call.now.gives call.now.bucket.now) (player call.now.context.id.now T.answer) (λ s. called_with run e call.now.gives call.now.bucket.now s (Some (on_error, params))) (moment self.old journal.old (T.calls tools.old)) step (moment self.new journal.new (T.calls tools.new))) }
         ensures begun { BeginsWith (T.calls tools.old) (T.calls tools.new) }
     {
         match Name::written(alloc, call.element.element.name())? {
@@ -128,15 +128,15 @@ impl State {
         tools: &mut T,
         journal: &mut Journal,
     ) -> Result<Step<AtCall>, NoMemory>
-        ensures plays { IfOk result (λ step. let run = seen_run call.now.site in let e = seen_element call.now.element in
-            Plays (call_frames run e call.now.gives call.now.bucket.now) (player call.now.site.id.now T.answer) (λ s. followed_by (answered run s task.now params) (λ x. done (answered_to run e call.now.gives call.now.bucket.now on_error x))) (moment self.old journal.old (T.calls tools.old)) step (moment self.new journal.new (T.calls tools.new))) }
+        ensures plays { IfOk result (λ step. let run = seen_run call.now.context in let e = seen_element call.now.element in
+            Plays (call_frames run e call.now.gives call.now.bucket.now) (player call.now.context.id.now T.answer) (λ s. followed_by (answered run s task.now params) (λ x. done (answered_to run e call.now.gives call.now.bucket.now on_error x))) (moment self.old journal.old (T.calls tools.old)) step (moment self.new journal.new (T.calls tools.new))) }
         ensures begun { BeginsWith (T.calls tools.old) (T.calls tools.new) }
     {
         let input = ToolInput {
             params,
             files: List::new(alloc),
         };
-        match built_in(alloc, &call.site, task, &input, self.written, journal)? {
+        match built_in(alloc, &call.context, task, &input, self.written, journal)? {
             ToolAnswer::Made(output) => {
                 Ok(Step::Over(self.give(alloc, call, on_error, output, journal)?))
             }
@@ -160,12 +160,12 @@ impl State {
         tools: &mut T,
         journal: &mut Journal,
     ) -> Result<Step<AtCall>, NoMemory>
-        ensures plays { IfOk result (λ step. let run = seen_run call.now.site in let e = seen_element call.now.element in
-            Plays (call_frames run e call.now.gives call.now.bucket.now) (player call.now.site.id.now T.answer) (λ s. followed_by (not_built_in false run s task.now params) (λ x. done (answered_to run e call.now.gives call.now.bucket.now on_error x))) (moment self.old journal.old (T.calls tools.old)) step (moment self.new journal.new (T.calls tools.new))) }
+        ensures plays { IfOk result (λ step. let run = seen_run call.now.context in let e = seen_element call.now.element in
+            Plays (call_frames run e call.now.gives call.now.bucket.now) (player call.now.context.id.now T.answer) (λ s. followed_by (not_built_in false run s task.now params) (λ x. done (answered_to run e call.now.gives call.now.bucket.now on_error x))) (moment self.old journal.old (T.calls tools.old)) step (moment self.new journal.new (T.calls tools.new))) }
         ensures begun { BeginsWith (T.calls tools.old) (T.calls tools.new) }
     {
-        let view = FileView::of(&call.site.world.tree, journal);
-        match foreign_input(alloc, call.site.folder(), &view, params) {
+        let view = FileView::of(&call.context.world.tree, journal);
+        match foreign_input(alloc, call.context.folder(), &view, params) {
             Ok(input) => self.call_tool(alloc, call, task, on_error, &input, tools, journal),
             Err(failure) => {
                 let output = failure.output(alloc, task.key())?;
@@ -185,8 +185,8 @@ impl State {
         tools: &mut T,
         journal: &mut Journal,
     ) -> Result<Step<AtCall>, NoMemory>
-        ensures plays { IfOk result (λ step. let run = seen_run call.now.site in let e = seen_element call.now.element in
-            Plays (call_frames run e call.now.gives call.now.bucket.now) (player call.now.site.id.now T.answer) (λ s. followed_by (tool task.now s (TheOk input.now)) (λ x. done (answered_to run e call.now.gives call.now.bucket.now on_error x))) (moment self.old journal.old (T.calls tools.old)) step (moment self.new journal.new (T.calls tools.new))) }
+        ensures plays { IfOk result (λ step. let run = seen_run call.now.context in let e = seen_element call.now.element in
+            Plays (call_frames run e call.now.gives call.now.bucket.now) (player call.now.context.id.now T.answer) (λ s. followed_by (tool task.now s (TheOk input.now)) (λ x. done (answered_to run e call.now.gives call.now.bucket.now on_error x))) (moment self.old journal.old (T.calls tools.old)) step (moment self.new journal.new (T.calls tools.new))) }
         ensures begun { BeginsWith (T.calls tools.old) (T.calls tools.new) }
     {
         let answer = tools.call(alloc, task, input)?;
@@ -203,12 +203,12 @@ impl State {
         input: &ToolInput,
         journal: &mut Journal,
     ) -> Result<Step<AtCall>, NoMemory>
-        ensures { (answer : List ℕ → ToolInput → ToolAnswer) (tools : List (List ℕ × ToolInput)) → IfOk result (λ step. let run = seen_run call.now.site in let e = seen_element call.now.element in
-            Plays (call_frames run e call.now.gives call.now.bucket.now) (player call.now.site.id.now answer) (λ s. followed_by (msbuild run s input.now.params) (λ x. done (answered_to run e call.now.gives call.now.bucket.now on_error x))) (moment self.old journal.old tools) step (moment self.new journal.new tools)) }
+        ensures { (answer : List ℕ → ToolInput → ToolAnswer) (tools : List (List ℕ × ToolInput)) → IfOk result (λ step. let run = seen_run call.now.context in let e = seen_element call.now.element in
+            Plays (call_frames run e call.now.gives call.now.bucket.now) (player call.now.context.id.now answer) (λ s. followed_by (msbuild run s input.now.params) (λ x. done (answered_to run e call.now.gives call.now.bucket.now on_error x))) (moment self.old journal.old tools) step (moment self.new journal.new tools)) }
     {
-        let site = &call.site;
-        let globals = &site.id.instance.globals;
-        let plan = plan(alloc, &site.world.tree, site.folder(), globals, input)?;
+        let context = &call.context;
+        let tree = &context.world.tree;
+        let plan = plan(alloc, tree, context.folder(), context.globals(), input)?;
         let at = AtCall {
             plan,
             results: List::new(alloc),
@@ -226,8 +226,8 @@ impl State {
         journal: &mut Journal,
     ) -> Result<Step<AtCall>, NoMemory>
         requires { length at.results ≤ length at.plan.calls }
-        ensures { (answer : List ℕ → ToolInput → ToolAnswer) (tools : List (List ℕ × ToolInput)) → IfOk result (λ step. let run = seen_run call.now.site in let e = seen_element call.now.element in
-            Plays (call_frames run e call.now.gives call.now.bucket.now) (player call.now.site.id.now answer) (λ s. followed_by (made_from at.plan at.results s) (λ x. done (answered_to run e call.now.gives call.now.bucket.now at.on_error (x.0, gathered at.plan x.1)))) (moment self.old journal.old tools) step (moment self.new journal.new tools)) }
+        ensures { (answer : List ℕ → ToolInput → ToolAnswer) (tools : List (List ℕ × ToolInput)) → IfOk result (λ step. let run = seen_run call.now.context in let e = seen_element call.now.element in
+            Plays (call_frames run e call.now.gives call.now.bucket.now) (player call.now.context.id.now answer) (λ s. followed_by (made_from at.plan at.results s) (λ x. done (answered_to run e call.now.gives call.now.bucket.now at.on_error (x.0, gathered at.plan x.1)))) (moment self.old journal.old tools) step (moment self.new journal.new tools)) }
     {
         if at.plan.next(&at.results).is_empty() {
             let output = gather(alloc, &at.plan, &at.results)?;
@@ -247,8 +247,8 @@ impl State {
     ) -> Result<Step<AtCall>, NoMemory>
         requires waits { 0 < length (waiting at) }
         requires fits { length results ≡ length (waiting at) }
-        ensures { (answer : List ℕ → ToolInput → ToolAnswer) (tools : List (List ℕ × ToolInput)) → IfOk result (λ step. let run = seen_run call.now.site in let e = seen_element call.now.element in
-            Plays (call_frames run e call.now.gives call.now.bucket.now) (player call.now.site.id.now answer) (λ s. call_left run e call.now.gives call.now.bucket.now at s results journal.old) (moment self.old journal.old tools) step (moment self.new journal.new tools)) }
+        ensures { (answer : List ℕ → ToolInput → ToolAnswer) (tools : List (List ℕ × ToolInput)) → IfOk result (λ step. let run = seen_run call.now.context in let e = seen_element call.now.element in
+            Plays (call_frames run e call.now.gives call.now.bucket.now) (player call.now.context.id.now answer) (λ s. call_left run e call.now.gives call.now.bucket.now at s results journal.old) (moment self.old journal.old tools) step (moment self.new journal.new tools)) }
     {
         let mut at = at;
         at.results.append(results)?;
@@ -264,8 +264,8 @@ impl State {
         output: TaskOutput,
         journal: &mut Journal,
     ) -> Result<Ending, NoMemory>
-        ensures { (answer : List ℕ → ToolInput → ToolAnswer) (tools : List (List ℕ × ToolInput)) → IfOk result (λ ending. let run = seen_run call.now.site in let e = seen_element call.now.element in
-            EndsAs (player call.now.site.id.now answer) (λ s. followed_by (given s output) (λ x. done (answered_to run e call.now.gives call.now.bucket.now on_error x))) (moment self.old journal.old tools) ending (moment self.new journal.new tools)) }
+        ensures { (answer : List ℕ → ToolInput → ToolAnswer) (tools : List (List ℕ × ToolInput)) → IfOk result (λ ending. let run = seen_run call.now.context in let e = seen_element call.now.element in
+            EndsAs (player call.now.context.id.now answer) (λ s. followed_by (given s output) (λ x. done (answered_to run e call.now.gives call.now.bucket.now on_error x))) (moment self.old journal.old tools) ending (moment self.new journal.new tools)) }
     {
         let TaskOutput {
             ok,
@@ -273,7 +273,7 @@ impl State {
             acts,
             notes,
         } = output;
-        self.act_all(alloc, call.site.id, acts.into_vec(), journal)?;
+        self.act_all(alloc, call.context.id, acts.into_vec(), journal)?;
         self.add_notes(on_error.notes(alloc, notes)?)?;
         match self.take_outputs(alloc, call, &outputs, journal)? {
             Ending::Fine => Ok(ending_of(on_error, ok)),
@@ -289,7 +289,7 @@ impl State {
         outputs: &List<Param>,
         journal: &Journal,
     ) -> Result<Ending, NoMemory>
-        ensures taken { IfOk result (λ ending. let run = seen_run call.now.site in
+        ensures taken { IfOk result (λ ending. let run = seen_run call.now.context in
             ended ending (seen_state self.new journal.now) ≡ taken (outputs_if call.now.gives (called_place run (seen_state self.old journal.now) call.now.bucket.now) outputs.now (seen_element call.now.element)) (seen_state self.old journal.now)) }
         ensures kept { OnOk result (self.new.segments ≡ self.old.segments) }
     {
@@ -307,7 +307,7 @@ impl State {
         journal: &'x Journal,
         made: &mut List<Change>,
     ) -> Result<(), EvalFault>
-        ensures { Pushes result made.old made.new (outputs_if call.entry.now.gives (called_place (seen_run call.entry.now.site) (seen_state self.entry.now journal.entry.now) call.entry.now.bucket.now) outputs.now (seen_element call.entry.now.element)) }
+        ensures { Pushes result made.old made.new (outputs_if call.entry.now.gives (called_place (seen_run call.entry.now.context) (seen_state self.entry.now journal.entry.now) call.entry.now.bucket.now) outputs.now (seen_element call.entry.now.element)) }
     {
         if !call.gives {
             return Ok(());
@@ -315,10 +315,10 @@ impl State {
         let Ok(own) = scope_of_part(&self.scope, &self.part) else {
             return Err(EvalFault::memory(alloc));
         };
-        let view = FileView::of(&call.site.world.tree, journal);
+        let view = FileView::of(&call.context.world.tree, journal);
         let place = Place {
             files: &view,
-            project: call.site.id.instance.path.as_str(),
+            project: call.context.project(),
             scope: own_or(&own, &self.scope),
             bucket: Some(call.bucket),
         };
@@ -338,16 +338,16 @@ fn ending_of(on_error: OnError, ok: bool) -> Ending
 
 fn built_in(
     alloc: Global,
-    site: &Site<'_>,
+    context: &RunContext<'_>,
     task: &Name,
     input: &ToolInput,
     written: u64,
     journal: &Journal,
 ) -> Result<ToolAnswer, NoMemory>
-    ensures { IfOk result (λ made. made ≡ answer task.now (folder_of site.now.id.now.instance.path) (record { files = site.now.world.now.tree.files; journal = journal.now }) input.now.params written) }
+    ensures { IfOk result (λ made. made ≡ answer task.now (folder_of context.now.id.now.instance.path) (record { files = context.now.world.now.tree.files; journal = journal.now }) input.now.params written) }
 {
-    let view = FileView::of(&site.world.tree, journal);
-    task_kit::call(alloc, task, site.folder(), &view, input, written)
+    let view = FileView::of(&context.world.tree, journal);
+    task_kit::call(alloc, task, context.folder(), &view, input, written)
 }
 
 // The Condition of the element, its ContinueOnError, and then its parameters.

@@ -11,7 +11,7 @@ ghost use Rattle.target_body.specs.Work.{each_in_turn, unless_stopped};
 
 use crate::frames::AtTask;
 use crate::part::{no_scope, part_after_all};
-use crate::site::Site;
+use crate::run_context::RunContext;
 use crate::state::State;
 use crate::steps::{Ending, Step};
 use build_world::PlacedElement;
@@ -49,18 +49,18 @@ impl State {
     pub(crate) fn children<T: CountedTools>(
         &mut self,
         alloc: Global,
-        site: &Site<'_>,
+        context: &RunContext<'_>,
         choice: &Choice,
         from: usize,
         tools: &mut T,
         journal: &mut Journal,
     ) -> Result<Step<AtTask>, NoMemory>
-        ensures plays { IfOk result (λ step. let run = seen_run site.now in
-            Plays (children_frames run choice.now) (player site.now.id.now T.answer) (λ s. each_in_turn (child run choice.now) (drop from (children_of run.target.element)) s) (moment self.old journal.old (T.calls tools.old)) step (moment self.new journal.new (T.calls tools.new))) }
+        ensures plays { IfOk result (λ step. let run = seen_run context.now in
+            Plays (children_frames run choice.now) (player context.now.id.now T.answer) (λ s. each_in_turn (child run choice.now) (drop from (children_of run.target.element)) s) (moment self.old journal.old (T.calls tools.old)) step (moment self.new journal.new (T.calls tools.new))) }
         ensures begun { BeginsWith (T.calls tools.old) (T.calls tools.new) }
     {
-        for place in from..site.target.at.element.count() {
-            match self.child(alloc, site, choice, place, tools, journal)? {
+        for place in from..context.target.at.element.count() {
+            match self.child(alloc, context, choice, place, tools, journal)? {
                 Step::Over(Ending::Fine) => {}
                 Step::Over(Ending::Faulted) => return Ok(Step::Over(Ending::Faulted)),
                 Step::Over(Ending::Failed) => return Ok(Step::Over(Ending::Failed)),
@@ -73,25 +73,25 @@ impl State {
     fn child<T: CountedTools>(
         &mut self,
         alloc: Global,
-        site: &Site<'_>,
+        context: &RunContext<'_>,
         choice: &Choice,
         place: usize,
         tools: &mut T,
         journal: &mut Journal,
     ) -> Result<Step<AtTask>, NoMemory>
-        ensures plays { IfOk result (λ step. let run = seen_run site.now in
-            Plays (child_frames run) (player site.now.id.now T.answer) (child run choice.now (child_at run place)) (moment self.old journal.old (T.calls tools.old)) step (moment self.new journal.new (T.calls tools.new))) }
+        ensures plays { IfOk result (λ step. let run = seen_run context.now in
+            Plays (child_frames run) (player context.now.id.now T.answer) (child run choice.now (child_at run place)) (moment self.old journal.old (T.calls tools.old)) step (moment self.new journal.new (T.calls tools.new))) }
         ensures child { IfOk result (λ step. IsOfChild place step) }
         ensures begun { BeginsWith (T.calls tools.old) (T.calls tools.new) }
     {
-        let element = site.child(place);
+        let element = context.child(place);
         match Kind::of(element.element.name()) {
             Kind::Group => {
-                let ending = self.group(alloc, site, &element, journal)?;
+                let ending = self.group(alloc, context, &element, journal)?;
                 Ok(Step::Over(self.settle_after(alloc, ending)?))
             }
             Kind::OnError => Ok(Step::Over(self.settle_after(alloc, Ending::Fine)?)),
-            Kind::Task => self.task(alloc, site, place, choice, tools, journal),
+            Kind::Task => self.task(alloc, context, place, choice, tools, journal),
         }
     }
 
@@ -99,15 +99,15 @@ impl State {
     fn group(
         &mut self,
         alloc: Global,
-        site: &Site<'_>,
+        context: &RunContext<'_>,
         element: &PlacedElement<'_>,
         journal: &Journal,
     ) -> Result<Ending, NoMemory>
-        ensures ended { IfOk result (λ ending. ended ending (seen_state self.new journal.now) ≡ group (seen_run site.now) (seen_element element.now) (seen_state self.old journal.now)) }
+        ensures ended { IfOk result (λ ending. ended ending (seen_state self.new journal.now) ≡ group (seen_run context.now) (seen_element element.now) (seen_state self.old journal.now)) }
         ensures kept { OnOk result (self.new.segments ≡ self.old.segments) }
     {
-        let view = FileView::of(&site.world.tree, journal);
-        let project = site.id.instance.path.as_str();
+        let view = FileView::of(&context.world.tree, journal);
+        let project = context.project();
         match change_by_group(alloc, &view, project, element, &mut self.scope) {
             Ok(changes) => {
                 part_after_all(alloc, &mut self.part, changes.as_slice())?;
@@ -126,7 +126,7 @@ impl State {
     fn children_on<T: CountedTools>(
         &mut self,
         alloc: Global,
-        site: &Site<'_>,
+        context: &RunContext<'_>,
         choice: &Choice,
         place: usize,
         step: Step<AtTask>,
@@ -134,8 +134,8 @@ impl State {
         journal: &mut Journal,
     ) -> Result<Step<AtTask>, NoMemory>
         requires { IsOfChild place step }
-        ensures goes { IfOk result (λ step_then. let run = seen_run site.now in
-            GoesOn (child_frames run) (children_frames run choice.now) (player site.now.id.now T.answer) (λ end. unless_stopped end (each_in_turn (child run choice.now) (drop (suc place) (children_of run.target.element)))) step (moment self.old journal.old (T.calls tools.old)) step_then (moment self.new journal.new (T.calls tools.new))) }
+        ensures goes { IfOk result (λ step_then. let run = seen_run context.now in
+            GoesOn (child_frames run) (children_frames run choice.now) (player context.now.id.now T.answer) (λ end. unless_stopped end (each_in_turn (child run choice.now) (drop (suc place) (children_of run.target.element)))) step (moment self.old journal.old (T.calls tools.old)) step_then (moment self.new journal.new (T.calls tools.new))) }
         ensures begun { BeginsWith (T.calls tools.old) (T.calls tools.new) }
     {
         match step {
@@ -144,7 +144,7 @@ impl State {
                     let Some(next) = place.checked_add(1) else {
                         return Err(NoMemory);
                     };
-                    self.children(alloc, site, choice, next, tools, journal)
+                    self.children(alloc, context, choice, next, tools, journal)
                 }
                 Ending::Faulted | Ending::Failed => Ok(Step::Over(ending)),
             },
@@ -156,7 +156,7 @@ impl State {
     pub(crate) fn resume_children<T: CountedTools>(
         &mut self,
         alloc: Global,
-        site: &Site<'_>,
+        context: &RunContext<'_>,
         choice: &Choice,
         task: AtTask,
         results: List<RequestResult>,
@@ -165,12 +165,12 @@ impl State {
     ) -> Result<Step<AtTask>, NoMemory>
         requires waits { 0 < length (waiting task.call) }
         requires fits { length results ≡ length (waiting task.call) }
-        ensures plays { IfOk result (λ step. let run = seen_run site.now in
-            Plays (children_frames run choice.now) (player site.now.id.now T.answer) (λ s. children_left run choice.now task s results journal.old) (moment self.old journal.old (T.calls tools.old)) step (moment self.new journal.new (T.calls tools.new))) }
+        ensures plays { IfOk result (λ step. let run = seen_run context.now in
+            Plays (children_frames run choice.now) (player context.now.id.now T.answer) (λ s. children_left run choice.now task s results journal.old) (moment self.old journal.old (T.calls tools.old)) step (moment self.new journal.new (T.calls tools.new))) }
         ensures begun { BeginsWith (T.calls tools.old) (T.calls tools.new) }
     {
         let place = task.child;
-        let step = task.resume_task(alloc, self, site, results, tools, journal)?;
-        self.children_on(alloc, site, choice, place, step, tools, journal)
+        let step = task.resume_task(alloc, self, context, results, tools, journal)?;
+        self.children_on(alloc, context, choice, place, step, tools, journal)
     }
 }

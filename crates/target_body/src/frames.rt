@@ -4,11 +4,11 @@ ghost use Rattle.std.specs.Prelude.{◌≡◌, ◌<◌, length, IfOk};
 ghost use Rattle.task_trait.specs.Tools.{BeginsWith};
 ghost use Rattle.target_body.specs.Left.{IsOfChild, bucket_frames, bucket_left, buckets_frames, buckets_left, child_frames, child_left, waiting, waiting_bucket, waiting_run};
 ghost use Rattle.target_body.specs.Moments.{Plays, moment, player};
-ghost use Rattle.target_body.specs.Seen.{seen_run};
+ghost use Rattle.target_body.specs.Seen.{seen_chooser, seen_run};
 
 use crate::calling::TaskCall;
 use crate::later::{Buckets, bucket_copy};
-use crate::site::Site;
+use crate::run_context::RunContext;
 use crate::state::State;
 use crate::steps::Step;
 use crate::tasks::TaskChild;
@@ -118,15 +118,15 @@ impl AtTask {
         self,
         alloc: Global,
         state: &mut State,
-        site: &Site<'_>,
+        context: &RunContext<'_>,
         results: List<RequestResult>,
         tools: &mut T,
         journal: &mut Journal,
     ) -> Result<Step<AtTask>, NoMemory>
         requires waits { 0 < length (waiting self.call) }
         requires fits { length results ≡ length (waiting self.call) }
-        ensures plays { IfOk result (λ step. let run = seen_run site.now in
-            Plays (child_frames run) (player site.now.id.now T.answer) (λ s. child_left run self s results journal.old) (moment state.old journal.old (T.calls tools.old)) step (moment state.new journal.new (T.calls tools.new))) }
+        ensures plays { IfOk result (λ step. let run = seen_run context.now in
+            Plays (child_frames run) (player context.now.id.now T.answer) (λ s. child_left run self s results journal.old) (moment state.old journal.old (T.calls tools.old)) step (moment state.new journal.new (T.calls tools.new))) }
         ensures child { IfOk result (λ step. IsOfChild self.child step) }
         ensures begun { BeginsWith (T.calls tools.old) (T.calls tools.new) }
     {
@@ -137,9 +137,9 @@ impl AtTask {
             later,
             call,
         } = self;
-        let at = TaskChild::of(site, child, gives);
+        let at = TaskChild::of(context, child, gives);
         let in_bucket = TaskCall {
-            site: at.site,
+            context: at.context,
             element: at.element,
             gives: at.gives,
             bucket: &bucket,
@@ -156,15 +156,15 @@ impl AtBucket {
         self,
         alloc: Global,
         state: &mut State,
-        site: &Site<'_>,
+        context: &RunContext<'_>,
         results: List<RequestResult>,
         tools: &mut T,
         journal: &mut Journal,
     ) -> Result<Step<AtBucket>, NoMemory>
         requires waits { 0 < length (waiting_bucket self) }
         requires fits { length results ≡ length (waiting_bucket self) }
-        ensures plays { IfOk result (λ step. let run = seen_run site.now in
-            Plays (bucket_frames run) (player site.now.id.now T.answer) (λ s. bucket_left run self s results journal.old) (moment state.old journal.old (T.calls tools.old)) step (moment state.new journal.new (T.calls tools.new))) }
+        ensures plays { IfOk result (λ step. let run = seen_run context.now in
+            Plays (bucket_frames run) (player context.now.id.now T.answer) (λ s. bucket_left run self s results journal.old) (moment state.old journal.old (T.calls tools.old)) step (moment state.new journal.new (T.calls tools.new))) }
         ensures begun { BeginsWith (T.calls tools.old) (T.calls tools.new) }
     {
         let AtBucket {
@@ -173,8 +173,8 @@ impl AtBucket {
             items,
             task,
         } = self;
-        let step = state.resume_children(alloc, site, &choice, task, results, tools, journal)?;
-        state.bucket_on(alloc, site, bucket, choice, items, step, journal)
+        let step = state.resume_children(alloc, context, &choice, task, results, tools, journal)?;
+        state.bucket_on(alloc, context, bucket, choice, items, step, journal)
     }
 }
 
@@ -184,20 +184,24 @@ impl AtRun {
         self,
         alloc: Global,
         state: &mut State,
-        site: &Site<'_>,
+        context: &RunContext<'_>,
         results: List<RequestResult>,
         tools: &mut T,
         journal: &mut Journal,
     ) -> Result<Step<AtRun>, NoMemory>
         requires waits { 0 < length (waiting_run self) }
         requires fits { length results ≡ length (waiting_run self) }
-        ensures plays { IfOk result (λ step. let run = seen_run site.now in
-            Plays (buckets_frames run) (player site.now.id.now T.answer) (λ s. buckets_left run self s results journal.old) (moment state.old journal.old (T.calls tools.old)) step (moment state.new journal.new (T.calls tools.new))) }
+        ensures plays { IfOk result (λ step. let run = seen_run context.now in
+            let choose = seen_chooser context.now in
+            Plays (buckets_frames choose run) (player context.now.id.now T.answer)
+            (λ s. buckets_left choose run self s results journal.old)
+            (moment state.old journal.old (T.calls tools.old)) step
+            (moment state.new journal.new (T.calls tools.new))) }
         ensures begun { BeginsWith (T.calls tools.old) (T.calls tools.new) }
     {
         let AtRun { found, at, later } = self;
-        let step = at.resume_bucket(alloc, state, site, results, tools, journal)?;
-        state.buckets_on(alloc, site, found, later, step, tools, journal)
+        let step = at.resume_bucket(alloc, state, context, results, tools, journal)?;
+        state.buckets_on(alloc, context, found, later, step, tools, journal)
     }
 }
 

@@ -12,14 +12,14 @@ ghost use Rattle.target_texts.specs.Returned.{returns_of};
 ghost use Rattle.target_texts.specs.Seen.{seen_lists};
 ghost use Rattle.target_body.specs.Left.{bucket_frames, children_frames};
 ghost use Rattle.target_body.specs.Moments.{GoesOn, Plays, moment, player};
-ghost use Rattle.target_body.specs.Pieces.{bucket_of, choice_of, chosen_or_run, decided, lists_at, number_of, on_old, or_failed, treated, word_of};
+ghost use Rattle.target_body.specs.Pieces.{bucket_by, chosen_or_run, decided, lists_at, number_of, on_old, or_failed, treated, word_of};
 ghost use Rattle.target_body.specs.Returned.{items_if, returned};
-ghost use Rattle.target_body.specs.Seen.{ended, seen_run, seen_state};
+ghost use Rattle.target_body.specs.Seen.{ended, seen_chooser, seen_run, seen_state};
 ghost use Rattle.target_body.specs.States.{with_decision};
 ghost use Rattle.target_body.specs.Work.{done, followed_by, unless_stopped};
 
 use crate::frames::{AtBucket, AtTask};
-use crate::site::{Site, place_of};
+use crate::run_context::{RunContext, place_of};
 use crate::state::State;
 use crate::steps::{Ending, Step};
 use build_world::{EvalFault, PlacedElement};
@@ -37,19 +37,22 @@ impl State {
     pub(crate) fn bucket<T: CountedTools>(
         &mut self,
         alloc: Global,
-        site: &Site<'_>,
+        context: &RunContext<'_>,
         found: &Scope,
         bucket: Bucket,
         tools: &mut T,
         journal: &mut Journal,
     ) -> Result<Step<AtBucket>, NoMemory>
-        ensures plays { IfOk result (λ step. let run = seen_run site.now in
-            Plays (bucket_frames run) (player site.now.id.now T.answer) (bucket_of run found.now bucket) (moment self.old journal.old (T.calls tools.old)) step (moment self.new journal.new (T.calls tools.new))) }
+        ensures plays { IfOk result (λ step. let run = seen_run context.now in
+            Plays (bucket_frames run) (player context.now.id.now T.answer)
+            (bucket_by (seen_chooser context.now) run found.now bucket)
+            (moment self.old journal.old (T.calls tools.old)) step
+            (moment self.new journal.new (T.calls tools.new))) }
         ensures begun { BeginsWith (T.calls tools.old) (T.calls tools.new) }
     {
         self.enter(alloc, found, &bucket)?;
-        match self.lists(alloc, &*site, &bucket, &*journal) {
-            Ok(lists) => self.piece(alloc, site, bucket, lists, tools, journal),
+        match self.lists(alloc, &*context, &bucket, &*journal) {
+            Ok(lists) => self.piece(alloc, context, bucket, lists, tools, journal),
             Err(fault) => {
                 self.note_fault(alloc, &fault)?;
                 self.add_decision(Decision::Failed)?;
@@ -62,31 +65,31 @@ impl State {
     fn lists<'x>(
         &'x self,
         alloc: Global,
-        site: &'x Site<'x>,
+        context: &'x RunContext<'x>,
         bucket: &'x Bucket,
         journal: &'x Journal,
     ) -> Result<Option<Lists>, EvalFault>
-        ensures { GivesFault (option_map seen_lists) result (lists_at (seen_run site.entry.now) bucket.entry.now (seen_state self.entry.now journal.entry.now)) }
+        ensures { GivesFault (option_map seen_lists) result (lists_at (seen_run context.entry.now) bucket.entry.now (seen_state self.entry.now journal.entry.now)) }
     {
-        let view = FileView::of(&site.world.tree, journal);
-        let place = place_of(&view, site.id.instance.path.as_str(), &self.scope);
-        let target = PlacedElement::of(&site.target.at);
+        let view = FileView::of(&context.world.tree, journal);
+        let place = place_of(&view, context.project(), &self.scope);
+        let target = PlacedElement::of(&context.target.at);
         Lists::of(alloc, &place, bucket, &target)
     }
 
     fn piece<T: CountedTools>(
         &mut self,
         alloc: Global,
-        site: &Site<'_>,
+        context: &RunContext<'_>,
         bucket: Bucket,
         lists: Option<Lists>,
         tools: &mut T,
         journal: &mut Journal,
     ) -> Result<Step<AtBucket>, NoMemory>
-        ensures plays { IfOk result (λ step. let run = seen_run site.now in
-            Plays (bucket_frames run) (player site.now.id.now T.answer)
+        ensures plays { IfOk result (λ step. let run = seen_run context.now in
+            Plays (bucket_frames run) (player context.now.id.now T.answer)
             (λ s. followed_by
-            (chosen_or_run (choice_of run) run bucket s (option_map seen_lists lists))
+            (chosen_or_run (seen_chooser context.now) run bucket s (option_map seen_lists lists))
             (λ end. done (or_failed end)))
             (moment self.old journal.old (T.calls tools.old)) step
             (moment self.new journal.new (T.calls tools.new))) }
@@ -94,51 +97,51 @@ impl State {
     {
         match lists {
             Some(lists) => {
-                let choice = choice_of(alloc, site, &lists, journal)?;
-                self.decided(alloc, site, bucket, choice, lists.items, tools, journal)
+                let choice = choice_of(alloc, context, &lists, journal)?;
+                self.decided(alloc, context, bucket, choice, lists.items, tools, journal)
             }
-            None => self.decided(alloc, site, bucket, Choice::Run, None, tools, journal),
+            None => self.decided(alloc, context, bucket, Choice::Run, None, tools, journal),
         }
     }
 
     fn decided<T: CountedTools>(
         &mut self,
         alloc: Global,
-        site: &Site<'_>,
+        context: &RunContext<'_>,
         bucket: Bucket,
         choice: Choice,
         items: Option<(Name, List<Item>)>,
         tools: &mut T,
         journal: &mut Journal,
     ) -> Result<Step<AtBucket>, NoMemory>
-        ensures plays { IfOk result (λ step. let run = seen_run site.now in
-            Plays (bucket_frames run) (player site.now.id.now T.answer) (λ s. followed_by (decided run bucket choice items s) (λ end. done (or_failed end))) (moment self.old journal.old (T.calls tools.old)) step (moment self.new journal.new (T.calls tools.new))) }
+        ensures plays { IfOk result (λ step. let run = seen_run context.now in
+            Plays (bucket_frames run) (player context.now.id.now T.answer) (λ s. followed_by (decided run bucket choice items s) (λ end. done (or_failed end))) (moment self.old journal.old (T.calls tools.old)) step (moment self.new journal.new (T.calls tools.new))) }
         ensures begun { BeginsWith (T.calls tools.old) (T.calls tools.new) }
     {
-        let step = self.treat(alloc, site, &choice, &items, tools, journal)?;
-        self.bucket_on(alloc, site, bucket, choice, items, step, journal)
+        let step = self.treat(alloc, context, &choice, &items, tools, journal)?;
+        self.bucket_on(alloc, context, bucket, choice, items, step, journal)
     }
 
     // The children under what is decided: where there is nothing to do they are passed over.
     fn treat<T: CountedTools>(
         &mut self,
         alloc: Global,
-        site: &Site<'_>,
+        context: &RunContext<'_>,
         choice: &Choice,
         items: &Option<(Name, List<Item>)>,
         tools: &mut T,
         journal: &mut Journal,
     ) -> Result<Step<AtTask>, NoMemory>
-        ensures plays { IfOk result (λ step. let run = seen_run site.now in
-            Plays (children_frames run choice.now) (player site.now.id.now T.answer) (treated run choice.now items.now) (moment self.old journal.old (T.calls tools.old)) step (moment self.new journal.new (T.calls tools.new))) }
+        ensures plays { IfOk result (λ step. let run = seen_run context.now in
+            Plays (children_frames run choice.now) (player context.now.id.now T.answer) (treated run choice.now items.now) (moment self.old journal.old (T.calls tools.old)) step (moment self.new journal.new (T.calls tools.new))) }
         ensures begun { BeginsWith (T.calls tools.old) (T.calls tools.new) }
     {
         match choice {
-            Choice::Run | Choice::Skip => self.children(alloc, site, choice, 0, tools, journal),
+            Choice::Run | Choice::Skip => self.children(alloc, context, choice, 0, tools, journal),
             Choice::Nothing => Ok(Step::Over(Ending::Fine)),
             Choice::Part(old) => {
                 self.narrow(alloc, items, old)?;
-                self.children(alloc, site, choice, 0, tools, journal)
+                self.children(alloc, context, choice, 0, tools, journal)
             }
         }
     }
@@ -164,20 +167,20 @@ impl State {
     pub(crate) fn bucket_on(
         &mut self,
         alloc: Global,
-        site: &Site<'_>,
+        context: &RunContext<'_>,
         bucket: Bucket,
         choice: Choice,
         items: Option<(Name, List<Item>)>,
         step: Step<AtTask>,
         journal: &Journal,
     ) -> Result<Step<AtBucket>, NoMemory>
-        ensures { (answer : List ℕ → ToolInput → ToolAnswer) (tools : List (List ℕ × ToolInput)) → IfOk result (λ step_then. let run = seen_run site.now in
-            GoesOn (children_frames run choice) (bucket_frames run) (player site.now.id.now answer) (λ end. followed_by (unless_stopped end (λ s. done (map_ok (with_decision (word_of choice items)) (returned run bucket s)))) (λ end. done (or_failed end))) step (moment self.old journal.now tools) step_then (moment self.new journal.now tools)) }
+        ensures { (answer : List ℕ → ToolInput → ToolAnswer) (tools : List (List ℕ × ToolInput)) → IfOk result (λ step_then. let run = seen_run context.now in
+            GoesOn (children_frames run choice) (bucket_frames run) (player context.now.id.now answer) (λ end. followed_by (unless_stopped end (λ s. done (map_ok (with_decision (word_of choice items)) (returned run bucket s)))) (λ end. done (or_failed end))) step (moment self.old journal.now tools) step_then (moment self.new journal.now tools)) }
     {
         match step {
             Step::Over(ending) => {
                 let word = word_of(&choice, &items);
-                Ok(Step::Over(self.end_bucket(alloc, site, &bucket, word, ending, journal)?))
+                Ok(Step::Over(self.end_bucket(alloc, context, &bucket, word, ending, journal)?))
             }
             Step::Waits(task) => Ok(Step::Waits(AtBucket {
                 bucket,
@@ -192,17 +195,17 @@ impl State {
     fn end_bucket(
         &mut self,
         alloc: Global,
-        site: &Site<'_>,
+        context: &RunContext<'_>,
         bucket: &Bucket,
         word: Decision,
         ending: Ending,
         journal: &Journal,
     ) -> Result<Ending, NoMemory>
-        ensures ended { IfOk result (λ ending_then. ended ending_then (seen_state self.new journal.now) ≡ or_failed (and_then (ended ending (seen_state self.old journal.now)) (λ s. map_ok (with_decision word) (returned (seen_run site.now) bucket.now s)))) }
+        ensures ended { IfOk result (λ ending_then. ended ending_then (seen_state self.new journal.now) ≡ or_failed (and_then (ended ending (seen_state self.old journal.now)) (λ s. map_ok (with_decision word) (returned (seen_run context.now) bucket.now s)))) }
         ensures kept { OnOk result (self.new.segments ≡ self.old.segments) }
     {
         match ending {
-            Ending::Fine => self.return_items(alloc, site, bucket, word, journal),
+            Ending::Fine => self.return_items(alloc, context, bucket, word, journal),
             Ending::Faulted | Ending::Failed => {
                 self.add_decision(Decision::Failed)?;
                 Ok(ending)
@@ -213,15 +216,15 @@ impl State {
     fn return_items(
         &mut self,
         alloc: Global,
-        site: &Site<'_>,
+        context: &RunContext<'_>,
         bucket: &Bucket,
         word: Decision,
         journal: &Journal,
     ) -> Result<Ending, NoMemory>
-        ensures ended { IfOk result (λ ending. ended ending (seen_state self.new journal.now) ≡ or_failed (map_ok (with_decision word) (returned (seen_run site.now) bucket.now (seen_state self.old journal.now)))) }
+        ensures ended { IfOk result (λ ending. ended ending (seen_state self.new journal.now) ≡ or_failed (map_ok (with_decision word) (returned (seen_run context.now) bucket.now (seen_state self.old journal.now)))) }
         ensures kept { OnOk result (self.new.segments ≡ self.old.segments) }
     {
-        match self.returned(alloc, &*site, &*bucket, &*journal) {
+        match self.returned(alloc, &*context, &*bucket, &*journal) {
             Ok(items) => {
                 self.items.append(alloc, items)?;
                 self.add_decision(word)?;
@@ -238,32 +241,32 @@ impl State {
     fn returned<'x>(
         &'x self,
         alloc: Global,
-        site: &'x Site<'x>,
+        context: &'x RunContext<'x>,
         bucket: &'x Bucket,
         journal: &'x Journal,
     ) -> Result<List<Item>, EvalFault>
-        ensures { GivesFault (λ items. items) result (items_if (seen_run site.entry.now) bucket.entry.now (seen_state self.entry.now journal.entry.now) (returns_of (seen_run site.entry.now).target)) }
+        ensures { GivesFault (λ items. items) result (items_if (seen_run context.entry.now) bucket.entry.now (seen_state self.entry.now journal.entry.now) (returns_of (seen_run context.entry.now).target)) }
     {
-        let Some(written) = returns_of(site.target) else {
+        let Some(written) = returns_of(context.target) else {
             return Ok(List::new(alloc));
         };
-        let view = FileView::of(&site.world.tree, journal);
-        let place = place_of(&view, site.id.instance.path.as_str(), &self.scope);
-        let target = PlacedElement::of(&site.target.at);
+        let view = FileView::of(&context.world.tree, journal);
+        let place = place_of(&view, context.project(), &self.scope);
+        let target = PlacedElement::of(&context.target.at);
         returned_items(alloc, &place, bucket, &target, &self.items, written)
     }
 }
 
 fn choice_of(
     alloc: Global,
-    site: &Site<'_>,
+    context: &RunContext<'_>,
     lists: &Lists,
     journal: &Journal,
 ) -> Result<Choice, NoMemory>
-    ensures { IfOk result (λ choice. choice ≡ decision (record { files = site.now.world.now.tree.files; journal = journal.now }) lists.now.inputs lists.now.outputs (option_map (λ typed. typed.1) lists.now.items) site.now.world.now.mode) }
+    ensures { IfOk result (λ choice. choice ≡ decision (record { files = context.now.world.now.tree.files; journal = journal.now }) lists.now.inputs lists.now.outputs (option_map (λ typed. typed.1) lists.now.items) context.now.world.now.mode) }
 {
-    let view = FileView::of(&site.world.tree, journal);
-    let mode = site.world.mode;
+    let view = FileView::of(&context.world.tree, journal);
+    let mode = context.world.mode;
     decide(
         alloc,
         &view,

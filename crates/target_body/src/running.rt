@@ -4,17 +4,17 @@ ghost use Rattle.std.specs.Prelude.{◌≡◌, IfOk};
 ghost use Rattle.build_world.specs.Answers.{GivesFault};
 ghost use Rattle.task_trait.specs.Tools.{BeginsWith};
 ghost use Rattle.target_texts.specs.Batched.{target_buckets};
-ghost use Rattle.target_body.specs.Bodies.{buckets};
+ghost use Rattle.target_body.specs.Bodies.{buckets_by};
 ghost use Rattle.target_body.specs.Left.{bucket_frames, buckets_frames};
 ghost use Rattle.target_body.specs.Moments.{GoesOn, Plays, moment, player};
-ghost use Rattle.target_body.specs.Pieces.{bucket_of};
-ghost use Rattle.target_body.specs.Seen.{seen_run, seen_state};
+ghost use Rattle.target_body.specs.Pieces.{bucket_by};
+ghost use Rattle.target_body.specs.Seen.{seen_chooser, seen_run, seen_state};
 ghost use Rattle.target_body.specs.States.{place_in};
 ghost use Rattle.target_body.specs.Work.{each_in_turn, unless_stopped};
 
 use crate::frames::{AtBucket, AtRun};
 use crate::later::Buckets;
-use crate::site::{Site, place_of};
+use crate::run_context::{RunContext, place_of};
 use crate::state::State;
 use crate::steps::{Ending, Step};
 use build_world::{EvalFault, PlacedElement};
@@ -31,18 +31,22 @@ impl State {
     pub(crate) fn begin<T: CountedTools>(
         &mut self,
         alloc: Global,
-        site: &Site<'_>,
+        context: &RunContext<'_>,
         found: Scope,
         tools: &mut T,
         journal: &mut Journal,
     ) -> Result<Step<AtRun>, NoMemory>
-        ensures plays { IfOk result (λ step. let run = seen_run site.now in
-            Plays (buckets_frames run) (player site.now.id.now T.answer) (buckets run found) (moment self.old journal.old (T.calls tools.old)) step (moment self.new journal.new (T.calls tools.new))) }
+        ensures plays { IfOk result (λ step. let run = seen_run context.now in
+            let choose = seen_chooser context.now in
+            Plays (buckets_frames choose run) (player context.now.id.now T.answer)
+            (buckets_by choose run found)
+            (moment self.old journal.old (T.calls tools.old)) step
+            (moment self.new journal.new (T.calls tools.new))) }
         ensures begun { BeginsWith (T.calls tools.old) (T.calls tools.new) }
     {
-        match self.target_buckets(alloc, &*site, &*journal) {
+        match self.target_buckets(alloc, &*context, &*journal) {
             Ok(buckets) => {
-                self.buckets(alloc, site, found, Buckets::of(buckets), tools, journal)
+                self.buckets(alloc, context, found, Buckets::of(buckets), tools, journal)
             }
             Err(fault) => {
                 self.note_fault(alloc, &fault)?;
@@ -55,33 +59,37 @@ impl State {
     fn target_buckets<'x>(
         &'x self,
         alloc: Global,
-        site: &'x Site<'x>,
+        context: &'x RunContext<'x>,
         journal: &'x Journal,
     ) -> Result<List<Bucket>, EvalFault>
-        ensures { GivesFault (λ buckets. buckets) result (target_buckets (place_in (seen_run site.entry.now) (seen_state self.entry.now journal.entry.now) self.entry.now.scope) (seen_run site.entry.now).target.element) }
+        ensures { GivesFault (λ buckets. buckets) result (target_buckets (place_in (seen_run context.entry.now) (seen_state self.entry.now journal.entry.now) self.entry.now.scope) (seen_run context.entry.now).target.element) }
     {
-        let view = FileView::of(&site.world.tree, journal);
-        let place = place_of(&view, site.id.instance.path.as_str(), &self.scope);
-        let target = PlacedElement::of(&site.target.at);
+        let view = FileView::of(&context.world.tree, journal);
+        let place = place_of(&view, context.project(), &self.scope);
+        let target = PlacedElement::of(&context.target.at);
         target_buckets(alloc, &place, &target)
     }
 
     fn buckets<T: CountedTools>(
         &mut self,
         alloc: Global,
-        site: &Site<'_>,
+        context: &RunContext<'_>,
         found: Scope,
         later: Buckets,
         tools: &mut T,
         journal: &mut Journal,
     ) -> Result<Step<AtRun>, NoMemory>
-        ensures plays { IfOk result (λ step. let run = seen_run site.now in
-            Plays (buckets_frames run) (player site.now.id.now T.answer) (λ s. each_in_turn (bucket_of run found) later s) (moment self.old journal.old (T.calls tools.old)) step (moment self.new journal.new (T.calls tools.new))) }
+        ensures plays { IfOk result (λ step. let run = seen_run context.now in
+            let choose = seen_chooser context.now in
+            Plays (buckets_frames choose run) (player context.now.id.now T.answer)
+            (λ s. each_in_turn (bucket_by choose run found) later s)
+            (moment self.old journal.old (T.calls tools.old)) step
+            (moment self.new journal.new (T.calls tools.new))) }
         ensures begun { BeginsWith (T.calls tools.old) (T.calls tools.new) }
     {
         let mut later = later;
         while let Some(bucket) = later.next() {
-            match self.bucket(alloc, site, &found, bucket, tools, journal)? {
+            match self.bucket(alloc, context, &found, bucket, tools, journal)? {
                 Step::Over(Ending::Fine) => {}
                 Step::Over(Ending::Faulted) => return Ok(Step::Over(Ending::Faulted)),
                 Step::Over(Ending::Failed) => return Ok(Step::Over(Ending::Failed)),
@@ -94,19 +102,24 @@ impl State {
     pub(crate) fn buckets_on<T: CountedTools>(
         &mut self,
         alloc: Global,
-        site: &Site<'_>,
+        context: &RunContext<'_>,
         found: Scope,
         later: Buckets,
         step: Step<AtBucket>,
         tools: &mut T,
         journal: &mut Journal,
     ) -> Result<Step<AtRun>, NoMemory>
-        ensures goes { IfOk result (λ step_then. let run = seen_run site.now in
-            GoesOn (bucket_frames run) (buckets_frames run) (player site.now.id.now T.answer) (λ end. unless_stopped end (each_in_turn (bucket_of run found) later)) step (moment self.old journal.old (T.calls tools.old)) step_then (moment self.new journal.new (T.calls tools.new))) }
+        ensures goes { IfOk result (λ step_then. let run = seen_run context.now in
+            let choose = seen_chooser context.now in
+            GoesOn (bucket_frames run) (buckets_frames choose run)
+            (player context.now.id.now T.answer)
+            (λ end. unless_stopped end (each_in_turn (bucket_by choose run found) later)) step
+            (moment self.old journal.old (T.calls tools.old)) step_then
+            (moment self.new journal.new (T.calls tools.new))) }
         ensures begun { BeginsWith (T.calls tools.old) (T.calls tools.new) }
     {
         match step {
-            Step::Over(Ending::Fine) => self.buckets(alloc, site, found, later, tools, journal),
+            Step::Over(Ending::Fine) => self.buckets(alloc, context, found, later, tools, journal),
             Step::Over(Ending::Faulted) => Ok(Step::Over(Ending::Faulted)),
             Step::Over(Ending::Failed) => Ok(Step::Over(Ending::Failed)),
             Step::Waits(at) => Ok(Step::Waits(AtRun { found, at, later })),

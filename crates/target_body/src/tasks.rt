@@ -26,7 +26,7 @@ use crate::calling::TaskCall;
 use crate::frames::{AtCall, AtTask};
 use crate::later::Buckets;
 use crate::part::{own_or, scope_of_part};
-use crate::site::{Site, place_of};
+use crate::run_context::{RunContext, place_of};
 use crate::state::State;
 use crate::steps::{Ending, Step};
 use build_world::{EvalFault, PlacedElement};
@@ -41,7 +41,7 @@ use task_trait::CountedTools;
 /// A task element, a child of the target.
 #[derive(Clone, Copy)]
 pub(crate) struct TaskChild<'a> {
-    pub(crate) site: Site<'a>,
+    pub(crate) context: RunContext<'a>,
     pub(crate) element: PlacedElement<'a>,
     /// Its place among the children.
     pub(crate) child: usize,
@@ -50,15 +50,15 @@ pub(crate) struct TaskChild<'a> {
 }
 
 impl<'a> TaskChild<'a> {
-    pub(crate) fn of(site: &Site<'a>, child: usize, gives: bool) -> TaskChild<'a>
-        ensures site { result.site ≡ site.now }
-        ensures element { seen_element result.element ≡ child_at (seen_run site.now) child }
+    pub(crate) fn of(context: &RunContext<'a>, child: usize, gives: bool) -> TaskChild<'a>
+        ensures context { result.context ≡ context.now }
+        ensures element { seen_element result.element ≡ child_at (seen_run context.now) child }
         ensures child { result.child ≡ child }
         ensures gives { result.gives ≡ gives }
     {
         TaskChild {
-            site: *site,
-            element: site.child(child),
+            context: *context,
+            element: context.child(child),
             child,
             gives,
         }
@@ -70,24 +70,24 @@ impl State {
     pub(crate) fn task<T: CountedTools>(
         &mut self,
         alloc: Global,
-        site: &Site<'_>,
+        context: &RunContext<'_>,
         child: usize,
         choice: &Choice,
         tools: &mut T,
         journal: &mut Journal,
     ) -> Result<Step<AtTask>, NoMemory>
-        ensures plays { IfOk result (λ step. let run = seen_run site.now in
-            Plays (child_frames run) (player site.now.id.now T.answer) (λ s. followed_by (task run choice.now (child_at run child) s) (λ end. done (map_ok settled end))) (moment self.old journal.old (T.calls tools.old)) step (moment self.new journal.new (T.calls tools.new))) }
+        ensures plays { IfOk result (λ step. let run = seen_run context.now in
+            Plays (child_frames run) (player context.now.id.now T.answer) (λ s. followed_by (task run choice.now (child_at run child) s) (λ end. done (map_ok settled end))) (moment self.old journal.old (T.calls tools.old)) step (moment self.new journal.new (T.calls tools.new))) }
         ensures child { IfOk result (λ step. IsOfChild child step) }
         ensures begun { BeginsWith (T.calls tools.old) (T.calls tools.new) }
     {
         match choice {
-            Choice::Run => self.called(alloc, &TaskChild::of(site, child, true), tools, journal),
+            Choice::Run => self.called(alloc, &TaskChild::of(context, child, true), tools, journal),
             Choice::Part(_) => {
-                self.called(alloc, &TaskChild::of(site, child, false), tools, journal)
+                self.called(alloc, &TaskChild::of(context, child, false), tools, journal)
             }
             Choice::Skip => {
-                let ending = self.infer(alloc, &TaskChild::of(site, child, false), journal)?;
+                let ending = self.infer(alloc, &TaskChild::of(context, child, false), journal)?;
                 Ok(Step::Over(self.settle_after(alloc, ending)?))
             }
             Choice::Nothing => Ok(Step::Over(self.settle_after(alloc, Ending::Fine)?)),
@@ -101,9 +101,9 @@ impl State {
         tools: &mut T,
         journal: &mut Journal,
     ) -> Result<Step<AtTask>, NoMemory>
-        requires { seen_element at.now.element ≡ child_at (seen_run at.now.site) at.now.child }
-        ensures plays { IfOk result (λ step. let run = seen_run at.now.site in let e = seen_element at.now.element in
-            Plays (child_frames run) (player at.now.site.id.now T.answer) (λ s. followed_by (called run e at.now.gives s) (λ end. done (map_ok settled (inferred_unless at.now.gives run e end)))) (moment self.old journal.old (T.calls tools.old)) step (moment self.new journal.new (T.calls tools.new))) }
+        requires { seen_element at.now.element ≡ child_at (seen_run at.now.context) at.now.child }
+        ensures plays { IfOk result (λ step. let run = seen_run at.now.context in let e = seen_element at.now.element in
+            Plays (child_frames run) (player at.now.context.id.now T.answer) (λ s. followed_by (called run e at.now.gives s) (λ end. done (map_ok settled (inferred_unless at.now.gives run e end)))) (moment self.old journal.old (T.calls tools.old)) step (moment self.new journal.new (T.calls tools.new))) }
         ensures child { IfOk result (λ step. IsOfChild at.now.child step) }
         ensures begun { BeginsWith (T.calls tools.old) (T.calls tools.new) }
     {
@@ -127,17 +127,13 @@ impl State {
         at: &'x TaskChild<'x>,
         journal: &'x Journal,
     ) -> Result<List<Bucket>, EvalFault>
-        ensures { GivesFault (λ buckets. buckets) result (task_buckets (place_in (seen_run at.entry.now.site) (seen_state self.entry.now journal.entry.now) (task_scope (seen_state self.entry.now journal.entry.now))) (seen_element at.entry.now.element)) }
+        ensures { GivesFault (λ buckets. buckets) result (task_buckets (place_in (seen_run at.entry.now.context) (seen_state self.entry.now journal.entry.now) (task_scope (seen_state self.entry.now journal.entry.now))) (seen_element at.entry.now.element)) }
     {
         let Ok(own) = scope_of_part(&self.scope, &self.part) else {
             return Err(EvalFault::memory(alloc));
         };
-        let view = FileView::of(&at.site.world.tree, journal);
-        let place = place_of(
-            &view,
-            at.site.id.instance.path.as_str(),
-            own_or(&own, &self.scope),
-        );
+        let view = FileView::of(&at.context.world.tree, journal);
+        let place = place_of(&view, at.context.project(), own_or(&own, &self.scope));
         buckets_of(alloc, &place, &at.element)
     }
 
@@ -150,16 +146,16 @@ impl State {
         tools: &mut T,
         journal: &mut Journal,
     ) -> Result<Step<AtTask>, NoMemory>
-        requires { seen_element at.now.element ≡ child_at (seen_run at.now.site) at.now.child }
-        ensures plays { IfOk result (λ step. let run = seen_run at.now.site in let e = seen_element at.now.element in
-            Plays (calls_frames run) (player at.now.site.id.now T.answer) (λ s. each_in_turn (call run e at.now.gives) later s) (moment self.old journal.old (T.calls tools.old)) step (moment self.new journal.new (T.calls tools.new))) }
+        requires { seen_element at.now.element ≡ child_at (seen_run at.now.context) at.now.child }
+        ensures plays { IfOk result (λ step. let run = seen_run at.now.context in let e = seen_element at.now.element in
+            Plays (calls_frames run) (player at.now.context.id.now T.answer) (λ s. each_in_turn (call run e at.now.gives) later s) (moment self.old journal.old (T.calls tools.old)) step (moment self.new journal.new (T.calls tools.new))) }
         ensures task { IfOk result (λ step. IsOfTask at.now.child at.now.gives step) }
         ensures begun { BeginsWith (T.calls tools.old) (T.calls tools.new) }
     {
         let mut later = later;
         while let Some(bucket) = later.next() {
             let call = TaskCall {
-                site: at.site,
+                context: at.context,
                 element: at.element,
                 gives: at.gives,
                 bucket: &bucket,
@@ -193,9 +189,9 @@ impl State {
         tools: &mut T,
         journal: &mut Journal,
     ) -> Result<Step<AtTask>, NoMemory>
-        requires { seen_element at.now.element ≡ child_at (seen_run at.now.site) at.now.child }
-        ensures goes { IfOk result (λ step_then. let run = seen_run at.now.site in let e = seen_element at.now.element in
-            GoesOn (call_frames run e at.now.gives bucket) (calls_frames run) (player at.now.site.id.now T.answer) (λ end. unless_stopped end (each_in_turn (call run e at.now.gives) later)) step (moment self.old journal.old (T.calls tools.old)) step_then (moment self.new journal.new (T.calls tools.new))) }
+        requires { seen_element at.now.element ≡ child_at (seen_run at.now.context) at.now.child }
+        ensures goes { IfOk result (λ step_then. let run = seen_run at.now.context in let e = seen_element at.now.element in
+            GoesOn (call_frames run e at.now.gives bucket) (calls_frames run) (player at.now.context.id.now T.answer) (λ end. unless_stopped end (each_in_turn (call run e at.now.gives) later)) step (moment self.old journal.old (T.calls tools.old)) step_then (moment self.new journal.new (T.calls tools.new))) }
         ensures task { IfOk result (λ step. IsOfTask at.now.child at.now.gives step) }
         ensures begun { BeginsWith (T.calls tools.old) (T.calls tools.new) }
     {
@@ -222,10 +218,10 @@ impl State {
         step: Step<AtTask>,
         journal: &Journal,
     ) -> Result<Step<AtTask>, NoMemory>
-        requires element { seen_element at.now.element ≡ child_at (seen_run at.now.site) at.now.child }
+        requires element { seen_element at.now.element ≡ child_at (seen_run at.now.context) at.now.child }
         requires task { IsOfTask at.now.child at.now.gives step }
-        ensures goes { (answer : List ℕ → ToolInput → ToolAnswer) (tools : List (List ℕ × ToolInput)) → IfOk result (λ step_then. let run = seen_run at.now.site in
-            GoesOn (calls_frames run) (child_frames run) (player at.now.site.id.now answer) (λ end. done (map_ok settled (inferred_unless at.now.gives run (seen_element at.now.element) end))) step (moment self.old journal.now tools) step_then (moment self.new journal.now tools)) }
+        ensures goes { (answer : List ℕ → ToolInput → ToolAnswer) (tools : List (List ℕ × ToolInput)) → IfOk result (λ step_then. let run = seen_run at.now.context in
+            GoesOn (calls_frames run) (child_frames run) (player at.now.context.id.now answer) (λ end. done (map_ok settled (inferred_unless at.now.gives run (seen_element at.now.element) end))) step (moment self.old journal.now tools) step_then (moment self.new journal.now tools)) }
         ensures child { IfOk result (λ step. IsOfChild at.now.child step) }
     {
         match step {
@@ -245,7 +241,7 @@ impl State {
         ending: Ending,
         journal: &Journal,
     ) -> Result<Ending, NoMemory>
-        ensures ended { IfOk result (λ ending_then. ended ending_then (seen_state self.new journal.now) ≡ inferred_unless at.now.gives (seen_run at.now.site) (seen_element at.now.element) (ended ending (seen_state self.old journal.now))) }
+        ensures ended { IfOk result (λ ending_then. ended ending_then (seen_state self.new journal.now) ≡ inferred_unless at.now.gives (seen_run at.now.context) (seen_element at.now.element) (ended ending (seen_state self.old journal.now))) }
         ensures kept { OnOk result (self.new.segments ≡ self.old.segments) }
     {
         match ending {
@@ -264,7 +260,7 @@ impl State {
         at: &TaskChild<'_>,
         journal: &Journal,
     ) -> Result<Ending, NoMemory>
-        ensures ended { IfOk result (λ ending. ended ending (seen_state self.new journal.now) ≡ inferred (seen_run at.now.site) (seen_element at.now.element) (seen_state self.old journal.now)) }
+        ensures ended { IfOk result (λ ending. ended ending (seen_state self.new journal.now) ≡ inferred (seen_run at.now.context) (seen_element at.now.element) (seen_state self.old journal.now)) }
         ensures kept { OnOk result (self.new.segments ≡ self.old.segments) }
     {
         let mut made = List::new(alloc);
@@ -313,9 +309,9 @@ fn push_inferred_in<'x>(
     journal: &'x Journal,
     made: &mut List<Change>,
 ) -> Result<(), EvalFault>
-    ensures { Pushes result made.old made.new (inferred_at (item_place (paths (record { files = at.entry.now.site.world.now.tree.files; journal = journal.entry.now })) at.entry.now.site.id.now.instance.path scope.entry.now) (seen_element at.entry.now.element)) }
+    ensures { Pushes result made.old made.new (inferred_at (item_place (paths (record { files = at.entry.now.context.world.now.tree.files; journal = journal.entry.now })) at.entry.now.context.id.now.instance.path scope.entry.now) (seen_element at.entry.now.element)) }
 {
-    let view = FileView::of(&at.site.world.tree, journal);
-    let place = place_of(&view, at.site.id.instance.path.as_str(), scope);
+    let view = FileView::of(&at.context.world.tree, journal);
+    let place = place_of(&view, at.context.project(), scope);
     push_inferred(alloc, &place, &at.element, made)
 }

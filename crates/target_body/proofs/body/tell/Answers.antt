@@ -9,11 +9,14 @@ use Rattle.target_body.specs.declared.steps.Step.{Step}
 use Rattle.target_body.proofs.body.tell.Goals as goal
 
 pub returns-in-Over : goal.returns-in-Over
-returns-in-Over c = λ run.
-    let P : Step AtRun → Type 0 = λ step. Tells run c.args.state step (Finished c.recorded.result) (standing_by run Ended) in
+returns-in-Over c = λ choose run.
+    let P : Step AtRun → Type 0 = λ step. Tells choose run c.args.state step
+    (Finished c.recorded.result) (standing_by choose run Ended) in
     subst P (sym c.in-Over.is) (ap (λ (r : Record). Finished r) (c.recorded.ensures []), refl)
 
 pub returns-in_ok-keys-in-Waits : goal.returns-in_ok-keys-in-Waits
-returns-in_ok-keys-in-Waits c = λ run.
-    let P : Step AtRun → Type 0 = λ step. Tells run c.args.state step (Call c.in_ok-keys-in-Waits.keys) (standing_by run (Waiting (record { state = c.args.state; at = c.in-Waits.at }))) in
+returns-in_ok-keys-in-Waits c = λ choose run.
+    let P : Step AtRun → Type 0 = λ step. Tells choose run c.args.state step
+    (Call c.in_ok-keys-in-Waits.keys)
+    (standing_by choose run (Waiting (record { state = c.args.state; at = c.in-Waits.at }))) in
     subst P (sym c.in-Waits.is) (ap (λ (keys : List RequestKey). Call keys) (c.in_ok-keys-in-Waits.ensures ∙ c.waiting.ensures), refl)

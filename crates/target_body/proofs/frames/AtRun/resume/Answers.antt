@@ -1,17 +1,20 @@
 use Rattle.target_body.specs.Left.{bucket_frames, bucket_left, buckets_frames}
 use Rattle.target_body.specs.Moments.{moment, player}
-use Rattle.target_body.specs.Pieces.{bucket_of}
-use Rattle.target_body.specs.Seen.{seen_run}
+use Rattle.target_body.specs.Pieces.{bucket_by}
+use Rattle.target_body.specs.Seen.{seen_chooser, seen_run}
 use Rattle.target_body.specs.Work.{each_in_turn, unless_stopped}
 use Rattle.target_body.proofs.Stepping.{all_joined, begins_on}
 use Rattle.target_body.proofs.frames.AtRun.resume.Goals as goal
 
 pub returns-clause-plays : goal.returns-clause-plays
 returns-clause-plays g c =
-    let run = seen_run c.args.site.now in
+    let run = seen_run c.args.context.now in
+    let choose = seen_chooser c.args.context.now in
     let at = c.args.self in
-    all_joined (bucket_frames run) (buckets_frames run) (player c.args.site.now.id.now g.T.CountedTools.answer)
-    (λ s. bucket_left run at.at s c.args.results c.args.journal.now) (λ end. unless_stopped end (each_in_turn (bucket_of run at.found) at.later))
+    all_joined (bucket_frames run) (buckets_frames choose run) (player c.args.context.now.id.now
+    g.T.CountedTools.answer)
+    (λ s. bucket_left run at.at s c.args.results c.args.journal.now)
+    (λ end. unless_stopped end (each_in_turn (bucket_by choose run at.found) at.later))
     (moment c.args.state.now c.args.journal.now (g.T.CountedTools.calls c.args.tools.now))
     (moment c.resume_bucket.new.state c.resume_bucket.new.journal (g.T.CountedTools.calls c.resume_bucket.new.tools))
     (moment c.buckets_on.new.self c.buckets_on.new.journal (g.T.CountedTools.calls c.buckets_on.new.tools))

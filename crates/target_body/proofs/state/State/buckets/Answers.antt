@@ -1,9 +1,9 @@
 use Rattle.std.proofs.Common.{◌∙◌, ap, sym}
 use Rattle.target_body.specs.Left.{bucket_frames}
 use Rattle.target_body.specs.Moments.{Moment, moment, player, reached_by}
-use Rattle.target_body.specs.Pieces.{bucket_of}
+use Rattle.target_body.specs.Pieces.{bucket_by}
 use Rattle.target_body.specs.Played.{reached_then}
-use Rattle.target_body.specs.Seen.{seen_run}
+use Rattle.target_body.specs.Seen.{seen_chooser, seen_run}
 use Rattle.target_body.specs.Work.{each_in_turn, unless_stopped}
 use Rattle.target_body.specs.declared.frames.AtBucket.{AtBucket}
 use Rattle.target_body.specs.declared.steps.Ending.{Ending}
@@ -14,10 +14,11 @@ use Rattle.target_body.proofs.state.State.buckets.Goals as goal
 
 pub returns-in-Over-Faulted-clause-plays : goal.returns-in-Over-Faulted-clause-plays
 returns-in-Over-Faulted-clause-plays g c =
-    let run = seen_run c.args.site.now in
-    let p = player c.args.site.now.id.now g.T.CountedTools.answer in
+    let run = seen_run c.args.context.now in
+    let choose = seen_chooser c.args.context.now in
+    let p = player c.args.context.now.id.now g.T.CountedTools.answer in
     let frames = bucket_frames run in
-    let part = bucket_of run c.args.found in
+    let part = bucket_by choose run c.args.found in
     let now : Moment = moment c.loop-bucket.self c.loop-bucket.journal (g.T.CountedTools.calls c.loop-bucket.tools) in
     let after : Moment = moment c.bucket.new.self c.bucket.new.journal (g.T.CountedTools.calls c.bucket.new.tools) in
     sym c.loop-bucket.invariant.plays
@@ -27,10 +28,11 @@ returns-in-Over-Faulted-clause-plays g c =
 
 pub returns-in-Over-Failed-clause-plays : goal.returns-in-Over-Failed-clause-plays
 returns-in-Over-Failed-clause-plays g c =
-    let run = seen_run c.args.site.now in
-    let p = player c.args.site.now.id.now g.T.CountedTools.answer in
+    let run = seen_run c.args.context.now in
+    let choose = seen_chooser c.args.context.now in
+    let p = player c.args.context.now.id.now g.T.CountedTools.answer in
     let frames = bucket_frames run in
-    let part = bucket_of run c.args.found in
+    let part = bucket_by choose run c.args.found in
     let now : Moment = moment c.loop-bucket.self c.loop-bucket.journal (g.T.CountedTools.calls c.loop-bucket.tools) in
     let after : Moment = moment c.bucket.new.self c.bucket.new.journal (g.T.CountedTools.calls c.bucket.new.tools) in
     sym c.loop-bucket.invariant.plays
@@ -40,10 +42,11 @@ returns-in-Over-Failed-clause-plays g c =
 
 pub returns-in-Waits-clause-plays : goal.returns-in-Waits-clause-plays
 returns-in-Waits-clause-plays g c =
-    let run = seen_run c.args.site.now in
-    let p = player c.args.site.now.id.now g.T.CountedTools.answer in
+    let run = seen_run c.args.context.now in
+    let choose = seen_chooser c.args.context.now in
+    let p = player c.args.context.now.id.now g.T.CountedTools.answer in
     let frames = bucket_frames run in
-    let part = bucket_of run c.args.found in
+    let part = bucket_by choose run c.args.found in
     let now : Moment = moment c.loop-bucket.self c.loop-bucket.journal (g.T.CountedTools.calls c.loop-bucket.tools) in
     let after : Moment = moment c.bucket.new.self c.bucket.new.journal (g.T.CountedTools.calls c.bucket.new.tools) in
     sym c.loop-bucket.invariant.plays
@@ -52,10 +55,11 @@ returns-in-Waits-clause-plays g c =
 
 pub loop-bucket-preserved : goal.loop-bucket-preserved
 loop-bucket-preserved g c =
-    let run = seen_run c.args.site.now in
-    let p = player c.args.site.now.id.now g.T.CountedTools.answer in
+    let run = seen_run c.args.context.now in
+    let choose = seen_chooser c.args.context.now in
+    let p = player c.args.context.now.id.now g.T.CountedTools.answer in
     let frames = bucket_frames run in
-    let part = bucket_of run c.args.found in
+    let part = bucket_by choose run c.args.found in
     let now : Moment = moment c.loop-bucket.self c.loop-bucket.journal (g.T.CountedTools.calls c.loop-bucket.tools) in
     let after : Moment = moment c.bucket.new.self c.bucket.new.journal (g.T.CountedTools.calls c.bucket.new.tools) in
     record {
@@ -70,5 +74,7 @@ loop-bucket-preserved g c =
 pub returns-clause-plays : goal.returns-clause-plays
 returns-clause-plays g c =
     sym c.loop-bucket.invariant.plays
-    ∙ none_left (player c.args.site.now.id.now g.T.CountedTools.answer) (bucket_of (seen_run c.args.site.now) c.args.found) c.loop-bucket.later
+    ∙ none_left (player c.args.context.now.id.now g.T.CountedTools.answer)
+    (bucket_by (seen_chooser c.args.context.now) (seen_run c.args.context.now) c.args.found)
+    c.loop-bucket.later
     (moment c.loop-bucket.self c.loop-bucket.journal (g.T.CountedTools.calls c.loop-bucket.tools)) c.in_default.ensures

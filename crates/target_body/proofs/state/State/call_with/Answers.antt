@@ -19,12 +19,12 @@ use Rattle.target_body.proofs.state.State.call_with.Goals as goal
 
 pub returns-in-Some-clause-plays : goal.returns-in-Some-clause-plays
 returns-in-Some-clause-plays g c =
-    let run = seen_run c.args.call.now.site in
+    let run = seen_run c.args.call.now.context in
     let e = seen_element c.args.call.now.element in
     let before : Moment = moment c.args.self.now c.args.journal.now (g.T.CountedTools.calls c.args.tools.now) in
     let f : Now × TaskOutput → Work (Result Now Stopped) = λ x. done (answered_to run e c.args.call.now.gives c.args.call.now.bucket.now c.args.on_error x) in
     let named : key_of (name_of e.node) ≡ Some c.in-Some.task = ap (λ (name : List ℕ). key_of name) (sym c.name.ensures) ∙ sym c.in_ok-task.ensures ∙ c.in-Some.is in
-    all_as (call_frames run e c.args.call.now.gives c.args.call.now.bucket.now) (player c.args.call.now.site.id.now g.T.CountedTools.answer)
+    all_as (call_frames run e c.args.call.now.gives c.args.call.now.bucket.now) (player c.args.call.now.context.id.now g.T.CountedTools.answer)
     (λ s. followed_by (answered run s c.in-Some.task c.args.params) f)
     (λ s. called_with run e c.args.call.now.gives c.args.call.now.bucket.now s (Some (c.args.on_error, c.args.params)))
     before (moment c.answer.new.self c.answer.new.journal (g.T.CountedTools.calls c.answer.new.tools)) c.answer.result
@@ -33,12 +33,12 @@ returns-in-Some-clause-plays g c =
 
 pub returns-in_ok-give-in-None-clause-plays : goal.returns-in_ok-give-in-None-clause-plays
 returns-in_ok-give-in-None-clause-plays g c =
-    let run = seen_run c.args.call.now.site in
+    let run = seen_run c.args.call.now.context in
     let e = seen_element c.args.call.now.element in
     let tools = g.T.CountedTools.calls c.args.tools.now in
     let before : Moment = moment c.args.self.now c.args.journal.now tools in
     let after : Moment = moment c.give.new.self c.give.new.journal tools in
-    let p = player c.args.call.now.site.id.now g.T.CountedTools.answer in
+    let p = player c.args.call.now.context.id.now g.T.CountedTools.answer in
     let f : Now × TaskOutput → Work (Result Now Stopped) = λ x. done (answered_to run e c.args.call.now.gives c.args.call.now.bucket.now c.args.on_error x) in
     let unnamed : key_of (name_of e.node) ≡ None = ap (λ (name : List ℕ). key_of name) (sym c.name.ensures) ∙ sym c.in_ok-task.ensures ∙ c.in-None.is in
     let told : c.in_ok-output-in-None.output ≡ failed (task_of e) UnknownTask =

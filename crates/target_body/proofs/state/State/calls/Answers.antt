@@ -15,9 +15,9 @@ use Rattle.target_body.proofs.state.State.calls.Goals as goal
 
 pub returns-in-Over-Faulted-clause-plays : goal.returns-in-Over-Faulted-clause-plays
 returns-in-Over-Faulted-clause-plays g c =
-    let run = seen_run c.args.at.now.site in
+    let run = seen_run c.args.at.now.context in
     let e = seen_element c.args.at.now.element in
-    let p = player c.args.at.now.site.id.now g.T.CountedTools.answer in
+    let p = player c.args.at.now.context.id.now g.T.CountedTools.answer in
     let frames = call_frames run e c.args.at.now.gives c.in-Some.bucket in
     let part = call run e c.args.at.now.gives in
     let now : Moment = moment c.loop-bucket.self c.loop-bucket.journal (g.T.CountedTools.calls c.loop-bucket.tools) in
@@ -29,9 +29,9 @@ returns-in-Over-Faulted-clause-plays g c =
 
 pub returns-in-Over-Failed-clause-plays : goal.returns-in-Over-Failed-clause-plays
 returns-in-Over-Failed-clause-plays g c =
-    let run = seen_run c.args.at.now.site in
+    let run = seen_run c.args.at.now.context in
     let e = seen_element c.args.at.now.element in
-    let p = player c.args.at.now.site.id.now g.T.CountedTools.answer in
+    let p = player c.args.at.now.context.id.now g.T.CountedTools.answer in
     let frames = call_frames run e c.args.at.now.gives c.in-Some.bucket in
     let part = call run e c.args.at.now.gives in
     let now : Moment = moment c.loop-bucket.self c.loop-bucket.journal (g.T.CountedTools.calls c.loop-bucket.tools) in
@@ -43,9 +43,9 @@ returns-in-Over-Failed-clause-plays g c =
 
 pub returns-in-Waits-clause-plays : goal.returns-in-Waits-clause-plays
 returns-in-Waits-clause-plays g c =
-    let run = seen_run c.args.at.now.site in
+    let run = seen_run c.args.at.now.context in
     let e = seen_element c.args.at.now.element in
-    let p = player c.args.at.now.site.id.now g.T.CountedTools.answer in
+    let p = player c.args.at.now.context.id.now g.T.CountedTools.answer in
     let frames = call_frames run e c.args.at.now.gives c.in-Some.bucket in
     let part = call run e c.args.at.now.gives in
     let now : Moment = moment c.loop-bucket.self c.loop-bucket.journal (g.T.CountedTools.calls c.loop-bucket.tools) in
@@ -59,9 +59,9 @@ returns-in-Waits-clause-plays g c =
 
 pub loop-bucket-preserved : goal.loop-bucket-preserved
 loop-bucket-preserved g c =
-    let run = seen_run c.args.at.now.site in
+    let run = seen_run c.args.at.now.context in
     let e = seen_element c.args.at.now.element in
-    let p = player c.args.at.now.site.id.now g.T.CountedTools.answer in
+    let p = player c.args.at.now.context.id.now g.T.CountedTools.answer in
     let frames = call_frames run e c.args.at.now.gives c.in-Some.bucket in
     let part = call run e c.args.at.now.gives in
     let now : Moment = moment c.loop-bucket.self c.loop-bucket.journal (g.T.CountedTools.calls c.loop-bucket.tools) in
@@ -77,8 +77,8 @@ loop-bucket-preserved g c =
 
 pub returns-clause-plays : goal.returns-clause-plays
 returns-clause-plays g c =
-    let run = seen_run c.args.at.now.site in
+    let run = seen_run c.args.at.now.context in
     let e = seen_element c.args.at.now.element in
     sym c.loop-bucket.invariant.plays
-    ∙ none_left (player c.args.at.now.site.id.now g.T.CountedTools.answer) (call run e c.args.at.now.gives) c.loop-bucket.later
+    ∙ none_left (player c.args.at.now.context.id.now g.T.CountedTools.answer) (call run e c.args.at.now.gives) c.loop-bucket.later
     (moment c.loop-bucket.self c.loop-bucket.journal (g.T.CountedTools.calls c.loop-bucket.tools)) c.in_default.ensures

@@ -18,8 +18,8 @@ use Rattle.target_body.proofs.state.State.children.Goals as goal
 
 pub returns-in-Over-Faulted-clause-plays : goal.returns-in-Over-Faulted-clause-plays
 returns-in-Over-Faulted-clause-plays g c =
-    let run = seen_run c.args.site.now in
-    let p = player c.args.site.now.id.now g.T.CountedTools.answer in
+    let run = seen_run c.args.context.now in
+    let p = player c.args.context.now.id.now g.T.CountedTools.answer in
     let place = c.loop-place.place in
     let now : Moment = moment c.loop-place.self c.loop-place.journal (g.T.CountedTools.calls c.loop-place.tools) in
     let after : Moment = moment c.child.new.self c.child.new.journal (g.T.CountedTools.calls c.child.new.tools) in
@@ -31,8 +31,8 @@ returns-in-Over-Faulted-clause-plays g c =
 
 pub returns-in-Over-Failed-clause-plays : goal.returns-in-Over-Failed-clause-plays
 returns-in-Over-Failed-clause-plays g c =
-    let run = seen_run c.args.site.now in
-    let p = player c.args.site.now.id.now g.T.CountedTools.answer in
+    let run = seen_run c.args.context.now in
+    let p = player c.args.context.now.id.now g.T.CountedTools.answer in
     let place = c.loop-place.place in
     let now : Moment = moment c.loop-place.self c.loop-place.journal (g.T.CountedTools.calls c.loop-place.tools) in
     let after : Moment = moment c.child.new.self c.child.new.journal (g.T.CountedTools.calls c.child.new.tools) in
@@ -44,8 +44,8 @@ returns-in-Over-Failed-clause-plays g c =
 
 pub returns-in-Waits-clause-plays : goal.returns-in-Waits-clause-plays
 returns-in-Waits-clause-plays g c =
-    let run = seen_run c.args.site.now in
-    let p = player c.args.site.now.id.now g.T.CountedTools.answer in
+    let run = seen_run c.args.context.now in
+    let p = player c.args.context.now.id.now g.T.CountedTools.answer in
     let place = c.loop-place.place in
     let now : Moment = moment c.loop-place.self c.loop-place.journal (g.T.CountedTools.calls c.loop-place.tools) in
     let after : Moment = moment c.child.new.self c.child.new.journal (g.T.CountedTools.calls c.child.new.tools) in
@@ -56,8 +56,8 @@ returns-in-Waits-clause-plays g c =
 
 pub loop-place-preserved : goal.loop-place-preserved
 loop-place-preserved g c =
-    let run = seen_run c.args.site.now in
-    let p = player c.args.site.now.id.now g.T.CountedTools.answer in
+    let run = seen_run c.args.context.now in
+    let p = player c.args.context.now.id.now g.T.CountedTools.answer in
     let place = c.loop-place.place in
     let now : Moment = moment c.loop-place.self c.loop-place.journal (g.T.CountedTools.calls c.loop-place.tools) in
     let after : Moment = moment c.child.new.self c.child.new.journal (g.T.CountedTools.calls c.child.new.tools) in
@@ -73,9 +73,9 @@ loop-place-preserved g c =
 
 pub returns-clause-plays : goal.returns-clause-plays
 returns-clause-plays g c =
-    let run = seen_run c.args.site.now in
+    let run = seen_run c.args.context.now in
     let elements = children_of run.target.element in
     let past : length elements ≤ c.loop-place.place = omega (arith, c.loop-place-test.false, c.count-place-end.ensures, length-map (children_in run.target.element.node) (at run.target.element.file)) in
     sym c.loop-place.invariant.plays
-    ∙ none_left (player c.args.site.now.id.now g.T.CountedTools.answer) (child run c.args.choice.now) (drop c.loop-place.place elements)
+    ∙ none_left (player c.args.context.now.id.now g.T.CountedTools.answer) (child run c.args.choice.now) (drop c.loop-place.place elements)
     (moment c.loop-place.self c.loop-place.journal (g.T.CountedTools.calls c.loop-place.tools)) (drop_all c.loop-place.place elements past)

@@ -16,10 +16,10 @@ use Rattle.target_body.proofs.state.State.give.Goals as goal
 
 pub returns-in-Fine : goal.returns-in-Fine
 returns-in-Fine c = λ answer tools.
-    let run = seen_run c.args.call.now.site in
+    let run = seen_run c.args.call.now.context in
     let e = seen_element c.args.call.now.element in
     let bucket = c.args.call.now.bucket.now in
-    let p = player c.args.call.now.site.id.now answer in
+    let p = player c.args.call.now.context.id.now answer in
     let held = c.act_all.new.self in
     let after = c.take_outputs.new.self in
     let journal = c.act_all.new.journal in
@@ -37,10 +37,10 @@ returns-in-Fine c = λ answer tools.
 
 pub returns-in-Faulted : goal.returns-in-Faulted
 returns-in-Faulted c = λ answer tools.
-    let run = seen_run c.args.call.now.site in
+    let run = seen_run c.args.call.now.context in
     let e = seen_element c.args.call.now.element in
     let bucket = c.args.call.now.bucket.now in
-    let p = player c.args.call.now.site.id.now answer in
+    let p = player c.args.call.now.context.id.now answer in
     let held = c.act_all.new.self in
     let after = c.take_outputs.new.self in
     let journal = c.act_all.new.journal in

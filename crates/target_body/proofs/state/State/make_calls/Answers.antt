@@ -12,11 +12,11 @@ use Rattle.target_body.proofs.state.State.make_calls.Goals as goal
 
 pub returns-then-is_empty : goal.returns-then-is_empty
 returns-then-is_empty c = λ answer tools.
-    let run = seen_run c.args.call.now.site in
+    let run = seen_run c.args.call.now.context in
     let e = seen_element c.args.call.now.element in
     let bucket = c.args.call.now.bucket.now in
     let at = c.args.at in
-    made_over run e c.args.call.now.gives bucket at.on_error (player c.args.call.now.site.id.now answer) at.plan at.results c.in_ok-output.output
+    made_over run e c.args.call.now.gives bucket at.on_error (player c.args.call.now.context.id.now answer) at.plan at.results c.in_ok-output.output
     (moment c.args.self.now c.args.journal.now tools) (moment c.give.new.self c.give.new.journal tools) c.in_ok-give.field-0
     (empty_of (length (next_calls at.plan at.results)) (ap (λ l. length l == 0) (sym c.next.ensures) ∙ sym c.is_empty.ensures ∙ c.if-is_empty.true))
     c.in_ok-output.ensures
@@ -24,10 +24,10 @@ returns-then-is_empty c = λ answer tools.
 
 pub returns : goal.returns
 returns c = λ answer tools.
-    let run = seen_run c.args.call.now.site in
+    let run = seen_run c.args.call.now.context in
     let e = seen_element c.args.call.now.element in
     let bucket = c.args.call.now.bucket.now in
     let at = c.args.at in
-    calls_wait (player c.args.call.now.site.id.now answer) (λ x. done (answered_to run e c.args.call.now.gives bucket at.on_error (x.0, gathered at.plan x.1)))
+    calls_wait (player c.args.call.now.context.id.now answer) (λ x. done (answered_to run e c.args.call.now.gives bucket at.on_error (x.0, gathered at.plan x.1)))
     (seen_done c.args.self.now c.args.journal.now tools) at (seen_state c.args.self.now c.args.journal.now)
     (not_empty (length (next_calls at.plan at.results)) (ap (λ l. length l == 0) (sym c.next.ensures) ∙ sym c.is_empty.ensures ∙ c.if-is_empty.false))

@@ -5,8 +5,8 @@ use Rattle.target_texts.specs.Seen.{seen_lists}
 use Rattle.target_texts.specs.declared.lists.Lists.{Lists}
 use Rattle.target_body.specs.Left.{bucket_frames}
 use Rattle.target_body.specs.Moments.{Moment, moment, player, state_at}
-use Rattle.target_body.specs.Pieces.{choice_of, chosen_or_run, decided, or_failed}
-use Rattle.target_body.specs.Seen.{seen_run}
+use Rattle.target_body.specs.Pieces.{chosen_or_run, decided, or_failed}
+use Rattle.target_body.specs.Seen.{seen_chooser, seen_run}
 use Rattle.target_body.specs.States.{State as Now, Stopped}
 use Rattle.target_body.specs.Work.{Work, done, followed_by}
 use Rattle.target_body.proofs.Stepping.{all_as}
@@ -14,27 +14,33 @@ use Rattle.target_body.proofs.state.State.piece.Goals as goal
 
 pub returns-in_ok-choice-in-Some-clause-plays : goal.returns-in_ok-choice-in-Some-clause-plays
 returns-in_ok-choice-in-Some-clause-plays g c =
-    let run = seen_run c.args.site.now in
+    let run = seen_run c.args.context.now in
+    let choose = seen_chooser c.args.context.now in
     let tools = g.T.CountedTools.calls c.args.tools.now in
     let before : Moment = moment c.args.self.now c.args.journal.now tools in
     let last : Result Now Stopped → Work (Result Now Stopped) = λ end. done (or_failed end) in
-    all_as (bucket_frames run) (player c.args.site.now.id.now g.T.CountedTools.answer)
+    all_as (bucket_frames run) (player c.args.context.now.id.now g.T.CountedTools.answer)
     (λ s. followed_by (decided run c.args.bucket c.in_ok-choice-in-Some.choice c.in-Some.lists.items s) last)
-    (λ s. followed_by (chosen_or_run (choice_of run) run c.args.bucket s (option_map seen_lists c.args.lists)) last)
+    (λ s. followed_by (chosen_or_run choose run c.args.bucket s
+    (option_map seen_lists c.args.lists)) last)
     before (moment c.decided.new.self c.decided.new.journal (g.T.CountedTools.calls c.decided.new.tools)) c.decided.result
-    (ap (λ (lists : Option Lists). followed_by (chosen_or_run (choice_of run) run c.args.bucket (state_at before) (option_map seen_lists lists)) last) c.in-Some.is
+    (ap (λ (lists : Option Lists). followed_by (chosen_or_run choose run c.args.bucket
+    (state_at before) (option_map seen_lists lists)) last) c.in-Some.is
     ∙ ap (λ (choice : Choice). followed_by (decided run c.args.bucket choice c.in-Some.lists.items (state_at before)) last) (sym c.in_ok-choice-in-Some.ensures))
     c.decided.ensures.plays
 
 pub returns-in-None-clause-plays : goal.returns-in-None-clause-plays
 returns-in-None-clause-plays g c =
-    let run = seen_run c.args.site.now in
+    let run = seen_run c.args.context.now in
+    let choose = seen_chooser c.args.context.now in
     let tools = g.T.CountedTools.calls c.args.tools.now in
     let before : Moment = moment c.args.self.now c.args.journal.now tools in
     let last : Result Now Stopped → Work (Result Now Stopped) = λ end. done (or_failed end) in
-    all_as (bucket_frames run) (player c.args.site.now.id.now g.T.CountedTools.answer)
+    all_as (bucket_frames run) (player c.args.context.now.id.now g.T.CountedTools.answer)
     (λ s. followed_by (decided run c.args.bucket RunAll None s) last)
-    (λ s. followed_by (chosen_or_run (choice_of run) run c.args.bucket s (option_map seen_lists c.args.lists)) last)
+    (λ s. followed_by (chosen_or_run choose run c.args.bucket s
+    (option_map seen_lists c.args.lists)) last)
     before (moment c.decided-in-None.new.self c.decided-in-None.new.journal (g.T.CountedTools.calls c.decided-in-None.new.tools)) c.decided-in-None.result
-    (ap (λ (lists : Option Lists). followed_by (chosen_or_run (choice_of run) run c.args.bucket (state_at before) (option_map seen_lists lists)) last) c.in-None.is)
+    (ap (λ (lists : Option Lists). followed_by (chosen_or_run choose run c.args.bucket
+    (state_at before) (option_map seen_lists lists)) last) c.in-None.is)
     c.decided-in-None.ensures.plays

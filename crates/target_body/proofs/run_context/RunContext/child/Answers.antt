@@ -3,7 +3,7 @@ use Rattle.build_world.specs.Elements.{At, at, children_of, seen_element}
 use Rattle.msb_elements.specs.Nodes.{children_in}
 use Rattle.std.proofs.Common.{get_or}
 use Rattle.target_body.proofs.Missing.{get_or_missing}
-use Rattle.target_body.proofs.site.Site.child.Goals as goal
+use Rattle.target_body.proofs.run_context.RunContext.child.Goals as goal
 
 pub returns-in-None : goal.returns-in-None
 returns-in-None c =

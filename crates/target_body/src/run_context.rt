@@ -9,24 +9,38 @@ ghost use Rattle.target_body.specs.Seen.{child_at, seen_run};
 use build_world::{PlacedElement, UsedTarget, World};
 use msb_expand::folder_of;
 use msb_files::FileView;
-use msb_values::Scope;
-use result_cache::RunId;
+use msb_values::{Pairs, Scope};
+use result_cache::RunRef;
 use target_texts::Place;
 
 /// The run at hand: the world that it is part of, its name, and the element that is used of its target.
 #[derive(Clone, Copy)]
-pub(crate) struct Site<'a> {
+pub(crate) struct RunContext<'a> {
     pub(crate) world: &'a World,
-    pub(crate) id: &'a RunId,
+    pub(crate) id: &'a RunRef,
     pub(crate) target: &'a UsedTarget,
 }
 
-impl<'a> Site<'a> {
+impl<'a> RunContext<'a> {
+    /// The path of the project.
+    pub(crate) fn project(&self) -> &'a str
+        ensures { result.now ≡ self.now.id.now.instance.path }
+    {
+        self.id.get().instance.path.as_str()
+    }
+
     /// The folder of the project, from which paths start.
     pub(crate) fn folder(&self) -> &'a str
         ensures { result.now ≡ folder_of self.now.id.now.instance.path }
     {
-        folder_of(self.id.instance.path.as_str())
+        folder_of(self.project())
+    }
+
+    /// The global properties of the project.
+    pub(crate) fn globals(&self) -> &'a Pairs
+        ensures { result.now ≡ self.now.id.now.instance.globals }
+    {
+        &self.id.get().instance.globals
     }
 
     /// A child of the target by its place; at no child's place, the target itself.
