@@ -26,8 +26,8 @@ use Rattle.result_cache.specs.contracts.request.RequestKey as RequestKey
 use Rattle.result_cache.specs.contracts.request.RequestResult as RequestResult
 use Rattle.result_cache.specs.contracts.request.Returned as Returned
 use Rattle.result_cache.specs.contracts.run.RunId as RunId
+use Rattle.result_cache.proofs.table.Table.TheSendSync as table
 use Rattle.result_cache.specs.contracts.run_ref.RunRef as RunRef
-use Rattle.result_cache.specs.contracts.table.Slot as TableSlot
 use Rattle.result_cache.specs.contracts.table.Table as Table
 
 pub Text-send : IsSend Text.the_row
@@ -151,11 +151,17 @@ Decision-send = search sendable depth 20
 Decision-sync : IsSync Decision.the_row
 Decision-sync = search sendable depth 20
 
+RunRef-send : IsSend RunRef.the_row
+RunRef-send = search (RunId-send, RunId-sync, owned, sendable) depth 20
+
+RunRef-sync : IsSync RunRef.the_row
+RunRef-sync = search (RunId-send, RunId-sync, owned, sendable) depth 20
+
 Segment-send : IsSend Segment.the_row
-Segment-send = recorded_send _ _ _ Segment.the_type.to_one (enum_send (Enum.shape Segment.the_type) ((act-send, tt), ((request-send, (Entries-send RunId.the_row RunId-send, tt)), tt)))
+Segment-send = recorded_send _ _ _ Segment.the_type.to_one (enum_send (Enum.shape Segment.the_type) ((act-send, tt), ((request-send, (Entries-send RunRef.the_row RunRef-send, tt)), tt)))
 
 Segment-sync : IsSync Segment.the_row
-Segment-sync = recorded_sync _ _ _ Segment.the_type.to_one (enum_sync (Enum.shape Segment.the_type) ((act-sync, tt), ((request-sync, (Entries-sync RunId.the_row RunId-sync, tt)), tt)))
+Segment-sync = recorded_sync _ _ _ Segment.the_type.to_one (enum_sync (Enum.shape Segment.the_type) ((act-sync, tt), ((request-sync, (Entries-sync RunRef.the_row RunRef-sync, tt)), tt)))
 
 record-send : IsSend Record.the_field.row
 record-send = struct_send (Struct.shape Record.the_type) (
@@ -175,12 +181,6 @@ record-sync = struct_sync (Struct.shape Record.the_type) (
   ),
 )
 
-RunRef-send : IsSend RunRef.the_row
-RunRef-send = search (RunId-send, RunId-sync, owned, sendable) depth 20
-
-RunRef-sync : IsSync RunRef.the_row
-RunRef-sync = search (RunId-send, RunId-sync, owned, sendable) depth 20
-
 Kept-send : IsSend Kept.the_row
 Kept-send = recorded_send _ _ _ Kept.the_type.to_one (struct_send (Struct.shape Kept.the_type) (record-send, (search (RunRef-send, owned, sendable) depth 20, tt)))
 
@@ -196,14 +196,11 @@ Returned-send = recorded_send _ _ _ Returned.the_type.to_one (struct_send (Struc
 pub told-send : IsSend RequestResult.the_field.row
 told-send = struct_send (Struct.shape RequestResult.the_type) (
   search sendable,
-  (search sendable, (Entries-send Returned.the_row Returned-send, (Entries-send RunId.the_row RunId-send, (search (Text-send, owned, sendable) depth 20, tt)))),
+  (search sendable, (Entries-send Returned.the_row Returned-send, (Entries-send RunRef.the_row RunRef-send, (search (Text-send, owned, sendable) depth 20, tt)))),
 )
 
 pub RequestResult-send : IsSend RequestResult.the_row
 RequestResult-send = recorded_send _ _ _ RequestResult.the_type.to_one told-send
 
-TableSlot-send : IsSend TableSlot.the_row
-TableSlot-send = recorded_send _ _ _ TableSlot.the_type.to_one (enum_send (Enum.shape TableSlot.the_type) ((search sendable, tt), ((RecordRef-send, tt), tt)))
-
 pub Table-send : IsSend Table.the_row
-Table-send = search (RunId-send, TableSlot-send, owned, sendable) depth 30
+Table-send = table.the_send

@@ -35,7 +35,7 @@ use crate::findings::Findings;
 use crate::{Recalls, Verdict};
 use build_scheduler::{Answer, Ask};
 use msb_values::{Copied, InstanceKey, List, NoMemory};
-use result_cache::{RecordRef, RequestKey, RequestResult, RunId, Table};
+use result_cache::{RecordRef, RequestKey, RequestResult, RunId, RunRef, Table};
 use std::alloc::Global;
 
 /// A request whose body calls others, which are made one after the other.
@@ -194,7 +194,8 @@ impl<W: Recalls> Check<W> {
             (W.world walk) self.new) }
         ensures asks { self.new.asks ≡ self.old.asks }
     {
-        if walk.recalls(&run) {
+        let name = RunRef::new(*self.callers.allocator(), &run)?;
+        if walk.recalls(&name) {
             return Ok(Turn::GoesOn(walk, Answer::Use));
         }
         if self.path.contains(&run) {

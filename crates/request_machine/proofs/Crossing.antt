@@ -32,8 +32,9 @@ use Rattle.build_world.specs.contracts.used_targets.UsedTargets.TheInside as Ins
 use Rattle.msb_files.proofs.journal.Journal.TheSendSync as journal
 use Rattle.result_cache.proofs.request.RequestKey.TheSendSync as key
 use Rattle.result_cache.proofs.run.RunId.TheSendSync as run
+use Rattle.result_cache.proofs.run_ref.RunRef.TheSendSync as run_ref
 use Rattle.result_cache.proofs.table.Table.TheSendSync as table
-use Rattle.result_cache.specs.contracts.run.RunId as RunId
+use Rattle.result_cache.specs.contracts.run_ref.RunRef as RunRef
 use Rattle.request_machine.proofs.visit.At.TheSendSync as at
 use Rattle.request_machine.proofs.reply.Reply.TheSendSync as reply
 use Rattle.request_machine.proofs.shared.SharedList.TheSendSync as shared
@@ -98,7 +99,7 @@ module _ (T : RattleType) (s : IsSend T) where
     tt,
     (
       (at.the_field_send T s, (journal.the_send, tt)),
-      ((former_visit-send, (journal.the_send, (shared.the_send RunId.the_row run.the_send run.the_sync, tt))), tt),
+      ((former_visit-send, (journal.the_send, (shared.the_send RunRef.the_row run_ref.the_send run_ref.the_sync, tt))), tt),
     ),
   )
 
@@ -114,7 +115,7 @@ module _ (T : RattleType) (s : IsSend T) where
       heap.the_field_send,
       (
         search (world.the_sync, sendable),
-        (key.the_field_send, (journal.the_send, (shared.the_send RunId.the_row run.the_send run.the_sync, (stage-send, tt)))),
+        (key.the_field_send, (journal.the_send, (shared.the_send RunRef.the_row run_ref.the_send run_ref.the_sync, (stage-send, tt)))),
       ),
     )
 

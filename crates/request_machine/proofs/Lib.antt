@@ -1,8 +1,6 @@
 pub mod Joining
 pub mod Answering
-pub mod Alike
 pub mod Errors
-pub mod Learned
 pub mod Names
 pub mod Placing
 pub mod Followed
@@ -10,7 +8,6 @@ pub mod Starting
 pub mod Stopping
 pub mod PlacesAnswered
 pub mod RunsMade
-pub mod RecordsNeeded
 pub mod RunsReplayed
 pub mod StagesTaken
 pub mod PutBack

@@ -27,7 +27,7 @@ use Rattle.build_scheduler.specs.Position.{Position, after_run, answered, answer
 use Rattle.build_scheduler.specs.declared.walker.Answer.TheVariants.{First, Go, Use, Results}
 use Rattle.build_scheduler.specs.declared.walker.Ask.{Ask}
 use Rattle.build_scheduler.specs.declared.walker.Ask.TheVariants.{Done, Want}
-use Rattle.target_body.specs.Standings.{Standing as BodyStanding, begins, waits, over, run_with, standing, target_named, tool_use}
+use Rattle.target_body.specs.Standings.{Standing as BodyStanding, begins, waits, over, standing_in, target_named, tool_use}
 use Rattle.target_body.specs.declared.body.Body.{Body}
 use Rattle.request_machine.specs.Answered.{GoesOn, HasMade, HasRecord, IsRecord, WaitsFor, WantsRun}
 use Rattle.request_machine.specs.Asks.{AsksAt, asked_by}
@@ -253,7 +253,7 @@ module _ {T : Type 0} (answer : List ℕ → ToolInput → ToolAnswer) (calls : 
 
   use_called : (v : Visit T) (body : Body) (uses : List (List ℕ × ToolInput)) (target : Option UsedTarget) → IsSome (answered_at V table journal runs (in_body calls w key v (halt_of w v.run body uses target)) Use) → ⊥
   use_called v body uses None is = cc
-  use_called v body uses (Some t) is = use_stood v uses (standing (run_with w v.run t) body) is
+  use_called v body uses (Some t) is = use_stood v uses (standing_in w v.run t body) is
 
   use_at : (v : Visit T) (at : At T) → v.run.instance ≡ key.instance → IsSome (answered_at V table journal runs (place_at calls w key v journal at) Use) → HasRecord table v.run journal at
   use_at v Wanted own is =

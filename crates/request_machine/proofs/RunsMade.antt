@@ -12,9 +12,9 @@ use Rattle.task_trait.specs.declared.tools.ToolAnswer.{ToolAnswer}
 use Rattle.task_trait.specs.declared.tools.ToolInput.{ToolInput}
 use Rattle.build_meaning.specs.SoFar.{nothing_yet, recorded}
 use Rattle.build_meaning.specs.Stop.{ends}
-use Rattle.target_body.specs.Bodies.{body as body_of}
+use Rattle.target_body.specs.Pieces.{Chooser, choice_of}
 use Rattle.target_body.specs.States.{Run}
-use Rattle.target_body.specs.Standings.{Standing, begins, waits, over, Fits, run_with, standing, tool_use}
+use Rattle.target_body.specs.Standings.{Standing, begins, waits, over, Fits, body_in, run_with, standing, standing_in, tool_use}
 use Rattle.target_body.specs.declared.body.Body.{Body}
 use Rattle.target_body.specs.declared.body.BodyAsk.{BodyAsk}
 use Rattle.target_body.specs.declared.body.BodyAsk.TheVariants.{Call, Finished}
@@ -41,16 +41,16 @@ module _ {T : Type 0} (answer : List ℕ → ToolInput → ToolAnswer) (calls : 
   none_used log empty = ap (flat_map (uses_between calls)) empty
 
   -- a body that begins
-  pub begins_steps : (target : Option UsedTarget) (scope : Scope) (body : Body) (log : Uses T) (results : List RequestResult) (before after : Journal) (old new : T) (step : Step T) → log.items ≡ [] → ((r : Run) → standing r body ≡ begins scope) → IsSome target
-      → IfSome target (λ t. Plays answer calls w run t (standing (run_with w run t) body) results before after old new log step) → Steps answer calls w run target (body_if w run target scope before) nothing_yet before after old new step
+  pub begins_steps : (target : Option UsedTarget) (scope : Scope) (body : Body) (log : Uses T) (results : List RequestResult) (before after : Journal) (old new : T) (step : Step T) → log.items ≡ [] → ((choose : Chooser) (r : Run) → standing choose r body ≡ begins scope) → IsSome target
+      → IfSome target (λ t. Plays answer calls w run t (standing_in w run t body) results before after old new log step) → Steps answer calls w run target (body_if w run target scope before) nothing_yet before after old new step
   begins_steps None scope body log results before after old new step empty at is plays = absurd (cc)
   begins_steps (Some t) scope body log results before after old new step empty at is plays =
-      subst (λ us. Steps answer calls w run (Some t) (body_of (run_with w run t) scope before) (record { segments = []; tools = map tool_use us }) before after old new step) (none_used log empty)
-      (subst (λ st. Plays answer calls w run t st results before after old new log step) (at (run_with w run t)) plays)
+      subst (λ us. Steps answer calls w run (Some t) (body_in w run t scope before) (record { segments = []; tools = map tool_use us }) before after old new step) (none_used log empty)
+      (subst (λ st. Plays answer calls w run t st results before after old new log step) (at (choice_of w.mode (run_with w run t)) (run_with w run t)) plays)
 
-  pub begins_fits : (target : Option UsedTarget) (scope : Scope) (body : Body) (results : List RequestResult) → results ≡ [] → ((r : Run) → standing r body ≡ begins scope) → IfSome target (λ t. Fits (standing (run_with w run t) body) results)
+  pub begins_fits : (target : Option UsedTarget) (scope : Scope) (body : Body) (results : List RequestResult) → results ≡ [] → ((choose : Chooser) (r : Run) → standing choose r body ≡ begins scope) → IfSome target (λ t. Fits (standing_in w run t body) results)
   begins_fits None scope body results none at = tt
-  begins_fits (Some t) scope body results none at = subst (λ st. Fits st results) (sym (at (run_with w run t))) none
+  begins_fits (Some t) scope body results none at = subst (λ st. Fits st results) (sym (at (choice_of w.mode (run_with w run t)) (run_with w run t))) none
 
   -- a target that the project has not
   pub nothing_steps : (target : Option UsedTarget) (scope : Scope) (log : Uses T) (journal : Journal) (tools : T) (step : Step T) → target ≡ None → log.items ≡ [] → IsFinished run log (recorded nothing_made []) step
@@ -76,9 +76,9 @@ module _ {T : Type 0} (answer : List ℕ → ToolInput → ToolAnswer) (calls : 
   waits_there None body uses results waiting = absurd waiting
   waits_there (Some t) body uses results waiting = refl
 
-  pub waits_fits : (target : Option UsedTarget) (body : Body) (uses : List (List ℕ × ToolInput)) (results : List RequestResult) → IsWaiting (halt_of w run body uses target) results → IfSome target (λ t. Fits (standing (run_with w run t) body) results)
+  pub waits_fits : (target : Option UsedTarget) (body : Body) (uses : List (List ℕ × ToolInput)) (results : List RequestResult) → IsWaiting (halt_of w run body uses target) results → IfSome target (λ t. Fits (standing_in w run t body) results)
   waits_fits None body uses results waiting = tt
-  waits_fits (Some t) body uses results waiting = standing_fits (standing (run_with w run t) body) uses results waiting
+  waits_fits (Some t) body uses results waiting = standing_fits (standing_in w run t body) uses results waiting
 
   plays_at : (t : UsedTarget) (st : Standing) (log : Uses T) (results : List RequestResult) (before after : Journal) (old new : T) (step : Step T) → Plays answer calls w run t st results before after old new log step
       → GoesOnFrom answer calls w run (Some t) (halt_by (uses_in calls log) st) results before after old new step
@@ -87,7 +87,7 @@ module _ {T : Type 0} (answer : List ℕ → ToolInput → ToolAnswer) (calls : 
   plays_at t over log results before after old new step plays = tt
 
   pub plays_on : (target : Option UsedTarget) (body : Body) (log : Uses T) (results : List RequestResult) (before after : Journal) (old new : T) (step : Step T)
-      → IfSome target (λ t. Plays answer calls w run t (standing (run_with w run t) body) results before after old new log step)
+      → IfSome target (λ t. Plays answer calls w run t (standing_in w run t body) results before after old new log step)
       → GoesOnFrom answer calls w run target (halt_of w run body (uses_in calls log) target) results before after old new step
   plays_on None body log results before after old new step plays = tt
-  plays_on (Some t) body log results before after old new step plays = plays_at t (standing (run_with w run t) body) log results before after old new step plays
+  plays_on (Some t) body log results before after old new step plays = plays_at t (standing_in w run t body) log results before after old new step plays

@@ -2,6 +2,7 @@
 use Rattle.std.proofs.Common.{◌≡◌, ℕ, List, [], ◌∷◌, ◌++◌, length, drop, map, Option, None, Some, IfSome, IsSome, refl, sym, ap, ◌∙◌, subst, append_assoc}
 use Rattle.std.specs.List.{flat_map}
 use Rattle.std.proofs.lemmas.List.{map-append, append-nil}
+use Rattle.msb_values.specs.declared.scope.Scope.{Scope}
 use Rattle.build_world.specs.Instances.{UsedTarget}
 use Rattle.build_world.specs.declared.world.World.{World as Given}
 use Rattle.result_cache.specs.Journal.{Journal}
@@ -13,10 +14,8 @@ use Rattle.task_trait.specs.declared.tools.ToolInput.{ToolInput}
 use Rattle.build_meaning.specs.SoFar.{SoFar, called, recorded}
 use Rattle.build_meaning.specs.Stop.{Stop, ends, asks}
 use Rattle.build_meaning.specs.Walk.{Body as Tree}
-use Rattle.target_body.specs.Bodies.{body as body_of}
-use Rattle.target_body.specs.Standings.{Standing, begins, waits, over, Advances, Fits, Goes, IsTold, run_with, standing, tool_use}
+use Rattle.target_body.specs.Standings.{Standing, begins, waits, over, Advances, Fits, Goes, IsTold, body_in, standing_in, tool_use}
 use Rattle.task_trait.specs.Tools.{BeginsWith}
-use Rattle.target_body.specs.States.{Run}
 use Rattle.target_body.specs.declared.body.Body.{Body}
 use Rattle.target_body.specs.declared.body.BodyAsk.{BodyAsk}
 use Rattle.request_machine.specs.Positions.{Halt, halt_at, halt_by, calls_at, uses_in, uses_between}
@@ -42,7 +41,7 @@ module _ {T : Type 0} (calls : T → List (List ℕ × ToolInput)) where
 
 module _ {T : Type 0} (answer : List ℕ → ToolInput → ToolAnswer) (calls : T → List (List ℕ × ToolInput)) (w : Given) (run : RunId) (target : UsedTarget) where
   pub step_stops : (b : Tree ToolInput ToolAnswer) (segments : List Segment) (before after : Journal) (old new : T) (log then_log : Log (Log T ℕ) (Log T ℕ)) (body : Body) (ask : BodyAsk) (step : Step T)
-      → Advances answer run b segments before after (calls old) (calls new) ask (standing (run_with w run target) body)
+      → Advances answer run b segments before after (calls old) (calls new) ask (standing_in w run target body)
       → ((uses : List (List ℕ × ToolInput)) → calls new ≡ calls old ++ uses → uses_in calls then_log ≡ uses_in calls log ++ uses)
       → IsStep run body then_log ask step → Steps answer calls w run (Some target) b (record { segments = segments; tools = map tool_use (uses_in calls log) }) before after old new step
   step_stops b segments before after old new log then_log body ask step a grown is = record {
@@ -62,7 +61,7 @@ module _ {T : Type 0} (answer : List ℕ → ToolInput → ToolAnswer) (calls : 
       tools_are : map tool_use (uses_in calls then_log) ≡ map tool_use (uses_in calls log) ++ map tool_use a.uses
       tools_are = ap (map tool_use) (grown a.uses a.calls) ∙ map-append tool_use (uses_in calls log) a.uses
 
-      stopped_by : (stop : Stop ToolInput ToolAnswer) → IsTold stop a.written ask (standing (run_with w run target) body) → (halt_at calls w run (Some target) step.at ≡ Some (so_far, stop)) × (step.ask ≡ ask_in run so_far stop)
+      stopped_by : (stop : Stop ToolInput ToolAnswer) → IsTold stop a.written ask (standing_in w run target body) → (halt_at calls w run (Some target) step.at ≡ Some (so_far, stop)) × (step.ask ≡ ask_in run so_far stop)
       stopped_by (ends outcome) told =
           let e = subst (λ x. IsStep run body then_log x step) told.0 is in
           (ap (halt_at calls w run (Some target)) e.0 ∙ ap (λ us. Some (record { segments = a.written; tools = us }, ends outcome)) tools_are, e.1)
@@ -72,9 +71,9 @@ module _ {T : Type 0} (answer : List ℕ → ToolInput → ToolAnswer) (calls : 
 
   module _ (results : List RequestResult) (before after : Journal) (old new : T) (log then_log : Log (Log T ℕ) (Log T ℕ)) (body then_body : Body) (ask : BodyAsk) (step : Step T)
       (grown : (uses : List (List ℕ × ToolInput)) → calls new ≡ calls old ++ uses → uses_in calls then_log ≡ uses_in calls log ++ uses) (is : IsStep run then_body then_log ask step) where
-    pub goes_plays : (st : Standing) → Goes answer run (run_with w run target) st results before after (calls old) (calls new) ask (standing (run_with w run target) then_body) →
+    pub goes_plays : (st : Standing) → Goes answer run (body_in w run target) st results before after (calls old) (calls new) ask (standing_in w run target then_body) →
         Plays answer calls w run target st results before after old new log step
-    goes_plays (begins scope) goes = step_stops (body_of (run_with w run target) scope before) [] before after old new log then_log then_body ask step goes grown is
+    goes_plays (begins scope) goes = step_stops (body_in w run target scope before) [] before after old new log then_log then_body ask step goes grown is
     goes_plays (waits segments key keys go) goes = step_stops (go results before) (segments ++ called (key ∷ keys) results) before after old new log then_log then_body ask step goes grown is
     goes_plays over goes = tt
 
@@ -82,22 +81,22 @@ module _ {T : Type 0} (answer : List ℕ → ToolInput → ToolAnswer) (calls : 
 pub all_play : {T : Type 0} (answer : List ℕ → ToolInput → ToolAnswer) (calls : T → List (List ℕ × ToolInput)) (w : Given) (run : RunId) (results : List RequestResult) (before after : Journal) (old new : T)
     (log then_log : Log (Log T ℕ) (Log T ℕ)) (body then_body : Body) (ask : BodyAsk) (step : Step T) (found : Option UsedTarget) →
     ((uses : List (List ℕ × ToolInput)) → calls new ≡ calls old ++ uses → uses_in calls then_log ≡ uses_in calls log ++ uses) → IsStep run then_body then_log ask step →
-    IfSome found (λ target. Goes answer run (run_with w run target) (standing (run_with w run target) body) results before after (calls old) (calls new) ask (standing (run_with w run target) then_body)) →
-    IfSome found (λ target. Plays answer calls w run target (standing (run_with w run target) body) results before after old new log step)
+    IfSome found (λ target. Goes answer run (body_in w run target) (standing_in w run target body) results before after (calls old) (calls new) ask (standing_in w run target then_body)) →
+    IfSome found (λ target. Plays answer calls w run target (standing_in w run target body) results before after old new log step)
 all_play answer calls w run results before after old new log then_log body then_body ask step None grown is goes = tt
 all_play answer calls w run results before after old new log then_log body then_body ask step (Some target) grown is goes =
-    goes_plays answer calls w run target results before after old new log then_log body then_body ask step grown is (standing (run_with w run target) body) goes
+    goes_plays answer calls w run target results before after old new log then_log body then_body ask step grown is (standing_in w run target body) goes
 
 -- the calls of tools begin with those of before
-goes_begin : (answer : List ℕ → ToolInput → ToolAnswer) (id : RunId) (run : Run) (results : List RequestResult) (before after : Journal) (old new : List (List ℕ × ToolInput)) (ask : BodyAsk) (st now : Standing) →
-    Fits st results → Goes answer id run st results before after old new ask now → BeginsWith old new
-goes_begin answer id run results before after old new ask (begins scope) now fits goes = (goes.uses, goes.calls)
-goes_begin answer id run results before after old new ask (waits segments key keys go) now fits goes = (goes.uses, goes.calls)
-goes_begin answer id run results before after old new ask over now fits goes = absurd fits
+goes_begin : (answer : List ℕ → ToolInput → ToolAnswer) (id : RunId) (whole : Scope → Journal → Tree ToolInput ToolAnswer) (results : List RequestResult) (before after : Journal) (old new : List (List ℕ × ToolInput)) (ask : BodyAsk) (st now : Standing) →
+    Fits st results → Goes answer id whole st results before after old new ask now → BeginsWith old new
+goes_begin answer id whole results before after old new ask (begins scope) now fits goes = (goes.uses, goes.calls)
+goes_begin answer id whole results before after old new ask (waits segments key keys go) now fits goes = (goes.uses, goes.calls)
+goes_begin answer id whole results before after old new ask over now fits goes = absurd fits
 
 pub all_begin : (answer : List ℕ → ToolInput → ToolAnswer) (w : Given) (run : RunId) (found : Option UsedTarget) (body then_body : Body) (results : List RequestResult) (before after : Journal) (old new : List (List ℕ × ToolInput)) (ask : BodyAsk) → IsSome found →
-    IfSome found (λ target. Fits (standing (run_with w run target) body) results) →
-    IfSome found (λ target. Goes answer run (run_with w run target) (standing (run_with w run target) body) results before after old new ask (standing (run_with w run target) then_body)) → BeginsWith old new
+    IfSome found (λ target. Fits (standing_in w run target body) results) →
+    IfSome found (λ target. Goes answer run (body_in w run target) (standing_in w run target body) results before after old new ask (standing_in w run target then_body)) → BeginsWith old new
 all_begin answer w run None body then_body results before after old new ask there fits goes = absurd (cc)
 all_begin answer w run (Some target) body then_body results before after old new ask there fits goes =
-    goes_begin answer run (run_with w run target) results before after old new ask (standing (run_with w run target) body) (standing (run_with w run target) then_body) fits goes
+    goes_begin answer run (body_in w run target) results before after old new ask (standing_in w run target body) (standing_in w run target then_body) fits goes

@@ -1,5 +1,19 @@
--- Where a request stood before its last answer, by what the answer has replaced. (Target build order; MSBuild task)
-use Rattle.std.specs.Prelude.{◌≡◌, ℕ, ◌==◌, not, List, Bool, true, false, Option, None, Some, option_map}
+-- Where a request stood before its last answer, by what the answer has replaced. (Target build
+-- order; MSBuild task)
+use Rattle.std.specs.Prelude.{
+  ◌≡◌,
+  ℕ,
+  ◌==◌,
+  not,
+  List,
+  Bool,
+  true,
+  false,
+  Option,
+  None,
+  Some,
+  option_map,
+}
 use Rattle.target_order.specs.declared.visits.Asked.TheVariants.{Body as ForBody}
 use Rattle.build_world.specs.declared.world.World.{World as Given}
 use Rattle.msb_values.specs.declared.key.InstanceKey.{InstanceKey}
@@ -14,7 +28,7 @@ use Rattle.request_machine.specs.Begun.{has_begun}
 use Rattle.request_machine.specs.Positions.{place_by, position_of}
 use Rattle.request_machine.specs.Requests.{failed}
 use Rattle.request_machine.specs.Runs.{run_in}
-use Rattle.request_machine.specs.Visited.{Visited, seen_stage, seen_visit}
+use Rattle.request_machine.specs.Visited.{Visited, seen_stage}
 use Rattle.request_machine.specs.Walk.{run_of}
 use Rattle.request_machine.specs.declared.former.Before.{Before}
 use Rattle.request_machine.specs.declared.former.Former.{Former}
@@ -24,16 +38,28 @@ use Rattle.request_machine.specs.declared.former.FormerVisit.TheVariants.{Whole,
 use Rattle.request_machine.specs.declared.former.VisitParts.{VisitParts}
 use Rattle.request_machine.specs.declared.request.Request.{Request}
 use Rattle.request_machine.specs.declared.stage.Stage.{Stage}
-use Rattle.request_machine.specs.declared.stage.Stage.TheVariants.{Begins as IsAtStart, Visits, Over}
+use Rattle.request_machine.specs.declared.stage.Stage.TheVariants.{Begins as IsAtStart}
 use Rattle.request_machine.specs.declared.visit.At.{At}
 
 -- a visit with these parts
 abbrev pub with_parts : {T : Type 0} → VisitParts T → Visited T → Visited T
-with_parts p v = record { instance = v.instance; standing = p.standing; order = p.order; run = run_of v.run.instance p.target; at = p.at }
+with_parts p v = record {
+  instance = v.instance;
+  standing = p.standing;
+  order = p.order;
+  run = run_of v.run.instance p.target;
+  at = p.at;
+}
 
 -- a visit whose run stands here
 abbrev pub with_at : {T : Type 0} → At T → Visited T → Visited T
-with_at at v = record { instance = v.instance; standing = v.standing; order = v.order; run = v.run; at = at }
+with_at at v = record {
+  instance = v.instance;
+  standing = v.standing;
+  order = v.order;
+  run = v.run;
+  at = at;
+}
 
 -- the visit before the answer, by the stage behind it
 abbrev pub visit_before : {T : Type 0} → Stage T → FormerVisit T → Option (Visited T)
@@ -46,7 +72,8 @@ body_before now at = option_map (with_at at) (seen_stage now)
 -- a visit of this instance, the body of which is its run's own
 abbrev pub IsVisitOf : {T : Type 0} → InstanceKey → Option (Visited T) → Type 0
 IsVisitOf instance None = ⊥
-IsVisitOf instance (Some v) = (v.order.asked ≡ ForBody) × (run_in v.run v.at ≡ v.run) × (v.run.instance ≡ instance)
+IsVisitOf instance (Some v) =
+    (v.order.asked ≡ ForBody) × (run_in v.run v.at ≡ v.run) × (v.run.instance ≡ instance)
 
 -- what an answer has replaced fits what it has left
 abbrev pub IsFormer : {T : Type 0} → InstanceKey → Stage T → Former T → Type 0
@@ -66,18 +93,28 @@ pub record IsBefore {T : Type 0} (r : Request T) (b : Before T) : Type 0 where
   pub begun : was_begun b.former ≡ not (b.asked == 0)
 
 module _ {T : Type 0} (calls : T → List (List ℕ × ToolInput)) where
-  abbrev pub place_seen : Given → RequestKey → Journal → Option (Visited T) → Place ToolInput ToolAnswer
+  abbrev pub place_seen : Given → RequestKey → Journal → Option (Visited T) →
+      Place ToolInput ToolAnswer
   place_seen w key journal None = walking (gives (failed None))
   place_seen w key journal (Some v) = place_by calls w key v journal v.at
 
   -- where a request stood, by what its last answer has replaced
   abbrev pub position_before : Request T → Former T → Position ToolInput ToolAnswer
   position_before r Begins = position_of calls r.world.now r.key r.journal r.runs IsAtStart
-  position_before r (Body at journal) = record { journal = journal; runs = r.runs; place = place_seen r.world.now r.key journal (body_before r.stage at) }
-  position_before r (Visit visit journal runs) = record { journal = journal; runs = runs; place = place_seen r.world.now r.key journal (visit_before r.stage visit) }
+  position_before r (Body at journal) = record {
+    journal = journal;
+    runs = r.runs;
+    place = place_seen r.world.now r.key journal (body_before r.stage at);
+  }
+  position_before r (Visit visit journal runs) = record {
+    journal = journal;
+    runs = runs;
+    place = place_seen r.world.now r.key journal (visit_before r.stage visit);
+  }
 
   -- this is what an answer has replaced that has taken a request from the first place to the second
   pub record Replaces (before after : Request T) (former : Former T) : Type 0 where
     pub fits : IsFormer after.key.instance after.stage former
     pub begun : has_begun before.stage ≡ was_begun former
-    pub stood : position_before after former ≡ position_of calls before.world.now before.key before.journal before.runs before.stage
+    pub stood : position_before after former
+        ≡ position_of calls before.world.now before.key before.journal before.runs before.stage

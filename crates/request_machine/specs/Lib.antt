@@ -5,7 +5,6 @@ pub mod Each
 pub mod Seen
 pub mod Turns
 pub mod Stands
-pub mod Learning
 pub mod Worlds
 pub mod Visited
 pub mod Positions
@@ -16,7 +15,6 @@ pub mod Runs
 pub mod Answered
 pub mod Asks
 pub mod Taken
-pub mod Needed
 pub mod WalkPosition
 pub mod Former
 pub mod Halted

@@ -14,8 +14,7 @@ use Rattle.build_meaning.specs.Stop.{Stop, Stopped, ends, asks, run_on}
 use Rattle.build_meaning.specs.Walk.{Body as Tree}
 use Rattle.build_scheduler.specs.declared.walker.Ask.{Ask}
 use Rattle.build_scheduler.specs.declared.walker.Ask.TheVariants.{Call as AskCall, Finished as AskFinished}
-use Rattle.target_body.specs.Bodies.{body as body_of}
-use Rattle.target_body.specs.Standings.{Standing, begins, waits, over, run_with, tool_use}
+use Rattle.target_body.specs.Standings.{Standing, begins, waits, over, body_in, tool_use}
 use Rattle.target_body.specs.declared.body.Body.{Body}
 use Rattle.target_body.specs.declared.body.BodyAsk.{BodyAsk}
 use Rattle.target_body.specs.declared.body.BodyAsk.TheVariants.{Call, Finished}
@@ -73,7 +72,7 @@ module _ {T : Type 0} (answer : List ℕ → ToolInput → ToolAnswer) (calls : 
   -- from where the body stands, by the results that have come
   abbrev pub Plays : Standing → List RequestResult → (before after : Journal) → (old new : T) → Log (Log T ℕ) (Log T ℕ) → Step T → Type 0
   Plays (begins scope) results before after old new log step =
-      Steps answer calls w run (Some target) (body_of (run_with w run target) scope before) (record { segments = []; tools = map tool_use (uses_in calls log) }) before after old new step
+      Steps answer calls w run (Some target) (body_in w run target scope before) (record { segments = []; tools = map tool_use (uses_in calls log) }) before after old new step
   Plays (waits segments key keys go) results before after old new log step =
       Steps answer calls w run (Some target) (go results before) (record { segments = segments ++ called (key ∷ keys) results; tools = map tool_use (uses_in calls log) }) before after old new step
   Plays over results before after old new log step = Unit {0}

@@ -18,7 +18,7 @@ use Rattle.build_meaning.specs.Stop.{Stop, ends, asks}
 use Rattle.build_meaning.specs.Walk.{Outcome, gives}
 use Rattle.build_scheduler.specs.Position.{Position}
 use Rattle.target_body.specs.declared.body.Body.{Body}
-use Rattle.target_body.specs.Standings.{Standing, begins, waits, over, standing, run_with, tool_use}
+use Rattle.target_body.specs.Standings.{Standing, begins, waits, over, standing_in, tool_use}
 use Rattle.request_machine.specs.Requests.{Project, target_at, failed}
 use Rattle.request_machine.specs.Walk.{walk, after_target}
 use Rattle.request_machine.specs.Worlds.{bodies_of, project_of, walk_of}
@@ -60,7 +60,7 @@ module _ {T : Type 0} (calls : T → List (List ℕ × ToolInput)) where
 module _ (w : Given) where
   abbrev pub halt_of : RunId → Body → List (List ℕ × ToolInput) → Option UsedTarget → Option Halt
   halt_of run body uses None = None
-  halt_of run body uses (Some target) = halt_by uses (standing (run_with w run target) body)
+  halt_of run body uses (Some target) = halt_by uses (standing_in w run target body)
 
 module _ {T : Type 0} (calls : T → List (List ℕ × ToolInput)) (w : Given) where
   -- by what a request holds of the body

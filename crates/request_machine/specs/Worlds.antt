@@ -31,7 +31,7 @@ nothing_made = record { ok = true; decisions = []; items = []; changes = []; not
 abbrev pub body_at : List File → Mode → RunId → Option UsedTarget → Scope → Journal →
     Body ToolInput ToolAnswer
 body_at files mode id None scope journal = makes nothing_made
-body_at files mode id (Some target) scope journal = body (run_at files mode id target) scope journal
+body_at files mode id (Some target) scope journal = body mode (run_at files id target) scope journal
 
 abbrev pub body_if : Given → RunId → Option UsedTarget → Scope → Journal → Body ToolInput ToolAnswer
 body_if w = body_at w.tree.files w.mode

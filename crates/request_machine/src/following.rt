@@ -23,7 +23,7 @@ use crate::visit::At;
 use build_scheduler::Ask;
 use msb_files::Journal;
 use msb_values::{Change, Copied, InstanceKey, Name, NoMemory, Scope};
-use result_cache::{Record, Returned, RunId};
+use result_cache::{Record, Returned, RunId, RunRef};
 use std::alloc::Global;
 use std::mem;
 use target_order::OrderWalk;
@@ -51,7 +51,7 @@ impl Drop for Follow {
 pub struct After {
     pub follow: Follow,
     pub journal: Journal,
-    pub runs: SharedList<RunId>,
+    pub runs: SharedList<RunRef>,
     pub ask: Ask,
 }
 
@@ -61,7 +61,7 @@ impl Follow {
         &self,
         alloc: Global,
         instance: &InstanceKey,
-        runs: &SharedList<RunId>,
+        runs: &SharedList<RunRef>,
     ) -> Result<Ask, NoMemory>
         ensures { IfOk result (λ ask. ask ≡ asked_by instance.now runs.now self.now.stand) }
     {

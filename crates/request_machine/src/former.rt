@@ -3,7 +3,9 @@
 ghost use Rattle.std.specs.Prelude.{◌≡◌, ◌==◌, not, option_map};
 ghost use Rattle.target_order.specs.declared.visits.Asked.TheVariants.{Body as ForBody};
 ghost use Rattle.request_machine.specs.Begun.{has_begun};
-ghost use Rattle.request_machine.specs.Former.{IsBefore, IsFormer, IsVisitOf, body_before, position_before, visit_before, was_begun, with_at, with_parts};
+ghost use Rattle.request_machine.specs.Former.{IsBefore, IsFormer, IsVisitOf};
+ghost use Rattle.request_machine.specs.Former.{body_before, position_before, visit_before};
+ghost use Rattle.request_machine.specs.Former.{was_begun, with_at, with_parts};
 ghost use Rattle.request_machine.specs.Runs.{run_in};
 ghost use Rattle.request_machine.specs.Taken.{IsVisit};
 ghost use Rattle.request_machine.specs.Visited.{seen_stage, seen_visit};
@@ -18,7 +20,7 @@ use crate::standing::Standing;
 use crate::visit::{At, Visit};
 use msb_files::Journal;
 use msb_values::Name;
-use result_cache::RunId;
+use result_cache::RunRef;
 use std::mem;
 use target_order::OrderWalk;
 use task_trait::CountedTools;
@@ -30,7 +32,7 @@ pub enum Former<T> {
     /// The body of its run stood here, by this journal.
     Body(At<T>, Journal),
     /// It visited another target, by this journal and with these runs.
-    Visit(FormerVisit<T>, Journal, SharedList<RunId>),
+    Visit(FormerVisit<T>, Journal, SharedList<RunRef>),
 }
 
 // A drop that is written out is proved here alone.
@@ -86,7 +88,8 @@ impl<T> VisitParts<T> {
     /// Puts the parts in the place of a visit's, which are given back. This takes no memory.
     pub fn replace(self, visit: &mut Visit<T>) -> VisitParts<T>
         requires asks_body { self.order.asked ≡ ForBody }
-        requires own_body { let run = run_of visit.old.run.instance self.target in run_in run self.at ≡ run }
+        requires own_body { let run = run_of visit.old.run.instance self.target in
+            run_in run self.at ≡ run }
         ensures instance { visit.new.instance ≡ visit.old.instance }
         ensures standing { visit.new.standing ≡ self.standing }
         ensures order { visit.new.order ≡ self.order }
@@ -116,7 +119,8 @@ impl<T> VisitParts<T> {
     // Puts the parts of a visit back.
     fn put_back(self, stage: &mut Stage<T>)
         requires visits { IsVisit stage.old }
-        requires fits { ∥ ((instance : InstanceKey) × IsVisitOf instance (option_map (with_parts self) (seen_stage stage.old))) ∥₁ }
+        requires fits { ∥ ((instance : InstanceKey) ×
+            IsVisitOf instance (option_map (with_parts self) (seen_stage stage.old))) ∥₁ }
         ensures { seen_stage stage.new ≡ option_map (with_parts self) (seen_stage stage.old) }
     {
         match stage {
@@ -131,7 +135,8 @@ impl<T> VisitParts<T> {
 impl<T> FormerVisit<T> {
     // Puts the visit back.
     fn put_back(self, stage: &mut Stage<T>)
-        requires { ∥ ((instance : InstanceKey) × IsVisitOf instance (visit_before stage.old self)) ∥₁ }
+        requires { ∥ ((instance : InstanceKey) ×
+            IsVisitOf instance (visit_before stage.old self)) ∥₁ }
         ensures { seen_stage stage.new ≡ visit_before stage.old self }
     {
         match self {
@@ -141,10 +146,12 @@ impl<T> FormerVisit<T> {
     }
 }
 
-/// The body of the run of a stage stands here now. Where it stood is given back. This takes no memory.
+/// The body of the run of a stage stands here now. Where it stood is given back. This takes no
+/// memory.
 pub fn replace_body<T>(stage: &mut Stage<T>, at: At<T>) -> At<T>
     requires visits { IsVisit stage.old }
-    requires fits { ∥ ((instance : InstanceKey) × IsVisitOf instance (body_before stage.old at)) ∥₁ }
+    requires fits { ∥ ((instance : InstanceKey) ×
+        IsVisitOf instance (body_before stage.old at)) ∥₁ }
     ensures now { seen_stage stage.new ≡ body_before stage.old at }
     ensures before { body_before stage.new result ≡ seen_stage stage.old }
 {
@@ -163,10 +170,12 @@ fn replace_at<T>(visit: &mut Visit<T>, at: At<T>) -> At<T>
 }
 
 impl<T: CountedTools> Former<T> {
-    /// Puts everything back into the request, which stands then as before the answer. This takes no memory.
+    /// Puts everything back into the request, which stands then as before the answer. This takes
+    /// no memory.
     pub fn put_back<'a>(self, request: &mut Request<'a, T>)
         requires { ∥ IsFormer request.old.key.instance request.old.stage self ∥₁ }
-        ensures stands { request_position T.calls request.new ≡ position_before T.calls request.old self }
+        ensures stands { request_position T.calls request.new
+            ≡ position_before T.calls request.old self }
         ensures begun { has_begun request.new.stage ≡ was_begun self }
         ensures world { request.new.world ≡ request.old.world }
     {
@@ -205,7 +214,8 @@ impl<T: CountedTools> Before<T> {
     /// Puts back what was replaced, and says how often the walk had asked.
     pub fn put_back<'a>(self, request: &mut Request<'a, T>) -> u64
         requires { ∥ IsBefore request.old self ∥₁ }
-        ensures stands { request_position T.calls request.new ≡ position_before T.calls request.old self.former }
+        ensures stands { request_position T.calls request.new
+            ≡ position_before T.calls request.old self.former }
         ensures asked { result ≡ self.asked }
         ensures begun { has_begun request.new.stage ≡ not (self.asked == 0) }
         ensures world { request.new.world ≡ request.old.world }

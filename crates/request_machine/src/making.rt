@@ -2,7 +2,7 @@ ghost use Rattle.std.specs.Prelude.{◌≡◌, [], ◌∷◌, IfOk, IfSome, IsSo
 ghost use Rattle.build_meaning.specs.SoFar.{nothing_yet, recorded};
 ghost use Rattle.build_world.specs.Instances.{seen_instance};
 ghost use Rattle.task_trait.specs.Tools.{BeginsWith};
-ghost use Rattle.target_body.specs.Standings.{Fits, run_with, standing, target_named};
+ghost use Rattle.target_body.specs.Standings.{Fits, standing_in, target_named};
 ghost use Rattle.request_machine.specs.Making.{IsFinished, IsStep, Plays, Steps};
 ghost use Rattle.request_machine.specs.Runs.{run_in};
 ghost use Rattle.request_machine.specs.Worlds.{body_if, nothing_made};
@@ -14,7 +14,7 @@ use build_scheduler::Ask;
 use build_world::{Instance, World};
 use msb_files::Journal;
 use msb_values::{Copied, List, NoMemory, Scope};
-use result_cache::{Record, RecordRef, RequestResult, RunId};
+use result_cache::{Record, RecordRef, RequestResult, RunRef};
 use std::alloc::Global;
 use target_body::{Body, BodyAsk};
 use task_trait::CountedTools;
@@ -24,7 +24,7 @@ use task_trait::CountedTools;
 pub struct Making<'a> {
     pub world: &'a World,
     pub instance: &'a Instance,
-    pub run: &'a RunId,
+    pub run: &'a RunRef,
 }
 
 /// Where the body of a run has stopped, and what the request asks then.
@@ -67,9 +67,9 @@ impl<'a> Making<'a> {
         requires run { body.run ≡ self.now.run.now }
         requires target { IsSome (target_named (seen_instance self.now.instance.now).targets self.now.run.now.target) }
         requires fits { IfSome (target_named (seen_instance self.now.instance.now).targets self.now.run.now.target) (λ target.
-            Fits (standing (run_with self.now.world.now self.now.run.now target) body) results.now) }
+            Fits (standing_in self.now.world.now self.now.run.now target body) results.now) }
         ensures goes { IfOk result (λ step. IfSome (target_named (seen_instance self.now.instance.now).targets self.now.run.now.target) (λ target.
-            Plays T.answer T.calls self.now.world.now self.now.run.now target (standing (run_with self.now.world.now self.now.run.now target) body) results.now journal.old journal.new tools.old tools.new uses.now step)) }
+            Plays T.answer T.calls self.now.world.now self.now.run.now target (standing_in self.now.world.now self.now.run.now target body) results.now journal.old journal.new tools.old tools.new uses.now step)) }
         ensures tools { BeginsWith (T.calls tools.old) (T.calls tools.new) }
         ensures run { IfOk result (λ step. run_in self.now.run.now step.at ≡ self.now.run.now) }
     {
@@ -103,7 +103,7 @@ impl<'a> Making<'a> {
     {
         let made = RecordRef::of_run(alloc, self.run, made)?;
         Ok(Step {
-            ask: Ask::Finished(self.run.copy()?, made.copy()?),
+            ask: Ask::Finished(self.run.get().copy()?, made.copy()?),
             at: At::Made(made, uses),
         })
     }

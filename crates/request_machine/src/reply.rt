@@ -5,7 +5,7 @@ ghost use Rattle.build_meaning.specs.SoFar.{result_of};
 
 use crate::shared::SharedList;
 use msb_values::{Copied, List, Name, NoMemory, Text};
-use result_cache::{RequestResult, Returned, RunId};
+use result_cache::{RequestResult, Returned, RunRef};
 use std::alloc::Global;
 use std::marker::Model;
 
@@ -81,7 +81,11 @@ impl Reply {
     }
 
     /// The result of a request that answers so, by the runs that it made or used.
-    pub fn result(&self, alloc: Global, runs: &SharedList<RunId>) -> Result<RequestResult, NoMemory>
+    pub fn result(
+        &self,
+        alloc: Global,
+        runs: &SharedList<RunRef>,
+    ) -> Result<RequestResult, NoMemory>
         ensures { IfOk result (λ r. r ≡ result_of self.now runs.now) }
     {
         Ok(RequestResult {

@@ -15,7 +15,7 @@ use build_scheduler::{Answer, Ask};
 use build_world::World;
 use msb_files::Journal;
 use msb_values::{Copied, List, NoMemory};
-use result_cache::{Record, RequestKey, RequestResult, RunId, Table};
+use result_cache::{Record, RequestKey, RequestResult, RunRef, Table};
 use std::alloc::Global;
 use std::mem;
 use task_trait::CountedTools;
@@ -27,7 +27,7 @@ pub struct Request<'a, T> {
     pub key: RequestKey,
     pub journal: Journal,
     /// The runs that it has made or used, in order.
-    pub runs: SharedList<RunId>,
+    pub runs: SharedList<RunRef>,
     pub stage: Stage<T>,
     ghost own_run: { instance_in key.instance stage ≡ key.instance },
 }
@@ -121,9 +121,10 @@ impl<'a, T> Request<'a, T> {
         requires { HasRecord learnt.now.finished visit.now.run self.now.journal visit.now.at }
         ensures { IfOk result (ComesAfter self.now.world.now self.now.key learnt.now.finished self.now.journal self.now.runs visit.now) }
     {
-        let runs = self.runs_with(&visit.run)?;
+        let run = RunRef::new(self.alloc, &visit.run)?;
         let mut journal = self.journal.copy()?;
-        let made = visit.record(self.alloc, learnt, &mut journal)?;
+        let made = visit.record(self.alloc, learnt, &run, &mut journal)?;
+        let runs = self.runs_with(made.name_or(run))?;
         let follow = self.follow(visit, &journal, made.get())?;
         let ask = follow.ask(self.alloc, &self.key.instance, &runs)?;
         Ok(After {
@@ -135,11 +136,11 @@ impl<'a, T> Request<'a, T> {
     }
 
     // The runs that it has made or used, with this one.
-    fn runs_with(&self, run: &RunId) -> Result<SharedList<RunId>, NoMemory>
-        ensures { IfOk result (λ runs. runs ≡ self.now.runs ++ run.now ∷ []) }
+    fn runs_with(&self, run: RunRef) -> Result<SharedList<RunRef>, NoMemory>
+        ensures { IfOk result (λ runs. runs ≡ self.now.runs ++ run ∷ []) }
     {
         let mut runs = self.runs.copy()?;
-        runs.push(self.alloc, run.copy()?)?;
+        runs.push(self.alloc, run)?;
         Ok(runs)
     }
 

@@ -4,7 +4,7 @@ ghost use Rattle.build_meaning.specs.SoFar.{runs_of};
 
 use msb_files::Journal;
 use msb_values::NoMemory;
-use result_cache::{RequestResult, RunId, Table};
+use result_cache::{RequestResult, Table};
 use std::alloc::Global;
 
 /// Replays the runs of the results of calls, in call order. (MSBuild task.)
@@ -18,22 +18,7 @@ pub fn replay_results(
     ensures { OnOk result (replay_all learnt.now.finished (runs_of results.now) journal.old ≡ Some journal.new) }
 {
     for result in results {
-        replay_runs(alloc, journal, learnt, result.runs.as_slice())?;
-    }
-    Ok(())
-}
-
-fn replay_runs(
-    alloc: Global,
-    journal: &mut Journal,
-    learnt: &Table,
-    runs: &[RunId],
-) -> Result<(), NoMemory>
-    requires { IsSome (replay_all learnt.now.finished runs.now journal.old) }
-    ensures { OnOk result (replay_all learnt.now.finished runs.now journal.old ≡ Some journal.new) }
-{
-    for run in runs {
-        journal.replay(alloc, learnt, run)?;
+        journal.replay_all(alloc, learnt, result.runs.as_slice())?;
     }
     Ok(())
 }

@@ -18,7 +18,7 @@ use crate::visit::{At, Visit};
 use build_world::World;
 use msb_files::Journal;
 use msb_values::{Copied, List, NoMemory};
-use result_cache::{Found, RecordRef, RequestResult, RunId, Table};
+use result_cache::{Found, RecordRef, RequestResult, RunRef, Table};
 use std::alloc::Global;
 use task_trait::CountedTools;
 
@@ -36,10 +36,11 @@ impl<T: CountedTools> Visit<T> {
         ensures tools { BeginsWith (T.calls tools.old) (T.calls tools.new) }
         ensures run { IfOk result (λ step. run_in self.now.run step.at ≡ self.now.run) }
     {
+        let run = RunRef::new(alloc, &self.run)?;
         let making = Making {
             world,
             instance: &self.instance,
-            run: &self.run,
+            run: &run,
         };
         let project = Project {
             tree: &world.tree,
@@ -67,14 +68,15 @@ impl<T: CountedTools> Visit<T> {
         ensures tools { BeginsWith (T.calls tools.old) (T.calls tools.new) }
         ensures run { IfOk result (λ step. run_in self.now.run step.at ≡ self.now.run) }
     {
-        let making = Making {
-            world,
-            instance: &self.instance,
-            run: &self.run,
-        };
         match &self.at {
             At::Called(body, uses) => {
                 let copy = body.copy()?;
+                let run = copy.run()?;
+                let making = Making {
+                    world,
+                    instance: &self.instance,
+                    run: &run,
+                };
                 making.step(alloc, tools, copy, uses, journal, results)
             }
             At::Wanted | At::Made(..) => unreachable!(),
@@ -89,15 +91,16 @@ impl<T> Visit<T> {
         &self,
         alloc: Global,
         learnt: &Table,
+        run: &RunRef,
         journal: &mut Journal,
     ) -> Result<RecordRef, NoMemory>
-        requires { HasRecord learnt.now.finished self.now.run journal.old self.now.at }
-        ensures { IfOk result (IsRecord learnt.now.finished self.now.run journal.old journal.new self.now.at) }
+        requires { HasRecord learnt.now.finished run.now journal.old self.now.at }
+        ensures { IfOk result (IsRecord learnt.now.finished run.now journal.old journal.new self.now.at) }
     {
         match &self.at {
-            At::Wanted => replayed(alloc, learnt, journal, &self.run),
+            At::Wanted => replayed(alloc, learnt, journal, run),
             At::Made(made, _) => {
-                journal.ended(alloc, &self.run, made.copy()?)?;
+                journal.ended(alloc, run, made.copy()?)?;
                 made.copy()
             }
             At::Called(..) => unreachable!(),
@@ -110,14 +113,14 @@ fn replayed(
     alloc: Global,
     learnt: &Table,
     journal: &mut Journal,
-    run: &RunId,
+    run: &RunRef,
 ) -> Result<RecordRef, NoMemory>
     requires known { IsSome (found learnt.now.finished run.now) }
     requires replays { IsSome (replay learnt.now.finished run.now journal.old) }
     ensures known { IfOk result (λ made. found learnt.now.finished run.now ≡ Some made) }
     ensures replays { OnOk result (replay learnt.now.finished run.now journal.old ≡ Some journal.new) }
 {
-    match learnt.find(run) {
+    match learnt.find_ref(run) {
         Found::Done(made) => {
             journal.replay(alloc, learnt, run)?;
             made.copy()

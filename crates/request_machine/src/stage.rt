@@ -3,7 +3,7 @@ use crate::shared::SharedList;
 use crate::visit::Visit;
 use build_scheduler::Ask;
 use msb_values::{Copied, NoMemory};
-use result_cache::RunId;
+use result_cache::RunRef;
 use std::alloc::Global;
 
 /// How far a request has come.
@@ -31,7 +31,7 @@ impl<T> Stage<T> {
     ghost use Rattle.request_machine.specs.Asks.{AsksAt};
 
     /// What a request asks that has made or used these runs, and wants another one or is over.
-    pub fn ask(&self, alloc: Global, runs: &SharedList<RunId>) -> Result<Ask, NoMemory>
+    pub fn ask(&self, alloc: Global, runs: &SharedList<RunRef>) -> Result<Ask, NoMemory>
         requires { is_fresh self.now ≡ true }
         ensures { IfOk result (AsksAt runs.now self.now) }
     {

@@ -9,7 +9,7 @@ use build_scheduler::{Answer, Ask, Walker};
 use build_world::World;
 use msb_files::Journal;
 use msb_values::{Copied, NoMemory};
-use result_cache::{RequestKey, RunId, Table};
+use result_cache::{RequestKey, RunRef, Table};
 use std::alloc::Global;
 use std::mem;
 use task_trait::CountedTools;
@@ -20,7 +20,7 @@ pub struct WorldRef<'a> {
     pub world: &'a World,
 }
 
-/// The walk of a request of a build, with the records that its last answer needs. (Target build order; MSBuild task.)
+/// The walk of a request of a build, with the records that it has learnt. (Target build order; MSBuild task.)
 pub struct Walk<'a, T> {
     pub(crate) request: Request<'a, T>,
     pub(crate) learnt: Table,
@@ -66,7 +66,7 @@ impl<'a, T: CountedTools> Walk<'a, T> {
     }
 
     /// Whether the run has ended in its journal. This takes no memory.
-    pub fn has_ended(&self, run: &RunId) -> bool
+    pub fn has_ended(&self, run: &RunRef) -> bool
         ensures { result ≡ has (end_of run.now) (walk_position T.calls self.now).journal }
     {
         self.request.journal.has_ended(run)
@@ -132,8 +132,9 @@ impl<'a, T: CountedTools> Walker for Walk<'a, T> {
         Ok(Walk::of(self.request.alloc, self.request.world, key, journal))
     }
 
-    fn learn(&mut self, table: &Table, answer: &Answer) -> Result<(), NoMemory> {
-        let learnt = self.request.needed(table, answer)?;
+    // All records are learnt at once: a copy of a table shares them.
+    fn learn(&mut self, table: &Table, _: &Answer) -> Result<(), NoMemory> {
+        let learnt = table.learnt()?;
         self.learnt = learnt;
         Ok(())
     }

@@ -1,23 +1,32 @@
-use Rattle.std.proofs.Common.{refl, ap, sym, ◌∙◌}
+use Rattle.std.proofs.Common.{◌≡◌, Bool, refl, ap, sym, ◌∙◌}
 use Rattle.std.specs.List.{list_any}
+use Rattle.result_cache.specs.Journal.{Journal, end_of, has}
 use Rattle.result_cache.specs.Same.{same_run}
+use Rattle.result_cache.specs.declared.run.RunId.{RunId}
 use Rattle.build_scheduler.specs.Own.{seen_by}
 use Rattle.build_steady.proofs.Holding.{want-circles, want-goes, want-said, want-uses}
 use Rattle.build_steady.proofs.checking.Check.want.Goals as goal
+
+-- what is told of the name is told of the run
+recalled : (told : Bool) (journal : Journal) (name run : RunId) → name ≡ run →
+    told ≡ has (end_of name) journal → has (end_of run) journal ≡ told
+recalled told journal name run same is = ap (λ r. has (end_of r) journal) (sym same) ∙ sym is
 
 pub returns-then-recalls-clause-turn : goal.returns-then-recalls-clause-turn
 returns-then-recalls-clause-turn g c =
     let m = g.W.Walker in
     want-uses (seen_by m.world m.position m.asked m.learnt) (m.world c.args.walk) c.args.self.now
     c.args.walk c.args.run c.requires.held c.requires.asking c.requires.asks
-    (sym c.recalls.ensures ∙ c.if-recalls.true)
+    (recalled c.recalls.result (m.position c.args.walk).journal c.in_ok-name.name c.args.run
+    c.in_ok-name.ensures c.recalls.ensures ∙ c.if-recalls.true)
 
 pub returns-then-contains-clause-turn : goal.returns-then-contains-clause-turn
 returns-then-contains-clause-turn g c =
     let m = g.W.Walker in
     want-circles (seen_by m.world m.position m.asked m.learnt) (m.world c.args.walk) c.args.self.now
-    (m.position c.args.walk) c.args.run c.requires.held c.requires.asks (sym c.recalls.ensures
-    ∙ c.if-recalls.false)
+    (m.position c.args.walk) c.args.run c.requires.held c.requires.asks
+    (recalled c.recalls.result (m.position c.args.walk).journal c.in_ok-name.name c.args.run
+    c.in_ok-name.ensures c.recalls.ensures ∙ c.if-recalls.false)
     (sym (c.contains.ensures.value ∙ ap (list_any (λ x. same_run x c.args.run))
     c.deref.ensures.value) ∙ c.if-contains.true)
 
@@ -26,7 +35,9 @@ returns-in-Some-clause-turn g c =
     let m = g.W.Walker in
     want-said (seen_by m.world m.position m.asked m.learnt) (m.world c.args.walk) c.args.self.now
     (m.position c.args.walk) c.args.run c.in-Some.verdict c.begin.new.self c.requires.held
-    c.requires.asks (sym c.recalls.ensures ∙ c.if-recalls.false)
+    c.requires.asks
+    (recalled c.recalls.result (m.position c.args.walk).journal c.in_ok-name.name c.args.run
+    c.in_ok-name.ensures c.recalls.ensures ∙ c.if-recalls.false)
     (sym (c.contains.ensures.value ∙ ap (list_any (λ x. same_run x c.args.run))
     c.deref.ensures.value) ∙ c.if-contains.false)
     (λ before shows. c.in-Some.ensures.told before c.args.run shows)
@@ -36,7 +47,8 @@ returns-in_ok-push-in-None-clause-turn g c =
     let m = g.W.Walker in
     want-goes (seen_by m.world m.position m.asked m.learnt) (m.world c.args.walk) c.args.self.now _
     c.args.walk c.args.run c.requires.held c.requires.asking c.requires.asks
-    (sym c.recalls.ensures ∙ c.if-recalls.false)
+    (recalled c.recalls.result (m.position c.args.walk).journal c.in_ok-name.name c.args.run
+    c.in_ok-name.ensures c.recalls.ensures ∙ c.if-recalls.false)
     (sym (c.contains.ensures.value ∙ ap (list_any (λ x. same_run x c.args.run))
     c.deref.ensures.value) ∙ c.if-contains.false)
     (λ before shows. c.in-None.ensures.told before c.args.run shows) c.begin.ensures.records

@@ -2,7 +2,7 @@ use Rattle.std.proofs.Common.{IfSome}
 use Rattle.std.proofs.lemmas.Result.{IfOk-weaker}
 use Rattle.build_meaning.specs.SoFar.{nothing_yet}
 use Rattle.build_world.specs.Instances.{seen_instance}
-use Rattle.target_body.specs.Standings.{run_with, standing, target_named}
+use Rattle.target_body.specs.Standings.{standing_in, target_named}
 use Rattle.request_machine.specs.Making.{Plays, Steps}
 use Rattle.request_machine.specs.Worlds.{body_if}
 use Rattle.request_machine.proofs.RunsMade.{begins_fits, begins_steps}
@@ -34,6 +34,6 @@ returns-clause-goes g c =
     let log = c.new.result in
     let body = c.in_ok-body.body in
     let none = c.new-none.result in
-    IfOk-weaker c.step.result (λ step. IfSome target (λ t. Plays answer calls w run t (standing (run_with w run t) body) none before after old new log step))
+    IfOk-weaker c.step.result (λ step. IfSome target (λ t. Plays answer calls w run t (standing_in w run t body) none before after old new log step))
     (Steps answer calls w run target (body_if w run target scope before) nothing_yet before after old new)
     (λ step plays. begins_steps answer calls w run target scope body log none before after old new step c.new.ensures c.in_ok-body.ensures.begins c.requires plays) c.step.ensures.goes

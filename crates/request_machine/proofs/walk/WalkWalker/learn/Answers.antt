@@ -1,21 +1,21 @@
-use Rattle.std.proofs.Common.{refl}
+use Rattle.std.proofs.Common.{refl, sym, ap, subst}
+use Rattle.build_scheduler.specs.Learnt.{ArePartOf}
+use Rattle.build_scheduler.specs.Position.{answered}
 use Rattle.request_machine.specs.WalkPosition.{request_position}
 use Rattle.request_machine.specs.Worlds.{world_of}
-use Rattle.request_machine.proofs.RecordsNeeded.{same_answer}
 use Rattle.request_machine.proofs.walk.WalkWalker.learn.Goals as goal
-
-pub needed-requires : goal.needed-requires
-needed-requires g c = c.requires.in_order
 
 pub returns : goal.returns
 returns g c =
     let r = c.args.self.now.request in
+    let w = world_of g.T.CountedTools.answer r.world.now in
     let p = request_position g.T.CountedTools.calls r in
     let table = c.args.table.now.finished in
-    let known = c.in_ok-learnt.ensures in
+    let same = c.in_ok-learnt.ensures.finished in
     record {
-      learns = same_answer (world_of g.T.CountedTools.answer r.world.now) c.in_ok-learnt.learnt.finished table p.journal p.runs p.place c.args.answer.now c.requires.in_order known;
-      known = known.part_of;
+      learns = ap (λ records. answered w records p c.args.arg3.now) same;
+      known = subst (λ records. ArePartOf records table) (sym same)
+          (record { in_order = c.requires.in_order; shared = λ run made is. is });
       err = tt;
       world = refl;
       position = refl;
