@@ -1,5 +1,5 @@
 -- The tools that a build uses.
-use Rattle.std.proofs.Common.{◌≡◌, List, [], ◌++◌, Bool, Option, None, Some, Result, Ok, Err, IfOk, ap, sym, subst, ◌∙◌}
+use Rattle.std.proofs.Common.{◌≡◌, ◌<◌, List, [], ◌++◌, Bool, Option, None, Some, Result, Ok, Err, IfOk, ap, refl, sym, subst, ◌∙◌, arith}
 use Rattle.std.proofs.Math.Logic.{∥∥₁_elim, ∥∥₁_map₂, ∥∥₁_prop}
 use Rattle.msb_values.specs.declared.errors.NoMemory.{NoMemory}
 use Rattle.build_meaning.specs.declared.event.Event.{Event}
@@ -13,6 +13,8 @@ use Rattle.build_plain.specs.Driven.{AssignsLeast, IsLegal}
 use Rattle.build_plain.specs.Used.{Uses, UnlessMemory}
 use Rattle.build_outcome.specs.Outcomes.{IsOutcomeAt}
 use Rattle.build_outcome.specs.declared.outcome.Outcome.{Outcome}
+use Rattle.build_plain.proofs.Driving.{none-retired}
+use Rattle.build_engine.specs.OnNodes.{IsOutcomeOn}
 use Rattle.build_engine.specs.UsedFor.{IsUsedFor}
 
 module _ {I A : Type 0} (w : World I A) (low : Bool) where
@@ -52,3 +54,18 @@ module _ {I A : Type 0} (w : World I A) (low : Bool) where
       IfOk made (λ o. ∥ IsUsedFor w low o from to ∥₁)
   all_used_for first events end (Ok o) from to none legal least uses is = used_for first events end o from to none legal least uses is
   all_used_for first events end (Err e) from to none legal least uses is = tt
+
+  -- one node that takes the least ready request each time does not retire
+  pub on_one : (outcome : Outcome) (from to : List (ToolUse I)) → IsUsedFor w low outcome from to →
+      IsOutcomeOn w 1 low outcome
+  on_one outcome from to x =
+      let none : retires x.events ≡ 0 = none-retired w [] x.events
+      (record { more = x.events; is = refl; least = x.least }) refl in
+      record {
+        events = x.events;
+        state = x.state;
+        end = x.end;
+        history = x.history;
+        few = omega (arith, none);
+        is = x.is;
+      }

@@ -12,7 +12,7 @@ use build_plain::build_alone;
 use build_scheduler::{Core, End, Walker};
 use msb_files::{JView, Journal};
 use msb_values::NoMemory;
-use result_cache::{RequestKey, RequestResult, RunId, Table};
+use result_cache::{RequestKey, RequestResult, RunRef, Table};
 use std::alloc::Global;
 
 /// What comes of a build, and how many runs have ended in it.
@@ -78,7 +78,7 @@ fn runs_by(alloc: Global, table: &Table, root: &RequestResult) -> Result<usize, 
 }
 
 // The journal that these runs give, replayed in order by a table from nothing. (MSBuild task.)
-fn replayed(alloc: Global, table: &Table, runs: &[RunId]) -> Result<Journal, NoMemory>
+fn replayed(alloc: Global, table: &Table, runs: &[RunRef]) -> Result<Journal, NoMemory>
     requires { IsSome (replay_all table.now.finished runs.now []) }
     ensures { IfOk result (λ journal. replay_all table.now.finished runs.now [] ≡ Some journal) }
 {

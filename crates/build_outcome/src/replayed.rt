@@ -3,11 +3,11 @@ ghost use Rattle.result_cache.specs.Replay.{replay_all};
 
 use msb_files::Journal;
 use msb_values::NoMemory;
-use result_cache::{RunId, Table};
+use result_cache::{RunRef, Table};
 use std::alloc::Global;
 
 /// The journal that these runs give, replayed in order by a table from nothing. (MSBuild task.)
-pub fn replayed(alloc: Global, table: &Table, runs: &[RunId]) -> Result<Journal, NoMemory>
+pub fn replayed(alloc: Global, table: &Table, runs: &[RunRef]) -> Result<Journal, NoMemory>
     requires { IsSome (replay_all table.now.finished runs.now []) }
     ensures { IfOk result (λ journal. replay_all table.now.finished runs.now [] ≡ Some journal) }
 {

@@ -1,3 +1,4 @@
 pub mod Beginning
 pub mod Compared
+pub mod OneNode
 pub mod Working

@@ -1,4 +1,5 @@
 pub mod Calls
 pub mod Checked
+pub mod OnNodes
 pub mod Outcomes
 pub mod Trials

@@ -3,6 +3,7 @@
 ghost use Rattle.std.specs.Prelude.{◌≡◌, ◌⊎◌, ◌<◌, ◌≤◌, IfOk, vec_len};
 ghost use Rattle.build_outcome.specs.Outcomes.{IsOutcome};
 ghost use Rattle.request_machine.specs.Worlds.{world_of};
+ghost use Rattle.build_engine.specs.OnNodes.{IsOutcomeOn};
 ghost use Rattle.build_engine.specs.Statuses.{IsCompletion, IsRefusal};
 
 use build_engine::build_on_many;
@@ -27,6 +28,8 @@ pub fn built_on<R: Threads + Wait + Sync, T: Tools + Sync>(
 ) -> Result<Outcome, NoMemory>
     requires { (0 < nodes) × (nodes ≤ 64) }
     ensures outcome { IfOk result (λ o. ∥ IsOutcome (world_of T.answer world.now) low o ∥₁) }
+    ensures nodes { IfOk result (λ o.
+        ∥ IsOutcomeOn (world_of T.answer world.now) nodes low o ∥₁) }
     ensures status { IfOk result (λ o. IsCompletion o.status ⊎ IsRefusal o.status) }
 {
     let counted = counted(alloc, nodes, tools)?;
@@ -43,6 +46,8 @@ fn built_at<'a, R: Threads + Wait + Sync, T: CountedTools + Send + Drop>(
 ) -> Result<Outcome, NoMemory>
     requires { (0 < vec_len tools) × (vec_len tools ≤ 64) }
     ensures outcome { IfOk result (λ o. ∥ IsOutcome (world_of T.answer world.entry.now) low o ∥₁) }
+    ensures nodes { IfOk result (λ o.
+        ∥ IsOutcomeOn (world_of T.answer world.entry.now) (vec_len tools) low o ∥₁) }
     ensures status { IfOk result (λ o. IsCompletion o.status ⊎ IsRefusal o.status) }
 {
     let key = root_key(world)?;

@@ -4,6 +4,7 @@ ghost use Rattle.std.specs.Prelude.{◌≡◌, ◌⊎◌, ◌<◌, ◌≤◌, If
 ghost use Rattle.build_engine.specs.Statuses.{IsCompletion};
 ghost use Rattle.task_trait.specs.Tools.{BeginsWith};
 ghost use Rattle.msb_outcomes.specs.Calls.{AreCallsFor};
+ghost use Rattle.msb_outcomes.specs.OnNodes.{ComesOn};
 ghost use Rattle.msb_outcomes.specs.Outcomes.{ComesOf, HasStatus, IsUnfinished, MakesRuns};
 
 use crate::alone::built;
@@ -50,6 +51,7 @@ pub fn outcome_on<R: Threads + Wait + Sync, T: Tools + Sync>(
     requires status { HasStatus work }
     requires nodes { (0 < options.now.nodes) × (options.now.nodes ≤ 64) }
     ensures outcome { IfOk result (ComesOf T.answer options.now.low work) }
+    ensures nodes { IfOk result (ComesOn T.answer options.now.nodes options.now.low work) }
     ensures status { IfOk result (λ o. IsCompletion o.status ⊎ IsUnfinished o.status) }
 {
     if options.nodes == 1 {

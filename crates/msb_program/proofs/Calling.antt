@@ -3,8 +3,9 @@ use Rattle.std.proofs.Common.{◌≡◌, ◌<◌, ◌⊎◌, ℕ, List, [], ◌+
 use Rattle.std.proofs.Math.Logic.{∥∥₁_elim, ∥∥₁_map, ∥∥₁_prop}
 use Rattle.msb_paths.specs.Refused.{normal_path}
 use Rattle.msb_values.specs.declared.errors.NoMemory.{NoMemory}
+use Rattle.file_store.specs.Limits.{limit_fault}
+use Rattle.file_store.specs.Loads.{OfListing}
 use Rattle.file_store.specs.declared.loading.LoadFault.{LoadFault}
-use Rattle.file_store.specs.declared.loading.LoadFault.TheVariants.{Listing, Reading, Files, Bytes, Large, BadPath, Memory}
 use Rattle.file_store.specs.declared.tree.File.{File}
 use Rattle.result_cache.specs.declared.request.RequestResult.{RequestResult}
 use Rattle.build_meaning.specs.declared.event.Event.{Event}
@@ -23,12 +24,14 @@ use Rattle.request_machine.specs.Worlds.{world_of}
 use Rattle.msb_words.specs.Options.{options_in}
 use Rattle.msb_words.specs.declared.options.Action.TheVariants.{Trial as ToTry}
 use Rattle.msb_words.specs.declared.options.Options.{Options}
-use Rattle.msb_program.specs.Answers.{AreLoaded}
+use Rattle.msb_program.specs.Answers.{AreLoaded, Loading}
+use Rattle.msb_program.specs.declared.top.Prepared.TheVariants.{Ended}
 use Rattle.msb_outcomes.specs.Calls.{Called, AreCallsFor}
-use Rattle.msb_program.specs.Calls.{AreMeantCalls, IsOfHistory, ToldOutcome}
-use Rattle.msb_program.specs.Endings.{Ends, EndsMade, EndsRefused, EndsWhole, Printing, Saving}
+use Rattle.msb_outcomes.specs.OnNodes.{ComesOn}
+use Rattle.msb_program.specs.Calls.{AreMeantCalls, IsOfHistory, IsOfNodes, IsUndone, IsUnmade}
+use Rattle.msb_program.specs.Endings.{EndsMade, Printing, Saving}
 use Rattle.msb_program.specs.Meanings.{IsAskedOf, Means}
-use Rattle.msb_outcomes.specs.Outcomes.{Answering, IsWorkAt, fault_status}
+use Rattle.msb_outcomes.specs.Outcomes.{Answering, IsWorkAt}
 use Rattle.build_engine.specs.Statuses.{IsCompletion}
 use Rattle.msb_outcomes.specs.declared.work.Work.{Work}
 use Rattle.msb_outcomes.specs.declared.work.Work.TheVariants.{Build}
@@ -48,15 +51,17 @@ module _ {I A : Type 0} (w : World I A) (low : Bool) where
 
 -- the work that is left is the build that the words ask for
 module _ (words : List (List ℕ)) (told : Option (List File)) (given : Built) (build : IsAskedOf words told given) where
-  of_build : (P : Bool → Work → Type 0) (options : Options) (files : List File) (work : Work) → options_in words ≡ Some options → AreLoaded told files →
-      IsWorkAt options files (normal_path [] options.project) work → P options.low work → P build.options.low (Build given)
+  of_build : (P : Options → Work → Type 0) (options : Options) (files : List File) (work : Work) →
+      options_in words ≡ Some options → AreLoaded told files →
+      IsWorkAt options files (normal_path [] options.project) work → P options work →
+      P build.options (Build given)
   of_build P options files work asked loaded is holds =
       let o : options ≡ build.options = ap (λ (x : Option Options). elim x [ None ↦ options | Some found ↦ found ]) (sym asked ∙ build.asked) in
       let f : files ≡ build.files = subst (λ those. IfSome those (λ found. files ≡ found)) build.told_are loaded.told_are in
       let here : IsWorkAt build.options build.files (normal_path [] build.options.project) work =
       subst (λ those. IsWorkAt build.options those (normal_path [] build.options.project) work) f (subst (λ (x : Options). IsWorkAt x files (normal_path [] x.project) work) o is) in
       let same : work ≡ Build given = same_work build.options build.files given (normal_path [] build.options.project) work here build.is in
-      subst (λ x. P build.options.low x) same (subst (λ (x : Options). P x.low work) o holds)
+      subst (λ x. P build.options x) same (subst (λ (x : Options). P x work) o holds)
 
   -- words that ask for a build ask for no trial
   pub no_trial_built : (options : Options) → options_in words ≡ Some options → options.action ≡ ToTry → ⊥
@@ -75,7 +80,7 @@ module _ (tools : Answering) (words : List (List ℕ)) (told : Option (List File
   of_words : (options : Options) (files : List File) (work : Work) (outcome : Outcome) (before after : Called) → options_in words ≡ Some options → AreLoaded told files → IsWorkAt options files (normal_path [] options.project) work →
       AreCallsFor tools options.low work outcome before after → ∥ AreMeantCalls means.out before after ∥₁
   of_words options files work outcome before after asked loaded is calls =
-      meant_calls outcome before after (of_build words told means.given means.build (λ low w. AreCallsFor tools low w outcome before after) options files work asked loaded is calls)
+      meant_calls outcome before after (of_build words told means.given means.build (λ o w. AreCallsFor tools o.low w outcome before after) options files work asked loaded is calls)
 
   -- the calls of a build that is done are those of the meaning
   pub done_calls : (options : Options) (files : List File) (work : Work) (made : Result Outcome NoMemory) (before after : Called) (faults_before faults_after : ℕ) (s : Saving) (p : Printing) (status : ℕ) → options_in words ≡ Some options → AreLoaded told files →
@@ -90,41 +95,66 @@ module _ (tools : Answering) (words : List (List ℕ)) (told : Option (List File
       cc (sym trial ∙ ap (λ (o : Options). o.action) (same_options tools words told meant means options asked)
       ∙ build_is_asked means.build.options means.build.files (normal_path [] means.build.options.project) means.given means.build.is)
 
--- a load that fails comes to no outcome
-not_told : (status other : ℕ) → status ≡ other → 4 < other → ToldOutcome status → ⊥
-not_told status other is more (inl (inl e)) = omega (arith, is, e, more)
-not_told status other is more (inl (inr e)) = omega (arith, is, e, more)
-not_told status other is more (inr e) = omega (arith, is, e, more)
+-- statuses that are told apart
+two-undone : (status : ℕ) → IsCompletion status → status ≡ 2 → ⊥
+two-undone status (inl zero_is) is = omega (arith, zero_is, is)
+two-undone status (inr one_is) is = omega (arith, one_is, is)
 
-pub unloaded_undone : (fault : LoadFault) (status : ℕ) → status ≡ fault_status fault → ToldOutcome status → ⊥
-unloaded_undone Listing status is told = not_told status (fault_status Listing) is (omega arith) told
-unloaded_undone (Reading path) status is told = not_told status (fault_status (Reading path)) is (omega arith) told
-unloaded_undone (Files number) status is told = not_told status (fault_status (Files number)) is (omega arith) told
-unloaded_undone (Bytes total) status is told = not_told status (fault_status (Bytes total)) is (omega arith) told
-unloaded_undone (Large path) status is told = not_told status (fault_status (Large path)) is (omega arith) told
-unloaded_undone (BadPath path) status is told = not_told status (fault_status (BadPath path)) is (omega arith) told
-unloaded_undone Memory status is told = not_told status (fault_status Memory) is (omega arith) told
+more-undone : (status other : ℕ) → status ≡ other → 4 < other → IsCompletion status → ⊥
+more-undone status other is more (inl zero_is) = omega (arith, is, zero_is, more)
+more-undone status other is more (inr one_is) = omega (arith, is, one_is, more)
 
-pub printed_undone : {P Q : Type 0} (fault : LoadFault) (status : ℕ) → ((status ≡ fault_status fault) × (fault ≡ Memory → ⊥) × P) ⊎ ((status ≡ 7) × Q) → ToldOutcome status → ⊥
-printed_undone fault status (inl ended) told = unloaded_undone fault status ended.0 told
-printed_undone fault status (inr memory) told = unloaded_undone Memory status memory.0 told
+-- nothing is done where all has ended before
+pub undone_incomplete : (words : List (List ℕ)) (l : Loading) (s : Saving) (p : Printing) (status : ℕ) →
+    IsUndone words l s p (Ended status) → IsCompletion status → ⊥
+undone_incomplete words l s p status (inl usage) done = two-undone status done usage.0
+undone_incomplete words l s p status (inr (inl past)) done =
+    more-undone status 8 past.0 (omega arith) done
+undone_incomplete words l s p status (inr (inr (inl failed))) done =
+    more-undone status 5 failed.0 (omega arith) done
+undone_incomplete words l s p status (inr (inr (inr memory))) done =
+    more-undone status 7 memory.0 (omega arith) done
 
--- what a build that is done, or refused, came to is of one history
-module _ (tools : Answering) (words : List (List ℕ)) (told : Option (List File)) (given : Built) (build : IsAskedOf words told given) where
-  ends_of : (o : Outcome) (faults_before faults_after : ℕ) (s : Saving) (p : Printing) (status : ℕ) → Ends o faults_before faults_after s p status → ToldOutcome status →
-      (status ≡ o.status) × (EndsWhole s p o ⊎ EndsRefused s p o)
-  ends_of o fb fa s p status (inl ends) done = (ends.0, inl ends.2)
-  ends_of o fb fa s p status (inr (inl ends)) done = (ends.0, inr ends.2)
-  ends_of o fb fa s p status (inr (inr (inl ends))) done = absurd (not_told status 6 ends.0 (omega arith) done)
-  ends_of o fb fa s p status (inr (inr (inr (inl ends)))) done = absurd (not_told status 5 ends.0 (omega arith) done)
-  ends_of o fb fa s p status (inr (inr (inr (inr ends)))) done = absurd (not_told status 7 ends.0 (omega arith) done)
+-- what a build that is asked for came to is of one history
+module _ (tools : Answering) (words : List (List ℕ)) (told : Option (List File)) (given : Built)
+    (build : IsAskedOf words told given) where
+  -- its files are within the limits
+  never-past : (l : Loading) (fault : LoadFault) → l.told ≡ told →
+      OfListing l.told (λ listing. limit_fault listing ≡ Some fault) → ⊥
+  never-past l fault same past =
+      let here = subst (λ (those : Option (List File)).
+      OfListing those (λ listing. limit_fault listing ≡ Some fault)) (same ∙ build.told_are) past in
+      cc (sym here ∙ build.within)
 
-  pub done_history : (options : Options) (files : List File) (work : Work) (made : Result Outcome NoMemory) (before after : Called) (faults_before faults_after : ℕ) (s : Saving) (p : Printing) (status : ℕ) → options_in words ≡ Some options → AreLoaded told files →
-      IsWorkAt options files (normal_path [] options.project) work → IfOk made (λ o. AreCallsFor tools options.low work o before after) → EndsMade made faults_before faults_after s p status → ToldOutcome status →
-      ∥ IsOfHistory tools given build.options.low before after s p status ∥₁
-  done_history options files work (Ok o) before after fb fa s p status asked loaded is calls ends done =
-      let e = ends_of o fb fa s p status ends done in
-      ∥∥₁_map (of_build words told given build (λ low w. AreCallsFor tools low w o before after) options files work asked loaded is calls)
-      (λ x. record { outcome = o; used = x; is = e.0; ends = e.1 })
-  done_history options files work (Err none) before after fb fa s p status asked loaded is calls ends done =
-      absurd (not_told status 7 ends.0 (omega arith) done)
+  -- where all has ended before anything was made, it came to no outcome
+  pub undone_unmade : (l : Loading) (s : Saving) (p : Printing) (status : ℕ) → l.told ≡ told →
+      IsUndone words l s p (Ended status) → IsUnmade words l s p status
+  undone_unmade l s p status same (inl usage) = absurd (cc (sym usage.1.0 ∙ build.asked))
+  undone_unmade l s p status same (inr (inl past)) =
+      absurd (never-past l past.1.0 same past.1.1)
+  undone_unmade l s p status same (inr (inr unmade)) = unmade
+
+  module _ (options : Options) (files : List File) (work : Work)
+      (asked : options_in words ≡ Some options) (loaded : AreLoaded told files)
+      (is : IsWorkAt options files (normal_path [] options.project) work)
+      (l : Loading) (s : Saving) (p : Printing) (status : ℕ) where
+    pub made_history : (made : Result Outcome NoMemory) (before after : Called) →
+        IfOk made (λ o. AreCallsFor tools options.low work o before after) →
+        EndsMade made l.faults_before l.faults_after s p status →
+        ∥ IsOfHistory tools given build.options.low before after l s p status ∥₁
+        ⊎ IsUnmade words l s p status
+    made_history (Ok o) before after calls ends =
+        inl (∥∥₁_map (of_build words told given build
+        (λ asks w. AreCallsFor tools asks.low w o before after) options files work asked loaded is
+        calls) (λ x. record { outcome = o; used = x; ends = ends }))
+    made_history (Err none) before after calls ends = inr (inr ends)
+
+    pub made_on_nodes : (made : Result Outcome NoMemory) →
+        IfOk made (ComesOn tools options.nodes options.low work) →
+        EndsMade made l.faults_before l.faults_after s p status →
+        ∥ IsOfNodes tools given build.options l s p status ∥₁ ⊎ IsUnmade words l s p status
+    made_on_nodes (Ok o) comes ends =
+        inl (∥∥₁_map (of_build words told given build
+        (λ asks w. ComesOn tools asks.nodes asks.low w o) options files work asked loaded is comes)
+        (λ x. record { outcome = o; is = x; ends = ends }))
+    made_on_nodes (Err none) comes ends = inr (inr ends)

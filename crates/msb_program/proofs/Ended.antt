@@ -1,14 +1,36 @@
 -- The answer of the program where the store's files were loaded.
-use Rattle.std.proofs.Common.{◌≡◌, ◌≤◌, ◌+◌, min, ℕ, List, Option, Some, None, IfSome, inl, inr, refl, sym, subst, ◌∙◌, arith}
+use Rattle.std.proofs.Common.{◌≡◌, ◌≤◌, ◌+◌, min, ℕ, List, Option, Some, None, IfSome, Result, Ok, Err, inl, inr, refl, sym, subst, ◌∙◌, arith}
 use Rattle.file_store.specs.declared.tree.File.{File}
+use Rattle.msb_values.specs.declared.errors.NoMemory.{NoMemory}
 use Rattle.msb_words.specs.Options.{options_in}
 use Rattle.msb_words.specs.declared.options.Options.{Options}
 use Rattle.msb_outcomes.specs.Outcomes.{Answering, HasProject, IsOutcomeOf, IsUnfinished}
 use Rattle.build_engine.specs.Statuses.{IsCompletion}
-use Rattle.msb_program.specs.Endings.{Saving, saving, Printing, Silent, EndsWhole, EndsRefused, EndsUnprinted, EndsUnwritten, EndsHalfway, Ends, EndsOver}
+use Rattle.msb_program.specs.Endings.{Saving, saving, Printing, Silent, EndsWhole, EndsRefused, EndsUnprinted, EndsUnwritten, EndsHalfway, Ends, EndsMade, EndsOver}
 use Rattle.msb_program.specs.Answers.{Loading, AreLoaded, HasOutcome, IsStatusOf, IsStatusOfProject, Answers}
 use Rattle.build_outcome.specs.declared.outcome.Outcome.{Outcome}
 use Rattle.msb_program.proofs.Claims.{answers_at, memory_answers}
+
+-- a count that rose after a while rose in all
+rose_since : (before between after most : ℕ) → before ≤ between → min (between + 1) most ≤ after → min (before + 1) most ≤ after
+rose_since before between after most earlier rose = omega arith
+
+unwritten_since : (before between after : ℕ) (s : Saving) (p : Printing) (o : Outcome) → before ≤ between → EndsUnwritten between after s p o → EndsUnwritten before after s p o
+unwritten_since before between after s p o earlier ends = record { completion = ends.completion; place = ends.place; saved = ends.saved; rose = rose_since before between after _ earlier ends.rose; printed = ends.printed }
+
+ends_since : (o : Outcome) (before between after : ℕ) (s : Saving) (p : Printing) (status : ℕ) → before ≤ between → Ends o between after s p status → Ends o before after s p status
+ends_since o before between after s p status earlier (inl ends) = inl ends
+ends_since o before between after s p status earlier (inr (inl ends)) = inr (inl ends)
+ends_since o before between after s p status earlier (inr (inr (inl ends))) = inr (inr (inl ends))
+ends_since o before between after s p status earlier (inr (inr (inr (inl ends)))) = inr (inr (inr (inl (ends.0, unwritten_since before between after s p o earlier ends.1))))
+ends_since o before between after s p status earlier (inr (inr (inr (inr ends)))) = inr (inr (inr (inr ends)))
+
+pub made_since : (before between after : ℕ) (s : Saving) (p : Printing) (status : ℕ) →
+    before ≤ between → (made : Result Outcome NoMemory) →
+    EndsMade made between after s p status → EndsMade made before after s p status
+made_since before between after s p status earlier (Ok o) ends =
+    ends_since o before between after s p status earlier ends
+made_since before between after s p status earlier (Err none) ends = ends
 
 module _ (tools : Answering) where
   -- an outcome of loaded files is one of the told files
@@ -64,20 +86,6 @@ module _ (tools : Answering) where
     outcome_answers status (inr (inr (inl ends))) = unprinted_answers status ends.0 ends.1
     outcome_answers status (inr (inr (inr (inl ends)))) = unwritten_answers status ends.0 ends.1
     outcome_answers status (inr (inr (inr (inr ends)))) = halfway_answers status ends.0 ends.1 ends.2
-
-  -- a count that rose after a while rose in all
-  rose_since : (before between after most : ℕ) → before ≤ between → min (between + 1) most ≤ after → min (before + 1) most ≤ after
-  rose_since before between after most earlier rose = omega arith
-
-  unwritten_since : (before between after : ℕ) (s : Saving) (p : Printing) (o : Outcome) → before ≤ between → EndsUnwritten between after s p o → EndsUnwritten before after s p o
-  unwritten_since before between after s p o earlier ends = record { completion = ends.completion; place = ends.place; saved = ends.saved; rose = rose_since before between after _ earlier ends.rose; printed = ends.printed }
-
-  ends_since : (o : Outcome) (before between after : ℕ) (s : Saving) (p : Printing) (status : ℕ) → before ≤ between → Ends o between after s p status → Ends o before after s p status
-  ends_since o before between after s p status earlier (inl ends) = inl ends
-  ends_since o before between after s p status earlier (inr (inl ends)) = inr (inl ends)
-  ends_since o before between after s p status earlier (inr (inr (inl ends))) = inr (inr (inl ends))
-  ends_since o before between after s p status earlier (inr (inr (inr (inl ends)))) = inr (inr (inr (inl (ends.0, unwritten_since before between after s p o earlier ends.1))))
-  ends_since o before between after s p status earlier (inr (inr (inr (inr ends)))) = inr (inr (inr (inr ends)))
 
   module _ (words : List (List ℕ)) (l : Loading) (s : Saving) (p : Printing) (options : Options) (files : List File) (asked : options_in words ≡ Some options) (project : HasProject options)
       (loaded : AreLoaded l.told files) where

@@ -13,7 +13,7 @@ use Rattle.msb_program.specs.Endings.{EndsMade, EndsOver, Printing, Saving, prin
 use Rattle.msb_outcomes.specs.Outcomes.{Answering, ComesOf, IsOutcomeWithin, IsWorkAt, MakesRuns}
 use Rattle.msb_program.specs.Prepared.{IsReady}
 use Rattle.msb_outcomes.specs.declared.work.Work.{Work}
-use Rattle.msb_program.proofs.Ended.{loaded_answers}
+use Rattle.msb_program.proofs.Ended.{loaded_answers, made_since}
 use Rattle.msb_outcomes.proofs.Working.{runs_asked}
 
 module _ (tools : Answering) (told : Option (List File)) (options : Options) (files : List File) (work : Work) (loaded : AreLoaded told files) (is : IsWorkAt options files (normal_path [] options.project) work) where
@@ -40,19 +40,20 @@ pub ended_since : {words : List (List ℕ)} {told : Option (List File)} {faults 
     {t tm : Option (List ℕ)} (options : Options) (work : Work) →
     IsReady words (loading told faults mid failed failed_mid) (saving before between)
     (printing pf pm t tm) options work →
-    (made : Result Outcome NoMemory) (from to : ℕ) (after : Option (List File)) (pa : ℕ)
+    (made : Result Outcome NoMemory) (to : ℕ) (after : Option (List File)) (pa : ℕ)
     (ta : Option (List ℕ)) (status : ℕ) →
-    EndsMade made from to (saving between after) (printing pm pa tm ta) status →
-    EndsMade made from to (saving before after) (printing pf pa t ta) status
+    EndsMade made mid to (saving between after) (printing pm pa tm ta) status →
+    EndsMade made faults to (saving before after) (printing pf pa t ta) status
 ended_since {words} {told} {faults} {mid} {failed} {failed_mid} {before} {between} {pf} {pm} {t} {tm}
-    options work ready made from to after pa ta status ends =
-    subst (λ (files : Option (List File)).
-    EndsMade made from to (saving files after) (printing pf pa t ta) status) ready.kept
+    options work ready made to after pa ta status ends =
+    made_since faults mid to (saving before after) (printing pf pa t ta) status ready.later made
+    (subst (λ (files : Option (List File)).
+    EndsMade made mid to (saving files after) (printing pf pa t ta) status) ready.kept
     (subst (λ (old : Option (List ℕ)).
-    EndsMade made from to (saving between after) (printing pf pa old ta) status) ready.silent
+    EndsMade made mid to (saving between after) (printing pf pa old ta) status) ready.silent
     (subst (λ (count : ℕ).
-    EndsMade made from to (saving between after) (printing count pa tm ta) status)
-    ready.unfailing ends))
+    EndsMade made mid to (saving between after) (printing count pa tm ta) status)
+    ready.unfailing ends)))
 
 -- runs are made only where the words ask for a build or a check
 pub runs_of_words : (words : List (List ℕ)) (files : List File) (options : Options) (work : Work) → options_in words ≡ Some options → IsWorkAt options files (normal_path [] options.project) work → MakesRuns work → AsksForRuns (options_in words)

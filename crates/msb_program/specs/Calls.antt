@@ -4,14 +4,16 @@ use Rattle.result_cache.specs.declared.request.RequestResult.{RequestResult}
 use Rattle.task_trait.specs.declared.tools.ToolInput.{ToolInput}
 use Rattle.build_meaning.specs.Meaning.{Given}
 use Rattle.build_history.specs.Uses.{RunUse, tools_of, AreMeant}
-use Rattle.build_engine.specs.Statuses.{IsCompletion}
+use Rattle.build_engine.specs.OnNodes.{IsOutcomeOn}
 use Rattle.build_engine.specs.UsedFor.{IsUsedFor}
 use Rattle.build_outcome.specs.declared.outcome.Outcome.{Outcome}
 use Rattle.build_world.specs.declared.world.World.{World}
 use Rattle.request_machine.specs.Worlds.{world_of}
 use Rattle.msb_outcomes.specs.Calls.{Called, as_uses}
 use Rattle.msb_outcomes.specs.Outcomes.{Answering}
-use Rattle.msb_program.specs.Endings.{Saving, Printing, EndsWhole, EndsRefused}
+use Rattle.msb_words.specs.declared.options.Options.{Options}
+use Rattle.msb_program.specs.Answers.{IsLoadFailure, IsPastLimit, IsUsage, Loading}
+use Rattle.msb_program.specs.Endings.{Saving, Kept, Printing, Silent, Ends}
 use Rattle.msb_program.specs.declared.top.Prepared.{Prepared}
 use Rattle.msb_program.specs.declared.top.Prepared.TheVariants.{Ended, Trial, Ready}
 
@@ -23,21 +25,32 @@ pub record AreMeantCalls (out : Given ToolInput RequestResult) (before after : C
   pub meant : AreMeant out uses
 
 -- whatever the world: what the build came to is the outcome of a legal history in which the one node
--- takes the least ready request each time, and the calls from one list to the other are those of
--- that history; all its acts were done and its text was printed, or it is refused and told so
+-- takes the least ready request each time, the calls from one list to the other are those of that
+-- history, and so it ended
 pub record IsOfHistory (tools : Answering) (given : World) (low : Bool) (before after : Called)
-    (s : Saving) (p : Printing) (status : ℕ) : Type 0 where
+    (l : Loading) (s : Saving) (p : Printing) (status : ℕ) : Type 0 where
   pub outcome : Outcome
   pub used : IsUsedFor (world_of tools given) low outcome (as_uses before) (as_uses after)
-  pub is : status ≡ outcome.status
-  pub ends : EndsWhole s p outcome ⊎ EndsRefused s p outcome
+  pub ends : Ends outcome l.faults_before l.faults_after s p status
 
--- with these statuses a build came to an outcome, and all its acts were done and its text printed
-abbrev pub ToldOutcome : ℕ → Type 0
-ToldOutcome status = IsCompletion status ⊎ (status ≡ 4)
+-- whatever the world: what the build came to is the outcome of a legal history of as many nodes as the
+-- words tell, one of which has not retired, and so it ended
+pub record IsOfNodes (tools : Answering) (given : World) (options : Options) (l : Loading)
+    (s : Saving) (p : Printing) (status : ℕ) : Type 0 where
+  pub outcome : Outcome
+  pub is : IsOutcomeOn (world_of tools given) options.nodes options.low outcome
+  pub ends : Ends outcome l.faults_before l.faults_after s p status
 
--- where all has ended before anything was made, nothing was done
-abbrev pub IsUndone : Prepared → Type 0
-IsUndone (Ended status) = ToldOutcome status → ⊥
-IsUndone (Trial options) = Unit {0}
-IsUndone (Ready options work) = Unit {0}
+-- a build came to no outcome: its files could not be loaded, or no memory was found before there was one
+abbrev pub IsUnmade : List (List ℕ) → Loading → Saving → Printing → ℕ → Type 0
+IsUnmade words l s p status =
+    ((status ≡ 5) × IsLoadFailure words l s p) ⊎ ((status ≡ 7) × Kept s × Silent p)
+
+-- where all has ended before anything was made, nothing was made
+abbrev pub IsUndone : List (List ℕ) → Loading → Saving → Printing → Prepared → Type 0
+IsUndone words l s p (Ended status) =
+    ((status ≡ 2) × IsUsage words s p)
+    ⊎ ((status ≡ 8) × IsPastLimit words l s p)
+    ⊎ IsUnmade words l s p status
+IsUndone words l s p (Trial options) = Unit {0}
+IsUndone words l s p (Ready options work) = Unit {0}

@@ -13,7 +13,7 @@ ghost use Rattle.build_report.specs.Line.{line};
 ghost use Rattle.build_engine.specs.Statuses.{IsCompletion};
 ghost use Rattle.msb_outcomes.specs.Outcomes.{HasProject, IsUnfinished, load_fault_text, fault_status};
 ghost use Rattle.msb_program.specs.Endings.{Ends, EndsMade, EndsTrial, Printed, PrintedAll, PrintedFront, Silent, printing, saving};
-ghost use Rattle.msb_program.specs.Calls.{AreMeantCalls, IsOfHistory, IsUndone, ToldOutcome};
+ghost use Rattle.msb_program.specs.Calls.{AreMeantCalls, IsOfHistory, IsOfNodes, IsUndone, IsUnmade};
 ghost use Rattle.msb_program.specs.Answers.{Answers, AsksForRuns, AsksForTrial, loading};
 ghost use Rattle.msb_program.specs.Clean.{AnswersClean, MeansClean};
 ghost use Rattle.msb_program.specs.NextBuilds.{AreCallsOfOthers, EndsIdle, HasSaved, MeansRepeated, MeansUpToDate, PrintedSkips, StaysFresh};
@@ -52,6 +52,9 @@ const USAGE: &str =
 /// it returns, and the bytes that it leaves at each path. If it is settled, and the clean build is repeated over the tree that it
 /// leaves, the next build may be trusted as well. A build that finds no output older than its inputs skips each piece, and prints
 /// so, and no history that leads to its outcome uses a tool for one. (Incremental builds.)
+///
+/// Whatever the world, a build comes of a legal history of as many nodes as the words tell, one of which does not retire, also
+/// where its files are not all written or its text is not printed; unless its files are not loaded, or memory is wanted before.
 pub fn run<R: Threads + Wait + Sync, S: Store, K: Sink, T: Tools + Sync>(
     rt: &R,
     alloc: Global,
@@ -89,6 +92,22 @@ pub fn run<R: Threads + Wait + Sync, S: Store, K: Sink, T: Tools + Sync>(
         (saving (S.tree store.old) (S.tree store.new))
         (printing (K.fault_count sink.old) (K.fault_count sink.new) (K.told sink.old)
         (K.told sink.new)) }
+    ensures nodes { (given : TheWorld)
+        (build : IsAskedOf (map string_bytes words.now) (S.tree store.old) given) →
+        ∥ IsOfNodes T.answer given build.options
+        (loading (S.tree store.old) (S.fault_count store.old) (S.fault_count store.new)
+        (S.failures store.old) (S.failures store.new))
+        (saving (S.tree store.old) (S.tree store.new))
+        (printing (K.fault_count sink.old) (K.fault_count sink.new) (K.told sink.old)
+        (K.told sink.new))
+        result ∥₁
+        ⊎ IsUnmade (map string_bytes words.now)
+        (loading (S.tree store.old) (S.fault_count store.old) (S.fault_count store.new)
+        (S.failures store.old) (S.failures store.new))
+        (saving (S.tree store.old) (S.tree store.new))
+        (printing (K.fault_count sink.old) (K.fault_count sink.new) (K.told sink.old)
+        (K.told sink.new))
+        result }
     ensures untouched { AsksForTrial (options_in (map string_bytes words.now)) → store.new ≡ store.old }
 {
     answered_on(rt, alloc, words, store, sink, tools)
@@ -97,9 +116,9 @@ pub fn run<R: Threads + Wait + Sync, S: Store, K: Sink, T: Tools + Sync>(
 /// The same on one node, whatever the number of nodes that the words tell. It starts no thread and always returns. A build
 /// that is done, of a whole and steady world, has called the tools for each run of its meaning as one body of that run does, in
 /// order; where no calls are made at once, a run has one body alone, so they were called as often as in the meaning. Where each
-/// piece is skipped, no tool is called for it. Whatever the world, what is told of a build comes of the history in which the node
-/// takes the least ready request each time, and the calls are that history's; for want of memory, too, they begin with those of
-/// before.
+/// piece is skipped, no tool is called for it. Whatever the world, a build comes of the history in which the node takes the least
+/// ready request each time, and the calls are that history's, also where its files are not all written or its text is not printed;
+/// unless its files are not loaded, or memory is wanted before. For want of memory, too, the calls begin with those of before.
 pub fn run_alone<S: Store, K: Sink, T: CountedTools>(
     alloc: Global,
     words: &[String],
@@ -134,12 +153,20 @@ pub fn run_alone<S: Store, K: Sink, T: CountedTools>(
     ensures calls { (meant : TheOutcome) (m : Means T.answer (map string_bytes words.now) (S.tree store.old) meant) → IsCompletion result → ∥ AreMeantCalls m.out (T.calls tools.old) (T.calls tools.new) ∥₁ }
     ensures history { (given : TheWorld)
         (build : IsAskedOf (map string_bytes words.now) (S.tree store.old) given) →
-        ToldOutcome result →
         ∥ IsOfHistory T.answer given build.options.low (T.calls tools.old) (T.calls tools.new)
+        (loading (S.tree store.old) (S.fault_count store.old) (S.fault_count store.new)
+        (S.failures store.old) (S.failures store.new))
         (saving (S.tree store.old) (S.tree store.new))
         (printing (K.fault_count sink.old) (K.fault_count sink.new) (K.told sink.old)
         (K.told sink.new))
-        result ∥₁ }
+        result ∥₁
+        ⊎ IsUnmade (map string_bytes words.now)
+        (loading (S.tree store.old) (S.fault_count store.old) (S.fault_count store.new)
+        (S.failures store.old) (S.failures store.new))
+        (saving (S.tree store.old) (S.tree store.new))
+        (printing (K.fault_count sink.old) (K.fault_count sink.new) (K.told sink.old)
+        (K.told sink.new))
+        result }
     ensures begun { BeginsWith (T.calls tools.old) (T.calls tools.new) }
     ensures idle { (clean : Given ToolInput RequestResult)
         (m : MeansUpToDate T.answer (map string_bytes words.now) (S.tree store.old) clean) →
@@ -163,12 +190,20 @@ fn answered_alone<S: Store, K: Sink, T: CountedTools>(
     ensures calls { (meant : TheOutcome) (m : Means T.answer (map string_bytes words.now) (S.tree store.old) meant) → IsCompletion result → ∥ AreMeantCalls m.out (T.calls tools.old) (T.calls tools.new) ∥₁ }
     ensures history { (given : TheWorld)
         (build : IsAskedOf (map string_bytes words.now) (S.tree store.old) given) →
-        ToldOutcome result →
         ∥ IsOfHistory T.answer given build.options.low (T.calls tools.old) (T.calls tools.new)
+        (loading (S.tree store.old) (S.fault_count store.old) (S.fault_count store.new)
+        (S.failures store.old) (S.failures store.new))
         (saving (S.tree store.old) (S.tree store.new))
         (printing (K.fault_count sink.old) (K.fault_count sink.new) (K.told sink.old)
         (K.told sink.new))
-        result ∥₁ }
+        result ∥₁
+        ⊎ IsUnmade (map string_bytes words.now)
+        (loading (S.tree store.old) (S.fault_count store.old) (S.fault_count store.new)
+        (S.failures store.old) (S.failures store.new))
+        (saving (S.tree store.old) (S.tree store.new))
+        (printing (K.fault_count sink.old) (K.fault_count sink.new) (K.told sink.old)
+        (K.told sink.new))
+        result }
     ensures begun { BeginsWith (T.calls tools.old) (T.calls tools.new) }
 {
     match prepare(alloc, words, store, sink) {
@@ -191,6 +226,22 @@ fn answered_on<R: Threads + Wait + Sync, S: Store, K: Sink, T: Tools + Sync>(
     tools: &T,
 ) -> u8
     ensures answer { Answers T.answer (map string_bytes words.now) (loading (S.tree store.old) (S.fault_count store.old) (S.fault_count store.new) (S.failures store.old) (S.failures store.new)) (saving (S.tree store.old) (S.tree store.new)) (printing (K.fault_count sink.old) (K.fault_count sink.new) (K.told sink.old) (K.told sink.new)) result }
+    ensures nodes { (given : TheWorld)
+        (build : IsAskedOf (map string_bytes words.now) (S.tree store.old) given) →
+        ∥ IsOfNodes T.answer given build.options
+        (loading (S.tree store.old) (S.fault_count store.old) (S.fault_count store.new)
+        (S.failures store.old) (S.failures store.new))
+        (saving (S.tree store.old) (S.tree store.new))
+        (printing (K.fault_count sink.old) (K.fault_count sink.new) (K.told sink.old)
+        (K.told sink.new))
+        result ∥₁
+        ⊎ IsUnmade (map string_bytes words.now)
+        (loading (S.tree store.old) (S.fault_count store.old) (S.fault_count store.new)
+        (S.failures store.old) (S.failures store.new))
+        (saving (S.tree store.old) (S.tree store.new))
+        (printing (K.fault_count sink.old) (K.fault_count sink.new) (K.told sink.old)
+        (K.told sink.new))
+        result }
     ensures untouched { AsksForTrial (options_in (map string_bytes words.now)) → store.new ≡ store.old }
 {
     match prepare(alloc, words, store, sink) {
@@ -223,7 +274,13 @@ fn prepare<S: Store, K: Sink>(
 ) -> Prepared
     ensures prepared { IsPrepared (map string_bytes words.now) (loading (S.tree store.old) (S.fault_count store.old) (S.fault_count store.new) (S.failures store.old) (S.failures store.new)) (saving (S.tree store.old) (S.tree store.new)) (printing (K.fault_count sink.old) (K.fault_count sink.new) (K.told sink.old) (K.told sink.new)) result }
     ensures untouched { AsksForTrial (options_in (map string_bytes words.now)) → store.new ≡ store.old }
-    ensures undone { IsUndone result }
+    ensures undone { IsUndone (map string_bytes words.now)
+        (loading (S.tree store.old) (S.fault_count store.old) (S.fault_count store.new)
+        (S.failures store.old) (S.failures store.new))
+        (saving (S.tree store.old) (S.tree store.new))
+        (printing (K.fault_count sink.old) (K.fault_count sink.new) (K.told sink.old)
+        (K.told sink.new))
+        result }
 {
     let options = match read_words(alloc, words) {
         Ok(options) => options,
@@ -245,8 +302,7 @@ fn prepare<S: Store, K: Sink>(
 // What is left to do for a project over the files of a tree.
 fn work_left(alloc: Global, options: Options, tree: Tree) -> Prepared
     requires { HasProject options }
-    ensures left { IsLeft options tree.files result }
-    ensures undone { IsUndone result }
+    ensures { IsLeft options tree.files result }
 {
     match work_within(alloc, &options, tree) {
         Ok(work) => Prepared::Ready(options, work),

@@ -1,7 +1,7 @@
-use Rattle.std.proofs.Common.{[], inl, map}
+use Rattle.std.proofs.Common.{[], inr, map, refl}
 use Rattle.std.specs.Prelude.{string_bytes}
 use Rattle.msb_paths.specs.Refused.{normal_path}
-use Rattle.msb_program.proofs.Calling.{done_calls, done_history, no_trial_built, no_trial_meant}
+use Rattle.msb_program.proofs.Calling.{done_calls, made_history, no_trial_built, no_trial_meant, undone_incomplete, undone_unmade}
 use Rattle.msb_program.proofs.Ready.{ended_since, ready_answers, runs_of_words}
 use Rattle.msb_program.proofs.TrialEnded.{no_trial, trial_answers}
 use Rattle.msb_outcomes.proofs.Working.{has_status}
@@ -34,13 +34,16 @@ returns-in-Ready-clause-untouched g c = λ trial.
     absurd (no_trial _ c.in-Ready.options ready.asked ready.project trial)
 
 pub returns-in-Ended-clause-calls : goal.returns-in-Ended-clause-calls
-returns-in-Ended-clause-calls g c = λ meant m done. absurd (c.in-Ended.ensures.undone (inl done))
+returns-in-Ended-clause-calls g c = λ meant m done.
+    absurd (undone_incomplete _ _ _ _ c.in-Ended.status c.in-Ended.ensures.undone done)
 
 pub returns-in-Ended-clause-history : goal.returns-in-Ended-clause-history
-returns-in-Ended-clause-history g c = λ given build told. absurd (c.in-Ended.ensures.undone told)
+returns-in-Ended-clause-history g c = λ given build.
+    inr (undone_unmade g.T.CountedTools.answer _ _ given build _ _ _ c.in-Ended.status refl
+    c.in-Ended.ensures.undone)
 
 pub returns-in-Trial-clause-history : goal.returns-in-Trial-clause-history
-returns-in-Trial-clause-history g c = λ given build told.
+returns-in-Trial-clause-history g c = λ given build.
     absurd (no_trial_built (map string_bytes c.args.words.now) (g.S.Store.tree c.args.store.now) given build c.in-Trial.options c.in-Trial.ensures.prepared.asked c.in-Trial.ensures.prepared.trial)
 
 pub returns-in-Trial-clause-calls : goal.returns-in-Trial-clause-calls
@@ -54,8 +57,10 @@ returns-in-Ready-clause-calls g c = λ meant m done.
     (g.T.CountedTools.calls c.args.tools.now) (g.T.CountedTools.calls c.outcome_alone-made.new.tools) _ _ _ _ c.end.result ready.asked ready.loaded ready.is c.outcome_alone-made.ensures.calls c.end.ensures done
 
 pub returns-in-Ready-clause-history : goal.returns-in-Ready-clause-history
-returns-in-Ready-clause-history g c = λ given build told.
+returns-in-Ready-clause-history g c = λ given build.
     let ready = c.in-Ready.ensures.prepared in
-    done_history g.T.CountedTools.answer (map string_bytes c.args.words.now) (g.S.Store.tree c.args.store.now) given build c.in-Ready.options ready.files c.in-Ready.work c.outcome_alone-made.result
-    (g.T.CountedTools.calls c.args.tools.now) (g.T.CountedTools.calls c.outcome_alone-made.new.tools) _ _ _ _ c.end.result ready.asked ready.loaded ready.is c.outcome_alone-made.ensures.calls
-    (ended_since c.in-Ready.options c.in-Ready.work ready c.outcome_alone-made.result _ _ _ _ _ c.end.result c.end.ensures) told
+    made_history g.T.CountedTools.answer _ _ given build c.in-Ready.options ready.files c.in-Ready.work
+    ready.asked ready.loaded ready.is _ _ _ c.end.result c.outcome_alone-made.result _ _
+    c.outcome_alone-made.ensures.calls
+    (ended_since c.in-Ready.options c.in-Ready.work ready c.outcome_alone-made.result _ _ _ _
+    c.end.result c.end.ensures)

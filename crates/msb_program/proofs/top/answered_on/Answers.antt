@@ -1,6 +1,8 @@
-use Rattle.std.proofs.Common.{[]}
+use Rattle.std.proofs.Common.{[], inr, map, refl}
+use Rattle.std.specs.Prelude.{string_bytes}
 use Rattle.msb_paths.specs.Refused.{normal_path}
-use Rattle.msb_program.proofs.Ready.{ready_answers}
+use Rattle.msb_program.proofs.Calling.{made_on_nodes, no_trial_built, undone_unmade}
+use Rattle.msb_program.proofs.Ready.{ended_since, ready_answers}
 use Rattle.msb_program.proofs.TrialEnded.{no_trial, trial_answers}
 use Rattle.msb_outcomes.proofs.Working.{has_status}
 use Rattle.msb_program.proofs.top.answered_on.Goals as goal
@@ -25,3 +27,23 @@ pub returns-in-Ready-clause-untouched : goal.returns-in-Ready-clause-untouched
 returns-in-Ready-clause-untouched g c = λ trial.
     let ready = c.in-Ready.ensures.prepared in
     absurd (no_trial _ c.in-Ready.options ready.asked ready.project trial)
+
+pub returns-in-Ended-clause-nodes : goal.returns-in-Ended-clause-nodes
+returns-in-Ended-clause-nodes g c = λ given build.
+    inr (undone_unmade g.T.Tools.answer _ _ given build _ _ _ c.in-Ended.status refl
+    c.in-Ended.ensures.undone)
+
+pub returns-in-Trial-clause-nodes : goal.returns-in-Trial-clause-nodes
+returns-in-Trial-clause-nodes g c = λ given build.
+    let prepared = c.in-Trial.ensures.prepared in
+    absurd (no_trial_built (map string_bytes c.args.words.now) (g.S.Store.tree c.args.store.now) given
+    build c.in-Trial.options prepared.asked prepared.trial)
+
+pub returns-in-Ready-clause-nodes : goal.returns-in-Ready-clause-nodes
+returns-in-Ready-clause-nodes g c = λ given build.
+    let ready = c.in-Ready.ensures.prepared in
+    made_on_nodes g.T.Tools.answer _ _ given build c.in-Ready.options ready.files c.in-Ready.work
+    ready.asked ready.loaded ready.is _ _ _ c.end.result c.outcome_on-made.result
+    c.outcome_on-made.ensures.nodes
+    (ended_since c.in-Ready.options c.in-Ready.work ready c.outcome_on-made.result _ _ _ _
+    c.end.result c.end.ensures)
