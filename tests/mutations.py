@@ -26,7 +26,7 @@ import sys
 import tempfile
 from collections.abc import Callable, Iterator
 from concurrent.futures import ThreadPoolExecutor
-from contextlib import suppress
+from contextlib import contextmanager, suppress
 from dataclasses import dataclass, replace
 from functools import partial
 from itertools import islice
@@ -262,9 +262,19 @@ def wrong_answer(run: subprocess.CompletedProcess[bytes]) -> str | None:
     return None
 
 
+@contextmanager
+def scratch() -> Iterator[str]:
+    """A folder for a run. `rm` removes it, since Python removes no more than some 1,000 levels."""
+    name = tempfile.mkdtemp(prefix="msb-changed-", dir=SHARED)
+    try:
+        yield name
+    finally:
+        subprocess.run(["rm", "-rf", "--", name], check=True)
+
+
 def fault(program: Path, given: Input) -> str | None:
     """What is wrong with the run of an input, or None; what stands ahead of `:` is its kind."""
-    with tempfile.TemporaryDirectory(prefix="msb-changed-", dir=SHARED) as name:
+    with scratch() as name:
         folder = Path(name, "folder")
         folder.mkdir()
         lay_out(folder, given)
