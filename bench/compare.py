@@ -20,7 +20,8 @@ processors, those of all processes that were started included, and the peak in M
 process. A peak that is no larger than that of the small Python which starts the program, some 8
 MiB, does not show, and is `-`. The ratios:
 
-- `clock/msb`, `processor/msb`: how many times what msb takes on the least number of nodes.
+- `msb/clock`, `msb/processor`: how many times what the row has msb takes on the least number of
+  nodes: above 1 where msb is slower.
 - `growth`: the seconds of processors to those of the size above it in the same shape.
 - `to flat`: the seconds of processors to those of the flat set of the same size.
 """
@@ -63,7 +64,7 @@ LEFT_BEHIND = (".ninja_log", ".ninja_deps")
 
 # The columns of the table, and how wide they are.
 WIDTHS = {"set": 6, "projects": 8, "build": 6, "by": 13, "clock s": 8, "processor s": 11,
-          "peak MiB": 8, "clock/msb": 9, "processor/msb": 13, "growth": 6, "to flat": 7}
+          "peak MiB": 8, "msb/clock": 9, "msb/processor": 13, "growth": 6, "to flat": 7}
 
 
 class Program(NamedTuple):
@@ -183,7 +184,8 @@ def ratio(now: float, other: float | None) -> str:
     if not other:
         return ""
     times = now / other
-    return f"{times:.0f}" if times >= 10 else f"{times:.1f}" if times >= 1 else f"{times:.2f}"
+    digits = 0 if times >= 10 else 1 if times >= 1 else 2 if times >= 0.1 else 3
+    return f"{times:.{digits}f}"
 
 
 def processor_of(found: dict[Case, Use], case: Case) -> float | None:
@@ -197,7 +199,7 @@ def row(found: dict[Case, Use], case: Case, first: str, smaller: int | None, lea
     to_flat = processor_of(found, case._replace(shape="flat")) if case.shape != "flat" else None
     return line([case.shape, f"{case.size:,}", case.build, case.name, f"{use.clock:.3f}",
                  f"{use.processor:.3f}", f"{use.peak:.0f}" if use.peak > least else "-",
-                 ratio(use.clock, msb.clock), ratio(use.processor, msb.processor),
+                 ratio(msb.clock, use.clock), ratio(msb.processor, use.processor),
                  ratio(use.processor, processor_of(found, growth)) if growth else "",
                  ratio(use.processor, to_flat)])
 
