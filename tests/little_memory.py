@@ -3,8 +3,10 @@
 
 usage: tests/little_memory.py PROGRAM
 
-The program's address space is limited, by 64 KiB more each time, from where the program can just
-be started up to where the set is built twice in a row. Each build either answers want of memory
+The program's data (its heap, and the stacks of its threads) is limited, by 64 KiB more each time,
+from where the program can just be started up to where the set is built twice in a row. The address
+space is not: where it is, the kernel ends a program whose first stack can't grow, at whatever place
+that happens, and no program can answer this. Each build either answers want of memory
 (status 7), prints nothing, and leaves of the list of files that it writes those up to some place;
 or it answers as it does with ample memory. Each limit that shows another answer prints a line
 `FAIL LIMIT: what differs`; the last line is `N passed, M failed`. The status is 0 where nothing
@@ -24,13 +26,13 @@ from generated_sets import trial_outputs, written
 USAGE = "little_memory.py PROGRAM"
 SEED, SIZE = 7, 100
 STEP = 64 * 1024
-LEAST, MOST = 2 * 1024 * 1024, 256 * 1024 * 1024
+LEAST, MOST = 64 * 1024, 256 * 1024 * 1024
 
 
 def limited(program: Path, folder: Path, words: list[str], limit: int) -> tuple[int, bytes]:
-    """The status and the output of a run whose address space is limited."""
+    """The status and the output of a run whose data is limited."""
     def restrict() -> None:
-        resource.setrlimit(resource.RLIMIT_AS, (limit, limit))
+        resource.setrlimit(resource.RLIMIT_DATA, (limit, limit))
     run = subprocess.run([program, *words], cwd=folder, stdin=subprocess.DEVNULL, check=False,
                          capture_output=True, timeout=SECONDS, preexec_fn=restrict)
     return run.returncode, run.stdout
