@@ -1,12 +1,13 @@
 #!/usr/bin/env python3
 """Build a generated set with less memory than it takes, by a built program.
 
-usage: tests/little_memory.py PROGRAM
+usage: tests/little_memory.py PROGRAM [address]
 
 The program's data (its heap, and the stacks of its threads) is limited, by 64 KiB more each time,
-from where the program can just be started up to where the set is built twice in a row. The address
-space is not: where it is, the kernel ends a program whose first stack can't grow, at whatever place
-that happens, and no program can answer this. Each build either answers want of memory
+from where the program can just be started up to where the set is built twice in a row. By the word
+`address` its whole address space is limited instead: then the kernel ends a program whose first
+stack has to grow when all is used up, which fails at some limits as long as the program does not
+take its stack beforehand. Each build either answers want of memory
 (status 7), prints nothing, and leaves of the list of files that it writes those up to some place;
 or it answers as it does with ample memory. Each limit that shows another answer prints a line
 `FAIL LIMIT: what differs`; the last line is `N passed, M failed`. The status is 0 where nothing
@@ -23,16 +24,17 @@ from pathlib import Path
 from generated_sets import SECONDS, SHARED, Files, Outcome, lay_out, trial_calls, trial_files
 from generated_sets import trial_outputs, written
 
-USAGE = "little_memory.py PROGRAM"
+USAGE = "little_memory.py PROGRAM [address]"
+LIMITED = resource.RLIMIT_AS if sys.argv[2:] == ["address"] else resource.RLIMIT_DATA
 SEED, SIZE = 7, 100
 STEP = 64 * 1024
 LEAST, MOST = 64 * 1024, 256 * 1024 * 1024
 
 
 def limited(program: Path, folder: Path, words: list[str], limit: int) -> tuple[int, bytes]:
-    """The status and the output of a run whose data is limited."""
+    """The status and the output of a run whose data, or address space, is limited."""
     def restrict() -> None:
-        resource.setrlimit(resource.RLIMIT_DATA, (limit, limit))
+        resource.setrlimit(LIMITED, (limit, limit))
     run = subprocess.run([program, *words], cwd=folder, stdin=subprocess.DEVNULL, check=False,
                          capture_output=True, timeout=SECONDS, preexec_fn=restrict)
     return run.returncode, run.stdout
@@ -85,7 +87,7 @@ def tried(program: Path, words: list[str]) -> tuple[int, int, int]:
 
 def main(words: list[str]) -> int:
     """Read the words, and build on one node and on several."""
-    if len(words) != 1 or not os.access(words[0], os.X_OK):
+    if not words or words[1:] not in ([], ["address"]) or not os.access(words[0], os.X_OK):
         print(f"usage: {USAGE}", file=sys.stderr)
         return 2
     program = Path(words[0]).resolve()
