@@ -15,13 +15,12 @@ use Rattle.result_cache.specs.declared.request.RequestResult.{RequestResult}
 use Rattle.build_meaning.specs.Walk.{Reply}
 use Rattle.build_meaning.specs.Demand.{IsWhole}
 use Rattle.build_meaning.specs.Meaning.{Given, requested}
-use Rattle.build_meaning.specs.Sound.{IsMade}
+use Rattle.build_meaning.specs.Sound.{IsBuilt, IsMade}
 use Rattle.build_incremental.specs.Alike.{AlikeJournals}
-use Rattle.build_incremental.specs.Demand.{IsAny}
-use Rattle.build_incremental.specs.Placed.{PlacedWorld, plain_world}
-use Rattle.build_incremental.specs.Each.{EachOfMeaning}
+use Rattle.build_meaning.specs.Derived.{EachOfMeaning}
+use Rattle.build_meaning.specs.World.{World}
 use Rattle.build_incremental.specs.Joins.{IsOfOneRun, Anyhow}
-use Rattle.build_incremental.specs.SideBySide.{AlikeRuns, HasNotActed, HasOneRecord}
+use Rattle.build_incremental.specs.SideBySide.{AlikeRuns, HasNotActed, HasOneRecord, IsAny}
 use Rattle.build_incremental.proofs.GoAlike.{meanings-go}
 use Rattle.build_incremental.proofs.Demands.{each-meaning}
 use Rattle.build_incremental.proofs.Meanings.{meaning-each, both-meaning, weaker-meaning}
@@ -52,11 +51,11 @@ module _ (tools : List ℕ → ToolInput → ToolAnswer) (files : List File) whe
       (body Clean (run_at files id target) scope k) made (λ first. Unit {0})
 
   module _ (go : RunsGo) (root : RequestKey) (instances : RequestKey → Result Instance Reply)
-      (out : Given ToolInput RequestResult) where
-    abbrev pub incremental : PlacedWorld Site ToolInput ToolAnswer
+      (out : Given Site ToolInput RequestResult) where
+    abbrev pub incremental : World Site ToolInput ToolAnswer
     incremental = world_by tools files root instances Incremental
 
-    abbrev pub clean : PlacedWorld Site ToolInput ToolAnswer
+    abbrev pub clean : World Site ToolInput ToolAnswer
     clean = world_by tools files root instances Clean
 
     -- what is known of the bodies, joins and requests of the clean meaning
@@ -83,7 +82,9 @@ module _ (tools : List ℕ → ToolInput → ToolAnswer) (files : List File) whe
         IsFresh tools files clean out.value out.journal →
         EachOfMeaning clean Known IsOfOneRun Asked out.value out.journal
     all-known declared fresh =
-        let made = meaning-each clean out declared.whole.means in
+        let made = weaker-meaning clean (IsBuilt out.demand) MadeThere Anyhow Anyhow Asked Asked
+        (λ p r j m b. (p, j, b)) (λ x y z h. h) (λ key h. h) out.value out.journal
+        (meaning-each clean out declared.whole.means) in
         let two = (both-meaning clean MadeThere Declared Anyhow IsOfOneRun Asked AnyKey
         out.value out.value out.journal out.journal made declared.each).0 in
         let all = (both-meaning clean (λ p r j m. MadeThere p r j m × Declared p r j m) Fresh
@@ -99,11 +100,11 @@ module _ (tools : List ℕ → ToolInput → ToolAnswer) (files : List File) whe
     -- the incremental world is whole, and gives what the clean one gives
     pub incremental-is-clean : IsDeclared tools files clean out →
         IsFresh tools files clean out.value out.journal →
-        (y : Given ToolInput RequestResult) × IsWhole (plain_world incremental) y
+        (y : Given Site ToolInput RequestResult) × IsWhole incremental y
         × (y.value ≡ out.value) × AlikeJournals (bytes_in files) AnyPath y.journal out.journal
     incremental-is-clean declared fresh =
         let one : HasOneRecord Known = λ p q run j k made other h g.
-        declared.steady run made other h.0.0 g.0.0 h.0.1 g.0.1 in
+        declared.steady run made other h.0 g.0 in
         let side = sides tools files AnyPath IsAny Known (λ site id k made q n act i. tt)
         (λ site id j k made x q n. tt)
         (λ target scope id j k made x q lists fw fc.
@@ -112,8 +113,7 @@ module _ (tools : List ℕ → ToolInput → ToolAnswer) (files : List File) whe
         out.value out.journal (all-known declared fresh) in
         let y = each-meaning incremental IsAny Anyhow Asked out.value x.0 x.1 in (
           y.0,
-          whole-too (plain_world incremental) (plain_world clean) y.0 out declared.whole y.1
-              y.4.asked,
+          whole-too incremental clean y.0 out declared.whole y.1 (λ key i. y.4 (requested key) i),
           y.2,
           subst (λ z. AlikeJournals (bytes_in files) AnyPath z out.journal) (sym y.3) x.2,
         )

@@ -13,7 +13,6 @@ use Rattle.build_meaning.specs.Walk.{Reply}
 use Rattle.build_meaning.specs.Demand.{IsWhole}
 use Rattle.build_meaning.specs.Meaning.{Given}
 use Rattle.build_incremental.specs.Alike.{AlikeJournals}
-use Rattle.build_incremental.specs.Placed.{plain_world}
 use Rattle.build_incremental.specs.SideBySide.{HasNotActed}
 use Rattle.task_trait.specs.declared.tools.ToolAnswer.{ToolAnswer}
 use Rattle.task_trait.specs.declared.tools.ToolInput.{ToolInput}
@@ -24,6 +23,7 @@ use Rattle.target_incremental.specs.declared.decision.Choice.TheVariants.{
   Part,
 }
 use Rattle.target_body.specs.States.{entered, run_at}
+use Rattle.request_machine.specs.Walk.{Site}
 use Rattle.build_declared.specs.Declared.{IsDeclared, MayChoose}
 use Rattle.build_declared.specs.Written.{bytes_in, AnyPath}
 use Rattle.build_declared.specs.Fresh.{IsFresh}
@@ -71,10 +71,10 @@ module _ (tools : List ℕ → ToolInput → ToolAnswer) (files : List File) whe
 
   -- the incremental world is whole, and gives what the clean one gives
   pub incremental-is-clean-so : (root : RequestKey)
-      (instances : RequestKey → Result Instance Reply) (out : Given ToolInput RequestResult) →
+      (instances : RequestKey → Result Instance Reply) (out : Given Site ToolInput RequestResult) →
       IsDeclared tools files (world_by tools files root instances Clean) out →
       IsFresh tools files (world_by tools files root instances Clean) out.value out.journal →
-      (y : Given ToolInput RequestResult)
-      × IsWhole (plain_world (world_by tools files root instances Incremental)) y
+      (y : Given Site ToolInput RequestResult)
+      × IsWhole (world_by tools files root instances Incremental) y
       × (y.value ≡ out.value) × AlikeJournals (bytes_in files) AnyPath y.journal out.journal
   incremental-is-clean-so = incremental-is-clean tools files (runs-go tools files pieces-go)

@@ -10,32 +10,26 @@ use Rattle.build_meaning.specs.Demand.{IsWhole}
 use Rattle.msb_files.specs.FinalTree.{IsFinalTree}
 use Rattle.task_trait.specs.declared.tools.ToolAnswer.{ToolAnswer}
 use Rattle.task_trait.specs.declared.tools.ToolInput.{ToolInput}
+use Rattle.request_machine.specs.Walk.{Site}
 use Rattle.request_machine.specs.Worlds.{root_of, world_of, instances_of}
 use Rattle.build_declared.specs.Builds.{in_mode}
 use Rattle.build_declared.specs.Written.{bytes_in}
 use Rattle.build_declared.specs.Clean.{IsTrustworthy, GivesClean}
 use Rattle.build_declared.proofs.CleanOutcomes.{incremental-is-clean-so}
-use Rattle.build_declared.proofs.Plain.{plain-is-world}
 
 module _ (tools : List ℕ → ToolInput → ToolAnswer) (w : Build)
-    (clean : Given ToolInput RequestResult) (t : IsTrustworthy tools w clean) where
+    (clean : Given Site ToolInput RequestResult) (t : IsTrustworthy tools w clean) where
   abbrev IsClean : Build → Type 0
-  IsClean b = (out : Given ToolInput RequestResult) × IsWhole (world_of tools b) out
+  IsClean b = (out : Given Site ToolInput RequestResult) × IsWhole (world_of tools b) out
       × GivesClean w.tree.files out clean
 
   in-each : (mode : Mode) → IsClean (in_mode mode w)
-  in-each Clean = (
-    clean,
-    subst (λ x. IsWhole x clean) (plain-is-world tools (in_mode Clean w)) t.declared.whole,
-    record { result = refl; contents = λ path. refl },
-  )
+  in-each Clean =
+      (clean, t.declared.whole, record { result = refl; contents = λ path. refl })
   in-each Incremental =
       let y = incremental-is-clean-so tools w.tree.files (root_of w) (instances_of w.tree.files)
-      clean t.declared t.fresh in (
-        y.0,
-        subst (λ x. IsWhole x y.0) (plain-is-world tools (in_mode Incremental w)) y.1,
-        record { result = y.2; contents = y.3.same },
-      )
+      clean t.declared t.fresh in
+      (y.0, y.1, record { result = y.2; contents = y.3.same })
 
   same-mode : in_mode w.mode w ≡ w
   same-mode = refl
@@ -44,7 +38,7 @@ module _ (tools : List ℕ → ToolInput → ToolAnswer) (w : Build)
   build-is-clean = subst IsClean same-mode (in-each w.mode)
 
   -- so does what the world means
-  pub meant-is-clean : (out : Given ToolInput RequestResult) →
+  pub meant-is-clean : (out : Given Site ToolInput RequestResult) →
       meaning (world_of tools w) ≡ Some out → GivesClean w.tree.files out clean
   meant-is-clean out means =
       let same : Some build-is-clean.0 ≡ Some out = sym build-is-clean.1.means ∙ means in
@@ -52,7 +46,7 @@ module _ (tools : List ℕ → ToolInput → ToolAnswer) (w : Build)
       (let e : build-is-clean.0 ≡ out = cc in e) build-is-clean.2
 
   -- and the trees that both leave have the same bytes at each path
-  pub trees-are-clean : (out : Given ToolInput RequestResult) →
+  pub trees-are-clean : (out : Given Site ToolInput RequestResult) →
       meaning (world_of tools w) ≡ Some out → (after other : List File) →
       IsFinalTree w.tree.files out.journal after → IsFinalTree w.tree.files clean.journal other →
       (path : List ℕ) → bytes_in after path ≡ bytes_in other path

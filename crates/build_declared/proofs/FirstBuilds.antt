@@ -38,15 +38,14 @@ use Rattle.result_cache.proofs.RunTests.{clash}
 use Rattle.result_cache.proofs.JournalEntries.{Has, had-in, had-none}
 use Rattle.build_meaning.specs.Walk.{Body, Outcome, Reply}
 use Rattle.build_meaning.specs.SoFar.{recorded}
-use Rattle.build_meaning.specs.Meaning.{Given, meaning, requested}
+use Rattle.build_meaning.specs.Meaning.{Given, built, meaning}
 use Rattle.build_meaning.specs.Demand.{IsSteady}
-use Rattle.build_meaning.specs.Sound.{IsMade}
+use Rattle.build_meaning.specs.Derived.{EachOfMeaning}
+use Rattle.build_meaning.specs.Sound.{IsBuilt, IsMade}
+use Rattle.build_meaning.specs.World.{World}
 use Rattle.build_incremental.specs.Alike.{AlikeJournals}
 use Rattle.build_incremental.specs.Alone.{segments_of}
-use Rattle.build_incremental.specs.Demand.{Occurrence, IsAmong}
-use Rattle.build_incremental.specs.Each.{EachOfMeaning}
 use Rattle.build_incremental.specs.Joins.{IsOfOneRun, Anyhow}
-use Rattle.build_incremental.specs.Placed.{PlacedWorld, plain_world}
 use Rattle.build_incremental.specs.SideBySide.{
   AlikeRuns,
   step_by_step,
@@ -64,7 +63,7 @@ use Rattle.build_incremental.proofs.BodyFacts.{
 use Rattle.build_incremental.proofs.Demands.{told-journal, each-meaning}
 use Rattle.build_incremental.proofs.Entries.{none-or-some, in-parts, in-marked, marked-act}
 use Rattle.build_incremental.proofs.GoAlike.{meanings-go}
-use Rattle.build_incremental.proofs.Meanings.{meaning-each, weaker-meaning}
+use Rattle.build_incremental.proofs.Meanings.{AskedIn, meaning-each, weaker-meaning}
 use Rattle.build_incremental.proofs.Numbered.{numbered, acts_in, acts-segments}
 use Rattle.build_incremental.proofs.Orders.{
   Under,
@@ -82,12 +81,13 @@ use Rattle.request_machine.specs.Walk.{Site}
 use Rattle.build_declared.specs.Declared.{IsDeclared, DeclaredAt}
 use Rattle.build_declared.specs.Fresh.{IsFresh, FreshAt}
 use Rattle.build_declared.specs.Builds.{world_by}
+use Rattle.build_declared.specs.Occurrences.{Occurrence, Occurs}
 use Rattle.build_declared.specs.Written.{bytes_in, AnyPath}
 use Rattle.build_declared.proofs.CleanOutcomes.{pieces-go}
 use Rattle.build_declared.proofs.LastWrites.{RunAtLast}
-use Rattle.build_declared.proofs.PlacedBodies.{bodies_of, world-tells}
 use Rattle.build_declared.proofs.RunLists.{alike-self, runs-go}
 use Rattle.build_declared.proofs.Sides.{sides}
+use Rattle.build_declared.proofs.SiteBodies.{bodies_of, world-tells}
 
 -- the same runs, where something else is said of the first record
 run-said : {I A : Type 0} {files : List ℕ → Option (List ℕ)} {W : List ℕ → Type 0}
@@ -122,9 +122,9 @@ abbrev pub Alike : List File → Journal → Journal → Type 0
 Alike files j k = AlikeJournals (bytes_in files) AnyPath j k
 
 module _ (tools : List ℕ → ToolInput → ToolAnswer) (files : List File) (root : RequestKey)
-    (instances : RequestKey → Result Instance Reply) (clean : Given ToolInput RequestResult)
-    (demand : List (Occurrence Site)) where
-  abbrev pub clean_world : PlacedWorld Site ToolInput ToolAnswer
+    (instances : RequestKey → Result Instance Reply)
+    (clean : Given Site ToolInput RequestResult) where
+  abbrev pub clean_world : World Site ToolInput ToolAnswer
   clean_world = world_by tools files root instances Clean
 
   -- ---- the clean build
@@ -133,31 +133,28 @@ module _ (tools : List ℕ → ToolInput → ToolAnswer) (files : List File) (ro
   abbrev pub SaidClean : Site → RunId → Journal → Record → Type 0
   SaidClean site id k made = ((DeclaredAt tools files site.target site.scope id k
       × FreshAt tools files site.target site.scope id k) × IsMade clean.demand id made)
-      × IsAmong demand site id k made
+      × IsBuilt clean.demand site id k made
 
   abbrev pub KnownClean : Site → RunId → Journal → Record → Type 0
   KnownClean = Facts clean_world SaidClean IsOfOneRun AnyKey (bodies_of files Clean) clean.journal
 
   module _ (declared : IsDeclared tools files clean_world clean)
-      (fresh : IsFresh tools files clean_world clean.value clean.journal)
-      (bodies : EachOfMeaning clean_world (IsAmong demand) Anyhow AnyKey clean.value
-      clean.journal) where
+      (fresh : IsFresh tools files clean_world clean.value clean.journal) where
     all-clean : EachOfMeaning clean_world KnownClean IsOfOneRun AnyKey clean.value clean.journal
     all-clean =
         let D : Site → RunId → Journal → Record → Type 0 =
         λ site id k made. DeclaredAt tools files site.target site.scope id k in
         let F : Site → RunId → Journal → Record → Type 0 =
         λ site id k made. FreshAt tools files site.target site.scope id k in
-        let M : Site → RunId → Journal → Record → Type 0 =
-        λ site id k made. IsMade clean.demand id made in
         let a = (also clean_world D F IsOfOneRun Anyhow AnyKey AnyKey clean.value clean.value
         clean.journal clean.journal declared.each fresh).0 in
-        let b = (also clean_world (λ p r j m. D p r j m × F p r j m) M IsOfOneRun Anyhow AnyKey
-        (λ key. In (requested key) clean.demand) clean.value clean.value clean.journal
+        let b = (also clean_world (λ p r j m. D p r j m × F p r j m) (IsBuilt clean.demand)
+        IsOfOneRun Anyhow AnyKey (AskedIn clean) clean.value clean.value clean.journal
         clean.journal a (meaning-each clean_world clean declared.whole.means)).0 in
-        let c = (also clean_world (λ p r j m. (D p r j m × F p r j m) × M p r j m)
-        (IsAmong demand) IsOfOneRun Anyhow AnyKey AnyKey clean.value clean.value clean.journal
-        clean.journal b bodies).0 in
+        let c = weaker-meaning clean_world
+        (λ p r j m. (D p r j m × F p r j m) × IsBuilt clean.demand p r j m) SaidClean IsOfOneRun
+        IsOfOneRun AnyKey AnyKey (λ p r j m h. ((h.0, (p, j, h.1)), h.1)) (λ c s n h. h)
+        (λ key h. h) clean.value clean.journal b in
         (meaning-facts clean_world SaidClean IsOfOneRun AnyKey (bodies_of files Clean)
         (world-tells files Clean tools root instances) clean.value clean.journal c).0
 
@@ -170,9 +167,10 @@ module _ (tools : List ℕ → ToolInput → ToolAnswer) (files : List File) (ro
         let same : Some x.0 ≡ Some clean = sym x.1 ∙ declared.whole.means in
         let e : x.0 ≡ clean = cc in
         let made-there : IsMade x.0.demand id made =
-        subst (λ (z : Given ToolInput RequestResult). IsMade z.demand id made) (sym e) there in
-        let body = x.4.bodies id made made-there.0 made-there.1 in
-        ended-found clean.journal id body.2.ends
+        subst (λ (z : Given Site ToolInput RequestResult). IsMade z.demand id made) (sym e) there in
+        let known : KnownClean made-there.0 id made-there.1 made =
+        x.4 (built made-there.0 id made-there.1 made made-there.2.0) made-there.2.1 in
+        ended-found clean.journal id known.ends
 
     -- ---- the build, beside it
 
@@ -187,8 +185,8 @@ module _ (tools : List ℕ → ToolInput → ToolAnswer) (files : List File) (ro
         journal × AlikeJournals (bytes_in files) AnyPath journal clean.journal
 
     one-record : HasOneRecord KnownClean
-    one-record p q run j k made other h g = declared.steady run made other h.said.0.1.0
-        g.said.0.1.0 h.said.0.1.1 g.said.0.1.1
+    one-record p q run j k made other h g =
+        declared.steady run made other h.said.0.1 g.said.0.1
 
     both-sides : SideBySide (bytes_in files) AnyPath Twin KnownClean
         (world_by tools files root instances Incremental) clean_world
@@ -212,16 +210,14 @@ module _ (tools : List ℕ → ToolInput → ToolAnswer) (files : List File) (ro
 
     -- ---- what the build leaves
 
-    module _ (mode : Mode) (out : Given ToolInput RequestResult)
-        (means : meaning (plain_world (world_by tools files root instances mode)) ≡ Some out)
-        (steady : IsSteady out.demand) (made_bodies : List (Occurrence Site))
-        (are_bodies : EachOfMeaning (world_by tools files root instances mode)
-        (IsAmong made_bodies) Anyhow AnyKey out.value out.journal) where
-      abbrev pub world : PlacedWorld Site ToolInput ToolAnswer
+    module _ (mode : Mode) (out : Given Site ToolInput RequestResult)
+        (means : meaning (world_by tools files root instances mode) ≡ Some out)
+        (steady : IsSteady out.demand) where
+      abbrev pub world : World Site ToolInput ToolAnswer
       world = world_by tools files root instances mode
 
       abbrev pub SaidHere : Site → RunId → Journal → Record → Type 0
-      SaidHere site id j made = (IsAmong made_bodies site id j made × IsMade out.demand id made)
+      SaidHere site id j made = (IsBuilt out.demand site id j made × IsMade out.demand id made)
           × Twin site id j made
 
       abbrev pub KnownHere : Site → RunId → Journal → Record → Type 0
@@ -230,15 +226,16 @@ module _ (tools : List ℕ → ToolInput → ToolAnswer) (files : List File) (ro
       abbrev Made : Site → RunId → Journal → Record → Type 0
       Made site id j made = IsMade out.demand id made
 
-      with-made : EachOfMeaning world (λ p r j m. IsAmong made_bodies p r j m × Made p r j m)
+      with-made : EachOfMeaning world (λ p r j m. IsBuilt out.demand p r j m × Made p r j m)
           Anyhow AnyKey out.value out.journal
-      with-made = (also world (IsAmong made_bodies) Made Anyhow Anyhow AnyKey
-          (λ key. In (requested key) out.demand) out.value out.value out.journal out.journal
-          are_bodies (meaning-each world out means)).0
+      with-made = weaker-meaning world (IsBuilt out.demand)
+          (λ p r j m. IsBuilt out.demand p r j m × Made p r j m) Anyhow Anyhow (AskedIn out) AnyKey
+          (λ p r j m h. (h, (p, j, h))) (λ c s n h. h) (λ key h. tt) out.value out.journal
+          (meaning-each world out means)
 
       both-said : EachOfMeaning world SaidHere Anyhow AnyKey out.value out.journal
           × (out.journal ≡ (twins mode).0)
-      both-said = also world (λ p r j m. IsAmong made_bodies p r j m × Made p r j m) Twin Anyhow
+      both-said = also world (λ p r j m. IsBuilt out.demand p r j m × Made p r j m) Twin Anyhow
           Anyhow AnyKey AnyKey out.value clean.value out.journal (twins mode).0 with-made
           (twins mode).1
 
@@ -275,13 +272,15 @@ module _ (tools : List ℕ → ToolInput → ToolAnswer) (files : List File) (ro
           let same : Some x.0 ≡ Some out = sym x.1 ∙ means in
           let e : x.0 ≡ out = cc in
           let made : IsMade x.0.demand id y.2 =
-          subst (λ (z : Given ToolInput RequestResult). IsMade z.demand id y.2) (sym e) y.3.0.1 in
-          let body = x.4.bodies id y.2 made.0 made.1 in
-          (body.0, body.1, y.2, body.2, y.4)
+          subst (λ (z : Given Site ToolInput RequestResult). IsMade z.demand id y.2) (sym e)
+          y.3.0.1 in
+          let known : KnownHere made.0 id made.1 y.2 =
+          x.4 (built made.0 id made.1 y.2 made.2.0) made.2.1 in
+          (made.0, made.1, y.2, known, y.4)
 
       same-record : (p q : Site) (run : RunId) (j k : Journal) (m n : Record) →
           SaidHere p run j m → SaidHere q run k n → m ≡ n
-      same-record p q run j k m n x y = steady run m n x.0.1.0 y.0.1.0 x.0.1.1 y.0.1.1
+      same-record p q run j k m n x y = steady run m n x.0.1 y.0.1
 
       -- two journals of it agree on what a run has done with a number
       agree : (from : Journal) → ActsRecorded SaidHere from → (run : RunId) (n : ℕ)
@@ -295,11 +294,11 @@ module _ (tools : List ℕ → ToolInput → ToolAnswer) (files : List File) (ro
           (subst (λ (z : Record). In (acted run n other) (acts_in run z.segments)) (sym same) y.4)
 
       -- what stands wherever the run begins stands below all its acts
-      pub stood-under : (id run : RunId) (n : ℕ) → ((o : Occurrence Site) → In o made_bodies →
+      pub stood-under : (id run : RunId) (n : ℕ) → ((o : Occurrence) → Occurs out.demand o →
           o.run ≡ id → has (act_of run n) o.from ≡ true) →
           Under (act_of run n) id 0 out.journal
       stood-under id run n stood = meaning-under world KnownHere Anyhow AnyKey (act_of run n) id 0
-          (λ p from m k. inl (stood (record { place = p; run = id; from = from; made = m })
+          (λ p from m k. inl (stood (record { site = p; run = id; from = from; made = m })
           k.said.0.0 refl)) out.value out.journal known-facts.0
 
       module _ (after : List File) (commit : AreDone (commit_list out.journal) files after)

@@ -20,13 +20,11 @@ pub mod PairFates
 pub mod PieceParts
 pub mod PieceRuns
 pub mod PieceSkips
-pub mod PlacedBodies
-pub mod PlacedWalks
-pub mod Plain
 pub mod RunLists
 pub mod SameRuns
 pub mod SecondBuilds
 pub mod Sides
+pub mod SiteBodies
 pub mod SkippedPieces
 pub mod SkippedRuns
 pub mod SkippedWork
@@ -36,3 +34,4 @@ pub mod StaysFresh
 pub mod Steps
 pub mod Trusted
 pub mod Twins
+pub mod WalksGo

@@ -37,12 +37,12 @@ use Rattle.result_cache.specs.declared.request.RequestKey.{RequestKey}
 use Rattle.result_cache.specs.declared.request.RequestResult.{RequestResult}
 use Rattle.build_meaning.specs.SoFar.{recorded}
 use Rattle.build_meaning.specs.Walk.{Body, makes, does, uses, calls, Outcome, Reply}
+use Rattle.build_meaning.specs.Derived.{EachOfMeaning}
 use Rattle.build_meaning.specs.Meaning.{Given}
+use Rattle.build_meaning.specs.Sound.{IsBuilt}
+use Rattle.build_meaning.specs.World.{World}
 use Rattle.build_incremental.specs.Alike.{AlikeOutcomes, AlikeJournals}
 use Rattle.build_incremental.specs.Alone.{alone, LacksOnly}
-use Rattle.build_incremental.specs.Demand.{Occurrence, IsAmong}
-use Rattle.build_incremental.specs.Placed.{PlacedWorld}
-use Rattle.build_incremental.specs.Each.{EachOfMeaning}
 use Rattle.build_incremental.specs.Joins.{IsOfOneRun, Anyhow}
 use Rattle.build_incremental.specs.SideBySide.{
   AlikeBodies,
@@ -54,7 +54,12 @@ use Rattle.build_incremental.specs.SideBySide.{
 }
 use Rattle.build_incremental.proofs.Entries.{nothing-content}
 use Rattle.build_incremental.proofs.GoAlike.{meanings-go}
-use Rattle.build_incremental.proofs.Meanings.{both-meaning, weaker-meaning}
+use Rattle.build_incremental.proofs.Meanings.{
+  AskedIn,
+  both-meaning,
+  meaning-each,
+  weaker-meaning,
+}
 use Rattle.task_trait.specs.declared.tools.ToolAnswer.{ToolAnswer}
 use Rattle.task_trait.specs.declared.tools.ToolInput.{ToolInput}
 use Rattle.target_texts.specs.Returned.{in_target}
@@ -66,6 +71,7 @@ use Rattle.build_declared.specs.Declared.{IsDeclared, clean_pieces}
 use Rattle.build_declared.specs.Ends.{End, end_of}
 use Rattle.build_declared.specs.Fresh.{IsFresh}
 use Rattle.build_declared.specs.NoOlder.{NoOlderAt, IsNoOlder}
+use Rattle.build_declared.specs.Occurrences.{Occurrence, Occurs}
 use Rattle.build_declared.specs.Pieces.{
   Piece,
   piece_if,
@@ -165,17 +171,17 @@ module _ (tools : List ℕ → ToolInput → ToolAnswer) (id : RunId) (choose : 
 -- ---- the worlds
 
 module _ (tools : List ℕ → ToolInput → ToolAnswer) (files : List File) (root : RequestKey)
-    (instances : RequestKey → Result Instance Reply) (out : Given ToolInput RequestResult)
-    (demand : List (Occurrence Site)) (free : FreeRunsKeepOff tools files Clean demand) where
-  abbrev pub incremental : PlacedWorld Site ToolInput ToolAnswer
+    (instances : RequestKey → Result Instance Reply) (out : Given Site ToolInput RequestResult)
+    (free : FreeRunsKeepOff tools files Clean out.demand) where
+  abbrev pub incremental : World Site ToolInput ToolAnswer
   incremental = world_by tools files root instances Incremental
 
-  abbrev pub clean : PlacedWorld Site ToolInput ToolAnswer
+  abbrev pub clean : World Site ToolInput ToolAnswer
   clean = world_by tools files root instances Clean
 
   -- no input and no output of a piece
   abbrev KeepsOff : List ℕ → Type 0
-  KeepsOff path = (o : Occurrence Site) → In o demand → (p : Piece) →
+  KeepsOff path = (o : Occurrence) → Occurs out.demand o → (p : Piece) →
       In p (pieces_at tools files Clean o) → is_of tools files Clean path p → ⊥
 
   abbrev Declared : Site → RunId → Journal → Record → Type 0
@@ -186,7 +192,7 @@ module _ (tools : List ℕ → ToolInput → ToolAnswer) (files : List File) (ro
 
   record IsListed (site : Site) (id : RunId) (k : Journal) (made : Record) : Type 0 where
     older : NoOlder site id k made
-    among : IsAmong demand site id k made
+    among : IsBuilt out.demand site id k made
 
   -- what is known of the bodies of the clean meaning
   record Known (site : Site) (id : RunId) (k : Journal) (made : Record) : Type 0 where
@@ -209,7 +215,7 @@ module _ (tools : List ℕ → ToolInput → ToolAnswer) (files : List File) (ro
 
   no-piece : (o : Option UsedTarget) (scope : Scope) (id : RunId) (k : Journal) (made : Record) →
       WithoutLists o → pieces_at tools files Clean (record {
-        place = record { target = o; scope = scope };
+        site = record { target = o; scope = scope };
         run = id;
         from = k;
         made = made;
@@ -226,7 +232,7 @@ module _ (tools : List ℕ → ToolInput → ToolAnswer) (files : List File) (ro
       WithoutLists site.target → (act : Act) → In (OnFile act) made.segments →
       KeepsOff (act_path act)
   may site id k made q n act written o there p among at =
-      free (record { place = site; run = id; from = k; made = made }) o q.listed.among there
+      free (record { site = site; run = id; from = k; made = made }) o q.listed.among there
       (no-piece site.target site.scope id k made n) p among act written at
 
   skips-none : (o : Option UsedTarget) (scope : Scope) (id : RunId) (j : Journal)
@@ -254,7 +260,7 @@ module _ (tools : List ℕ → ToolInput → ToolAnswer) (files : List File) (ro
         untouched = λ path at. nothing-content j path (λ other n act written same.
             let e : act_path act ≡ path = (bytes_eq-Decides (act_path act) path).0 same in
             a.only other n act written (record {
-              place = record { target = Some target; scope = scope };
+              site = record { target = Some target; scope = scope };
               run = id;
               from = k;
               made = made;
@@ -294,14 +300,14 @@ module _ (tools : List ℕ → ToolInput → ToolAnswer) (files : List File) (ro
 
   known : IsDeclared tools files clean out → IsFresh tools files clean out.value out.journal →
       IsNoOlder tools files clean out.value out.journal →
-      EachOfMeaning clean (IsAmong demand) Anyhow AnyKey out.value out.journal →
       EachOfMeaning clean Known IsOfOneRun AskedFor out.value out.journal
-  known declared fresh older bodies =
-      let both = (both-meaning clean NoOlder (IsAmong demand) Anyhow Anyhow AnyKey AnyKey
-      out.value out.value out.journal out.journal older bodies).0 in
-      let listed = weaker-meaning clean (λ p r j m. NoOlder p r j m × IsAmong demand p r j m)
+  known declared fresh older =
+      let both = (both-meaning clean NoOlder (IsBuilt out.demand) Anyhow Anyhow AnyKey (AskedIn out)
+      out.value out.value out.journal out.journal older
+      (meaning-each clean out declared.whole.means)).0 in
+      let listed = weaker-meaning clean (λ p r j m. NoOlder p r j m × IsBuilt out.demand p r j m)
       IsListed (λ x y z. Anyhow x y z × Anyhow x y z) Anyhow
-      (λ key. AnyKey key × AnyKey key) AnyKey
+      (λ key. AnyKey key × AskedIn out key) AnyKey
       (λ p r j m h. record { older = h.0; among = h.1 }) (λ x y z h. h.0) (λ key h. h.0)
       out.value out.journal both in
       let all = (both-meaning clean Declared IsListed IsOfOneRun Anyhow AskedFor AnyKey
@@ -318,14 +324,13 @@ module _ (tools : List ℕ → ToolInput → ToolAnswer) (files : List File) (ro
   pub second-skips : IsDeclared tools files clean out →
       IsFresh tools files clean out.value out.journal →
       IsNoOlder tools files clean out.value out.journal →
-      EachOfMeaning clean (IsAmong demand) Anyhow AnyKey out.value out.journal →
       (journal : Journal) × EachOfMeaning incremental Skips Anyhow AskedFor out.value journal
-  second-skips declared fresh older bodies =
+  second-skips declared fresh older =
       let one : HasOneRecord Known = λ p q run j k made other h g.
-      declared.steady run made other h.clean_so.0.0 g.clean_so.0.0 h.clean_so.0.1 g.clean_so.0.1 in
+      declared.steady run made other h.clean_so.0 g.clean_so.0 in
       let side = sides tools files KeepsOff Skips Known may
       (λ site id j k made x q n. skips-none site.target site.scope id j made n)
       with-lists root instances in
       let x = meanings-go (bytes_in files) KeepsOff incremental clean Skips Known AskedFor one side
-      out.value out.journal (known declared fresh older bodies) in
+      out.value out.journal (known declared fresh older) in
       (x.0, x.1)

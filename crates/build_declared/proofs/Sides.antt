@@ -32,8 +32,8 @@ use Rattle.result_cache.specs.declared.record.Record.{Record}
 use Rattle.result_cache.specs.declared.record.Segment.TheVariants.{File as OnFile}
 use Rattle.result_cache.specs.declared.request.RequestKey.{RequestKey}
 use Rattle.build_meaning.specs.Walk.{Reply}
+use Rattle.build_meaning.specs.World.{World}
 use Rattle.build_incremental.specs.Alike.{AlikeJournals}
-use Rattle.build_incremental.specs.Placed.{PlacedWorld}
 use Rattle.build_incremental.specs.SideBySide.{
   HasNotActed,
   AlikeRuns,
@@ -51,14 +51,14 @@ use Rattle.target_body.specs.Bodies.{body}
 use Rattle.target_body.specs.States.{Run, place_in, run_at}
 use Rattle.target_body.specs.Pieces.{lists_at, choice_of}
 use Rattle.request_machine.specs.Requests.{Project, all_targets, target_at, has_no_targets}
-use Rattle.request_machine.specs.Walk.{run_of, nothing_ran, Site, request_unless}
+use Rattle.request_machine.specs.Walk.{run_of, nothing_ran, Site, walk_unless}
 use Rattle.request_machine.specs.Worlds.{body_at, bodies_at, request_by}
 use Rattle.build_declared.specs.Written.{bytes_in}
-use Rattle.build_declared.specs.Builds.{places, world_by}
+use Rattle.build_declared.specs.Builds.{world_by}
 use Rattle.build_declared.specs.Skipped.{TakesLists}
 use Rattle.build_declared.proofs.Looks.{looks-same}
-use Rattle.build_declared.proofs.PlacedWalks.{walks-go}
 use Rattle.build_declared.proofs.SameRuns.{body-twin, ChooseSame}
+use Rattle.build_declared.proofs.WalksGo.{walks-go}
 
 -- the lists of a target that has not both Inputs and Outputs
 pub no-lists : (p : Place) (target : UsedTarget) (i o : Option (List ℕ)) →
@@ -163,16 +163,16 @@ module _ (tools : List ℕ → ToolInput → ToolAnswer) (files : List File) (W 
       go false y n = without-lists target scope id j k made a q (n refl)
 
   module _ (root : RequestKey) (instances : RequestKey → Result Instance Reply) where
-    abbrev pub incremental : PlacedWorld Site ToolInput ToolAnswer
+    abbrev pub incremental : World Site ToolInput ToolAnswer
     incremental = world_by tools files root instances Incremental
 
-    abbrev pub clean : PlacedWorld Site ToolInput ToolAnswer
+    abbrev pub clean : World Site ToolInput ToolAnswer
     clean = world_by tools files root instances Clean
 
     requests : (key : RequestKey) (j k : Journal) → AlikeJournals (bytes_in files) W j k →
         (x : Result Instance Reply) →
-        AlikeWalks (bytes_in files) W Q' Q tools (request_by places files Incremental key j x)
-        (request_by places files Clean key k x) j k
+        AlikeWalks (bytes_in files) W Q' Q tools (request_by files Incremental key j x)
+        (request_by files Clean key k x) j k
     requests key j k a (Err reply) = refl
     requests key j k a (Ok instance) =
         let p : Project = record { files = files; key = key.instance; instance = instance } in
@@ -180,8 +180,8 @@ module _ (tools : List ℕ → ToolInput → ToolAnswer) (files : List File) (W 
       where
         go : (p : Project) (b : Bool) → let q : Project = record p { files = files } in
             AlikeWalks (bytes_in files) W Q' Q tools
-            (request_unless places q key (bodies_at files Incremental q) b j)
-            (request_unless places q key (bodies_at files Clean q) b k) j k
+            (walk_unless q key (bodies_at files Incremental q) b j)
+            (walk_unless q key (bodies_at files Clean q) b k) j k
         go p true = refl
         go p false =
             let q : Project = record p { files = files } in

@@ -36,16 +36,17 @@ use Rattle.result_cache.specs.declared.record.Record.{Record}
 use Rattle.result_cache.specs.declared.request.RequestKey.{RequestKey}
 use Rattle.result_cache.specs.declared.request.RequestResult.{RequestResult}
 use Rattle.result_cache.specs.declared.run.RunId.{RunId}
-use Rattle.build_meaning.specs.Meaning.{Given, meaning}
+use Rattle.build_meaning.specs.Meaning.{Demanded, built, Given, meaning}
 use Rattle.build_meaning.specs.SoFar.{ToolUse, SoFar, nothing_yet}
 use Rattle.build_meaning.specs.Walk.{Body, makes, Outcome, Reply}
-use Rattle.build_incremental.specs.Placed.{PlacedWorld}
-use Rattle.build_incremental.specs.Each.{
-  EachBody,
-  each_ended,
-  each_acted,
-  each_used_tool,
-  each_called,
+use Rattle.build_meaning.specs.World.{World}
+use Rattle.build_meaning.specs.Derived.{
+  said,
+  OfBody,
+  ended_so,
+  acted_one,
+  used_tool,
+  called_all,
   EachOfMeaning,
 }
 use Rattle.build_incremental.specs.Joins.{Anyhow}
@@ -61,7 +62,7 @@ use Rattle.request_machine.specs.Requests.{
   has_no_targets,
   unevaluated,
 }
-use Rattle.request_machine.specs.Walk.{run_of, nothing_ran, Site, request_tree, request_unless}
+use Rattle.request_machine.specs.Walk.{run_of, nothing_ran, Site, walk, walk_unless}
 use Rattle.request_machine.specs.Worlds.{
   root_of,
   world_of,
@@ -72,7 +73,7 @@ use Rattle.request_machine.specs.Worlds.{
   bodies_at,
   request_by,
 }
-use Rattle.build_declared.specs.Builds.{in_mode, placed_world, places}
+use Rattle.build_declared.specs.Builds.{in_mode}
 use Rattle.build_declared.specs.Clean.{IsTrustworthy}
 use Rattle.build_declared.specs.Skipped.{
   TakesLists,
@@ -85,27 +86,25 @@ use Rattle.build_declared.specs.Skipped.{
 use Rattle.build_declared.specs.UpToDate.{IsUpToDate, SkipsEach}
 use Rattle.build_declared.proofs.CleanBuilds.{Asked}
 use Rattle.build_declared.proofs.CleanOutcomes.{pieces-go}
-use Rattle.build_declared.proofs.PlacedBodies.{placed-tells}
-use Rattle.build_declared.proofs.Plain.{plain-is-world}
 use Rattle.build_declared.proofs.RunLists.{runs-go}
 use Rattle.build_declared.proofs.SecondBuilds.{second-skips}
+use Rattle.build_declared.proofs.SiteBodies.{walk-tells}
 
 -- a body that does nothing uses no tools
-makes-tools : {P I A : Type 0} {w : PlacedWorld P I A} {Q : P → RunId → Journal → Record → Type 0}
-    {J : Journal → Journal → Journal → Type 0} {K : RequestKey → Type 0} {path : List RunId}
-    {r : RunId} {j : Journal} {so_far : SoFar I} {b : Body I A} {m : Record}
-    {uses : List (ToolUse I)} {k : Journal} → EachBody w Q J K path r j so_far b m uses k →
+makes-tools : {P I A : Type 0} {w : World P I A} {D : Demanded P I → Type 0}
+    {path : List RunId} {r : RunId} {j : Journal} {so_far : SoFar I} {b : Body I A} {m : Record}
+    {uses : List (ToolUse I)} {k : Journal} → OfBody w D path r j so_far b m uses k →
     (o : Outcome) → b ≡ makes o → uses ≡ so_far.tools
-makes-tools each_ended o e = refl
-makes-tools (each_acted rest) o e = absurd (cc)
-makes-tools (each_used_tool rest) o e = absurd (cc)
-makes-tools (each_called asked rest) o e = absurd (cc)
+makes-tools ended_so o e = refl
+makes-tools (acted_one rest) o e = absurd (cc)
+makes-tools (used_tool rest) o e = absurd (cc)
+makes-tools (called_all t asked rest) o e = absurd (cc)
 
 module _ (files : List File) where
-  -- ---- the places of a build's runs
+  -- ---- the sites of a build's runs
 
-  -- the body and the target at a place are those of its run
-  pub record IsPlaced (site : Site) (id : RunId) (j : Journal) (b : Body ToolInput ToolAnswer)
+  -- the body and the target at a site are those of its run
+  pub record IsOfRun (site : Site) (id : RunId) (j : Journal) (b : Body ToolInput ToolAnswer)
       : Type 0 where
     pub body_is : b ≡ body_at files Incremental id site.target site.scope j
     pub target_is : site.target ≡ target_of files id
@@ -116,8 +115,8 @@ module _ (files : List File) where
     bodies = bodies_at files Incremental p
 
     tells-tree : (tree : Asking Question OrderAnswer End) (s : Standing) (j : Journal) →
-        Tells IsPlaced (request_tree places p key bodies tree s j) j
-    tells-tree = placed-tells IsPlaced p key bodies
+        Tells IsOfRun (walk p key bodies tree s j) j
+    tells-tree = walk-tells IsOfRun p key bodies
         (λ name scope j. record { body_is = refl; target_is = at name })
 
   -- a project's evaluation looks at its instance alone
@@ -132,18 +131,18 @@ module _ (files : List File) where
       go (Some file) = ap (λ (i : InstanceKey). instance_by (evaluated files i)) e
 
   pub tells-request : (key : RequestKey) (j : Journal) →
-      Tells IsPlaced (request_by places files Incremental key j (instances_of files key)) j
+      Tells IsOfRun (request_by files Incremental key j (instances_of files key)) j
   tells-request key j = go (instances_of files key) refl
     where
       unless : (p : Project) → ((name : List ℕ) → target_at p name
           ≡ target_of files (run_of p.key name)) → (none : Bool) →
-          Tells IsPlaced (request_unless places p key (bodies_at files Incremental p) none j) j
+          Tells IsOfRun (walk_unless p key (bodies_at files Incremental p) none j) j
       unless p at true = tt
       unless p at false = tells-tree p key at (order p.instance.rows (all_targets p.instance key))
           (nothing_ran p) j
 
       go : (x : Result Instance Reply) → instances_of files key ≡ x →
-          Tells IsPlaced (request_by places files Incremental key j x) j
+          Tells IsOfRun (request_by files Incremental key j x) j
       go (Err reply) e = tt
       go (Ok instance) e =
           let p : Project = record {
@@ -162,7 +161,7 @@ module _ (files : List File) where
 -- ---- the build
 
 module _ (tools : List ℕ → ToolInput → ToolAnswer) (w : Build)
-    (clean : Given ToolInput RequestResult) (t : IsTrustworthy tools w clean)
+    (clean : Given Site ToolInput RequestResult) (t : IsTrustworthy tools w clean)
     (u : IsUpToDate tools w clean) where
   abbrev files : List File
   files = w.tree.files
@@ -170,8 +169,8 @@ module _ (tools : List ℕ → ToolInput → ToolAnswer) (w : Build)
   abbrev build : Build
   build = in_mode Incremental w
 
-  abbrev world : PlacedWorld Site ToolInput ToolAnswer
-  world = placed_world tools build
+  abbrev world : World Site ToolInput ToolAnswer
+  world = world_of tools build
 
   abbrev Skips : Site → RunId → Journal → Record → Type 0
   Skips site id j made = SkippedAt tools files site.target site.scope id j made
@@ -189,8 +188,8 @@ module _ (tools : List ℕ → ToolInput → ToolAnswer) (w : Build)
 
   idles : (site : Site) (path : List RunId) (id : RunId) (j i : Journal)
       (b : Body ToolInput ToolAnswer) (made : Record) (uses : List (ToolUse ToolInput)) →
-      IsPlaced files site id j b → Skips site id j made →
-      EachBody world Skips Anyhow AskedFor (id ∷ path) id j nothing_yet b made uses i →
+      IsOfRun files site id j b → Skips site id j made →
+      OfBody world (said Skips Anyhow AskedFor) (id ∷ path) id j nothing_yet b made uses i →
       Idles id made uses
   idles site path id j i b made uses at q of target e takes =
       let same : site.target ≡ Some target = at.target_is ∙ e in
@@ -204,35 +203,33 @@ module _ (tools : List ℕ → ToolInput → ToolAnswer) (w : Build)
       )
 
   second : (journal : Journal) × EachOfMeaning world Skips Anyhow AskedFor clean.value journal
-  second = second-skips tools files (root_of w) (instances_of files) clean u.demand u.keep_off
-      t.declared t.fresh u.no_older u.bodies
+  second = second-skips tools files (root_of w) (instances_of files) clean u.keep_off
+      t.declared t.fresh u.no_older
 
-  skips-each : (out : Given ToolInput RequestResult) →
+  skips-each : (out : Given Site ToolInput RequestResult) →
       meaning (world_of tools build) ≡ Some out → SkipsEach tools build out
   skips-each out means =
-      let y = told-meaning world Skips Anyhow AskedFor (IsPlaced files) (tells-request files) Idles
+      let y = told-meaning world Skips Anyhow AskedFor (IsOfRun files) (tells-request files) Idles
       idles clean.value second.0 second.1 in
-      let here : meaning (world_of tools build) ≡ Some y.0 =
-      subst (λ x. meaning x ≡ Some y.0) (plain-is-world tools build) y.1 in
-      let same : Some y.0 ≡ Some out = sym here ∙ means in
+      let same : Some y.0 ≡ Some out = sym y.1 ∙ means in
       let each : EachOfMeaning world Skips Anyhow AnyKey clean.value second.0 =
       weaker-meaning world Skips Skips Anyhow Anyhow AskedFor AnyKey (λ p r j m h. h)
       (λ x y z h. h) (λ key h. tt) clean.value second.0 second.1 in
       subst (SkipsEach tools build) (let e : y.0 ≡ out = cc in e) (record {
         bodies = subst (λ v. EachOfMeaning world Skips Anyhow AnyKey v y.0.journal) (sym y.2)
             (subst (EachOfMeaning world Skips Anyhow AnyKey clean.value) (sym y.3) each);
-        uses_none = y.4.bodies;
+        uses_none = λ site run from made uses i. y.4 (built site run from made uses) i;
         records = λ run made i target e takes.
-            let was = told-journal world Skips Anyhow AskedFor (IsPlaced files)
+            let was = told-journal world Skips Anyhow AskedFor (IsOfRun files)
             (tells-request files) Idles idles clean.value second.0 second.1 run made
             (subst (In (ended run made)) y.3 i) in
             (was.1 target e takes).0;
       })
 
   -- what the incremental world means skips each piece
-  pub second-build-skips : w.mode ≡ Incremental → (out : Given ToolInput RequestResult) →
+  pub second-build-skips : w.mode ≡ Incremental → (out : Given Site ToolInput RequestResult) →
       meaning (world_of tools w) ≡ Some out → SkipsEach tools w out
   second-build-skips mode =
       let same : build ≡ w = ap (λ m. in_mode m w) (sym mode) in
-      subst (λ b. (out : Given ToolInput RequestResult) →
+      subst (λ b. (out : Given Site ToolInput RequestResult) →
       meaning (world_of tools b) ≡ Some out → SkipsEach tools b out) same skips-each

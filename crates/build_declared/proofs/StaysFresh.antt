@@ -42,11 +42,10 @@ use Rattle.result_cache.specs.Lists.{In}
 use Rattle.result_cache.specs.Journal as journals
 use Rattle.result_cache.specs.Journal.{Journal, acted}
 use Rattle.build_meaning.specs.Meaning.{Given, meaning}
+use Rattle.build_meaning.specs.Sound.{IsBuilt}
 use Rattle.build_incremental.specs.Alone.{last_bytes}
-use Rattle.build_incremental.specs.Demand.{Occurrence, IsAmong}
 use Rattle.build_incremental.specs.Joins.{Anyhow}
-use Rattle.build_incremental.specs.Placed.{plain_world}
-use Rattle.build_incremental.proofs.Meanings.{weaker-meaning}
+use Rattle.build_incremental.proofs.Meanings.{AskedIn, meaning-each, weaker-meaning}
 use Rattle.build_incremental.proofs.Entries.{none-or-some, content-there}
 use Rattle.build_incremental.proofs.Numbered.{
   numbered,
@@ -62,7 +61,7 @@ use Rattle.request_machine.specs.Worlds.{root_of, world_of, instances_of}
 use Rattle.target_body.specs.Pieces.{choice_of}
 use Rattle.target_body.specs.States.{Run, State, view_of, run_at}
 use Rattle.request_machine.specs.Walk.{Site}
-use Rattle.build_declared.specs.Builds.{in_mode, placed_world}
+use Rattle.build_declared.specs.Builds.{in_mode}
 use Rattle.build_declared.specs.Clean.{IsTrustworthy}
 use Rattle.build_declared.specs.Declared.{IsDeclared, SucceedsWith, clean_pieces}
 use Rattle.build_declared.specs.Fresh.{
@@ -74,6 +73,7 @@ use Rattle.build_declared.specs.Fresh.{
   WritesSame,
 }
 use Rattle.build_declared.specs.NoOlder.{NoOlderAt, IsNoOlder, OutputIsNoOlder, PieceIsNoOlder}
+use Rattle.build_declared.specs.Occurrences.{Occurrence, Occurs}
 use Rattle.build_declared.specs.Pieces.{Piece, ByItems}
 use Rattle.build_declared.specs.Repeated.{
   IsAgain,
@@ -115,7 +115,6 @@ use Rattle.build_declared.proofs.PairFates.{
   paired-input,
   output-paired,
 }
-use Rattle.build_declared.proofs.Plain.{plain-is-world}
 use Rattle.build_declared.proofs.SecondBuilds.{pieces-none}
 use Rattle.build_declared.proofs.SkippedWorlds.{second-build-skips}
 
@@ -215,7 +214,7 @@ not-empty p ps i e = subst (In p) e i
 -- ---- the build
 
 module _ (tools : List ℕ → ToolInput → ToolAnswer) (w : Build) (left : Tree)
-    (clean out again : Given ToolInput RequestResult) (t : IsTrustworthy tools w clean)
+    (clean out again : Given Site ToolInput RequestResult) (t : IsTrustworthy tools w clean)
     (b : IsSettledBuild tools w out)
     (commit : AreDone (commit_list out.journal) w.tree.files left.files)
     (r : IsRepeatedBuild tools w left clean again) where
@@ -225,16 +224,16 @@ module _ (tools : List ℕ → ToolInput → ToolAnswer) (w : Build) (left : Tre
   abbrev after : List File
   after = left.files
 
-  pub means : meaning (plain_world (placed_world tools w)) ≡ Some out
-  means = subst (λ x. meaning x ≡ Some out) (sym (plain-is-world tools w)) b.whole.means
+  pub means : meaning (world_of tools w) ≡ Some out
+  means = b.whole.means
 
   -- what is known of the bodies of the clean build, and of those of the build
   abbrev KnownClean : Site → RunId → Journal → Record → Type 0
-  KnownClean = first.KnownClean tools files (root_of w) (instances_of files) clean r.demand
+  KnownClean = first.KnownClean tools files (root_of w) (instances_of files) clean
 
   abbrev KnownHere : Site → RunId → Journal → Record → Type 0
-  KnownHere = first.KnownHere tools files (root_of w) (instances_of files) clean r.demand
-      t.declared t.fresh r.bodies w.mode out means b.steady b.demand b.bodies
+  KnownHere = first.KnownHere tools files (root_of w) (instances_of files) clean
+      t.declared t.fresh w.mode out means b.steady
 
   -- ---- one run of the build, with a piece
 
@@ -244,9 +243,9 @@ module _ (tools : List ℕ → ToolInput → ToolAnswer) (w : Build) (left : Tre
       (alike : first.Alike files j k) (q : Piece)
       (fares : RunFares tools files target scope id j k alike here.not_yet there.not_yet w.mode q)
     where
-      abbrev o : Occurrence Site
+      abbrev o : Occurrence
       o = record {
-        place = record { target = Some target; scope = scope };
+        site = record { target = Some target; scope = scope };
         run = id;
         from = j;
         made = m;
@@ -260,21 +259,21 @@ module _ (tools : List ℕ → ToolInput → ToolAnswer) (w : Build) (left : Tre
       counter = fares.counter.2
 
       at-last : RunAtLast files after out.journal id j fares.total
-      at-last = first.run-at-last tools files (root_of w) (instances_of files) clean r.demand
-          t.declared t.fresh r.bodies w.mode out means b.steady b.demand b.bodies after commit
+      at-last = first.run-at-last tools files (root_of w) (instances_of files) clean
+          t.declared t.fresh w.mode out means b.steady after commit
           (record { target = Some target; scope = scope }) id j m here fares.outcome fares.total
           (here.told fares.outcome fares.total fares.ends)
 
-      among : In o b.demand
+      among : Occurs out.demand o
       among = here.said.0.0
 
-      stood : (run : RunId) (n : ℕ) → Stood tools files w.mode b.demand o p run n →
+      stood : (run : RunId) (n : ℕ) → Stood tools files w.mode out.demand o p run n →
           StoodBefore out.journal id j p.before run n
       stood run n (inl x) = inl x
       stood run n (inr f) = inr (
         f o among refl,
-        first.stood-under tools files (root_of w) (instances_of files) clean r.demand
-            t.declared t.fresh r.bodies w.mode out means b.steady b.demand b.bodies id run n f,
+        first.stood-under tools files (root_of w) (instances_of files) clean
+            t.declared t.fresh w.mode out means b.steady id run n f,
       )
 
       module _ (acts : List Act)
@@ -448,7 +447,7 @@ module _ (tools : List ℕ → ToolInput → ToolAnswer) (w : Build) (left : Tre
       (there : KnownClean (record { target = Some target; scope = scope }) id k made)
       (alike : first.Alike files j k)
       (pieces : pieces_by tools files w.mode (Some target) (record {
-        place = record { target = Some target; scope = scope };
+        site = record { target = Some target; scope = scope };
         run = id;
         from = j;
         made = m;
@@ -483,13 +482,13 @@ module _ (tools : List ℕ → ToolInput → ToolAnswer) (w : Build) (left : Tre
         (fares-of owner.0 owner.1) pair.0 pair.1 in
         (g.0, subst (λ z. file_at z after ≡ Some g.0) pair.2 g.1)
 
-  acted-there : (o : Occurrence Site) → In o b.demand → (p : Piece) →
+  acted-there : (o : Occurrence) → Occurs out.demand o → (p : Piece) →
       In p (pieces_at tools files w.mode o) → (id : RunId) (n : ℕ) (act : Act) →
       In (acted id n act) out.journal → is_of tools files w.mode (act_path act) p →
       (g : File) × (file_at (act_path act) after ≡ Some g)
   acted-there o among p there id n act i its =
-      let x = first.acted-here tools files (root_of w) (instances_of files) clean r.demand
-      t.declared t.fresh r.bodies w.mode out means b.steady b.demand b.bodies id n act i in
+      let x = first.acted-here tools files (root_of w) (instances_of files) clean
+      t.declared t.fresh w.mode out means b.steady id n act i in
       let twin = x.3.said.1 in
       go x.0.target x.0.scope x.1 twin.0 x.2 twin.1 x.3 twin.2 twin.3 x.4
     where
@@ -500,7 +499,7 @@ module _ (tools : List ℕ → ToolInput → ToolAnswer) (w : Build) (left : Tre
           (g : File) × (file_at (act_path act) after ≡ Some g)
       go target scope j k m made here clean_one alike u = by-target target here clean_one
           (λ e. b.settled.free (record {
-            place = record { target = target; scope = scope };
+            site = record { target = target; scope = scope };
             run = id;
             from = j;
             made = m;
@@ -510,7 +509,7 @@ module _ (tools : List ℕ → ToolInput → ToolAnswer) (w : Build) (left : Tre
               KnownHere (record { target = target; scope = scope }) id j m →
               KnownClean (record { target = target; scope = scope }) id k made →
               (pieces_by tools files w.mode target (record {
-                place = record { target = target; scope = scope };
+                site = record { target = target; scope = scope };
                 run = id;
                 from = j;
                 made = m;
@@ -534,7 +533,7 @@ module _ (tools : List ℕ → ToolInput → ToolAnswer) (w : Build) (left : Tre
             let c = content-there out.journal input s.0 s.1 in
             let e : act_path c.2 ≡ input = (bytes_eq-Decides (act_path c.2) input).0 c.4 in
             let g = acted-there (record {
-              place = record { target = Some target; scope = scope };
+              site = record { target = Some target; scope = scope };
               run = id;
               from = j;
               made = m;
@@ -546,11 +545,11 @@ module _ (tools : List ℕ → ToolInput → ToolAnswer) (w : Build) (left : Tre
   -- ---- one run of the second build, with a piece
 
   module _ (target : UsedTarget) (scope : Scope) (id : RunId) (k : Journal) (m : Record)
-      (later : IsAmong r.later (record { target = Some target; scope = scope }) id k m)
+      (later : IsBuilt again.demand (record { target = Some target; scope = scope }) id k m)
       (p : Piece) (i : In p (clean_pieces tools after (Some target) scope id k)) where
-    abbrev this : Occurrence Site
+    abbrev this : Occurrence
     this = record {
-      place = record { target = Some target; scope = scope };
+      site = record { target = Some target; scope = scope };
       run = id;
       from = k;
       made = m;
@@ -567,16 +566,16 @@ module _ (tools : List ℕ → ToolInput → ToolAnswer) (w : Build) (left : Tre
         KnownClean (record { target = other; scope = place }) id l n → first.Alike files j l →
         StaysSo
     by-twin None place j l h n here there alike =
-        let earlier : Occurrence Site = record {
-          place = record { target = None; scope = place };
+        let earlier : Occurrence = record {
+          site = record { target = None; scope = place };
           run = id;
           from = l;
           made = n;
         } in
-        absurd (r.repeated.same this later has-piece earlier there.said.1 refl)
+        absurd (r.same this later has-piece earlier there.said.1 refl)
     by-twin (Some other) place j l h n here there alike =
-        let earlier : Occurrence Site = record {
-          place = record { target = Some other; scope = place };
+        let earlier : Occurrence = record {
+          site = record { target = Some other; scope = place };
           run = id;
           from = l;
           made = n;
@@ -585,7 +584,7 @@ module _ (tools : List ℕ → ToolInput → ToolAnswer) (w : Build) (left : Tre
         let next_run : Run = run_at after id target in
         let x = again-in tools id first_run next_run (pieces_over tools files after after this)
         (pieces_over tools files after files earlier)
-        (r.repeated.same this later has-piece earlier there.said.1 refl) p i in
+        (r.same this later has-piece earlier there.said.1 refl) p i in
         let fares = run-fares tools files other place id j l alike here.not_yet there.not_yet
         w.mode there.said.0.0.0 there.said.0.0.1 x.0 x.1 in
         let y = whole-left other place id j l h n here there alike x.0 fares
@@ -596,51 +595,51 @@ module _ (tools : List ℕ → ToolInput → ToolAnswer) (w : Build) (left : Tre
 
     piece-stays : StaysSo
     piece-stays =
-        let x = first.made-here tools files (root_of w) (instances_of files) clean r.demand
-        t.declared t.fresh r.bodies w.mode out means b.steady b.demand b.bodies id m
-        (r.repeated.made this later has-piece) in
+        let x = first.made-here tools files (root_of w) (instances_of files) clean
+        t.declared t.fresh w.mode out means b.steady id m
+        (r.made this later has-piece) in
         let twin = x.3.said.1 in
         by-twin x.0.target x.0.scope x.1 twin.0 x.2 twin.1 x.3 twin.2 twin.3
 
   -- ---- the second build
 
   fresh-at : (target : Option UsedTarget) (scope : Scope) (id : RunId) (k : Journal)
-      (m : Record) → IsAmong r.later (record { target = target; scope = scope }) id k m →
+      (m : Record) → IsBuilt again.demand (record { target = target; scope = scope }) id k m →
       FreshAt tools after target scope id k
   fresh-at None scope id k m later = tt
   fresh-at (Some target) scope id k m later =
       λ p i. (piece-stays target scope id k m later p i).0
 
   no-older-at : (target : Option UsedTarget) (scope : Scope) (id : RunId) (k : Journal)
-      (m : Record) → IsAmong r.later (record { target = target; scope = scope }) id k m →
+      (m : Record) → IsBuilt again.demand (record { target = target; scope = scope }) id k m →
       NoOlderAt tools after target scope id k
   no-older-at None scope id k m later = tt
   no-older-at (Some target) scope id k m later =
       λ p i. (piece-stays target scope id k m later p i).1
 
   pub stays-fresh : IsFresh tools after (clean_over tools w left) again.value again.journal
-  stays-fresh = weaker-meaning (clean_over tools w left) (IsAmong r.later)
+  stays-fresh = weaker-meaning (clean_over tools w left) (IsBuilt again.demand)
       (λ site id k m. FreshAt tools after site.target site.scope id k) Anyhow Anyhow
-      (λ key. Unit {0}) (λ key. Unit {0})
+      (AskedIn again) (λ key. Unit {0})
       (λ site id k m later. fresh-at site.target site.scope id k m later)
-      (λ c s n h. h) (λ key h. h) again.value again.journal r.later_bodies
+      (λ c s n h. h) (λ key h. tt) again.value again.journal
+      (meaning-each (clean_over tools w left) again r.whole.means)
 
   pub stays-no-older : IsNoOlder tools after (clean_over tools w left) again.value again.journal
-  stays-no-older = weaker-meaning (clean_over tools w left) (IsAmong r.later)
+  stays-no-older = weaker-meaning (clean_over tools w left) (IsBuilt again.demand)
       (λ site id k m. NoOlderAt tools after site.target site.scope id k) Anyhow Anyhow
-      (λ key. Unit {0}) (λ key. Unit {0})
+      (AskedIn again) (λ key. Unit {0})
       (λ site id k m later. no-older-at site.target site.scope id k m later)
-      (λ c s n h. h) (λ key h. h) again.value again.journal r.later_bodies
+      (λ c s n h. h) (λ key h. tt) again.value again.journal
+      (meaning-each (clean_over tools w left) again r.whole.means)
 
   -- so the next build has nothing to do, where what it is given is declared there
   pub next-skips : IsDeclared tools after (clean_over tools w left) again →
-      (next : Given ToolInput RequestResult) →
+      (next : Given Site ToolInput RequestResult) →
       meaning (world_of tools (over left (in_mode Incremental w))) ≡ Some next →
       SkipsEach tools (over left (in_mode Incremental w)) next
   next-skips declared next meant = second-build-skips tools (over left (in_mode Incremental w))
       again (record { declared = declared; fresh = stays-fresh }) (record {
         no_older = stays-no-older;
-        demand = r.later;
-        bodies = r.later_bodies;
-        keep_off = r.repeated.free;
+        keep_off = r.free;
       }) refl next meant

@@ -8,20 +8,22 @@ use Rattle.build_meaning.specs.Meaning.{Given}
 use Rattle.build_incremental.specs.Alike.{seen}
 use Rattle.task_trait.specs.declared.tools.ToolAnswer.{ToolAnswer}
 use Rattle.task_trait.specs.declared.tools.ToolInput.{ToolInput}
+use Rattle.request_machine.specs.Walk.{Site}
+use Rattle.request_machine.specs.Worlds.{world_of}
 use Rattle.build_declared.specs.Written.{bytes_in}
 use Rattle.build_declared.specs.Declared.{IsDeclared}
 use Rattle.build_declared.specs.Fresh.{IsFresh}
-use Rattle.build_declared.specs.Builds.{in_mode, placed_world}
+use Rattle.build_declared.specs.Builds.{in_mode}
 
 -- the clean build of what a build is given, which comes to this, is declared and fresh
 pub record IsTrustworthy (tools : List ℕ → ToolInput → ToolAnswer) (w : World)
-    (clean : Given ToolInput RequestResult) : Type 0 where
-  pub declared : IsDeclared tools w.tree.files (placed_world tools (in_mode Clean w)) clean
-  pub fresh : IsFresh tools w.tree.files (placed_world tools (in_mode Clean w)) clean.value
+    (clean : Given Site ToolInput RequestResult) : Type 0 where
+  pub declared : IsDeclared tools w.tree.files (world_of tools (in_mode Clean w)) clean
+  pub fresh : IsFresh tools w.tree.files (world_of tools (in_mode Clean w)) clean.value
       clean.journal
 
 -- a build gives what the clean one gives: the same result, and then each path has the same bytes
-pub record GivesClean (files : List File) (out clean : Given ToolInput RequestResult)
+pub record GivesClean (files : List File) (out clean : Given Site ToolInput RequestResult)
     : Type 0 where
   pub result : out.value ≡ clean.value
   pub contents : (path : List ℕ) →

@@ -34,8 +34,8 @@ use Rattle.build_world.specs.Instances.{UsedTarget}
 use Rattle.build_meaning.specs.Walk.{Outcome}
 use Rattle.build_meaning.specs.Meaning.{Given}
 use Rattle.build_meaning.specs.Demand.{IsWhole, IsSteady}
-use Rattle.build_incremental.specs.Placed.{PlacedWorld, plain_world}
-use Rattle.build_incremental.specs.Each.{EachOfMeaning}
+use Rattle.build_meaning.specs.Derived.{EachOfMeaning}
+use Rattle.build_meaning.specs.World.{World}
 use Rattle.build_incremental.specs.Joins.{IsOfOneRun}
 use Rattle.build_incremental.specs.Alike.{AlikeJournals}
 use Rattle.build_incremental.specs.Alone.{last_bytes}
@@ -159,9 +159,9 @@ module _ (tools : List ℕ → ToolInput → ToolAnswer) (files : List File) whe
 
   -- The clean world is whole and steady; each of its bodies is declared; and where calls made at
   -- once write or remove one path, all their acts on it are of one run.
-  pub record IsDeclared (clean : PlacedWorld Site ToolInput ToolAnswer)
-      (out : Given ToolInput RequestResult) : Type 0 where
-    pub whole : IsWhole (plain_world clean) out
+  pub record IsDeclared (clean : World Site ToolInput ToolAnswer)
+      (out : Given Site ToolInput RequestResult) : Type 0 where
+    pub whole : IsWhole clean out
     pub steady : IsSteady out.demand
     pub each : EachOfMeaning clean
         (λ site id journal made. DeclaredAt site.target site.scope id journal)

@@ -11,8 +11,8 @@ use Rattle.result_cache.specs.declared.request.RequestResult.{RequestResult}
 use Rattle.result_cache.specs.Lists.{In}
 use Rattle.result_cache.specs.Journal.{Journal}
 use Rattle.build_world.specs.Instances.{UsedTarget}
-use Rattle.build_incremental.specs.Placed.{PlacedWorld}
-use Rattle.build_incremental.specs.Each.{EachOfMeaning}
+use Rattle.build_meaning.specs.Derived.{EachOfMeaning}
+use Rattle.build_meaning.specs.World.{World}
 use Rattle.build_incremental.specs.Joins.{Anyhow}
 use Rattle.build_incremental.specs.Alone.{last_bytes}
 use Rattle.task_trait.specs.declared.tools.ToolAnswer.{ToolAnswer}
@@ -80,7 +80,7 @@ module _ (tools : List ℕ → ToolInput → ToolAnswer) (files : List File) whe
       PieceIsFresh tools id (run_at files id target) p
 
   -- each piece of the clean world is fresh
-  abbrev pub IsFresh : PlacedWorld Site ToolInput ToolAnswer → RequestResult → Journal → Type 0
+  abbrev pub IsFresh : World Site ToolInput ToolAnswer → RequestResult → Journal → Type 0
   IsFresh clean result last =
       EachOfMeaning clean (λ site id journal made. FreshAt site.target site.scope id journal)
       Anyhow (λ key. Unit {0}) result last

@@ -6,6 +6,7 @@ pub mod Declared
 pub mod Ends
 pub mod Fresh
 pub mod NoOlder
+pub mod Occurrences
 pub mod Pieces
 pub mod Repeated
 pub mod Settled

@@ -10,8 +10,8 @@ use Rattle.result_cache.specs.declared.request.RequestResult.{RequestResult}
 use Rattle.result_cache.specs.Lists.{In}
 use Rattle.result_cache.specs.Journal.{Journal}
 use Rattle.build_world.specs.Instances.{UsedTarget}
-use Rattle.build_incremental.specs.Placed.{PlacedWorld}
-use Rattle.build_incremental.specs.Each.{EachOfMeaning}
+use Rattle.build_meaning.specs.Derived.{EachOfMeaning}
+use Rattle.build_meaning.specs.World.{World}
 use Rattle.build_incremental.specs.Joins.{Anyhow}
 use Rattle.task_trait.specs.declared.tools.ToolAnswer.{ToolAnswer}
 use Rattle.task_trait.specs.declared.tools.ToolInput.{ToolInput}
@@ -46,7 +46,7 @@ module _ (tools : List ℕ → ToolInput → ToolAnswer) (files : List File) whe
       PieceIsNoOlder files p
 
   -- each piece of the clean world is so
-  abbrev pub IsNoOlder : PlacedWorld Site ToolInput ToolAnswer → RequestResult → Journal → Type 0
+  abbrev pub IsNoOlder : World Site ToolInput ToolAnswer → RequestResult → Journal → Type 0
   IsNoOlder clean result last =
       EachOfMeaning clean (λ site id journal made. NoOlderAt site.target site.scope id journal)
       Anyhow (λ key. Unit {0}) result last

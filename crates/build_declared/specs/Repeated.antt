@@ -10,22 +10,20 @@ use Rattle.result_cache.specs.declared.run.RunId.{RunId}
 use Rattle.result_cache.specs.declared.request.RequestResult.{RequestResult}
 use Rattle.result_cache.specs.Lists.{In}
 use Rattle.build_world.specs.Instances.{UsedTarget}
-use Rattle.build_world.specs.declared.world.World.{World}
+use Rattle.build_world.specs.declared.world.World.{World as Build}
 use Rattle.build_meaning.specs.Meaning.{Given}
 use Rattle.build_meaning.specs.Demand.{IsWhole, IsSteady}
 use Rattle.build_meaning.specs.Sound.{IsMade}
+use Rattle.build_meaning.specs.World.{World}
 use Rattle.build_incremental.specs.Alone.{last_bytes}
-use Rattle.build_incremental.specs.Demand.{Occurrence, IsAmong}
-use Rattle.build_incremental.specs.Each.{EachOfMeaning}
-use Rattle.build_incremental.specs.Joins.{Anyhow}
-use Rattle.build_incremental.specs.Placed.{PlacedWorld, plain_world}
 use Rattle.task_trait.specs.declared.tools.ToolAnswer.{ToolAnswer}
 use Rattle.task_trait.specs.declared.tools.ToolInput.{ToolInput}
 use Rattle.target_body.specs.States.{Run, State, run_at}
 use Rattle.request_machine.specs.Worlds.{world_of}
 use Rattle.request_machine.specs.Walk.{Site}
-use Rattle.build_declared.specs.Builds.{in_mode, placed_world}
+use Rattle.build_declared.specs.Builds.{in_mode}
 use Rattle.build_declared.specs.Declared.{SucceedsWith, clean_pieces}
+use Rattle.build_declared.specs.Occurrences.{Occurrence, Occurs}
 use Rattle.build_declared.specs.Pieces.{Piece, ByItems}
 use Rattle.build_declared.specs.Settled.{FreeRunsKeepOff, IsSettled}
 use Rattle.build_declared.specs.Written.{since}
@@ -59,68 +57,56 @@ module _ (tools : List ℕ → ToolInput → ToolAnswer) (id : RunId) (first aga
 
 module _ (tools : List ℕ → ToolInput → ToolAnswer) (files after : List File) where
   -- the pieces of a body of the clean build of a tree
-  abbrev pub pieces_over : List File → Occurrence Site → List Piece
-  pieces_over tree o = clean_pieces tools tree o.place.target o.place.scope o.run o.from
+  abbrev pub pieces_over : List File → Occurrence → List Piece
+  pieces_over tree o = clean_pieces tools tree o.site.target o.site.scope o.run o.from
 
   -- by their targets, which a run with a piece has
-  abbrev pub again_by : (target other : Option UsedTarget) → (o earlier : Occurrence Site) → Type 0
+  abbrev pub again_by : (target other : Option UsedTarget) → (o earlier : Occurrence) → Type 0
   again_by (Some target) (Some other) o earlier =
       AreAgain tools o.run (run_at files o.run other) (run_at after o.run target)
       (pieces_over after o) (pieces_over files earlier)
   again_by target other o earlier = ⊥
 
   -- the pieces of a run are those of an earlier occurrence of it
-  abbrev pub HasSame : (o earlier : Occurrence Site) → Type 0
-  HasSame o earlier = again_by o.place.target earlier.place.target o earlier
+  abbrev pub HasSame : (o earlier : Occurrence) → Type 0
+  HasSame o earlier = again_by o.site.target earlier.site.target o earlier
 
   -- Clean builds of two trees, the second one that which a build of the first has left. The second
   -- is whole and steady. Each run that has a piece in one of them is made in the other, with the
   -- same record, and wherever the first makes it, it has the same pieces. Runs without a piece keep
   -- off.
-  pub record IsRepeated (world : PlacedWorld Site ToolInput ToolAnswer)
-      (clean again : Given ToolInput RequestResult) (demand later : List (Occurrence Site))
-      : Type 0 where
-    pub whole : IsWhole (plain_world world) again
+  pub record IsRepeated (world : World Site ToolInput ToolAnswer)
+      (clean again : Given Site ToolInput RequestResult) : Type 0 where
+    pub whole : IsWhole world again
     pub steady : IsSteady again.demand
-    pub made : (o : Occurrence Site) → In o later → (pieces_over after o ≡ [] → ⊥) →
+    pub made : (o : Occurrence) → Occurs again.demand o → (pieces_over after o ≡ [] → ⊥) →
         IsMade clean.demand o.run o.made
-    pub same : (o : Occurrence Site) → In o later → (pieces_over after o ≡ [] → ⊥) →
-        (earlier : Occurrence Site) → In earlier demand → earlier.run ≡ o.run → HasSame o earlier
-    pub none_lost : (o : Occurrence Site) → In o demand → (pieces_over files o ≡ [] → ⊥) →
+    pub same : (o : Occurrence) → Occurs again.demand o → (pieces_over after o ≡ [] → ⊥) →
+        (earlier : Occurrence) → Occurs clean.demand earlier → earlier.run ≡ o.run →
+        HasSame o earlier
+    pub none_lost : (o : Occurrence) → Occurs clean.demand o → (pieces_over files o ≡ [] → ⊥) →
         IsMade again.demand o.run o.made
-    pub free : FreeRunsKeepOff tools after Clean later
+    pub free : FreeRunsKeepOff tools after Clean again.demand
 
 -- ---- a build
 
--- these are the bodies of the meaning of a world
-abbrev pub AreBodies : PlacedWorld Site ToolInput ToolAnswer → Given ToolInput RequestResult →
-    List (Occurrence Site) → Type 0
-AreBodies world out demand =
-    EachOfMeaning world (IsAmong demand) Anyhow (λ key. Unit {0}) out.value out.journal
-
 -- what a build is given is whole, steady and settled, and means this
-pub record IsSettledBuild (tools : List ℕ → ToolInput → ToolAnswer) (w : World)
-    (out : Given ToolInput RequestResult) : Type 0 where
+pub record IsSettledBuild (tools : List ℕ → ToolInput → ToolAnswer) (w : Build)
+    (out : Given Site ToolInput RequestResult) : Type 0 where
   pub whole : IsWhole (world_of tools w) out
   pub steady : IsSteady out.demand
-  pub demand : List (Occurrence Site)
-  pub bodies : AreBodies (placed_world tools w) out demand
-  pub settled : IsSettled tools w.tree.files w.mode demand out.journal
+  pub settled : IsSettled tools w.tree.files w.mode out.demand out.journal
 
 -- what a build is given, over another tree; and the clean build of it
-abbrev pub over : Tree → World → World
+abbrev pub over : Tree → Build → Build
 over tree w = record w { tree = tree }
 
-abbrev pub clean_over : (List ℕ → ToolInput → ToolAnswer) → World → Tree →
-    PlacedWorld Site ToolInput ToolAnswer
-clean_over tools w tree = placed_world tools (in_mode Clean (over tree w))
+abbrev pub clean_over : (List ℕ → ToolInput → ToolAnswer) → Build → Tree →
+    World Site ToolInput ToolAnswer
+clean_over tools w tree = world_of tools (in_mode Clean (over tree w))
 
--- the clean build is repeated over the tree that a build left
-pub record IsRepeatedBuild (tools : List ℕ → ToolInput → ToolAnswer) (w : World) (left : Tree)
-    (clean again : Given ToolInput RequestResult) : Type 0 where
-  pub demand : List (Occurrence Site)
-  pub bodies : AreBodies (placed_world tools (in_mode Clean w)) clean demand
-  pub later : List (Occurrence Site)
-  pub later_bodies : AreBodies (clean_over tools w left) again later
-  pub repeated : IsRepeated tools w.tree.files left.files (clean_over tools w left) clean again
-      demand later
+-- the clean build, which comes to this, is repeated over the tree that a build left
+abbrev pub IsRepeatedBuild : (List ℕ → ToolInput → ToolAnswer) → Build → (left : Tree) →
+    (clean again : Given Site ToolInput RequestResult) → Type 0
+IsRepeatedBuild tools w left clean again =
+    IsRepeated tools w.tree.files left.files (clean_over tools w left) clean again

@@ -14,13 +14,13 @@ ghost use Rattle.file_store.specs.declared.tree.Tree.{Tree};
 ghost use Rattle.build_world.specs.declared.world.World.{World};
 ghost use Rattle.build_meaning.specs.Meaning.{Given, meaning};
 ghost use Rattle.build_meaning.specs.Demand.{IsWhole};
-ghost use Rattle.build_incremental.specs.Placed.{plain_world};
 ghost use Rattle.msb_files.specs.FinalTree.{commit_list, IsFinalTree};
 ghost use Rattle.task_trait.specs.declared.tools.ToolAnswer.{ToolAnswer};
 ghost use Rattle.task_trait.specs.declared.tools.ToolInput.{ToolInput};
+ghost use Rattle.request_machine.specs.Walk.{Site};
 ghost use Rattle.request_machine.specs.Worlds.{world_of};
 ghost use Rattle.build_declared.specs.Clean.{IsTrustworthy, GivesClean};
-ghost use Rattle.build_declared.specs.Builds.{in_mode, placed_world};
+ghost use Rattle.build_declared.specs.Builds.{in_mode};
 ghost use Rattle.build_declared.specs.Declared.{IsDeclared};
 ghost use Rattle.build_declared.specs.Fresh.{IsFresh};
 ghost use Rattle.build_declared.specs.NoOlder.{IsNoOlder};
@@ -34,16 +34,16 @@ ghost use Rattle.build_declared.specs.Written.{bytes_in};
 /// Nothing is asked of the build itself: its world is whole then.
 pub fn incremental_is_clean()
     ensures whole { (tools : List ℕ → ToolInput → ToolAnswer) (w : World)
-        (clean : Given ToolInput RequestResult) → IsTrustworthy tools w clean →
-        (out : Given ToolInput RequestResult) × IsWhole (world_of tools w) out
+        (clean : Given Site ToolInput RequestResult) → IsTrustworthy tools w clean →
+        (out : Given Site ToolInput RequestResult) × IsWhole (world_of tools w) out
         × GivesClean w.tree.files out clean }
     ensures meant { (tools : List ℕ → ToolInput → ToolAnswer) (w : World)
-        (clean : Given ToolInput RequestResult) → IsTrustworthy tools w clean →
-        (out : Given ToolInput RequestResult) → meaning (world_of tools w) ≡ Some out →
+        (clean : Given Site ToolInput RequestResult) → IsTrustworthy tools w clean →
+        (out : Given Site ToolInput RequestResult) → meaning (world_of tools w) ≡ Some out →
         GivesClean w.tree.files out clean }
     ensures trees { (tools : List ℕ → ToolInput → ToolAnswer) (w : World)
-        (clean : Given ToolInput RequestResult) → IsTrustworthy tools w clean →
-        (out : Given ToolInput RequestResult) → meaning (world_of tools w) ≡ Some out →
+        (clean : Given Site ToolInput RequestResult) → IsTrustworthy tools w clean →
+        (out : Given Site ToolInput RequestResult) → meaning (world_of tools w) ≡ Some out →
         (after other : List File) → IsFinalTree w.tree.files out.journal after →
         IsFinalTree w.tree.files clean.journal other →
         (path : List ℕ) → bytes_in after path ≡ bytes_in other path }
@@ -59,13 +59,13 @@ pub fn incremental_is_clean()
 /// a clean one itself.
 pub fn stays_fresh()
     ensures fresh { (tools : List ℕ → ToolInput → ToolAnswer) (w : World) (left : Tree)
-        (clean out again : Given ToolInput RequestResult) → IsTrustworthy tools w clean →
+        (clean out again : Given Site ToolInput RequestResult) → IsTrustworthy tools w clean →
         IsSettledBuild tools w out →
         AreDone (commit_list out.journal) w.tree.files left.files →
         IsRepeatedBuild tools w left clean again →
         IsFresh tools left.files (clean_over tools w left) again.value again.journal }
     ensures no_older { (tools : List ℕ → ToolInput → ToolAnswer) (w : World) (left : Tree)
-        (clean out again : Given ToolInput RequestResult) → IsTrustworthy tools w clean →
+        (clean out again : Given Site ToolInput RequestResult) → IsTrustworthy tools w clean →
         IsSettledBuild tools w out →
         AreDone (commit_list out.journal) w.tree.files left.files →
         IsRepeatedBuild tools w left clean again →
@@ -82,9 +82,9 @@ pub fn stays_fresh()
 /// a text.
 pub fn second_build_skips()
     ensures { (tools : List ℕ → ToolInput → ToolAnswer) (w : World)
-        (clean : Given ToolInput RequestResult) → IsTrustworthy tools w clean →
+        (clean : Given Site ToolInput RequestResult) → IsTrustworthy tools w clean →
         IsUpToDate tools w clean → w.mode ≡ Incremental →
-        (out : Given ToolInput RequestResult) → meaning (world_of tools w) ≡ Some out →
+        (out : Given Site ToolInput RequestResult) → meaning (world_of tools w) ≡ Some out →
         SkipsEach tools w out }
 {}
 
@@ -93,18 +93,12 @@ pub fn second_build_skips()
 /// builds.)
 pub fn next_build_skips()
     ensures { (tools : List ℕ → ToolInput → ToolAnswer) (w : World) (left : Tree)
-        (clean out again : Given ToolInput RequestResult) → IsTrustworthy tools w clean →
+        (clean out again : Given Site ToolInput RequestResult) → IsTrustworthy tools w clean →
         IsSettledBuild tools w out →
         AreDone (commit_list out.journal) w.tree.files left.files →
         IsRepeatedBuild tools w left clean again →
         IsDeclared tools left.files (clean_over tools w left) again →
-        (next : Given ToolInput RequestResult) →
+        (next : Given Site ToolInput RequestResult) →
         meaning (world_of tools (over left (in_mode Incremental w))) ≡ Some next →
         SkipsEach tools (over left (in_mode Incremental w)) next }
-{}
-
-/// The world that tells the places of its runs is the world of the build.
-pub fn places_are_the_builds()
-    ensures { (tools : List ℕ → ToolInput → ToolAnswer) (w : World) →
-        plain_world (placed_world tools w) ≡ world_of tools w }
 {}

@@ -13,16 +13,22 @@ use Rattle.build_outcome.specs.Outcomes.{IsOutcome, IsOutcomeAt, IsStatus}
 use Rattle.build_outcome.specs.declared.outcome.Outcome.{Outcome}
 use Rattle.build_engine.specs.Statuses.{IsCompletion, IsRefusal}
 
-module _ {I A : Type 0} (w : World I A) where
+module _ {P I A : Type 0} (w : World P I A) where
   -- the first state has the root alone, which is ready
-  not-assigned : (id node : ℕ) (q : RequestState I A) (place : Place I A) → at (start w).requests id ≡ Some q → q.status ≡ assigned node place → ⊥
-  not-assigned zero node q place there is = let e : ready (walking (w.walks w.root [])) ≡ assigned node place = ap (λ (o : Option (RequestState I A)). elim o [ None ↦ q.status | Some r ↦ r.status ]) there ∙ is in cc
+  not-assigned : (id node : ℕ) (q : RequestState P I A) (place : Place P I A) →
+      at (start w).requests id ≡ Some q → q.status ≡ assigned node place → ⊥
+  not-assigned zero node q place there is =
+      let e : ready (walking (w.walks w.root [])) ≡ assigned node place =
+      ap (λ (o : Option (RequestState P I A)). elim o [ None ↦ q.status | Some r ↦ r.status ]) there
+      ∙ is in cc
   not-assigned (suc id) node q place there is = cc
 
   first-assigned : (id : ℕ) → IsAssigned w [] id → ⊥
   first-assigned id x =
-      let same : start w ≡ x.state = ap (λ (o : Option (State I A)). elim o [ None ↦ start w | Some s ↦ s ]) x.history in
-      not-assigned id x.node x.request x.place (ap (λ (s : State I A). at s.requests id) same ∙ x.there) x.is
+      let same : start w ≡ x.state =
+      ap (λ (o : Option (State P I A)). elim o [ None ↦ start w | Some s ↦ s ]) x.history in
+      not-assigned id x.node x.request x.place (ap (λ (s : State P I A). at s.requests id) same
+      ∙ x.there) x.is
 
   -- at first no request is with a node
   pub none_at_first : NoneAssigned w []
@@ -38,15 +44,22 @@ module _ {I A : Type 0} (w : World I A) where
   outcomes_are low events end (Ok outcome) legal is = outcome_is low events end outcome legal is
   outcomes_are low events end (Err none) legal is = tt
 
-module _ {I A : Type 0} (low : Bool) (events : List Event) (end : Option End) where
-  outcomes_in : (v u : World I A) (made : Result Outcome NoMemory) → ∥ u ≡ v ∥₁ → ∥ IsLegal v events ∥₁ → IfOk made (λ o. ∥ IsOutcomeAt u low events end o ∥₁) → IfOk made (λ o. ∥ IsOutcome v low o ∥₁)
-  outcomes_in v u (Ok o) same legal is = ∥∥₁_elim same ∥∥₁_prop (λ e. outcome_is v low events end o legal (subst (λ (x : World I A). ∥ IsOutcomeAt x low events end o ∥₁) e is))
+module _ {P I A : Type 0} (low : Bool) (events : List Event) (end : Option End) where
+  outcomes_in : (v u : World P I A) (made : Result Outcome NoMemory) → ∥ u ≡ v ∥₁ →
+      ∥ IsLegal v events ∥₁ → IfOk made (λ o. ∥ IsOutcomeAt u low events end o ∥₁) →
+      IfOk made (λ o. ∥ IsOutcome v low o ∥₁)
+  outcomes_in v u (Ok o) same legal is =
+      ∥∥₁_elim same ∥∥₁_prop (λ e. outcome_is v low events end o legal
+      (subst (λ (x : World P I A). ∥ IsOutcomeAt x low events end o ∥₁) e is))
   outcomes_in v u (Err none) same legal is = tt
 
 -- what has come of a core whose world is that of a walk
-pub outcome_of_core : {I A : Type 0} (w v u : World I A) (low : Bool) (events : List Event) (end : Option End) (made : Result Outcome NoMemory) →
+pub outcome_of_core : {P I A : Type 0} (w v u : World P I A) (low : Bool) (events : List Event)
+    (end : Option End) (made : Result Outcome NoMemory) →
     v ≡ w → ∥ u ≡ v ∥₁ → ∥ IsLegal v events ∥₁ → IfOk made (λ o. ∥ IsOutcomeAt u low events end o ∥₁) → IfOk made (λ o. ∥ IsOutcome w low o ∥₁)
-outcome_of_core {I} {A} w v u low events end made of same legal is = subst (λ (x : World I A). IfOk made (λ o. ∥ IsOutcome x low o ∥₁)) of (outcomes_in low events end v u made same legal is)
+outcome_of_core {P} {I} {A} w v u low events end made of same legal is =
+    subst (λ (x : World P I A). IfOk made (λ o. ∥ IsOutcome x low o ∥₁)) of
+    (outcomes_in low events end v u made same legal is)
 
 -- the status of a build is that of a completion, or of a refusal
 pub known_status : (status : ℕ) → IsStatus status → IsCompletion status ⊎ IsRefusal status

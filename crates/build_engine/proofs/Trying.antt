@@ -26,14 +26,19 @@ use Rattle.build_outcome.specs.declared.outcome.Outcome.{Outcome}
 use Rattle.build_engine.specs.Tried.{AreRuns, IsTried, IsTriedAt, runs_in}
 use Rattle.build_engine.specs.declared.tried.Tried.{Tried}
 
-over : {I A : Type 0} (w : World I A) (events : List Event) (result : RequestResult) {end : Option End} → Some (Root result) ≡ end → IsEnd w events end → ∥ IsRootOver w events result ∥₁
+over : {P I A : Type 0} (w : World P I A) (events : List Event)
+    (result : RequestResult) {end : Option End} → Some (Root result) ≡ end → IsEnd w events end →
+    ∥ IsRootOver w events result ∥₁
 over w events result e told = subst (λ o. IsEnd w events o) (sym e) told
 
-module _ {W I A : Type 0} (seen : W → Seen I A) (w : World I A) {log : Logged} {origins : List Origin} {slots : List (Slot W)} {making : List (Option RunId)} {table : TableRuns} {end : Option End} (result : RequestResult) where
+module _ {W P I A : Type 0} (seen : W → Seen P I A)
+    (w : World P I A) {log : Logged} {origins : List Origin} {slots : List (Slot W)} {making : List
+    (Option RunId)} {table : TableRuns} {end : Option End} (result : RequestResult) where
   replayed : Shown seen w log origins slots making table end → (x : IsRootOver w log.events result) → replay_all table.finished result.runs [] ≡ Some x.journal
   replayed s x =
       let same : s.state ≡ x.state = one_state w log.events s.state x.state s.history x.history in
-      ap (λ finished. replay_all finished result.runs []) (s.finished ∙ ap (λ (t : State I A). t.table) same)
+      ap (λ finished. replay_all finished result.runs [])
+      (s.finished ∙ ap (λ (t : State P I A). t.table) same)
       ∙ root_is_replayed w log.events x.state x.history result x.journal x.ends
 
   -- the runs of a root request that is over
@@ -47,7 +52,7 @@ module _ {W I A : Type 0} (seen : W → Seen I A) (w : World I A) {log : Logged}
     counted = subst (λ o. IfSome o (λ journal. runs ≡ runs_in journal)) (replayed s x) h;
   }))
 
-module _ {I A : Type 0} (w : World I A) (events : List Event) (end : Option End) where
+module _ {P I A : Type 0} (w : World P I A) (events : List Event) (end : Option End) where
   -- both are of one build
   pub tried_at : (outcome : Outcome) (runs : ℕ) → ∥ IsOutcomeAt w false events end outcome ∥₁ → ∥ AreRuns w events end runs ∥₁ → ∥ IsTriedAt w events end (record { outcome = outcome; runs = runs }) ∥₁
   tried_at outcome runs is are = ∥∥₁_map₂ is are (λ x y. record { outcome = x; runs = y })
@@ -66,11 +71,12 @@ module _ {I A : Type 0} (w : World I A) (events : List Event) (end : Option End)
   tried_are (Err none) legal least is = tt
 
 -- what is so of all events after none is so of all events
-pub least_of_all : {I A : Type 0} (w told : World I A) (first events : List Event) → first ≡ [] →
+pub least_of_all : {P I A : Type 0} (w told : World P I A) (first events : List Event) →
+    first ≡ [] →
     told ≡ w →
     ((more : List Event) → events ≡ first ++ more → AssignsLeast w first more) →
     AssignsLeast told [] events
-least_of_all {I} {A} w told first events none same least =
-    subst (λ (v : World I A). AssignsLeast v [] events) (sym same)
+least_of_all {P} {I} {A} w told first events none same least =
+    subst (λ (v : World P I A). AssignsLeast v [] events) (sym same)
     (subst (λ (before : List Event). AssignsLeast w before events) none
     (least events (sym (ap (λ before. before ++ events) none))))

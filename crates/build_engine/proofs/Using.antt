@@ -17,7 +17,7 @@ use Rattle.build_plain.proofs.Driving.{none-retired}
 use Rattle.build_engine.specs.OnNodes.{IsOutcomeOn}
 use Rattle.build_engine.specs.UsedFor.{IsUsedFor}
 
-module _ {I A : Type 0} (w : World I A) (low : Bool) where
+module _ {P I A : Type 0} (w : World P I A) (low : Bool) where
   -- an outcome does not come of a build that wanted memory
   had_memory : (events : List Event) (end : Option End) (outcome : Outcome) (P : Type 0) → IsOutcomeAt w low events end outcome → UnlessMemory end P → P
   had_memory events None outcome P is p = p

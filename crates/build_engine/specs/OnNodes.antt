@@ -9,9 +9,10 @@ use Rattle.build_outcome.specs.Outcomes.{IsOutcomeAt}
 use Rattle.build_outcome.specs.declared.outcome.Outcome.{Outcome}
 
 -- some legal history of so many nodes, one of which has not retired, leads to the outcome
-pub record IsOutcomeOn {I A : Type 0} (w : World I A) (nodes : ℕ) (low : Bool) (outcome : Outcome) : Type 0 where
+pub record IsOutcomeOn {P I A : Type 0} (w : World P I A) (nodes : ℕ) (low : Bool)
+    (outcome : Outcome) : Type 0 where
   pub events : List Event
-  pub state : State I A
+  pub state : State P I A
   pub end : Option End
   pub history : IsHistory w events state
   pub few : AreOfNodes nodes events

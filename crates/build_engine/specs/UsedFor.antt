@@ -13,9 +13,10 @@ use Rattle.build_outcome.specs.declared.outcome.Outcome.{Outcome}
 
 -- the outcome comes of a legal history that takes the least ready request each time, and the tools that were used from one to the other are those
 -- that the history has, in order
-pub record IsUsedFor {I A : Type 0} (w : World I A) (low : Bool) (outcome : Outcome) (from to : List (ToolUse I)) : Type 0 where
+pub record IsUsedFor {P I A : Type 0} (w : World P I A) (low : Bool) (outcome : Outcome)
+    (from to : List (ToolUse I)) : Type 0 where
   pub events : List Event
-  pub state : State I A
+  pub state : State P I A
   pub end : Option End
   pub history : IsHistory w events state
   pub least : AssignsLeast w [] events

@@ -42,21 +42,21 @@ abbrev pub IsGo : Event → Type 0
 IsGo (Claim id run Go) = Unit {0}
 IsGo event = ⊥
 
-module _ {I A : Type 0} where
-  abbrev pub IsReady : Status I A → Type 0
+module _ {P I A : Type 0} where
+  abbrev pub IsReady : Status P I A → Type 0
   IsReady (ready place) = Unit {0}
   IsReady status = ⊥
 
   -- a caller that the results of its calls have made ready
-  pub record Resumed (s : State I A) (n : ℕ) (b : RequestState I A) : Type 0 where
-    pub caller : RequestState I A
+  pub record Resumed (s : State P I A) (n : ℕ) (b : RequestState P I A) : Type 0 where
+    pub caller : RequestState P I A
     pub keys : List RequestKey
     pub ids : List ℕ
-    pub before : Within I A
+    pub before : Within P I A
     pub go : List RequestResult → Journal → Body I A
     pub was : at s.requests n ≡ Some caller
     pub calls_so : caller.status ≡ calling keys ids before go
-    pub now : Within I A
+    pub now : Within P I A
     pub stop : Stop I A
     pub is : b.status ≡ ready (within now stop)
     pub same_run : now.run ≡ before.run
@@ -64,29 +64,39 @@ module _ {I A : Type 0} where
     pub grown : now.so_far.tools ≡ before.so_far.tools ++ more
 
   -- a request that the event isn't about: as before, in no body, or resumed
-  abbrev pub Other : State I A → ℕ → RequestState I A → Type 0
+  abbrev pub Other : State P I A → ℕ → RequestState P I A → Type 0
   Other s n b = (at s.requests n ≡ Some b) ⊎ ((body_at b.status ≡ None) ⊎ Resumed s n b)
 
   -- the request that the event is about: it is in no body; it is in the body that it was in; it begins a body; or its body is finished
-  pub data Own (s t : State I A) (event : Event) (b : RequestState I A) : Type 0 where
+  pub data Own (s t : State P I A) (event : Event) (b : RequestState P I A) : Type 0 where
     rests : body_at b.status ≡ None → t.tools_used ≡ s.tools_used → Own s t event b
-    goes : (q : RequestState I A) → at s.requests (whose event) ≡ Some q → body_at b.status ≡ body_at q.status → t.tools_used ≡ s.tools_used → Own s t event b
-    begins : (q : RequestState I A) (x : ToolsUsed I) → IsGo event → at s.requests (whose event) ≡ Some q → body_at q.status ≡ None → body_at b.status ≡ Some x → is_begun x.run s.begun ≡ false → t.tools_used ≡ s.tools_used → Own s t event b
-    finishes : (q : RequestState I A) (x : ToolsUsed I) → at s.requests (whose event) ≡ Some q → (IsReady q.status → ⊥) → body_at q.status ≡ Some x → body_at b.status ≡ None → t.tools_used ≡ x ∷ s.tools_used → Own s t event b
+    goes : (q : RequestState P I A) → at s.requests (whose event) ≡ Some q →
+        body_at b.status ≡ body_at q.status → t.tools_used ≡ s.tools_used → Own s t event b
+    begins : (q : RequestState P I A) (x : ToolsUsed I) → IsGo event →
+        at s.requests (whose event) ≡ Some q → body_at q.status ≡ None → body_at b.status ≡ Some x →
+        is_begun x.run s.begun ≡ false → t.tools_used ≡ s.tools_used → Own s t event b
+    finishes : (q : RequestState P I A) (x : ToolsUsed I) → at s.requests (whose event) ≡ Some q →
+        (IsReady q.status → ⊥) → body_at q.status ≡ Some x → body_at b.status ≡ None →
+        t.tools_used ≡ x ∷ s.tools_used → Own s t event b
 
-  pub record Moved (s t : State I A) (event : Event) : Type 0 where
-    pub mine : RequestState I A
+  pub record Moved (s t : State P I A) (event : Event) : Type 0 where
+    pub mine : RequestState P I A
     pub there : at t.requests (whose event) ≡ Some mine
     pub unready : IsReady mine.status → IsRetire event
     pub own : Own s t event mine
-    pub others : (n : ℕ) (b : RequestState I A) → (n ≡ whose event → ⊥) → at t.requests n ≡ Some b → Other s n b
+    pub others : (n : ℕ) (b : RequestState P I A) → (n ≡ whose event → ⊥) →
+        at t.requests n ≡ Some b → Other s n b
     pub begun : (r : RunId) → is_begun r t.begun ≡ false → is_begun r s.begun ≡ false
 
-  put-others : (s : State I A) (id : ℕ) (z : RequestState I A) (n : ℕ) (b : RequestState I A) → (n ≡ id → ⊥) → at (put s.requests id z) n ≡ Some b → at s.requests n ≡ Some b
+  put-others : (s : State P I A) (id : ℕ) (z : RequestState P I A) (n : ℕ)
+      (b : RequestState P I A) → (n ≡ id → ⊥) → at (put s.requests id z) n ≡ Some b →
+      at s.requests n ≡ Some b
   put-others s id z n b d h = elim (at-put s.requests id z n b h) [ inl x ↦ absurd (d x.0) | inr y ↦ y.1 ]
 
   -- one request is put
-  put-moved : (s t : State I A) (event : Event) (q z : RequestState I A) → at s.requests (whose event) ≡ Some q → t.requests ≡ put s.requests (whose event) z → (IsReady z.status → IsRetire event) → Own s t event z →
+  put-moved : (s t : State P I A) (event : Event) (q z : RequestState P I A) →
+      at s.requests (whose event) ≡ Some q → t.requests ≡ put s.requests (whose event) z →
+      (IsReady z.status → IsRetire event) → Own s t event z →
       ((r : RunId) → is_begun r t.begun ≡ false → is_begun r s.begun ≡ false) → Moved s t event
   put-moved s t event q z e m u own g = record {
     mine = z;
@@ -97,19 +107,30 @@ module _ {I A : Type 0} where
     begun = g;
   }
 
-  moved-same : (s m t : State I A) (event : Event) → Moved s m event → m ≡ t → Moved s t event
-  moved-same s m t event v e = subst (λ (u : State I A). Moved s u event) e v
+  moved-same : (s m t : State P I A) (event : Event) → Moved s m event → m ≡ t → Moved s t event
+  moved-same s m t event v e = subst (λ (u : State P I A). Moved s u event) e v
 
 older-begun : (b c : Bool) → (b || c) ≡ false → c ≡ false
 older-begun true c h = absurd (cc)
 older-begun false c h = h
 
-module _ {I A : Type 0} (w : World I A) where
-  claimed-moved : (s t : State I A) (id m : ℕ) (o : Origin) (j : Journal) (runs : List RunId) (claims r : RunId) (b : Body I A) (go : Record → Journal → Walk I A) (kind : ClaimKind) (q : RequestState I A) →
+module _ {P I A : Type 0} (w : World P I A) where
+  claimed-moved : (s t : State P I A) (id m : ℕ) (o : Origin) (j : Journal) (runs : List RunId)
+      (claims : RunId) (r : RunId) (b : Body I A) (go : Record → Journal → Walk P I A)
+      (kind : ClaimKind) (q : RequestState P I A) →
       at s.requests id ≡ Some q → body_at q.status ≡ None → claimed w s id m o j runs r b go kind ≡ Some t → Moved s t (Claim id claims kind)
   claimed-moved s t id m o j runs claims r b go Go q e none h =
-      let z : RequestState I A = in_body w (assigned m) o runs r go (run_on w.tools r b j nothing_yet) in
-      let next : State I A = record { requests = put s.requests id z; begun = record { run = r; by = id } ∷ s.begun; table = s.table; tools_used = s.tools_used } in
+      let z : RequestState P I A =
+      in_body w (assigned m) o runs r go (run_on w.tools r b j nothing_yet) in
+      let next : State P I A = record {
+        requests = put s.requests id z;
+        begun = record {
+          run = r;
+          by = id;
+        } ∷ s.begun;
+        table = s.table;
+        tools_used = s.tools_used;
+      } in
       let x = unless-some (is_begun r s.begun) next t h in
       moved-same s next t (Claim id claims Go) (put-moved s next (Claim id claims Go) q z e refl (λ a. a)
       (begins q (record { run = r; tools = (run_on w.tools r b j nothing_yet).so_far.tools }) tt e none refl x.0 refl)
@@ -117,19 +138,23 @@ module _ {I A : Type 0} (w : World I A) where
   claimed-moved s t id m o j runs claims r b go Use q e none h =
       let x = and_then-some (found s.table r) (λ made. and_then (replay s.table r j) (λ next. Some (with_request s id (goes_on w (assigned m) o runs r go made next)))) t h in
       let y = and_then-some (replay s.table r j) (λ next. Some (with_request s id (goes_on w (assigned m) o runs r go x.0 next))) t x.2 in
-      let z : RequestState I A = goes_on w (assigned m) o runs r go x.0 y.0 in
+      let z : RequestState P I A = goes_on w (assigned m) o runs r go x.0 y.0 in
       moved-same s (with_request s id z) t (Claim id claims Use) (put-moved s (with_request s id z) (Claim id claims Use) q z e refl (λ a. a) (rests refl refl) (λ r1 g. g)) (some-is (with_request s id z) t y.2)
   claimed-moved s t id m o j runs claims r b go Wait q e none h =
-      let next : State I A = waiting w s id o j runs r b go in
+      let next : State P I A = waiting w s id o j runs r b go in
       let x = only_if-some (may_wait w (is_begun r s.begun) (found s.table r) (is_in_cycle next r)) next t h in
       moved-same s next t (Claim id claims Wait) (put-moved s next (Claim id claims Wait) q (request_of o j runs (waits r b go)) e refl (λ a. a) (rests refl refl) (λ r1 g. g)) x.1
 
-  called-moved : (s t : State I A) (id m : ℕ) (asked : List RequestKey) (o : Origin) (j : Journal) (runs : List RunId) (keys : List RequestKey) (x : Within I A) (stop : Stop I A) (go : List RequestResult → Journal → Body I A) →
+  called-moved : (s t : State P I A) (id m : ℕ) (asked : List RequestKey) (o : Origin) (j : Journal)
+      (runs : List RunId) (keys : List RequestKey) (x : Within P I A) (stop : Stop I A)
+      (go : List RequestResult → Journal → Body I A) →
       at s.requests id ≡ Some (request_of o j runs (assigned m (within x stop))) → with_children w s id o j runs keys x go ≡ t → Moved s t (Request id asked)
   called-moved s t id m asked o j runs keys x stop go e h =
-      let q : RequestState I A = request_of o j runs (assigned m (within x stop)) in
-      let z : RequestState I A = request_of o j runs (calling keys (numbered_from (length s.requests) keys) x go) in
-      let more : List (RequestState I A) = map (new_request w (Some id) (x.run ∷ o.path) j) keys in
+      let q : RequestState P I A = request_of o j runs (assigned m (within x stop)) in
+      let z : RequestState P I A =
+      request_of o j runs (calling keys (numbered_from (length s.requests) keys) x go) in
+      let more : List (RequestState P I A) =
+      map (new_request w (Some id) (x.run ∷ o.path) j) keys in
       moved-same s (with_children w s id o j runs keys x go) t (Request id asked) (record {
         mine = z;
         there = at-front (put s.requests id z) more id z (at-put_same s.requests id q z e);
@@ -137,34 +162,46 @@ module _ {I A : Type 0} (w : World I A) where
         own = goes q e refl refl;
         others = λ n b d at_n. elim (at-append (put s.requests id z) more n b at_n) [
           | inl y ↦ inl (put-others s id z n b d y)
-          | inr y ↦ (let c = at-map (new_request w (Some id) (x.run ∷ o.path) j) keys y.0 b y.1 in inr (inl (ap (λ (a : RequestState I A). body_at a.status) (sym c.2))))
+          | inr y ↦
+              (let c = at-map (new_request w (Some id) (x.run ∷ o.path) j) keys y.0 b y.1 in inr
+              (inl (ap (λ (a : RequestState P I A). body_at a.status) (sym c.2))))
         ];
         begun = λ r1 g. g;
       }) h
 
-  woken-others : (table : Records) (r : RunId) (m : Record) (q z : RequestState I A) (u : Status I A) → q.status ≡ u → woken_at w table r m q u ≡ Some z → (q ≡ z) ⊎ (body_at z.status ≡ None)
+  woken-others : (table : Records) (r : RunId) (m : Record) (q z : RequestState P I A)
+      (u : Status P I A) → q.status ≡ u → woken_at w table r m q u ≡ Some z →
+      (q ≡ z) ⊎ (body_at z.status ≡ None)
   woken-others table r m q z (waits wanted b go) e h = by_test (same_run wanted r) h
     where
       by_test : (t : Bool) → woken_if w t table q m wanted go ≡ Some z → (q ≡ z) ⊎ (body_at z.status ≡ None)
       by_test true h =
           let y = and_then-some (replay table wanted q.journal) (λ next. Some (goes_on w ready q.origin q.runs wanted go m next)) z h in
-          inr (ap (λ (a : RequestState I A). body_at a.status) (sym (some-is (goes_on w ready q.origin q.runs wanted go m y.0) z y.2)))
+          inr (ap (λ (a : RequestState P I A). body_at a.status)
+          (sym (some-is (goes_on w ready q.origin q.runs wanted go m y.0) z y.2)))
       by_test false h = inl (some-is q z h)
   woken-others table r m q z (ready a) e h = inl (some-is q z h)
   woken-others table r m q z (assigned k a) e h = inl (some-is q z h)
   woken-others table r m q z (calling a b c d) e h = inl (some-is q z h)
   woken-others table r m q z (done a) e h = inl (some-is q z h)
 
-  finished-moved : (s t : State I A) (id m : ℕ) (run : RunId) (o : Origin) (j : Journal) (runs : List RunId) (x : Within I A) (stop : Stop I A) (made : Record) →
+  finished-moved : (s t : State P I A) (id m : ℕ) (run : RunId) (o : Origin) (j : Journal)
+      (runs : List RunId) (x : Within P I A) (stop : Stop I A) (made : Record) →
       at s.requests id ≡ Some (request_of o j runs (assigned m (within x stop))) → finished w s id m o j runs x made ≡ Some t → Moved s t (Result id run)
   finished-moved s t id m run o j runs x stop made e h =
       let f : FinishedRun = record { run = x.run; made = made } in
-      let q : RequestState I A = request_of o j runs (assigned m (within x stop)) in
+      let q : RequestState P I A = request_of o j runs (assigned m (within x stop)) in
       let used : ToolsUsed I = record { run = x.run; tools = x.so_far.tools } in
-      let z : RequestState I A = goes_on w (assigned m) o runs x.run x.go made (add j (ended x.run made)) in
+      let z : RequestState P I A =
+      goes_on w (assigned m) o runs x.run x.go made (add j (ended x.run made)) in
       let wakes = woken w (f ∷ s.table) x.run made in
       let u = and_then-some (traverse wakes (put s.requests id z)) (λ requests. Some (record { requests = requests; begun = s.begun; table = f ∷ s.table; tools_used = used ∷ s.tools_used })) t h in
-      let last : State I A = record { requests = u.0; begun = s.begun; table = f ∷ s.table; tools_used = used ∷ s.tools_used } in
+      let last : State P I A = record {
+        requests = u.0;
+        begun = s.begun;
+        table = f ∷ s.table;
+        tools_used = used ∷ s.tools_used;
+      } in
       let here = traverse-at wakes (put s.requests id z) u.0 u.1 id z (at-put_same s.requests id q z e) in
       moved-same s last t (Result id run) (record {
         mine = z;
@@ -181,13 +218,15 @@ module _ {I A : Type 0} (w : World I A) where
       }) (some-is last t u.2)
 
   -- and then a caller is resumed, if there is one
-  answered-moved : (s m t : State I A) (event : Event) (a : ℕ) (c : RequestState I A) (keys : List RequestKey) (ids : List ℕ) (x : Within I A) (go : List RequestResult → Journal → Body I A) → Moved s m event →
+  answered-moved : (s m t : State P I A) (event : Event) (a : ℕ) (c : RequestState P I A)
+      (keys : List RequestKey) (ids : List ℕ) (x : Within P I A) (go : List RequestResult →
+      Journal → Body I A) → Moved s m event →
       (a ≡ whose event → ⊥) → at s.requests a ≡ Some c → at m.requests a ≡ Some c → c.status ≡ calling keys ids x go → (o : Option (List RequestResult)) → answered w m a c.origin c.journal c.runs keys x go o ≡ Some t → Moved s t event
   answered-moved s m t event a c keys ids x go v d es em p None h = moved-same s m t event v (some-is m t h)
   answered-moved s m t event a c keys ids x go v d es em p (Some results) h =
       let y = and_then-some (replay_all m.table (runs_of results) c.journal) (λ next. Some (with_request m a (in_body w ready c.origin c.runs x.run x.go (run_on w.tools x.run (go results next) next (with_calls x.so_far keys results))))) t h in
       let after = run_on w.tools x.run (go results y.0) y.0 (with_calls x.so_far keys results) in
-      let z : RequestState I A = in_body w ready c.origin c.runs x.run x.go after in
+      let z : RequestState P I A = in_body w ready c.origin c.runs x.run x.go after in
       let more = run_on-uses w.tools x.run (go results y.0) y.0 (with_calls x.so_far keys results) in
       moved-same s (with_request m a z) t event (record {
         mine = v.mine;
@@ -205,7 +244,7 @@ module _ {I A : Type 0} (w : World I A) where
             calls_so = p;
             now = record { run = x.run; so_far = after.so_far; go = x.go };
             stop = after.stop;
-            is = ap (λ (q : RequestState I A). q.status) (sym here.1);
+            is = ap (λ (q : RequestState P I A). q.status) (sym here.1);
             same_run = refl;
             more = more.0;
             grown = more.1;
@@ -215,21 +254,25 @@ module _ {I A : Type 0} (w : World I A) where
         begun = v.begun;
       }) (some-is (with_request m a z) t y.2)
     where
-      kept : (z : RequestState I A) → Own s m event v.mine → Own s (with_request m a z) event v.mine
+      kept : (z : RequestState P I A) → Own s m event v.mine →
+          Own s (with_request m a z) event v.mine
       kept z (rests e f) = rests e f
       kept z (goes q e f g) = goes q e f g
       kept z (begins q x y e n f g i) = begins q x y e n f g i
       kept z (finishes q x e u f g i) = finishes q x e u f g i
 
-  step_of-moved : (s t : State I A) (event : Event) (o : Origin) (j : Journal) (runs : List RunId) (u : Status I A) → at s.requests (whose event) ≡ Some (request_of o j runs u) → step_of w s event (request_of o j runs u) ≡ Some t →
+  step_of-moved : (s t : State P I A) (event : Event) (o : Origin) (j : Journal) (runs : List RunId)
+      (u : Status P I A) → at s.requests (whose event) ≡ Some (request_of o j runs u) →
+      step_of w s event (request_of o j runs u) ≡ Some t →
       Moved s t event
   step_of-moved s t (Assign id m) o j runs (ready a) e h =
-      let z : RequestState I A = request_of o j runs (assigned m a) in
+      let z : RequestState P I A = request_of o j runs (assigned m a) in
       moved-same s (with_request s id z) t (Assign id m) (put-moved s (with_request s id z) (Assign id m) (request_of o j runs (ready a)) z e refl (λ a. a) (goes (request_of o j runs (ready a)) e refl refl) (λ r1 g. g)) (some-is (with_request s id z) t h)
   step_of-moved s t (Assign id m) o j runs _ e h = absurd (cc)
-  step_of-moved s t (Claim id run kind) o j runs (assigned m (walking (wants r b go))) e h =
+  step_of-moved s t (Claim id run kind) o j runs (assigned m (walking (wants site r b go))) e h =
       let x = and_then-some (only_if (same_run r run) r) (λ run. claimed w s id m o j runs run b go kind) t h in
-      claimed-moved s t id m o j runs run x.0 b go kind (request_of o j runs (assigned m (walking (wants r b go)))) e refl x.2
+      claimed-moved s t id m o j runs run x.0 b go kind (request_of o j runs
+      (assigned m (walking (wants site r b go)))) e refl x.2
   step_of-moved s t (Claim id run kind) o j runs _ e h = absurd (cc)
   step_of-moved s t (Request id keys) o j runs (assigned m (within x (asks key more go))) e h =
       let y = only_if-some (same_keys (key ∷ more) keys && is_within_limits w s (x.run ∷ o.path) (key ∷ more)) (with_children w s id o j runs (key ∷ more) x go) t h in
@@ -239,41 +282,50 @@ module _ {I A : Type 0} (w : World I A) where
       let y = and_then-some (only_if (same_run x.run run) x) (λ x. finished w s id m o j runs x (recorded outcome x.so_far.segments)) t h in
       let p : x ≡ y.0 = (only_if-some (same_run x.run run) x y.0 y.1).1 in
       finished-moved s t id m run o j runs x (ends outcome) (recorded outcome x.so_far.segments) e
-      (subst (λ (a : Within I A). finished w s id m o j runs a (recorded outcome a.so_far.segments) ≡ Some t) (sym p) y.2)
+      (subst (λ (a : Within P I A). finished w s id m o j runs a
+      (recorded outcome a.so_far.segments) ≡ Some t) (sym p) y.2)
   step_of-moved s t (Result id run) o j runs _ e h = absurd (cc)
   step_of-moved s t (Done id) o j runs (assigned m (walking (gives reply))) e h =
-      let q : RequestState I A = request_of o j runs (assigned m (walking (gives reply))) in
-      let z : RequestState I A = request_of o j runs (done (result_of reply runs)) in
-      let over : State I A = with_request s id z in
+      let q : RequestState P I A = request_of o j runs (assigned m (walking (gives reply))) in
+      let z : RequestState P I A = request_of o j runs (done (result_of reply runs)) in
+      let over : State P I A = with_request s id z in
       caller-moved s over t (Done id) z o.parent (put-moved s over (Done id) q z e refl (λ a. a) (rests refl refl) (λ r1 g. g)) refl refl h
     where
-      resumed-moved : (s m t : State I A) (event : Event) (a : ℕ) (z c : RequestState I A) (u : Status I A) → Moved s m event → m.requests ≡ put s.requests (whose event) z → (a ≡ whose event → ⊥) → at m.requests a ≡ Some c → c.status ≡ u →
+      resumed-moved : (s m t : State P I A) (event : Event) (a : ℕ) (z c : RequestState P I A)
+          (u : Status P I A) → Moved s m event → m.requests ≡ put s.requests (whose event) z →
+          (a ≡ whose event → ⊥) → at m.requests a ≡ Some c → c.status ≡ u →
           resume_at w m a c u ≡ Some t → Moved s t event
       resumed-moved s m t event a z c (calling keys ids x go) v f d e p h =
           answered-moved s m t event a c keys ids x go v d (put-others s (whose event) z a c d (sym (ap (λ rs. at rs a) f) ∙ e)) e p (results_of w m.requests ids) h
       resumed-moved s m t event a z c _ v f d e p h = absurd (cc)
 
-      over-calls : (m t : State I A) (a : ℕ) (z : RequestState I A) (u : Status I A) → u ≡ done (result_of reply runs) → resume_at w m a z u ≡ Some t → ⊥
+      over-calls : (m t : State P I A) (a : ℕ) (z : RequestState P I A) (u : Status P I A) →
+          u ≡ done (result_of reply runs) → resume_at w m a z u ≡ Some t → ⊥
       over-calls m t a z (calling keys ids x go) e h = absurd (cc)
       over-calls m t a z _ e h = absurd (cc)
 
-      caller-moved : (s m t : State I A) (event : Event) (z : RequestState I A) (parent : Option ℕ) → Moved s m event → m.requests ≡ put s.requests (whose event) z → z.status ≡ done (result_of reply runs) → resume_caller w m parent ≡ Some t → Moved s t event
+      caller-moved : (s m t : State P I A) (event : Event) (z : RequestState P I A)
+          (parent : Option ℕ) → Moved s m event → m.requests ≡ put s.requests (whose event) z →
+          z.status ≡ done (result_of reply runs) → resume_caller w m parent ≡ Some t →
+          Moved s t event
       caller-moved s m t event z None v f g h = moved-same s m t event v (some-is m t h)
       caller-moved s m t event z (Some a) v f g h =
           let y = and_then-some (at m.requests a) (λ q. resume_at w m a q q.status) t h in
           elim (at-put s.requests (whose event) z a y.0 (sym (ap (λ rs. at rs a) f) ∙ y.1)) [
-            | inl same ↦ absurd (over-calls m t a y.0 y.0.status (ap (λ (q : RequestState I A). q.status) (sym same.1) ∙ g) y.2)
+            | inl same ↦
+                absurd (over-calls m t a y.0 y.0.status (ap (λ (q : RequestState P I A). q.status)
+                (sym same.1) ∙ g) y.2)
             | inr else ↦ resumed-moved s m t event a z y.0 y.0.status v f else.0 y.1 refl y.2
           ]
   step_of-moved s t (Done id) o j runs _ e h = absurd (cc)
   step_of-moved s t (Retire id node) o j runs (assigned by a) e h =
-      let q : RequestState I A = request_of o j runs (assigned by a) in
-      let z : RequestState I A = request_of o j runs (ready a) in
+      let q : RequestState P I A = request_of o j runs (assigned by a) in
+      let z : RequestState P I A = request_of o j runs (ready a) in
       moved-same s (with_request s id z) t (Retire id node) (put-moved s (with_request s id z) (Retire id node) q z e refl (λ r. tt) (goes q e refl refl) (λ r1 g. g))
       (only_if-some (by == node) (with_request s id z) t h).1
   step_of-moved s t (Retire id node) o j runs _ e h = absurd (cc)
 
-  pub step-moved : (s t : State I A) (event : Event) → step w s event ≡ Some t → Moved s t event
+  pub step-moved : (s t : State P I A) (event : Event) → step w s event ≡ Some t → Moved s t event
   step-moved s t event h =
       let z = and_then-some (at s.requests (whose event)) (step_of w s event) t h in
       step_of-moved s t event z.0.origin z.0.journal z.0.runs z.0.status z.1 z.2

@@ -25,12 +25,12 @@ use Rattle.build_meaning.proofs.MeaningAgreed.{agrees}
 use Rattle.build_history.specs.Began.{IsInNoBody, BeganWith}
 use Rattle.build_history.proofs.RunsReplayed.{Ran, StatusRan, RanFrom, EachRan, SaysNew, step_of-ran}
 
-module _ {I A : Type 0} (w : World I A) where
+module _ {P I A : Type 0} (w : World P I A) where
   -- how a request began, and that the root began with nothing
   abbrev pub Begun : List Event → ℕ → Origin → Journal → Type 0
   Begun events id origin base = BeganWith w events id origin base × (id ≡ 0 → base ≡ [])
 
-  abbrev pub AllBegun : List Event → State I A → Type 0
+  abbrev pub AllBegun : List Event → State P I A → Type 0
   AllBegun events s = EachRan (Begun events) s.table s.requests
 
   began-more : (events : List Event) (event : Event) (id : ℕ) (origin : Origin) (base : Journal) → Begun events id origin base → Begun (events ++ event ∷ []) id origin base
@@ -47,28 +47,32 @@ module _ {I A : Type 0} (w : World I A) where
     root,
   )
 
-  all-more : (events : List Event) (event : Event) (s : State I A) → AllBegun events s → EachRan (Begun (events ++ event ∷ [])) s.table s.requests
+  all-more : (events : List Event) (event : Event) (s : State P I A) → AllBegun events s →
+      EachRan (Begun (events ++ event ∷ [])) s.table s.requests
   all-more events event s v id q e =
       let x = v id q e in record { base = x.base; began = began-more events event id q.origin x.base x.began; ran = x.ran }
 
-  says-new : (events : List Event) (t : State I A) → IsHistory w events t → SaysNew w (Begun events) t
+  says-new : (events : List Event) (t : State P I A) → IsHistory w events t →
+      SaysNew w (Begun events) t
   says-new events t h id origin base n there given =
       (record { before = events; later = []; state = t; events_so = append-nil events; history = h; there = there; given = given }, λ e. absurd (n e))
 
   start-begun : AllBegun [] (start w)
   start-begun zero q h =
-      let z : RequestState I A = new_request w None [] [] w.root in
+      let z : RequestState P I A = new_request w None [] [] w.root in
       let here : RanFrom (Begun []) [] 0 z = record {
         base = [];
         began = (record { before = []; later = []; state = start w; events_so = refl; history = refl; there = refl; given = refl }, λ e. refl);
         ran = none;
       } in
-      subst (λ (u : RequestState I A). RanFrom (Begun []) [] 0 u) (some-is z q h) here
+      subst (λ (u : RequestState P I A). RanFrom (Begun []) [] 0 u) (some-is z q h) here
   start-begun (suc id) q h = absurd (cc)
 
-  all-begun : (past events : List Event) (s t : State I A) → IsHistory w past s → Lawful s → AllBegun past s → after_all w s events ≡ Some t → AllBegun (past ++ events) t
+  all-begun : (past events : List Event) (s t : State P I A) → IsHistory w past s → Lawful s →
+      AllBegun past s → after_all w s events ≡ Some t → AllBegun (past ++ events) t
   all-begun past [] s t hist l v h =
-      subst (λ es. AllBegun es t) (sym (append-nil past)) (subst (λ (u : State I A). AllBegun past u) (some-is s t h) v)
+      subst (λ es. AllBegun es t) (sym (append-nil past))
+      (subst (λ (u : State P I A). AllBegun past u) (some-is s t h) v)
   all-begun past (event ∷ events) s t hist l v h =
       let y = and_then-some (step w s event) (λ next. after_all w next events) t h in
       let z = and_then-some (at s.requests (whose event)) (step_of w s event) y.0 y.1 in
@@ -78,11 +82,14 @@ module _ {I A : Type 0} (w : World I A) where
       subst (λ es. AllBegun es t) (append_assoc past (event ∷ []) events)
       (all-begun now events y.0 t hist2 (step-lawful w s event y.0 l y.1) n y.2)
 
-  pub history-begun : (events : List Event) (s : State I A) → IsHistory w events s → AllBegun events s
+  pub history-begun : (events : List Event) (s : State P I A) → IsHistory w events s →
+      AllBegun events s
   history-begun events s h = all-begun [] events (start w) s refl (start-lawful w) start-begun h
 
   -- the function by the table, where the relation holds
-  ran-replayed : (s : State I A) (l : Lawful s) (id : ℕ) (q : RequestState I A) → at s.requests id ≡ Some q → (base : Journal) → Ran s.table base q.runs q.journal → replay_all s.table q.runs base ≡ Some q.journal
+  ran-replayed : (s : State P I A) (l : Lawful s) (id : ℕ) (q : RequestState P I A) →
+      at s.requests id ≡ Some q → (base : Journal) → Ran s.table base q.runs q.journal →
+      replay_all s.table q.runs base ≡ Some q.journal
   ran-replayed s l id q e base d =
       let g = (l.each id q e).journal in
       let all : (r : RunId) → In r q.runs → IsFinished s.table r = λ r i.
@@ -90,7 +97,9 @@ module _ {I A : Type 0} (w : World I A) where
       let y = replay_all-total s.table l.ordered q.runs base all in
       y.1 ∙ ap Some (reps-one (Recorded s.table) (one_record s.table) (replay_all-reps s.table l.once q.runs base y.0 y.1) q.journal d)
 
-  place-ran : (s : State I A) (base : Journal) (runs : List RunId) (j : Journal) (st : Status I A) → IsInNoBody st → StatusRan s.table base runs j st → Ran s.table base runs j
+  place-ran : (s : State P I A) (base : Journal) (runs : List RunId) (j : Journal)
+      (st : Status P I A) → IsInNoBody st → StatusRan s.table base runs j st →
+      Ran s.table base runs j
   place-ran s base runs j (ready (walking walk)) i v = v
   place-ran s base runs j (ready (within x stop)) i v = absurd i
   place-ran s base runs j (assigned node (walking walk)) i v = v
@@ -99,32 +108,42 @@ module _ {I A : Type 0} (w : World I A) where
   place-ran s base runs j (calling keys ids x go) i v = absurd i
   place-ran s base runs j (done result) i v = v.1
 
-pub requests_are_replayed : {I A : Type 0} (w : World I A) (events : List Event) (s : State I A) → IsHistory w events s → (id : ℕ) (q : RequestState I A) → at s.requests id ≡ Some q →
+pub requests_are_replayed : {P I A : Type 0} (w : World P I A) (events : List Event)
+    (s : State P I A) → IsHistory w events s → (id : ℕ) (q : RequestState P I A) →
+    at s.requests id ≡ Some q →
     (base : Journal) × BeganWith w events id q.origin base × (IsInNoBody q.status → replay_all s.table q.runs base ≡ Some q.journal)
 requests_are_replayed w events s h id q e =
     let x = history-begun w events s h id q e in
     let l = all-lawful w events (start w) s (start-lawful w) h in
     (x.base, x.began.0, λ i. ran-replayed w s l id q e x.base (place-ran w s x.base q.runs q.journal q.status i x.ran))
 
-pub results_have_the_runs : {I A : Type 0} (w : World I A) (events : List Event) (s : State I A) → IsHistory w events s → (id : ℕ) (q : RequestState I A) → at s.requests id ≡ Some q →
+pub results_have_the_runs : {P I A : Type 0} (w : World P I A) (events : List Event)
+    (s : State P I A) → IsHistory w events s → (id : ℕ) (q : RequestState P I A) →
+    at s.requests id ≡ Some q →
     (result : RequestResult) → q.status ≡ done result → result.runs ≡ q.runs
-results_have_the_runs {I} {A} w events s h id q e result d =
+results_have_the_runs {P} {I} {A} w events s h id q e result d =
     let x = history-begun w events s h id q e in
-    let y : (result.runs ≡ q.runs) × Ran s.table x.base q.runs q.journal = subst (λ (u : Status I A). StatusRan s.table x.base q.runs q.journal u) d x.ran in
+    let y : (result.runs ≡ q.runs) × Ran s.table x.base q.runs q.journal =
+    subst (λ (u : Status P I A). StatusRan s.table x.base q.runs q.journal u) d x.ran in
     y.0
 
-pub root_is_replayed : {I A : Type 0} (w : World I A) (events : List Event) (s : State I A) → IsHistory w events s → (result : RequestResult) (journal : Journal) → EndsWith s result journal →
+pub root_is_replayed : {P I A : Type 0} (w : World P I A) (events : List Event) (s : State P I A) →
+    IsHistory w events s → (result : RequestResult) (journal : Journal) →
+    EndsWith s result journal →
     replay_all s.table result.runs [] ≡ Some journal
-root_is_replayed {I} {A} w events s h result journal end =
+root_is_replayed {P} {I} {A} w events s h result journal end =
     let q = end.root in
     let x = history-begun w events s h 0 q end.there in
     let l = all-lawful w events (start w) s (start-lawful w) h in
-    let y : (result.runs ≡ q.runs) × Ran s.table x.base q.runs q.journal = subst (λ (u : Status I A). StatusRan s.table x.base q.runs q.journal u) end.over x.ran in
+    let y : (result.runs ≡ q.runs) × Ran s.table x.base q.runs q.journal =
+    subst (λ (u : Status P I A). StatusRan s.table x.base q.runs q.journal u) end.over x.ran in
     let none_yet : x.base ≡ [] = x.began.1 refl in
     let d : Ran s.table [] q.runs q.journal = subst (λ (b : Journal). Ran s.table b q.runs q.journal) none_yet y.1 in
     ap (λ (rs : List RunId). replay_all s.table rs []) y.0 ∙ (ran-replayed w s l 0 q end.there [] d ∙ ap Some end.knows)
 
-pub closed_history_tells : {I A : Type 0} (w : World I A) (out : Given I RequestResult) → IsWhole w out → IsSteady out.demand → (events : List Event) (s : State I A) → IsHistory w events s →
+pub closed_history_tells : {P I A : Type 0} (w : World P I A) (out : Given P I RequestResult) →
+    IsWhole w out → IsSteady out.demand → (events : List Event) (s : State P I A) →
+    IsHistory w events s →
     (result : RequestResult) (journal : Journal) → EndsWith s result journal → (result ≡ out.value) × (journal ≡ out.journal) × (replay_all s.table result.runs [] ≡ Some out.journal)
 closed_history_tells w out whole steady events s h result journal end =
     let x = (agrees w out whole steady events s h).root result journal end in

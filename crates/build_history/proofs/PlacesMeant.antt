@@ -50,12 +50,15 @@ depth_of n zero h = absurd (omega arith)
 depth_of zero (suc m) h = (suc m, omega arith)
 depth_of (suc n) (suc m) h = let y = depth_of n m (omega arith) in (y.0, let e : y.0 + n ≡ m = y.1 in omega arith)
 
-module _ {I A : Type 0} (w : World I A) (D : Demanded I → Type 0) (one : (r : RunId) (m n : Record) → Made D r m → Made D r n → m ≡ n) where
+module _ {P I A : Type 0} (w : World P I A) (D : Demanded P I → Type 0)
+    (one : (r : RunId) (m n : Record) → Made D r m → Made D r n → m ≡ n) where
   nested : {path : List RunId} {j a : Journal} {key : RequestKey} {keys : List RequestKey} {results : List RequestResult} {i : Journal} → OfCalls w D path j a (key ∷ keys) results i → length path < deepest
-  nested (one_call {path = path} d less x rest) = ltb-true (length path) deepest less
+  nested (one_call {path = path} d less x so rest) = ltb-true (length path) deepest less
 
   -- the calls of a body give what the meaning gives for them
-  resumed : {q : Called} {runs : List RunId} {j : Journal} (x : Within I A) {first : RequestKey} {more : List RequestKey} (go : List RequestResult → Journal → Body I A) {results : List RequestResult} {i : Journal} →
+  resumed : {q : Called} {runs : List RunId} {j : Journal} (x : Within P I A) {first : RequestKey}
+      {more : List RequestKey} (go : List RequestResult → Journal →
+      Body I A) {results : List RequestResult} {i : Journal} →
       Passes w q runs j (within x (asks first more go)) → OfCalls w D (x.run ∷ q.path) j j (first ∷ more) results i →
       Passes w q runs (after_calls w x (first ∷ more) go results i).journal (stopped_in x.run x.go (after_calls w x (first ∷ more) go results i))
   resumed {q} {runs} {j} x {first} {more} go {results} {i} p asked =
@@ -66,32 +69,44 @@ module _ {I A : Type 0} (w : World I A) (D : Demanded I → Type 0) (one : (r : 
       (resumes d.0 y.0 p d.1 y.1))
 
   -- a body that the meaning makes is passed to its end
-  through : {q : Called} {runs : List RunId} {path : List RunId} {r : RunId} {j : Journal} {so_far : SoFar I} {b : Body I A} {m : Record} {tools : List (ToolUse I)} {i : Journal} (go : Record → Journal → Walk I A) →
+  through : {q : Called} {runs : List RunId} {path : List RunId} {r : RunId} {j : Journal}
+      {so_far : SoFar I} {b : Body I A} {m : Record} {tools : List (ToolUse I)} {i : Journal}
+      (go : Record → Journal → Walk P I A) →
       OfBody w D path r j so_far b m tools i → path ≡ r ∷ q.path → Passes w q runs (run_on w.tools r b j so_far).journal (stopped_in r go (run_on w.tools r b j so_far)) →
       Passes w q (runs ++ r ∷ []) (add i (ended r m)) (walking (go m (add i (ended r m))))
   through go ended_so e p = ends_so p
   through go (acted_one d) e p = through go d e p
   through go (used_tool d) e p = through go d e p
-  through {q} go (called_all {path = path} {r = r} {j = j} {i = i} {so_far = so_far} {key = key} {keys = keys} {go = then} {results = results} asked rest) e p =
+  through {q} go (called_all {path = path} {r = r} {j = j} {i = i} {so_far = so_far} {key = key}
+      {keys = keys} {go = then} {results = results} all asked rest) e p =
       through go rest e (resumed (record { run = r; so_far = so_far; go = go }) then p (subst (λ (ps : List RunId). OfCalls w D ps j j (key ∷ keys) results i) e asked))
 
   -- where a walk wants a run, the meaning goes on with its record
-  wants_passes : {q : Called} {runs : List RunId} {j : Journal} {r : RunId} {b : Body I A} {go : Record → Journal → Walk I A} {path : List RunId} {res : RequestResult} {k : Journal} → Closed (Made D) one j →
-      ((r : RunId) (m : Record) → In (ended r m) j → Made D r m) → OfWalk w D path j runs (wants r b go) res k → path ≡ q.path → Passes w q runs j (walking (wants r b go)) →
+  wants_passes : {q : Called} {runs : List RunId} {j : Journal} {site other : P} {r : RunId}
+      {b : Body I A} {go : Record → Journal → Walk P I A} {path : List RunId} {res : RequestResult}
+      {k : Journal} → Closed (Made D) one j →
+      ((r : RunId) (m : Record) → In (ended r m) j → Made D r m) → OfWalk w D path j runs
+      (wants site r b go) res k → path ≡ q.path → Passes w q runs j (walking (wants other r b go)) →
       (m : Record) × (i : Journal) × Made D r m × Rep (Made D) (replays_run r) j i × Passes w q (runs ++ r ∷ []) i (walking (go m i))
   wants_passes {j = j} {r = r} c e (used m h rest) f p = let i = had-in j r m h in (m, j, e r m i, old (in-has r m j i), known m p h)
-  wants_passes {q} {j = j} {r = r} {b = b} {go = go} {path = path} c e (made {i = i} {m = m} {tools = tools} n h d t rest) f p = (
-    m,
-    add i (ended r m),
-    (tools, t),
-    new h (tools, t) (agree_body w D one d j c none),
-    through go d (ap (λ ps. r ∷ ps) f) (enters p (none-had j r h) (not-in r q.path (subst (λ ps. In r ps → ⊥) f n))),
-  )
+  wants_passes {q} {j = j} {site = site} {r = r} {b = b} {go = go} {path = path} c e
+      (made {i = i} {m = m} {tools = tools} n h d t rest) f p = (
+        m,
+        add i (ended r m),
+        (site, j, (tools, t)),
+        new h (site, j, (tools, t)) (agree_body w D one d j c none),
+        through go d (ap (λ ps. r ∷ ps) f) (enters p (none-had j r h) (not-in r q.path (subst (λ ps. In r ps → ⊥) f n))),
+      )
 
   -- by a record of a table that has the meaning's
-  uses_passes : (table : Records) → IsOnce table → ((r : RunId) (m : Record) → Recorded table r m → Made D r m) → (q : Called) (runs : List RunId) (j : Journal) (r : RunId) (b : Body I A) (go : Record → Journal → Walk I A) (g : Goal) (m : Record) (k : Journal) →
-      LawfulJournal table j runs → OfWalk w D q.path j runs (wants r b go) g.res g.journal → Made D r m → replay table r j ≡ Some k → Passes w q runs j (walking (wants r b go)) → Passes w q (runs ++ r ∷ []) k (walking (go m k))
-  uses_passes table once recorded q runs j r b go g m k v x p h at_it =
+  uses_passes : (table : Records) → IsOnce table →
+      ((r : RunId) (m : Record) → Recorded table r m → Made D r m) →
+      (q : Called) (runs : List RunId) (j : Journal) (site other : P) (r : RunId) (b : Body I A)
+      (go : Record → Journal → Walk P I A) (g : Goal) (m : Record) (k : Journal) →
+      LawfulJournal table j runs → OfWalk w D q.path j runs (wants site r b go) g.res g.journal →
+      Made D r m → replay table r j ≡ Some k → Passes w q runs j (walking (wants other r b go)) →
+      Passes w q (runs ++ r ∷ []) k (walking (go m k))
+  uses_passes table once recorded q runs j site other r b go g m k v x p h at_it =
       let c = closed-made w D one table recorded j runs v in
       let d : Rep (Made D) (replays_run r) j k = rep-map (Recorded table) (Made D) recorded (replay-rep table once r j k h) in
       let y = wants_passes c (λ s n i. recorded s n (v.entries s n i)) x refl at_it in
@@ -100,31 +115,37 @@ module _ {I A : Type 0} (w : World I A) (D : Demanded I → Type 0) (one : (r : 
       subst (λ n. Passes w q (runs ++ r ∷ []) k (walking (go n k))) mm (subst (λ i. Passes w q (runs ++ r ∷ []) i (walking (go y.0 i))) ik y.4)
 
   -- a run that is made in no journal is made by no caller
-  wants_new : (path : List RunId) (j : Journal) (runs : List RunId) (r : RunId) (b : Body I A) (go : Record → Journal → Walk I A) (res : RequestResult) (k : Journal) → has (end_of r) j ≡ false → OfWalk w D path j runs (wants r b go) res k → is_in r path ≡ false
-  wants_new path j runs r b go res k n (used m h rest) = absurd (clash (has (end_of r) j) (in-has r m j (had-in j r m h)) n)
-  wants_new path j runs r b go res k n (made f h d p rest) = not-in r path f
+  wants_new : (path : List RunId) (j : Journal) (runs : List RunId) (site : P) (r : RunId)
+      (b : Body I A) (go : Record → Journal → Walk P I A) (res : RequestResult) (k : Journal) →
+      has (end_of r) j ≡ false → OfWalk w D path j runs (wants site r b go) res k →
+      is_in r path ≡ false
+  wants_new path j runs site r b go res k n (used m h rest) =
+      absurd (clash (has (end_of r) j) (in-has r m j (had-in j r m h)) n)
+  wants_new path j runs site r b go res k n (made f h d p rest) = not-in r path f
 
   module _ (B : ℕ → Origin → Journal → Type 0) where
     abbrev called_so : Origin → Journal → Called
     called_so o base = record { key = o.key; path = o.path; base = base }
 
     -- a request began with a journal, as B says, and the meaning passes where it stands
-    pub record PassesFrom (id : ℕ) (q : RequestState I A) : Type 0 where
+    pub record PassesFrom (id : ℕ) (q : RequestState P I A) : Type 0 where
       pub base : Journal
       pub began : B id q.origin base
       pub passes : PassesAt w (record { key = q.origin.key; path = q.origin.path; base = base }) q.runs q.journal q.status
 
-    abbrev pub EachPasses : List (RequestState I A) → Type 0
-    EachPasses requests = (id : ℕ) (q : RequestState I A) → at requests id ≡ Some q → PassesFrom id q
+    abbrev pub EachPasses : List (RequestState P I A) → Type 0
+    EachPasses requests =
+        (id : ℕ) (q : RequestState P I A) → at requests id ≡ Some q → PassesFrom id q
 
-    abbrev pub AllPass : State I A → Type 0
+    abbrev pub AllPass : State P I A → Type 0
     AllPass s = EachPasses s.requests
 
     -- B says so of the requests that are made now
-    abbrev pub SaysNew : State I A → Type 0
+    abbrev pub SaysNew : State P I A → Type 0
     SaysNew t = (id : ℕ) (origin : Origin) (base : Journal) → at t.requests id ≡ Some (new_request w origin.parent origin.path base origin.key) → GivesJournal t origin.parent base → B id origin base
 
-    put-passes : (requests : List (RequestState I A)) (id : ℕ) (q z : RequestState I A) → at requests id ≡ Some q → z.origin ≡ q.origin →
+    put-passes : (requests : List (RequestState P I A)) (id : ℕ) (q z : RequestState P I A) →
+        at requests id ≡ Some q → z.origin ≡ q.origin →
         ((base : Journal) → PassesAt w (called_so q.origin base) q.runs q.journal q.status → PassesAt w (called_so q.origin base) z.runs z.journal z.status) → EachPasses requests → EachPasses (put requests id z)
     put-passes requests id q z e o f v k y h = elim (at-put requests id z k y h) [
       | inl p ↦
@@ -134,70 +155,95 @@ module _ {I A : Type 0} (w : World I A) (D : Demanded I → Type 0) (one : (r : 
             began = subst (λ (a : Origin). B id a x.base) (sym o) x.began;
             passes = subst (λ (a : Origin). PassesAt w (called_so a x.base) z.runs z.journal z.status) (sym o) (f x.base x.passes);
           } in
-          subst (λ (a : RequestState I A). PassesFrom k a) p.1 (subst (λ (n : ℕ). PassesFrom n z) (sym p.0) here)
+          subst (λ (a : RequestState P I A). PassesFrom k a) p.1 (subst (λ (n : ℕ). PassesFrom n z)
+          (sym p.0) here)
       | inr p ↦ v k y p.1
     ]
 
-    assign-passes : (s : State I A) (id node : ℕ) (o : Origin) (j : Journal) (runs : List RunId) (st : Status I A) (t : State I A) → AllPass s →
+    assign-passes : (s : State P I A) (id node : ℕ) (o : Origin) (j : Journal) (runs : List RunId)
+        (st : Status P I A) (t : State P I A) → AllPass s →
         at s.requests id ≡ Some (request_of o j runs st) → assign_at w s id node o j runs st ≡ Some t → AllPass t
     assign-passes s id node o j runs (ready p) t v e h =
-        let z : RequestState I A = request_of o j runs (assigned node p) in
-        subst (λ (u : State I A). AllPass u) (some-is (with_request s id z) t h) (put-passes s.requests id (request_of o j runs (ready p)) z e refl (λ base x. x) v)
+        let z : RequestState P I A = request_of o j runs (assigned node p) in
+        subst (λ (u : State P I A). AllPass u) (some-is (with_request s id z) t h)
+        (put-passes s.requests id (request_of o j runs (ready p)) z e refl (λ base x. x) v)
     assign-passes s id node o j runs _ t v e h = absurd (cc)
 
-    retire-passes : (s : State I A) (id node : ℕ) (o : Origin) (j : Journal) (runs : List RunId) (st : Status I A) (t : State I A) → AllPass s →
+    retire-passes : (s : State P I A) (id node : ℕ) (o : Origin) (j : Journal) (runs : List RunId)
+        (st : Status P I A) (t : State P I A) → AllPass s →
         at s.requests id ≡ Some (request_of o j runs st) → retire_at w s id node o j runs st ≡ Some t → AllPass t
     retire-passes s id node o j runs (assigned by p) t v e h =
-        let z : RequestState I A = request_of o j runs (ready p) in
-        subst (λ (u : State I A). AllPass u) (only_if-some (by == node) (with_request s id z) t h).1 (put-passes s.requests id (request_of o j runs (assigned by p)) z e refl (λ base x. x) v)
+        let z : RequestState P I A = request_of o j runs (ready p) in
+        subst (λ (u : State P I A). AllPass u) (only_if-some (by == node)
+        (with_request s id z) t h).1 (put-passes s.requests id (request_of o j runs
+        (assigned by p)) z e refl (λ base x. x) v)
     retire-passes s id node o j runs _ t v e h = absurd (cc)
 
-    claimed-passes : (s : State I A) (goals : List Goal) (id node : ℕ) (o : Origin) (j : Journal) (runs : List RunId) (r : RunId) (b : Body I A) (go : Record → Journal → Walk I A) (kind : ClaimKind) (t : State I A) → Standing w D one s goals → AllPass s →
-        at s.requests id ≡ Some (request_of o j runs (assigned node (walking (wants r b go)))) → claimed w s id node o j runs r b go kind ≡ Some t → AllPass t
-    claimed-passes s goals id node o j runs r b go Go t k v e h =
-        let q : RequestState I A = request_of o j runs (assigned node (walking (wants r b go))) in
-        let z : RequestState I A = in_body w (assigned node) o runs r go (run_on w.tools r b j nothing_yet) in
+    claimed-passes : (s : State P I A) (goals : List Goal) (id node : ℕ) (o : Origin) (j : Journal)
+        (runs : List RunId) (site : P) (r : RunId) (b : Body I A) (go : Record → Journal →
+        Walk P I A) (kind : ClaimKind) (t : State P I A) → Standing w D one s goals → AllPass s →
+        at s.requests id ≡
+        Some (request_of o j runs (assigned node (walking (wants site r b go)))) →
+        claimed w s id node o j runs r b go kind ≡ Some t → AllPass t
+    claimed-passes s goals id node o j runs site r b go Go t k v e h =
+        let q : RequestState P I A =
+        request_of o j runs (assigned node (walking (wants site r b go))) in
+        let z : RequestState P I A =
+        in_body w (assigned node) o runs r go (run_on w.tools r b j nothing_yet) in
         let x = unless-some (is_begun r s.begun) (record { requests = put s.requests id z; begun = record { run = r; by = id } ∷ s.begun; table = s.table; tools_used = s.tools_used }) t h in
         let fresh = unfinished-fresh w s.table j runs r (k.lawful.each id q e).journal (unbegun-unfinished w s k.lawful r x.0) in
         let g = Paired-some (Stands w D goals) s.requests goals id q k.each e in
-        let not_nested : is_in r o.path ≡ false = wants_new o.path j runs r b go g.0.res g.0.journal fresh g.1.stands in
-        subst (λ (u : State I A). AllPass u) x.1 (put-passes s.requests id q z e refl (λ base p. enters p (none-had j r fresh) not_nested) v)
-    claimed-passes s goals id node o j runs r b go Use t k v e h =
-        let q : RequestState I A = request_of o j runs (assigned node (walking (wants r b go))) in
+        let not_nested : is_in r o.path ≡ false =
+        wants_new o.path j runs site r b go g.0.res g.0.journal fresh g.1.stands in
+        subst (λ (u : State P I A). AllPass u) x.1 (put-passes s.requests id q z e refl
+        (λ base p. enters p (none-had j r fresh) not_nested) v)
+    claimed-passes s goals id node o j runs site r b go Use t k v e h =
+        let q : RequestState P I A =
+        request_of o j runs (assigned node (walking (wants site r b go))) in
         let x = and_then-some (found s.table r) (λ made. and_then (replay s.table r j) (λ next. Some (with_request s id (goes_on w (assigned node) o runs r go made next)))) t h in
         let y = and_then-some (replay s.table r j) (λ next. Some (with_request s id (goes_on w (assigned node) o runs r go x.0 next))) t x.2 in
-        let z : RequestState I A = goes_on w (assigned node) o runs r go x.0 y.0 in
+        let z : RequestState P I A = goes_on w (assigned node) o runs r go x.0 y.0 in
         let g = Paired-some (Stands w D goals) s.requests goals id q k.each e in
-        subst (λ (u : State I A). AllPass u) (some-is (with_request s id z) t y.2) (put-passes s.requests id q z e refl
-        (λ base p. uses_passes s.table k.lawful.once k.known (called_so o base) runs j r b go g.0 x.0 y.0 (k.lawful.each id q e).journal g.1.stands (k.known r x.0 x.1) y.1 p) v)
-    claimed-passes s goals id node o j runs r b go Wait t k v e h =
-        let next : State I A = waiting w s id o j runs r b go in
+        subst (λ (u : State P I A). AllPass u) (some-is (with_request s id z) t y.2)
+        (put-passes s.requests id q z e refl
+        (λ base p. uses_passes s.table k.lawful.once k.known (called_so o base) runs j site site r b
+        go g.0 x.0 y.0 (k.lawful.each id q e).journal g.1.stands (k.known r x.0 x.1) y.1 p) v)
+    claimed-passes s goals id node o j runs site r b go Wait t k v e h =
+        let next : State P I A = waiting w s id o j runs r b go in
         let x = only_if-some (may_wait w (is_begun r s.begun) (found s.table r) (is_in_cycle next r)) next t h in
-        subst (λ (u : State I A). AllPass u) x.1
-        (put-passes s.requests id (request_of o j runs (assigned node (walking (wants r b go)))) (request_of o j runs (waits r b go)) e refl (λ base p. p) v)
+        subst (λ (u : State P I A). AllPass u) x.1
+        (put-passes s.requests id (request_of o j runs
+        (assigned node (walking (wants site r b go)))) (request_of o j runs (waits r b go)) e refl
+        (λ base p. (site, p)) v)
 
-    claim-passes : (s : State I A) (goals : List Goal) (id : ℕ) (run : RunId) (kind : ClaimKind) (o : Origin) (j : Journal) (runs : List RunId) (st : Status I A) (t : State I A) → Standing w D one s goals → AllPass s →
+    claim-passes : (s : State P I A) (goals : List Goal) (id : ℕ) (run : RunId) (kind : ClaimKind)
+        (o : Origin) (j : Journal) (runs : List RunId) (st : Status P I A) (t : State P I A) →
+        Standing w D one s goals → AllPass s →
         at s.requests id ≡ Some (request_of o j runs st) → claim_at w s id run kind o j runs st ≡ Some t → AllPass t
-    claim-passes s goals id run kind o j runs (assigned node (walking (wants r b go))) t k v e h =
+    claim-passes s goals id run kind o j runs (assigned node (walking (wants site r b go))) t k v e
+        h =
         let x = and_then-some (only_if (same_run r run) r) (λ run. claimed w s id node o j runs run b go kind) t h in
         let y : r ≡ x.0 = (only_if-some (same_run r run) r x.0 x.1).1 in
-        claimed-passes s goals id node o j runs r b go kind t k v e (subst (λ n. claimed w s id node o j runs n b go kind ≡ Some t) (sym y) x.2)
+        claimed-passes s goals id node o j runs site r b go kind t k v e
+        (subst (λ n. claimed w s id node o j runs n b go kind ≡ Some t) (sym y) x.2)
     claim-passes s goals id run kind o j runs _ t k v e h = absurd (cc)
 
     -- calls are made
-    request-passes : (s : State I A) (id : ℕ) (keys : List RequestKey) (o : Origin) (j : Journal) (runs : List RunId) (st : Status I A) (t : State I A) → AllPass s → SaysNew t →
+    request-passes : (s : State P I A) (id : ℕ) (keys : List RequestKey) (o : Origin) (j : Journal)
+        (runs : List RunId) (st : Status P I A) (t : State P I A) → AllPass s → SaysNew t →
         at s.requests id ≡ Some (request_of o j runs st) → request_at w s id keys o j runs st ≡ Some t → AllPass t
     request-passes s id keys o j runs (assigned node (within x (asks key more go))) t v new_so e h =
         let y = only_if-some (same_keys (key ∷ more) keys && is_within_limits w s (x.run ∷ o.path) (key ∷ more)) (with_children w s id o j runs (key ∷ more) x go) t h in
-        subst (λ (u : State I A). AllPass u) y.1 (each (subst (λ (u : State I A). SaysNew u) (sym y.1) new_so))
+        subst (λ (u : State P I A). AllPass u) y.1 (each (subst (λ (u : State P I A). SaysNew u)
+        (sym y.1) new_so))
       where
-        caller : RequestState I A
+        caller : RequestState P I A
         caller = request_of o j runs (assigned node (within x (asks key more go)))
 
-        z : RequestState I A
+        z : RequestState P I A
         z = request_of o j runs (calling (key ∷ more) (numbered_from (length s.requests) (key ∷ more)) x go)
 
-        kids : List (RequestState I A)
+        kids : List (RequestState P I A)
         kids = map (new_request w (Some id) (x.run ∷ o.path) j) (key ∷ more)
 
         each : SaysNew (with_children w s id o j runs (key ∷ more) x go) → AllPass (with_children w s id o j runs (key ∷ more) x go)
@@ -213,79 +259,116 @@ module _ {I A : Type 0} (w : World I A) (D : Demanded I → Type 0) (one : (r : 
                 began = says k origin j here (z, at-front (put s.requests id z) kids id z (at-put_same s.requests id caller z e), refl);
                 passes = call c.0 from.passes (at-in (key ∷ more) a.0 c.0 c.1);
               } in
-              subst (λ (u : RequestState I A). PassesFrom k u) c.2 child
+              subst (λ (u : RequestState P I A). PassesFrom k u) c.2 child
         ]
     request-passes s id keys o j runs _ t v new_so e h = absurd (cc)
 
     -- a request that waits goes on with the record
-    woken-passes : (table : Records) → IsOnce table → ((r : RunId) (m : Record) → Recorded table r m → Made D r m) → (run : RunId) (m : Record) → Made D run m → (id : ℕ) (q t : RequestState I A) → LawfulJournal table q.journal q.runs → PassesFrom id q → (st : Status I A) → q.status ≡ st →
-        ((r : RunId) (b : Body I A) (go : Record → Journal → Walk I A) → st ≡ waits r b go → (g : Goal) × OfWalk w D q.origin.path q.journal q.runs (wants r b go) g.res g.journal) → woken_at w table run m q st ≡ Some t → PassesFrom id t
+    woken-passes : (table : Records) → IsOnce table →
+        ((r : RunId) (m : Record) → Recorded table r m → Made D r m) → (run : RunId) (m : Record) →
+        Made D run m → (id : ℕ) (q t : RequestState P I A) → LawfulJournal table q.journal q.runs →
+        PassesFrom id q → (st : Status P I A) → q.status ≡ st →
+        ((r : RunId) (b : Body I A) (go : Record → Journal → Walk P I A) → st ≡ waits r b go →
+        (g : Goal) × (site : P)
+        × OfWalk w D q.origin.path q.journal q.runs (wants site r b go) g.res g.journal) →
+        woken_at w table run m q st ≡ Some t → PassesFrom id t
     woken-passes table once recorded run m p id q t l v (waits r b go) e of h = by_test (same_run r run) refl h
       where
         by_test : (y : Bool) → same_run r run ≡ y → woken_if w y table q m r go ≡ Some t → PassesFrom id t
-        by_test false f h = subst (λ (u : RequestState I A). PassesFrom id u) (some-is q t h) v
+        by_test false f h = subst (λ (u : RequestState P I A). PassesFrom id u) (some-is q t h) v
         by_test true f h =
             let y = and_then-some (replay table r q.journal) (λ next. Some (goes_on w ready q.origin q.runs r go m next)) t h in
-            let z : RequestState I A = goes_on w ready q.origin q.runs r go m y.0 in
+            let z : RequestState P I A = goes_on w ready q.origin q.runs r go m y.0 in
             let g = of r b go refl in
             let mine : Made D r m = subst (λ n. Made D n m) (sym (same_run-true r run f)) p in
-            let there : Passes w (called_so q.origin v.base) q.runs q.journal (walking (wants r b go)) = subst (λ (u : Status I A). PassesAt w (called_so q.origin v.base) q.runs q.journal u) e v.passes in
+            let there : (site : P) × Passes w (called_so q.origin v.base) q.runs q.journal
+            (walking (wants site r b go)) =
+            subst (λ (u : Status P I A). PassesAt w (called_so q.origin v.base) q.runs q.journal u)
+            e v.passes in
             let woke : PassesFrom id z = record {
               base = v.base;
               began = v.began;
-              passes = uses_passes table once recorded (called_so q.origin v.base) q.runs q.journal r b go g.0 m y.0 l g.1 mine y.1 there;
+              passes = uses_passes table once recorded (called_so q.origin v.base) q.runs q.journal
+                  g.1 there.0 r b go g.0 m y.0 l g.2 mine y.1 there.1;
             } in
-            subst (λ (u : RequestState I A). PassesFrom id u) (some-is z t y.2) woke
-    woken-passes table once recorded run m p id q t l v _ e of h = subst (λ (u : RequestState I A). PassesFrom id u) (some-is q t h) v
+            subst (λ (u : RequestState P I A). PassesFrom id u) (some-is z t y.2) woke
+    woken-passes table once recorded run m p id q t l v _ e of h =
+        subst (λ (u : RequestState P I A). PassesFrom id u) (some-is q t h) v
 
     -- a run is finished
-    finished-passes : (s : State I A) (goals : List Goal) (id node : ℕ) (o : Origin) (j : Journal) (runs : List RunId) (x : Within I A) (outcome : Outcome) (t : State I A) (more : List Goal) → Standing w D one s goals → Standing w D one t more → AllPass s →
+    finished-passes : (s : State P I A) (goals : List Goal) (id node : ℕ) (o : Origin) (j : Journal)
+        (runs : List RunId) (x : Within P I A) (outcome : Outcome) (t : State P I A)
+        (more : List Goal) → Standing w D one s goals → Standing w D one t more → AllPass s →
         at s.requests id ≡ Some (request_of o j runs (assigned node (within x (ends outcome)))) → finished w s id node o j runs x (recorded outcome x.so_far.segments) ≡ Some t → AllPass t
     finished-passes s goals id node o j runs x outcome t more k kt v e h =
         let m : Record = recorded outcome x.so_far.segments in
         let f : FinishedRun = record { run = x.run; made = m } in
-        let q : RequestState I A = request_of o j runs (assigned node (within x (ends outcome))) in
-        let z : RequestState I A = goes_on w (assigned node) o runs x.run x.go m (add j (ended x.run m)) in
+        let q : RequestState P I A =
+        request_of o j runs (assigned node (within x (ends outcome))) in
+        let z : RequestState P I A =
+        goes_on w (assigned node) o runs x.run x.go m (add j (ended x.run m)) in
         let n : found s.table x.run ≡ None = (k.lawful.each id q e).status.1.unfinished in
         let u = and_then-some (traverse (woken w (f ∷ s.table) x.run m) (put s.requests id z)) (λ requests. Some (record { requests = requests; begun = s.begun; table = f ∷ s.table; tools_used = record { run = x.run; tools = x.so_far.tools } ∷ s.tools_used })) t h in
-        let last : State I A = record { requests = u.0; begun = s.begun; table = f ∷ s.table; tools_used = record { run = x.run; tools = x.so_far.tools } ∷ s.tools_used } in
+        let last : State P I A = record {
+          requests = u.0;
+          begun = s.begun;
+          table = f ∷ s.table;
+          tools_used = record { run = x.run; tools = x.so_far.tools } ∷ s.tools_used;
+        } in
         let is : last ≡ t = some-is last t u.2 in
-        let recorded_so : (r : RunId) (m : Record) → Recorded (f ∷ s.table) r m → Made D r m = subst (λ (a : State I A). (r : RunId) (m : Record) → Recorded a.table r m → Made D r m) (sym is) kt.known in
+        let recorded_so : (r : RunId) (m : Record) → Recorded (f ∷ s.table) r m → Made D r m =
+        subst (λ (a : State P I A). (r : RunId) (m : Record) → Recorded a.table r m → Made D r m)
+        (sym is) kt.known in
         let mine : Made D x.run m = recorded_so x.run m (found-newest s.table f) in
         let there : EachPasses (put s.requests id z) = put-passes s.requests id q z e refl (λ base p. ends_so p) v in
-        subst (λ (u : State I A). AllPass u) is (λ i y a.
+        subst (λ (u : State P I A). AllPass u) is (λ i y a.
         let g = at-traverse (woken w (f ∷ s.table) x.run m) (put s.requests id z) u.0 u.1 i y a in
         elim (at-put s.requests id z i g.0 g.1) [
           | inl b ↦
-              let same : Some z ≡ Some y = subst (λ (c : RequestState I A). woken w (f ∷ s.table) x.run m c ≡ Some y) (sym b.1) g.2 in
-              subst (λ (c : RequestState I A). PassesFrom i c) (some-is z y same) (subst (λ (c : RequestState I A). PassesFrom i c) (sym b.1) (there i g.0 g.1))
+              let same : Some z ≡ Some y = subst (λ (c : RequestState P I A). woken w
+              (f ∷ s.table) x.run m c ≡ Some y) (sym b.1) g.2 in
+              subst (λ (c : RequestState P I A). PassesFrom i c) (some-is z y same)
+              (subst (λ (c : RequestState P I A). PassesFrom i c) (sym b.1) (there i g.0 g.1))
           | inr b ↦ woken-passes (f ∷ s.table) (n, k.lawful.once) recorded_so x.run m mine i g.0 y (journal-grows s.table f n g.0.journal g.0.runs (k.lawful.each i g.0 b.1).journal) (v i g.0 b.1) g.0.status refl
-              (λ r c go is_so. let w_g = Paired-some (Stands w D goals) s.requests goals i g.0 k.each b.1 in
-              (w_g.0, subst (λ (a : Status I A). StandsAt w D goals g.0.origin.path g.0.journal g.0.runs a w_g.0) is_so w_g.1.stands)) g.2
+              (λ r c go is_so.
+              let w_g = Paired-some (Stands w D goals) s.requests goals i g.0 k.each b.1 in
+              let left : StandsAt w D goals g.0.origin.path g.0.journal g.0.runs (waits r c go)
+              w_g.0 = subst (λ (a : Status P I A). StandsAt w D goals g.0.origin.path g.0.journal
+              g.0.runs a w_g.0) is_so w_g.1.stands in
+              (w_g.0, left.0, left.1)) g.2
         ])
 
-    result-passes : (s : State I A) (goals : List Goal) (id : ℕ) (run : RunId) (o : Origin) (j : Journal) (runs : List RunId) (st : Status I A) (t : State I A) (more : List Goal) → Standing w D one s goals → Standing w D one t more → AllPass s →
+    result-passes : (s : State P I A) (goals : List Goal) (id : ℕ) (run : RunId) (o : Origin)
+        (j : Journal) (runs : List RunId) (st : Status P I A) (t : State P I A) (more : List Goal) →
+        Standing w D one s goals → Standing w D one t more → AllPass s →
         at s.requests id ≡ Some (request_of o j runs st) → result_at w s id run o j runs st ≡ Some t → AllPass t
     result-passes s goals id run o j runs (assigned node (within x (ends outcome))) t more k kt v e h =
         let y = and_then-some (only_if (same_run x.run run) x) (λ x. finished w s id node o j runs x (recorded outcome x.so_far.segments)) t h in
         let p : x ≡ y.0 = (only_if-some (same_run x.run run) x y.0 y.1).1 in
-        finished-passes s goals id node o j runs x outcome t more k kt v e (subst (λ (a : Within I A). finished w s id node o j runs a (recorded outcome a.so_far.segments) ≡ Some t) (sym p) y.2)
+        finished-passes s goals id node o j runs x outcome t more k kt v e
+        (subst (λ (a : Within P I A). finished w s id node o j runs a
+        (recorded outcome a.so_far.segments) ≡ Some t) (sym p) y.2)
     result-passes s goals id run o j runs _ t more k kt v e h = absurd (cc)
 
     -- a request is over, and then its caller may go on
-    answered-passes : (s : State I A) (goals : List Goal) (id : ℕ) (o : Origin) (j : Journal) (runs : List RunId) (keys : List RequestKey) (ids : List ℕ) (x : Within I A) (go : List RequestResult → Journal → Body I A) (t : State I A) → Standing w D one s goals → AllPass s →
+    answered-passes : (s : State P I A) (goals : List Goal) (id : ℕ) (o : Origin) (j : Journal)
+        (runs : List RunId) (keys : List RequestKey) (ids : List ℕ) (x : Within P I A)
+        (go : List RequestResult → Journal → Body I A) (t : State P I A) →
+        Standing w D one s goals → AllPass s →
         at s.requests id ≡ Some (request_of o j runs (calling keys ids x go)) → (replies : Option (List RequestResult)) → results_of w s.requests ids ≡ replies → answered w s id o j runs keys x go replies ≡ Some t → AllPass t
-    answered-passes s goals id o j runs keys ids x go t k v e None g h = subst (λ (u : State I A). AllPass u) (some-is s t h) v
+    answered-passes s goals id o j runs keys ids x go t k v e None g h =
+        subst (λ (u : State P I A). AllPass u) (some-is s t h) v
     answered-passes s goals id o j runs keys ids x go t k v e (Some reply) g h =
-        let q : RequestState I A = request_of o j runs (calling keys ids x go) in
+        let q : RequestState P I A = request_of o j runs (calling keys ids x go) in
         let lq = (k.lawful.each id q e).journal in
         let y = and_then-some (replay_all s.table (runs_of reply) j) (λ next. Some (with_request s id (in_body w ready o runs x.run x.go (run_on w.tools x.run (go reply next) next (with_calls x.so_far keys reply))))) t h in
         let d : Reps (Made D) (map replays_run (runs_of reply)) j y.0 = reps-map (Recorded s.table) (Made D) k.known (replay_all-reps s.table k.lawful.once (runs_of reply) j y.0 y.1) in
         let c = closed-made w D one s.table k.known j runs lq in
-        let z : RequestState I A = in_body w ready o runs x.run x.go (run_on w.tools x.run (go reply y.0) y.0 (with_calls x.so_far keys reply)) in
+        let z : RequestState P I A = in_body w ready o runs x.run x.go (run_on w.tools x.run
+        (go reply y.0) y.0 (with_calls x.so_far keys reply)) in
         let b = Paired-some (Stands w D goals) s.requests goals id q k.each e in
         let same : reply ≡ b.1.stands.0 = results_of-match w D one goals s.requests goals k.each ids b.1.stands.0 reply b.1.stands.2.matched g in
-        subst (λ (u : State I A). AllPass u) (some-is (with_request s id z) t y.2)
+        subst (λ (u : State P I A). AllPass u) (some-is (with_request s id z) t y.2)
         (put-passes s.requests id q z e refl (λ base p. back b.0 same c d b.1.stands.2 p) v)
       where
         back : {base : Journal} {results : List RequestResult} {i next : Journal} (a : Goal) → reply ≡ results → Closed (Made D) one j → Reps (Made D) (map replays_run (runs_of reply)) j next → Calling w D goals o.path j runs keys ids x go a results i →
@@ -301,22 +384,29 @@ module _ {I A : Type 0} (w : World I A) (D : Demanded I → Type 0) (one : (r : 
             subst (λ (ks : List RequestKey). Passes w (called_so o base) runs (after_calls w x ks go reply next).journal (stopped_in x.run x.go (after_calls w x ks go reply next))) (sym keys_so)
             (resumed x go p asked)
 
-    back_at-passes : (s : State I A) (goals : List Goal) (id : ℕ) (q : RequestState I A) (st : Status I A) (t : State I A) → Standing w D one s goals → AllPass s → at s.requests id ≡ Some q → q.status ≡ st → resume_at w s id q st ≡ Some t → AllPass t
+    back_at-passes : (s : State P I A) (goals : List Goal) (id : ℕ) (q : RequestState P I A)
+        (st : Status P I A) (t : State P I A) → Standing w D one s goals → AllPass s →
+        at s.requests id ≡ Some q → q.status ≡ st → resume_at w s id q st ≡ Some t → AllPass t
     back_at-passes s goals id q (calling keys ids x go) t k v e p h =
-        answered-passes s goals id q.origin q.journal q.runs keys ids x go t k v (e ∙ ap (λ (a : Status I A). Some (request_of q.origin q.journal q.runs a)) p) (results_of w s.requests ids) refl h
+        answered-passes s goals id q.origin q.journal q.runs keys ids x go t k v
+        (e ∙ ap (λ (a : Status P I A). Some (request_of q.origin q.journal q.runs a)) p)
+        (results_of w s.requests ids) refl h
     back_at-passes s goals id q _ t k v e p h = absurd (cc)
 
-    back_to-passes : (s : State I A) (goals : List Goal) (parent : Option ℕ) (t : State I A) → Standing w D one s goals → AllPass s → resume_caller w s parent ≡ Some t → AllPass t
-    back_to-passes s goals None t k v h = subst (λ (u : State I A). AllPass u) (some-is s t h) v
+    back_to-passes : (s : State P I A) (goals : List Goal) (parent : Option ℕ) (t : State P I A) →
+        Standing w D one s goals → AllPass s → resume_caller w s parent ≡ Some t → AllPass t
+    back_to-passes s goals None t k v h = subst (λ (u : State P I A). AllPass u) (some-is s t h) v
     back_to-passes s goals (Some id) t k v h =
         let y = and_then-some (at s.requests id) (λ q. resume_at w s id q q.status) t h in
         back_at-passes s goals id y.0 y.0.status t k v y.1 refl y.2
 
-    done-passes : (s : State I A) (goals : List Goal) (id : ℕ) (o : Origin) (j : Journal) (runs : List RunId) (st : Status I A) (t : State I A) → Standing w D one s goals → AllPass s →
+    done-passes : (s : State P I A) (goals : List Goal) (id : ℕ) (o : Origin) (j : Journal)
+        (runs : List RunId) (st : Status P I A) (t : State P I A) → Standing w D one s goals →
+        AllPass s →
         at s.requests id ≡ Some (request_of o j runs st) → done_at w s id o j runs st ≡ Some t → AllPass t
     done-passes s goals id o j runs (assigned node (walking (gives reply))) t k v e h =
-        let q : RequestState I A = request_of o j runs (assigned node (walking (gives reply))) in
-        let z : RequestState I A = request_of o j runs (done (result_of reply runs)) in
+        let q : RequestState P I A = request_of o j runs (assigned node (walking (gives reply))) in
+        let z : RequestState P I A = request_of o j runs (done (result_of reply runs)) in
         let lq = k.lawful.each id q e in
         let zl : Lawful (with_request s id z) = put-lawful s id z k.lawful (record { journal = lq.journal; status = lq.journal.runs_in }) in
         let over : Standing w D one (with_request s id z) goals =
@@ -324,7 +414,10 @@ module _ {I A : Type 0} (w : World I A) (D : Demanded I → Type 0) (one : (r : 
         back_to-passes (with_request s id z) goals o.parent t over (put-passes s.requests id q z e refl (λ base p. (reply, refl, p)) v) h
     done-passes s goals id o j runs _ t k v e h = absurd (cc)
 
-    step_of-passes : (s : State I A) (goals : List Goal) (event : Event) (q : RequestState I A) (t : State I A) (more : List Goal) → Standing w D one s goals → Standing w D one t more → AllPass s → SaysNew t → at s.requests (whose event) ≡ Some q → step_of w s event q ≡ Some t → AllPass t
+    step_of-passes : (s : State P I A) (goals : List Goal) (event : Event) (q : RequestState P I A)
+        (t : State P I A) (more : List Goal) → Standing w D one s goals → Standing w D one t more →
+        AllPass s → SaysNew t → at s.requests (whose event) ≡ Some q →
+        step_of w s event q ≡ Some t → AllPass t
     step_of-passes s goals (Assign id node) q t more k kt v n e h = assign-passes s id node q.origin q.journal q.runs q.status t v e h
     step_of-passes s goals (Claim id run kind) q t more k kt v n e h = claim-passes s goals id run kind q.origin q.journal q.runs q.status t k v e h
     step_of-passes s goals (Request id keys) q t more k kt v n e h = request-passes s id keys q.origin q.journal q.runs q.status t v n e h
@@ -332,8 +425,9 @@ module _ {I A : Type 0} (w : World I A) (D : Demanded I → Type 0) (one : (r : 
     step_of-passes s goals (Done id) q t more k kt v n e h = done-passes s goals id q.origin q.journal q.runs q.status t k v e h
     step_of-passes s goals (Retire id node) q t more k kt v n e h = retire-passes s id node q.origin q.journal q.runs q.status t v e h
 
-module _ {I A : Type 0} (w : World I A) (out : Given I RequestResult) (whole : IsWhole w out) (steady : IsSteady out.demand) where
-  abbrev AllMeant : List Event → State I A → Type 0
+module _ {P I A : Type 0} (w : World P I A) (out : Given P I RequestResult) (whole : IsWhole w out)
+    (steady : IsSteady out.demand) where
+  abbrev AllMeant : List Event → State P I A → Type 0
   AllMeant events s = AllPass w (Contained out) (one_made out steady) (BeganWith w events) s
 
   began-more : (events : List Event) (event : Event) (id : ℕ) (origin : Origin) (base : Journal) → BeganWith w events id origin base → BeganWith w (events ++ event ∷ []) id origin base
@@ -347,24 +441,28 @@ module _ {I A : Type 0} (w : World I A) (out : Given I RequestResult) (whole : I
     given = x.given;
   }
 
-  all-more : (events : List Event) (event : Event) (s : State I A) → AllMeant events s → AllMeant (events ++ event ∷ []) s
+  all-more : (events : List Event) (event : Event) (s : State P I A) → AllMeant events s →
+      AllMeant (events ++ event ∷ []) s
   all-more events event s v id q e =
       let x = v id q e in record { base = x.base; began = began-more events event id q.origin x.base x.began; passes = x.passes }
 
   start-meant : AllMeant [] (start w)
   start-meant zero q h =
-      let z : RequestState I A = new_request w None [] [] w.root in
+      let z : RequestState P I A = new_request w None [] [] w.root in
       let here : PassesFrom w (Contained out) (one_made out steady) (BeganWith w []) 0 z = record {
         base = [];
         began = record { before = []; later = []; state = start w; events_so = refl; history = refl; there = refl; given = refl };
         passes = root;
       } in
-      subst (λ (u : RequestState I A). PassesFrom w (Contained out) (one_made out steady) (BeganWith w []) 0 u) (some-is z q h) here
+      subst (λ (u : RequestState P I A). PassesFrom w (Contained out) (one_made out steady)
+      (BeganWith w []) 0 u) (some-is z q h) here
   start-meant (suc id) q h = absurd (cc)
 
-  all-meant : (past events : List Event) (s t : State I A) → IsHistory w past s → AllMeant past s → after_all w s events ≡ Some t → AllMeant (past ++ events) t
+  all-meant : (past events : List Event) (s t : State P I A) → IsHistory w past s →
+      AllMeant past s → after_all w s events ≡ Some t → AllMeant (past ++ events) t
   all-meant past [] s t hist v h =
-      subst (λ es. AllMeant es t) (sym (append-nil past)) (subst (λ (u : State I A). AllMeant past u) (some-is s t h) v)
+      subst (λ es. AllMeant es t) (sym (append-nil past))
+      (subst (λ (u : State P I A). AllMeant past u) (some-is s t h) v)
   all-meant past (event ∷ events) s t hist v h =
       let y = and_then-some (step w s event) (λ next. after_all w next events) t h in
       let z = and_then-some (at s.requests (whose event)) (step_of w s event) y.0 y.1 in
@@ -376,6 +474,7 @@ module _ {I A : Type 0} (w : World I A) (out : Given I RequestResult) (whole : I
       (λ id origin base there given. record { before = now; later = []; state = y.0; events_so = append-nil now; history = hist2; there = there; given = given }) z.1 z.2 in
       subst (λ es. AllMeant es t) (append_assoc past (event ∷ []) events) (all-meant now events y.0 t hist2 n y.2)
 
-  pub meant : (events : List Event) (s : State I A) → IsHistory w events s → (id : ℕ) (q : RequestState I A) → at s.requests id ≡ Some q →
+  pub meant : (events : List Event) (s : State P I A) → IsHistory w events s →
+      (id : ℕ) (q : RequestState P I A) → at s.requests id ≡ Some q →
       (base : Journal) × BeganWith w events id q.origin base × PassesAt w (record { key = q.origin.key; path = q.origin.path; base = base }) q.runs q.journal q.status
   meant events s h id q e = let x = all-meant [] events (start w) s refl start-meant h id q e in (x.base, x.began, x.passes)

@@ -60,8 +60,9 @@ module _ {I : Type 0} where
   pub new-rest : (uses : List (RunUse I)) (x : ToolsUsed I) (rest : List (ToolUse I)) → x.tools ≡ uses_of x.run uses ++ rest → new_uses uses (Some x) ≡ by_run x.run rest
   new-rest uses x rest e = ap (by_run x.run) (ap (drop (length (uses_of x.run uses))) e ∙ drop-append_seam (uses_of x.run uses) rest)
 
-module _ {I A : Type 0} where
-  inside_body : (st : Status I A) (x : ToolsUsed I) → body_at st ≡ Some x → inside_of st ≡ Some x.run
+module _ {P I A : Type 0} where
+  inside_body : (st : Status P I A) (x : ToolsUsed I) → body_at st ≡ Some x →
+      inside_of st ≡ Some x.run
   inside_body (ready (walking y)) x e = absurd (cc)
   inside_body (ready (within y stop)) x e = ap (λ (o : ToolsUsed I). Some o.run) (some-is (record { run = y.run; tools = y.so_far.tools }) x e)
   inside_body (assigned node (walking y)) x e = absurd (cc)
@@ -71,24 +72,30 @@ module _ {I A : Type 0} where
   inside_body (done result) x e = absurd (cc)
 
   -- the run of a body is that request's alone, and not finished
-  pub body-mine : (s : State I A) → Lawful s → (n : ℕ) (q : RequestState I A) (x : ToolsUsed I) → at s.requests n ≡ Some q → body_at q.status ≡ Some x →
+  pub body-mine : (s : State P I A) → Lawful s →
+      (n : ℕ) (q : RequestState P I A) (x : ToolsUsed I) → at s.requests n ≡ Some q →
+      body_at q.status ≡ Some x →
       (is_begun x.run s.begun ≡ true) × (found s.table x.run ≡ None) × (beginner s.begun x.run ≡ Some n)
   body-mine s l n q x e h =
       let y = inside-open s l n (kin_of q) x.run (kins-at s.requests n q e) (inside_body q.status x h) in
       (y.0.0, y.0.1, y.1)
 
   -- the uses have what each body has used, but where its request has not gone on yet, and what the body of each finished run has used
-  pub record Told (s : State I A) (uses : List (RunUse I)) : Type 0 where
-    pub behind : (n : ℕ) (q : RequestState I A) (x : ToolsUsed I) → at s.requests n ≡ Some q → body_at q.status ≡ Some x → (rest : List (ToolUse I)) × (x.tools ≡ uses_of x.run uses ++ rest)
-    pub caught : (n : ℕ) (q : RequestState I A) (x : ToolsUsed I) → at s.requests n ≡ Some q → body_at q.status ≡ Some x → (IsReady q.status → ⊥) → uses_of x.run uses ≡ x.tools
+  pub record Told (s : State P I A) (uses : List (RunUse I)) : Type 0 where
+    pub behind : (n : ℕ) (q : RequestState P I A) (x : ToolsUsed I) → at s.requests n ≡ Some q →
+        body_at q.status ≡ Some x →
+        (rest : List (ToolUse I)) × (x.tools ≡ uses_of x.run uses ++ rest)
+    pub caught : (n : ℕ) (q : RequestState P I A) (x : ToolsUsed I) → at s.requests n ≡ Some q →
+        body_at q.status ≡ Some x → (IsReady q.status → ⊥) → uses_of x.run uses ≡ x.tools
     pub unbegun : (r : RunId) → is_begun r s.begun ≡ false → uses_of r uses ≡ []
     pub finished : (t : ToolsUsed I) → In t s.tools_used → uses_of t.run uses ≡ t.tools
 
   -- what the event of a request adds
-  abbrev pub added : List (RunUse I) → RequestState I A → List (RunUse I)
+  abbrev pub added : List (RunUse I) → RequestState P I A → List (RunUse I)
   added uses b = uses ++ new_uses uses (body_at b.status)
 
-  module _ (s t : State I A) (event : Event) (uses : List (RunUse I)) (ls : Lawful s) (lt : Lawful t) (m : Moved s t event) (told : Told s uses) where
+  module _ (s t : State P I A) (event : Event) (uses : List (RunUse I)) (ls : Lawful s)
+      (lt : Lawful t) (m : Moved s t event) (told : Told s uses) where
     nothing-new : body_at m.mine.status ≡ None → added uses m.mine ≡ uses
     nothing-new e = ap (λ o. uses ++ new_uses uses o) e ∙ append-nil uses
 
@@ -118,16 +125,22 @@ module _ {I A : Type 0} where
         ∙ (uses_of-append x.run uses (by_run x.run y.0) ∙ (ap (λ xs. uses_of x.run uses ++ xs) (uses_of-own x.run y.0) ∙ sym y.1)))
 
     -- another request is in the body of another run
-    apart : (n : ℕ) (q : RequestState I A) (y : ToolsUsed I) → (n ≡ whose event → ⊥) → at t.requests n ≡ Some q → body_at q.status ≡ Some y → (x : ToolsUsed I) → body_at m.mine.status ≡ Some x → x.run ≡ y.run → ⊥
+    apart : (n : ℕ) (q : RequestState P I A) (y : ToolsUsed I) → (n ≡ whose event → ⊥) →
+        at t.requests n ≡ Some q → body_at q.status ≡ Some y → (x : ToolsUsed I) →
+        body_at m.mine.status ≡ Some x → x.run ≡ y.run → ⊥
     apart n q y d e h x g p =
         let a = (body-mine t lt (whose event) m.mine x m.there g).2 in
         let b = (body-mine t lt n q y e h).2 in
         d (some-is n (whose event) (sym b ∙ (ap (beginner t.begun) (sym p) ∙ a)))
 
-    pub kept-other : (n : ℕ) (q : RequestState I A) (y : ToolsUsed I) → (n ≡ whose event → ⊥) → at t.requests n ≡ Some q → body_at q.status ≡ Some y → uses_of y.run (added uses m.mine) ≡ uses_of y.run uses
+    pub kept-other : (n : ℕ) (q : RequestState P I A) (y : ToolsUsed I) → (n ≡ whose event → ⊥) →
+        at t.requests n ≡ Some q → body_at q.status ≡ Some y →
+        uses_of y.run (added uses m.mine) ≡ uses_of y.run uses
     kept-other n q y d e h = kept y.run (apart n q y d e h)
 
-    behind-other : (n : ℕ) (q : RequestState I A) (x : ToolsUsed I) → (n ≡ whose event → ⊥) → at t.requests n ≡ Some q → body_at q.status ≡ Some x → Other s n q → (rest : List (ToolUse I)) × (x.tools ≡ uses_of x.run uses ++ rest)
+    behind-other : (n : ℕ) (q : RequestState P I A) (x : ToolsUsed I) → (n ≡ whose event → ⊥) →
+        at t.requests n ≡ Some q → body_at q.status ≡ Some x → Other s n q →
+        (rest : List (ToolUse I)) × (x.tools ≡ uses_of x.run uses ++ rest)
     behind-other n q x d e h (inl same) = told.behind n q x same h
     behind-other n q x d e h (inr (inl none)) = none_some (body_at q.status) x h none
     behind-other n q x d e h (inr (inr r)) =
@@ -137,24 +150,34 @@ module _ {I A : Type 0} where
         let run_is : r.before.run ≡ x.run = sym r.same_run ∙ ap (λ (z : ToolsUsed I). z.run) now in
         (r.more, ap (λ (z : ToolsUsed I). z.tools) (sym now) ∙ (r.grown ∙ ap (λ xs. xs ++ r.more) (sym was ∙ ap (λ k. uses_of k uses) run_is)))
 
-    caught-other : (n : ℕ) (q : RequestState I A) (x : ToolsUsed I) → at t.requests n ≡ Some q → body_at q.status ≡ Some x → (IsReady q.status → ⊥) → Other s n q → uses_of x.run uses ≡ x.tools
+    caught-other : (n : ℕ) (q : RequestState P I A) (x : ToolsUsed I) → at t.requests n ≡ Some q →
+        body_at q.status ≡ Some x → (IsReady q.status → ⊥) → Other s n q →
+        uses_of x.run uses ≡ x.tools
     caught-other n q x e h u (inl same) = told.caught n q x same h u
     caught-other n q x e h u (inr (inl none)) = none_some (body_at q.status) x h none
     caught-other n q x e h u (inr (inr r)) = absurd (u (subst IsReady (sym r.is) tt))
 
-    mine-is : (n : ℕ) (q : RequestState I A) → n ≡ whose event → at t.requests n ≡ Some q → m.mine ≡ q
+    mine-is : (n : ℕ) (q : RequestState P I A) → n ≡ whose event → at t.requests n ≡ Some q →
+        m.mine ≡ q
     mine-is n q d e = same_some (at t.requests (whose event)) m.mine q m.there (ap (at t.requests) (sym d) ∙ e)
 
-    own-at : (n : ℕ) (q : RequestState I A) (x : ToolsUsed I) → n ≡ whose event → at t.requests n ≡ Some q → body_at q.status ≡ Some x → uses_of x.run (added uses m.mine) ≡ x.tools
-    own-at n q x d e h = own-told x (ap (λ (z : RequestState I A). body_at z.status) (mine-is n q d e) ∙ h)
+    own-at : (n : ℕ) (q : RequestState P I A) (x : ToolsUsed I) → n ≡ whose event →
+        at t.requests n ≡ Some q → body_at q.status ≡ Some x →
+        uses_of x.run (added uses m.mine) ≡ x.tools
+    own-at n q x d e h =
+        own-told x (ap (λ (z : RequestState P I A). body_at z.status) (mine-is n q d e) ∙ h)
 
-    behind-next : (n : ℕ) (q : RequestState I A) (x : ToolsUsed I) → at t.requests n ≡ Some q → body_at q.status ≡ Some x → (rest : List (ToolUse I)) × (x.tools ≡ uses_of x.run (added uses m.mine) ++ rest)
+    behind-next : (n : ℕ) (q : RequestState P I A) (x : ToolsUsed I) → at t.requests n ≡ Some q →
+        body_at q.status ≡ Some x →
+        (rest : List (ToolUse I)) × (x.tools ≡ uses_of x.run (added uses m.mine) ++ rest)
     behind-next n q x e h = elim (same_or_not n (whose event)) [
       | inl d ↦ ([], sym (own-at n q x d e h) ∙ sym (append-nil (uses_of x.run (added uses m.mine))))
       | inr d ↦ let y = behind-other n q x d e h (m.others n q d e) in (y.0, y.1 ∙ ap (λ xs. xs ++ y.0) (sym (kept-other n q x d e h)))
     ]
 
-    caught-next : (n : ℕ) (q : RequestState I A) (x : ToolsUsed I) → at t.requests n ≡ Some q → body_at q.status ≡ Some x → (IsReady q.status → ⊥) → uses_of x.run (added uses m.mine) ≡ x.tools
+    caught-next : (n : ℕ) (q : RequestState P I A) (x : ToolsUsed I) → at t.requests n ≡ Some q →
+        body_at q.status ≡ Some x → (IsReady q.status → ⊥) →
+        uses_of x.run (added uses m.mine) ≡ x.tools
     caught-next n q x e h u = elim (same_or_not n (whose event)) [
       | inl d ↦ own-at n q x d e h
       | inr d ↦ kept-other n q x d e h ∙ caught-other n q x e h u (m.others n q d e)
@@ -183,7 +206,7 @@ module _ {I A : Type 0} where
       pub told-next : Told t (added uses m.mine)
       told-next = record { behind = behind-next; caught = caught-next; unbegun = unbegun-next; finished = finished-by m.own }
 
-module _ {I A : Type 0} (w : World I A) where
+module _ {P I A : Type 0} (w : World P I A) where
   pub told-start : Told (start w) []
   told-start = record {
     behind = λ n q x e h. none_some (body_at q.status) x h (root-none n q e);
@@ -192,16 +215,20 @@ module _ {I A : Type 0} (w : World I A) where
     finished = λ t i. absurd i;
   }
     where
-      root-none : (n : ℕ) (q : RequestState I A) → at (start w).requests n ≡ Some q → body_at q.status ≡ None
-      root-none zero q e = ap (λ (z : RequestState I A). body_at z.status) (sym (some-is _ q e))
+      root-none : (n : ℕ) (q : RequestState P I A) → at (start w).requests n ≡ Some q →
+          body_at q.status ≡ None
+      root-none zero q e = ap (λ (z : RequestState P I A). body_at z.status) (sym (some-is _ q e))
       root-none (suc n) q e = absurd (cc)
 
   -- one more event
-  pub uses-more : (events : List Event) (event : Event) (uses : List (RunUse I)) (s t u : State I A) → after_all w s events ≡ Some t → step w t event ≡ Some u →
+  pub uses-more : (events : List Event) (event : Event) (uses : List (RunUse I))
+      (s t u : State P I A) → after_all w s events ≡ Some t → step w t event ≡ Some u →
       uses_from w uses s (events ++ event ∷ []) ≡ uses_from w uses s events ++ new_uses (uses_from w uses s events) (body_of (at u.requests (whose event)))
   uses-more [] event uses s t u h g =
       let same : s ≡ t = some-is s t h in
-      ap (λ o. and_on uses o (λ next. uses ++ new_uses uses (body_of (at next.requests (whose event))))) (ap (λ (x : State I A). step w x event) same ∙ g)
+      ap (λ o. and_on uses o (λ next. uses ++ new_uses uses
+      (body_of (at next.requests (whose event))))) (ap (λ (x : State P I A). step w x event) same
+      ∙ g)
   uses-more (first ∷ events) event uses s t u h g =
       let y = and_then-some (step w s first) (λ next. after_all w next events) t h in
       let now : List (RunUse I) = uses ++ new_uses uses (body_of (at y.0.requests (whose first))) in
@@ -209,12 +236,16 @@ module _ {I A : Type 0} (w : World I A) where
       then_so (events ++ event ∷ []) ∙ (uses-more events event now y.0 t u y.2 g
       ∙ sym (ap (λ us. us ++ new_uses us (body_of (at u.requests (whose event)))) (then_so events)))
 
-  pub event-uses : (events : List Event) (event : Event) (s t : State I A) → IsHistory w events s → (h : step w s event ≡ Some t) → uses_in w (events ++ event ∷ []) ≡ added (uses_in w events) (step-moved w s t event h).mine
+  pub event-uses : (events : List Event) (event : Event) (s t : State P I A) →
+      IsHistory w events s → (h : step w s event ≡ Some t) →
+      uses_in w (events ++ event ∷ []) ≡ added (uses_in w events) (step-moved w s t event h).mine
   event-uses events event s t hist h =
       uses-more events event [] (start w) s t hist h ∙ ap (λ o. uses_in w events ++ new_uses (uses_in w events) (body_of o)) (step-moved w s t event h).there
 
-  told-from : (past events : List Event) (s t : State I A) (uses : List (RunUse I)) → IsHistory w past s → Lawful s → Told s uses → after_all w s events ≡ Some t → Told t (uses_from w uses s events)
-  told-from past [] s t uses hist l v h = subst (λ (u : State I A). Told u uses) (some-is s t h) v
+  told-from : (past events : List Event) (s t : State P I A) (uses : List (RunUse I)) →
+      IsHistory w past s → Lawful s → Told s uses → after_all w s events ≡ Some t →
+      Told t (uses_from w uses s events)
+  told-from past [] s t uses hist l v h = subst (λ (u : State P I A). Told u uses) (some-is s t h) v
   told-from past (event ∷ events) s t uses hist l v h =
       let y = and_then-some (step w s event) (λ next. after_all w next events) t h in
       let l2 = step-lawful w s event y.0 l y.1 in
@@ -227,8 +258,11 @@ module _ {I A : Type 0} (w : World I A) where
       subst (λ us. Told t us) (sym (ap (λ o. and_on uses o (λ next. uses_from w (uses ++ new_uses uses (body_of (at next.requests (whose event)))) next events)) y.1))
       (told-from (past ++ event ∷ []) events y.0 t next hist2 l2 (subst (λ us. Told y.0 us) same (told-next s y.0 event uses l l2 m v tooled)) y.2)
 
-  pub history-told : (events : List Event) (s : State I A) → IsHistory w events s → Told s (uses_in w events)
+  pub history-told : (events : List Event) (s : State P I A) → IsHistory w events s →
+      Told s (uses_in w events)
   history-told events s h = told-from [] events (start w) s [] refl (start-lawful w) told-start h
 
-pub runs_use_tools_once : {I A : Type 0} (w : World I A) (events : List Event) (s : State I A) → IsHistory w events s → (t : ToolsUsed I) → In t s.tools_used → uses_of t.run (uses_in w events) ≡ t.tools
+pub runs_use_tools_once : {P I A : Type 0} (w : World P I A) (events : List Event)
+    (s : State P I A) → IsHistory w events s → (t : ToolsUsed I) → In t s.tools_used →
+    uses_of t.run (uses_in w events) ≡ t.tools
 runs_use_tools_once w events s h t i = (history-told w events s h).finished t i

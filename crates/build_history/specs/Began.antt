@@ -7,19 +7,20 @@ use Rattle.build_meaning.specs.World.{World}
 use Rattle.build_meaning.specs.State.{Place, walking, within, Status, ready, assigned, waits, calling, done, Origin, RequestState, State, new_request}
 use Rattle.build_meaning.specs.History.{IsHistory}
 
-module _ {I A : Type 0} where
+module _ {P I A : Type 0} where
   -- the journal with which a request begins: that of its caller, and nothing where it has none
-  abbrev pub GivesJournal : State I A → Option ℕ → Journal → Type 0
+  abbrev pub GivesJournal : State P I A → Option ℕ → Journal → Type 0
   GivesJournal s None base = base ≡ []
-  GivesJournal s (Some id) base = (caller : RequestState I A) × (at s.requests id ≡ Some caller) × (caller.journal ≡ base)
+  GivesJournal s (Some id) base =
+      (caller : RequestState P I A) × (at s.requests id ≡ Some caller) × (caller.journal ≡ base)
 
   -- a place in no body
-  abbrev pub IsWalking : Place I A → Type 0
+  abbrev pub IsWalking : Place P I A → Type 0
   IsWalking (walking walk) = Unit {0}
   IsWalking (within x stop) = ⊥
 
   -- a request in no body: it goes on between runs, waits for a run, or is done
-  abbrev pub IsInNoBody : Status I A → Type 0
+  abbrev pub IsInNoBody : Status P I A → Type 0
   IsInNoBody (ready place) = IsWalking place
   IsInNoBody (assigned node place) = IsWalking place
   IsInNoBody (waits run b go) = Unit {0}
@@ -27,10 +28,11 @@ module _ {I A : Type 0} where
   IsInNoBody (done result) = Unit {0}
 
 -- after the first of the events the request was there as it is made, at its beginning with this journal
-pub record BeganWith {I A : Type 0} (w : World I A) (events : List Event) (id : ℕ) (origin : Origin) (base : Journal) : Type 0 where
+pub record BeganWith {P I A : Type 0} (w : World P I A) (events : List Event) (id : ℕ)
+    (origin : Origin) (base : Journal) : Type 0 where
   pub before : List Event
   pub later : List Event
-  pub state : State I A
+  pub state : State P I A
   pub events_so : before ++ later ≡ events
   pub history : IsHistory w before state
   pub there : at state.requests id ≡ Some (new_request w origin.parent origin.path base origin.key)

@@ -13,21 +13,24 @@ ghost use Rattle.build_history.specs.Began.{IsInNoBody, BeganWith};
 
 /// In every legal history the journal of a root that is done is got from its result and the table alone: the runs of the
 /// result, replayed in order by the table, give it from nothing.
-pub fn root_is_replayed<I, A>()
-    ensures { (w : World I A) (events : List Event) (s : State I A) → IsHistory w events s → (result : RequestResult) (journal : Journal) →
+pub fn root_is_replayed<P, I, A>()
+    ensures { (w : World P I A) (events : List Event) (s : State P I A) → IsHistory w events s →
+        (result : RequestResult) (journal : Journal) →
         EndsWith s result journal → replay_all s.table result.runs [] ≡ Some journal }
 {}
 
 /// In every legal history each request began with the journal that its caller had then, the root with none; and where it is
 /// in no body, its runs, replayed in order by the table, give its journal from that one.
-pub fn requests_are_replayed<I, A>()
-    ensures { (w : World I A) (events : List Event) (s : State I A) → IsHistory w events s → (id : ℕ) (q : RequestState I A) →
+pub fn requests_are_replayed<P, I, A>()
+    ensures { (w : World P I A) (events : List Event) (s : State P I A) → IsHistory w events s →
+        (id : ℕ) (q : RequestState P I A) →
         at s.requests id ≡ Some q → (base : Journal) × BeganWith w events id q.origin base ×
         (IsInNoBody q.status → replay_all s.table q.runs base ≡ Some q.journal) }
 {}
 
 /// In every legal history the result of a request that is done has all runs that the request made or used.
-pub fn results_have_the_runs<I, A>()
-    ensures { (w : World I A) (events : List Event) (s : State I A) → IsHistory w events s → (id : ℕ) (q : RequestState I A) →
+pub fn results_have_the_runs<P, I, A>()
+    ensures { (w : World P I A) (events : List Event) (s : State P I A) → IsHistory w events s →
+        (id : ℕ) (q : RequestState P I A) →
         at s.requests id ≡ Some q → (result : RequestResult) → q.status ≡ done result → result.runs ≡ q.runs }
 {}

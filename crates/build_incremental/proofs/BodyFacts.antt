@@ -43,26 +43,27 @@ use Rattle.result_cache.proofs.JournalEntries.{
   has-merge_right,
   in-add,
 }
-use Rattle.build_meaning.specs.Walk.{Body, Outcome}
+use Rattle.build_meaning.specs.World.{World}
+use Rattle.build_meaning.specs.Walk.{Walk, Body, Outcome}
 use Rattle.build_meaning.specs.SoFar.{ToolUse, SoFar, recorded}
-use Rattle.build_incremental.specs.Alone.{alone, segments_of}
-use Rattle.build_incremental.specs.Placed.{Placed, PlacedWorld}
-use Rattle.build_incremental.specs.SideBySide.{HasNotActed}
-use Rattle.build_incremental.specs.Each.{
-  EachWalk,
-  each_over,
-  each_used,
-  each_made,
-  EachBody,
-  each_ended,
-  each_acted,
-  each_used_tool,
-  each_called,
-  EachCalls,
-  each_no_calls,
-  each_call,
+use Rattle.build_meaning.specs.Derived.{
+  said,
+  OfWalk,
+  over,
+  used,
+  made,
+  OfBody,
+  ended_so,
+  acted_one,
+  used_tool,
+  called_all,
+  OfCalls,
+  no_calls,
+  one_call,
   EachOfMeaning,
 }
+use Rattle.build_incremental.specs.Alone.{alone, segments_of}
+use Rattle.build_incremental.specs.SideBySide.{HasNotActed}
 use Rattle.build_incremental.proofs.Demands.{Tells}
 use Rattle.build_incremental.proofs.Entries.{marked-act}
 use Rattle.build_incremental.proofs.GoAlike.{alone-told}
@@ -174,7 +175,7 @@ abbrev pub HasBody : {P I A : Type 0} → (P → RunId → Journal → Body I A)
     Body I A → Type 0
 HasBody bodies p r j b = b ≡ bodies p r j
 
-module _ {P I A : Type 0} (w : PlacedWorld P I A) (Q : P → RunId → Journal → Record → Type 0)
+module _ {P I A : Type 0} (w : World P I A) (Q : P → RunId → Journal → Record → Type 0)
     (J : Journal → Journal → Journal → Type 0) (K : RequestKey → Type 0)
     (bodies : P → RunId → Journal → Body I A) (last : Journal) where
   pub record Facts (p : P) (r : RunId) (j : Journal) (m : Record) : Type 0 where
@@ -194,14 +195,14 @@ module _ {P I A : Type 0} (w : PlacedWorld P I A) (Q : P → RunId → Journal �
   module _ (have : (key : RequestKey) (j : Journal) →
       Tells (HasBody bodies) (w.walks key j) j) where
     mutual
-      pub walk-facts : {path : List RunId} {j : Journal} {runs : List RunId} {x : Placed P I A}
-          {res : RequestResult} {k : Journal} → EachWalk w Q J K path j runs x res k →
+      pub walk-facts : {path : List RunId} {j : Journal} {runs : List RunId} {x : Walk P I A}
+          {res : RequestResult} {k : Journal} → OfWalk w (said Q J K) path j runs x res k →
           Tells (HasBody bodies) x j → Open path j → ActsRecorded Q j → Stays k →
-          EachWalk w Facts J K path j runs x res k × Open path k × ActsRecorded Q k
-      walk-facts each_over h o t l = (each_over, o, t)
-      walk-facts (each_used {j = j} m e rest) h o t l =
-          let x = walk-facts rest (h.1 m j) o t l in (each_used m e x.0, x.1, x.2)
-      walk-facts (each_made {path = path} {j = j} {i = i} {p = p} {r = r} {b = b} {m = m}
+          OfWalk w (said Facts J K) path j runs x res k × Open path k × ActsRecorded Q k
+      walk-facts over h o t l = (over, o, t)
+      walk-facts (used {j = j} m e rest) h o t l =
+          let x = walk-facts rest (h.1 m j) o t l in (used m e x.0, x.1, x.2)
+      walk-facts (made {path = path} {j = j} {i = i} {p = p} {r = r} {b = b} {m = m}
           out new d q rest) h o t l =
           let next : Journal = add i (ended r m) in
           let after : Stays next = λ s g. l s (walk-has w Q J K rest s g) in
@@ -222,17 +223,17 @@ module _ {P I A : Type 0} (w : PlacedWorld P I A) (Q : P → RunId → Journal �
           } in
           let y = walk-facts rest (h.1 m next) (open-ended path i r m x.1)
           (recorded-ended Q i r m x.2) l in
-          (each_made out new x.0 fact y.0, y.1, y.2)
+          (made out new x.0 fact y.0, y.1, y.2)
 
       pub body-facts : {path : List RunId} {r : RunId} {j : Journal} {so_far : SoFar I}
           {b : Body I A} {m : Record} {tools : List (ToolUse I)} {k : Journal} →
-          EachBody w Q J K path r j so_far b m tools k → In r path → Open path j →
+          OfBody w (said Q J K) path r j so_far b m tools k → In r path → Open path j →
           ActsRecorded Q j →
           ((n : ℕ) (act : Act) → In (acted r n act) (acts_in r m.segments) → Acted Q r n act) →
-          Stays k → EachBody w Facts J K path r j so_far b m tools k × Open path k
+          Stays k → OfBody w (said Facts J K) path r j so_far b m tools k × Open path k
           × ActsRecorded Q k
-      body-facts each_ended mine o t own l = (each_ended, o, t)
-      body-facts (each_acted {path = path} {r = r} {j = j} {so_far = so_far} {act = act} {m = m}
+      body-facts ended_so mine o t own l = (ended_so, o, t)
+      body-facts (acted_one {path = path} {r = r} {j = j} {so_far = so_far} {act = act} {m = m}
           rest) mine o t own l =
           let n : ℕ = length so_far.segments in
           let there : In (acted r n act) (acts_in r m.segments) =
@@ -240,31 +241,31 @@ module _ {P I A : Type 0} (w : PlacedWorld P I A) (Q : P → RunId → Journal �
           (subst (In (acted r n act)) (sym (acts-more r so_far.segments act)) (inl refl)) in
           let x = body-facts rest mine (open-acted path j r n act mine o)
           (recorded-acted Q j r n act (own n act there) t) own l in
-          (each_acted x.0, x.1, x.2)
-      body-facts (each_used_tool rest) mine o t own l =
-          let x = body-facts rest mine o t own l in (each_used_tool x.0, x.1, x.2)
-      body-facts (each_called asked rest) mine o t own l =
+          (acted_one x.0, x.1, x.2)
+      body-facts (used_tool rest) mine o t own l =
+          let x = body-facts rest mine o t own l in (used_tool x.0, x.1, x.2)
+      body-facts (called_all all asked rest) mine o t own l =
           let c = calls-facts asked o t o t (λ s g. l s (body-has w Q J K rest s g)) in
           let x = body-facts rest mine c.1 c.2 own l in
-          (each_called c.0 x.0, x.1, x.2)
+          (called_all tt c.0 x.0, x.1, x.2)
 
       pub calls-facts : {path : List RunId} {j a : Journal} {keys : List RequestKey}
           {results : List RequestResult} {k : Journal} →
-          EachCalls w Q J K path j a keys results k → Open path j → ActsRecorded Q j →
+          OfCalls w (said Q J K) path j a keys results k → Open path j → ActsRecorded Q j →
           Open path a → ActsRecorded Q a → Stays k →
-          EachCalls w Facts J K path j a keys results k × Open path k × ActsRecorded Q k
-      calls-facts each_no_calls o t oa ta l = (each_no_calls, oa, ta)
-      calls-facts (each_call {path = path} {j = j} {a = a} {i = i} {key = key}
+          OfCalls w (said Facts J K) path j a keys results k × Open path k × ActsRecorded Q k
+      calls-facts no_calls o t oa ta l = (no_calls, oa, ta)
+      calls-facts (one_call {path = path} {j = j} {a = a} {i = i} {key = key}
           known less walk so rest) o t oa ta l =
           let joined : Stays (merge a i) = λ s g. l s (calls-has w Q J K rest s g) in
           let x = walk-facts walk (have key j) o t
           (λ s g. joined s (has-merge_right s a i g)) in
           let y = calls-facts rest o t (open-merge path a i oa x.1)
           (recorded-merge Q a i ta x.2) l in
-          (each_call known less x.0 so y.0, y.1, y.2)
+          (one_call known less x.0 so y.0, y.1, y.2)
 
 -- of each body of the meaning, and of the journal that it leaves
-pub meaning-facts : {P I A : Type 0} (w : PlacedWorld P I A)
+pub meaning-facts : {P I A : Type 0} (w : World P I A)
     (Q : P → RunId → Journal → Record → Type 0) (J : Journal → Journal → Journal → Type 0)
     (K : RequestKey → Type 0) (bodies : P → RunId → Journal → Body I A)
     (have : (key : RequestKey) (j : Journal) →
@@ -277,7 +278,7 @@ meaning-facts w Q J K bodies have result last each =
     (record { root = each.root; rest = x.0 }, x.2)
 
 -- what is said of a meaning twice
-pub also : {P I A : Type 0} (w : PlacedWorld P I A) (Q R : P → RunId → Journal → Record → Type 0)
+pub also : {P I A : Type 0} (w : World P I A) (Q R : P → RunId → Journal → Record → Type 0)
     (J H : Journal → Journal → Journal → Type 0) (K G : RequestKey → Type 0)
     (result other : RequestResult) (last end : Journal) → EachOfMeaning w Q J K result last →
     EachOfMeaning w R H G other end →

@@ -36,7 +36,18 @@ use Rattle.result_cache.specs.Lists.{In}
 use Rattle.result_cache.specs.Journal.{Journal, acted, ended, act_of, has, add, merge, record_of}
 use Rattle.result_cache.proofs.JournalEntries.{none-had, had-none, add_new}
 use Rattle.build_meaning.proofs.MeaningDerived.{in-left, in-right}
-use Rattle.build_meaning.specs.Walk.{Body, makes, does, uses, calls, Outcome}
+use Rattle.build_meaning.specs.World.{World}
+use Rattle.build_meaning.specs.Walk.{
+  Walk,
+  gives,
+  wants,
+  Body,
+  makes,
+  does,
+  uses,
+  calls,
+  Outcome,
+}
 use Rattle.build_meaning.specs.SoFar.{
   ToolUse,
   SoFar,
@@ -47,20 +58,20 @@ use Rattle.build_meaning.specs.SoFar.{
   result_of,
   called,
 }
-use Rattle.build_incremental.specs.Placed.{Placed, replies, wants_at, PlacedWorld}
-use Rattle.build_incremental.specs.Each.{
-  EachWalk,
-  each_over,
-  each_used,
-  each_made,
-  EachBody,
-  each_ended,
-  each_acted,
-  each_used_tool,
-  each_called,
-  EachCalls,
-  each_no_calls,
-  each_call,
+use Rattle.build_meaning.specs.Derived.{
+  said,
+  OfWalk,
+  over,
+  used,
+  made,
+  OfBody,
+  ended_so,
+  acted_one,
+  used_tool,
+  called_all,
+  OfCalls,
+  no_calls,
+  one_call,
   EachOfMeaning,
 }
 use Rattle.build_incremental.specs.Joins.{IsOfOneRun, Anyhow}
@@ -110,7 +121,7 @@ use Rattle.build_incremental.proofs.OpenRuns.{
 
 -- ---- a body that calls nothing
 
-module _ {P I A : Type 0} (w : PlacedWorld P I A) (Q : P → RunId → Journal → Record → Type 0)
+module _ {P I A : Type 0} (w : World P I A) (Q : P → RunId → Journal → Record → Type 0)
     (J : Journal → Journal → Journal → Type 0) (K : RequestKey → Type 0) where
   next-journal : (r : RunId) (j0 : Journal) → ((n : ℕ) → has (act_of r n) j0 ≡ false) →
       (acts : List Act) (act : Act) (n : ℕ) → n ≡ length acts →
@@ -136,7 +147,7 @@ module _ {P I A : Type 0} (w : PlacedWorld P I A) (Q : P → RunId → Journal �
       (b : Body I A) (before : List Act) (o : Outcome) (acts : List Act) →
       alone w.tools r b (numbered r before ++ j0) before ≡ Some (o, acts) →
       (so_far : SoFar I) → so_far.segments ≡ segments_of before →
-      (tools : List (ToolUse I)) × EachBody w Q J K path r (numbered r before ++ j0) so_far b
+      (tools : List (ToolUse I)) × OfBody w (said Q J K) path r (numbered r before ++ j0) so_far b
       (recorded o (segments_of acts)) tools (numbered r acts ++ j0)
   alone-made path r j0 free (makes outcome) before o acts h so_far e =
       let one : Outcome × List Act = (outcome, before) in
@@ -145,12 +156,14 @@ module _ {P I A : Type 0} (w : PlacedWorld P I A) (Q : P → RunId → Journal �
       let po : outcome ≡ o = ap (λ z. z.0) both in
       let pp : before ≡ acts = ap (λ z. z.1) both in (
         so_far.tools,
-        subst (λ z. EachBody w Q J K path r (numbered r before ++ j0) so_far
+        subst (λ z. OfBody w (said Q J K) path r (numbered r before ++ j0) so_far
             (makes outcome) (recorded o (segments_of z)) so_far.tools (numbered r z ++ j0)) pp
-            (subst (λ z. EachBody w Q J K path r (numbered r before ++ j0) so_far (makes outcome)
-            (recorded z (segments_of before)) so_far.tools (numbered r before ++ j0)) po
-            (subst (λ z. EachBody w Q J K path r (numbered r before ++ j0) so_far (makes outcome)
-            (recorded outcome z) so_far.tools (numbered r before ++ j0)) e each_ended)),
+            (subst (λ z. OfBody w (said Q J K) path r (numbered r before ++ j0) so_far
+            (makes outcome) (recorded z (segments_of before)) so_far.tools
+            (numbered r before ++ j0)) po
+            (subst (λ z. OfBody w (said Q J K) path r (numbered r before ++ j0) so_far
+            (makes outcome) (recorded outcome z) so_far.tools (numbered r before ++ j0)) e
+            ended_so)),
       )
   alone-made path r j0 free (does act go) before o acts h so_far e =
       let j : Journal = numbered r before ++ j0 in
@@ -165,22 +178,22 @@ module _ {P I A : Type 0} (w : PlacedWorld P I A) (Q : P → RunId → Journal �
         acts,
       )) next h) (with_act so_far act) (ap (λ s. s ++ File act ∷ []) e) in (
         x.0,
-        each_acted (subst (λ z. EachBody w Q J K path r z (with_act so_far act) (go z)
+        acted_one (subst (λ z. OfBody w (said Q J K) path r z (with_act so_far act) (go z)
             (recorded o (segments_of acts)) x.0 (numbered r acts ++ j0)) (sym next') x.1),
       )
   alone-made path r j0 free (uses name input go) before o acts h so_far e =
       let x = alone-made path r j0 free (go (w.tools name input)) before o acts h
-      (with_tool so_far name input) e in (x.0, each_used_tool x.1)
+      (with_tool so_far name input) e in (x.0, used_tool x.1)
   alone-made path r j0 free (calls key keys go) before o acts h so_far e = absurd (cc)
 
   -- what is made of it
   pub alone-told : {path : List RunId} {r : RunId} {j i : Journal} {so_far : SoFar I} {b : Body I A}
-      {m : Record} {tools : List (ToolUse I)} → EachBody w Q J K path r j so_far b m tools i →
+      {m : Record} {tools : List (ToolUse I)} → OfBody w (said Q J K) path r j so_far b m tools i →
       (j0 : Journal) → ((n : ℕ) → has (act_of r n) j0 ≡ false) → (before : List Act) →
       j ≡ numbered r before ++ j0 → (o : Outcome) (acts : List Act) →
       alone w.tools r b j before ≡ Some (o, acts) → so_far.segments ≡ segments_of before →
       (m ≡ recorded o (segments_of acts)) × (i ≡ numbered r acts ++ j0)
-  alone-told (each_ended {r = r} {so_far = so_far} {outcome =
+  alone-told (ended_so {r = r} {so_far = so_far} {outcome =
       outcome}) j0 free before at o acts h e =
       let one : Outcome × List Act = (outcome, before) in
       let other : Outcome × List Act = (o, acts) in
@@ -191,7 +204,7 @@ module _ {P I A : Type 0} (w : PlacedWorld P I A) (Q : P → RunId → Journal �
             ∙ ap (λ z. recorded o (segments_of z)) pp),
         at ∙ ap (λ z. numbered r z ++ j0) pp,
       )
-  alone-told (each_acted {r = r} {j = j} {so_far = so_far} {act = act} {go =
+  alone-told (acted_one {r = r} {j = j} {so_far = so_far} {act = act} {go =
       go} rest) j0 free before at o acts h e =
       let long : length so_far.segments ≡ length before = ap length e ∙ segments-length before in
       let next : add j (acted r (length so_far.segments) act) ≡ numbered r (act ∷ before) ++ j0 =
@@ -200,26 +213,26 @@ module _ {P I A : Type 0} (w : PlacedWorld P I A) (Q : P → RunId → Journal �
       alone-told rest j0 free (act ∷ before) next o acts
       (subst (λ n. alone w.tools r (go (add j (acted r n act))) (add j (acted r n act))
       (act ∷ before) ≡ Some (o, acts)) (sym long) h) (ap (λ s. s ++ File act ∷ []) e)
-  alone-told (each_used_tool rest) j0 free before at o acts h e =
+  alone-told (used_tool rest) j0 free before at o acts h e =
       alone-told rest j0 free before at o acts h e
-  alone-told (each_called asked rest) j0 free before at o acts h e = absurd (cc)
+  alone-told (called_all t asked rest) j0 free before at o acts h e = absurd (cc)
 
   -- a record has what was done so far
   pub has-so-far : {path : List RunId} {r : RunId} {j i : Journal} {so_far : SoFar I} {b : Body I A}
-      {m : Record} {tools : List (ToolUse I)} → EachBody w Q J K path r j so_far b m tools i →
+      {m : Record} {tools : List (ToolUse I)} → OfBody w (said Q J K) path r j so_far b m tools i →
       (s : Segment) → In s so_far.segments → In s m.segments
-  has-so-far each_ended s u = u
-  has-so-far (each_acted {so_far = so_far} {act = act} rest) s u =
+  has-so-far ended_so s u = u
+  has-so-far (acted_one {so_far = so_far} {act = act} rest) s u =
       has-so-far rest s (in-left s so_far.segments (File act ∷ []) u)
-  has-so-far (each_used_tool rest) s u = has-so-far rest s u
-  has-so-far (each_called {so_far = so_far} {key = key} {keys = keys} {results =
-      results} asked rest) s u = has-so-far rest s
+  has-so-far (used_tool rest) s u = has-so-far rest s u
+  has-so-far (called_all {so_far = so_far} {key = key} {keys = keys} {results =
+      results} t asked rest) s u = has-so-far rest s
       (in-left s so_far.segments (called (key ∷ keys) results) u)
 
 -- ---- side by side
 
 module _ {P I A : Type 0} (files : List ℕ → Option (List ℕ)) (W : List ℕ → Type 0)
-    (w c : PlacedWorld P I A) (Q' Q : P → RunId → Journal → Record → Type 0) (K : RequestKey →
+    (w c : World P I A) (Q' Q : P → RunId → Journal → Record → Type 0) (K : RequestKey →
     Type 0) (one : HasOneRecord Q) (side : SideBySide files W Q' Q w c) where
   -- the second world makes the run with this record
   abbrev pub MadeSo : RunId → Record → Type 0
@@ -234,31 +247,31 @@ module _ {P I A : Type 0} (files : List ℕ → Option (List ℕ)) (W : List ℕ
   abbrev Alike : Journal → Journal → Type 0
   Alike j k = AlikeJournals files W j k
 
-  abbrev pub WalkGoes : List RunId → Journal → Journal → List RunId → Placed P I A → RequestResult →
+  abbrev pub WalkGoes : List RunId → Journal → Journal → List RunId → Walk P I A → RequestResult →
       Journal → Type 0
-  WalkGoes path j k runs x res l = (i : Journal) × EachWalk w Q' Anyhow K path j runs x res i
+  WalkGoes path j k runs x res l = (i : Journal) × OfWalk w (said Q' Anyhow K) path j runs x res i
       × Moved path j k i l
 
   abbrev CallsGo : List RunId → Journal → Journal → Journal → List RequestKey → List RequestResult →
       Journal → Type 0
   CallsGo path j k a keys results l = (i : Journal)
-      × EachCalls w Q' Anyhow K path j a keys results i × Moved path j k i l
+      × OfCalls w (said Q' Anyhow K) path j a keys results i × Moved path j k i l
 
   -- the first one's body, up to the run's end
   abbrev RunGoes : P → List RunId → RunId → Journal → Journal → Body I A → Record → Journal → Type 0
   RunGoes p path r j k b m l =
       (first : Record) × (tools : List (ToolUse I)) × (i : Journal)
-      × EachBody w Q' Anyhow K (r ∷ path) r j nothing_yet b first tools i × Q' p r j first
+      × OfBody w (said Q' Anyhow K) (r ∷ path) r j nothing_yet b first tools i × Q' p r j first
       × AlikeRecords first m × Moved path j k (add i (ended r first)) (add l (ended r m))
 
   abbrev StepsGo : RunId → List RunId → Journal → Journal → Journal → SoFar I → Body I A → Record →
       List (ToolUse I) → Journal → Type 0
   StepsGo r path j k i so_far b m tools l =
-      (last : Journal) × EachBody w Q' Anyhow K (r ∷ path) r i so_far b m tools last
+      (last : Journal) × OfBody w (said Q' Anyhow K) (r ∷ path) r i so_far b m tools last
       × Midway files W MadeSo r path m.segments j k last l
 
   part-goes : (p : P) (path : List RunId) (r : RunId) (j k : Journal) (b y : Body I A) (m : Record)
-      (tools : List (ToolUse I)) (l : Journal) → EachBody c Q IsOfOneRun K (r
+      (tools : List (ToolUse I)) (l : Journal) → OfBody c (said Q IsOfOneRun K) (r
       ∷ path) r k nothing_yet y m tools l →
       IsFree files W MadeSo r path j → IsFree files W MadeSo r path k → ¬ In r path → MadeSo r m →
       Alike j k → (o q : Outcome) (acts wholes : List Act) →
@@ -266,8 +279,8 @@ module _ {P I A : Type 0} (files : List ℕ → Option (List ℕ)) (W : List ℕ
       AlikeOutcomes o q → LacksOnly files j acts wholes →
       ((act : Act) → In act acts → W (act_path act)) →
       Q' p r j (recorded o (segments_of acts)) → RunGoes p path r j k b m l
-  part-goes p path r j k b y m tools l d fw fc out made base o q acts wholes hw hc alike lacks may
-      said =
+  part-goes p path r j k b y m tools l d fw fc out is-made base o q acts wholes hw hc alike lacks
+      may so =
       let u = alone-made w Q' Anyhow K (r ∷ path) r j fw.acts b [] o acts
       (subst (λ t. alone t r b j [] ≡ Some (o, acts)) (sym side.tools) hw) nothing_yet refl in
       let v = alone-told c Q IsOfOneRun K d k fc.acts [] refl q wholes hc refl in
@@ -284,17 +297,17 @@ module _ {P I A : Type 0} (files : List ℕ → Option (List ℕ)) (W : List ℕ
         u.0,
         numbered r acts ++ j,
         u.1,
-        said,
+        so,
         recs,
         subst (λ z. Moved path j k
             (add (numbered r acts ++ j) (ended r (recorded o (segments_of acts))))
             (add z (ended r m))) (sym v.1)
             (went-in-part files W MadeSo r path (recorded o (segments_of acts)) m acts wholes j k
-            seg fw fc out made recs base lacks may),
+            seg fw fc out is-made recs base lacks may),
       )
 
   run-goes : (p : P) {path : List RunId} {r : RunId} {k : Journal} {y : Body I A} {m : Record}
-      {tools : List (ToolUse I)} {l : Journal} → EachBody c Q IsOfOneRun K (r
+      {tools : List (ToolUse I)} {l : Journal} → OfBody c (said Q IsOfOneRun K) (r
       ∷ path) r k nothing_yet y m tools l →
       (b : Body I A) (j : Journal) → IsFree files W MadeSo r path j →
       IsFree files W MadeSo r path k → ¬ In r path → MadeSo r m → Alike j k →
@@ -302,12 +315,12 @@ module _ {P I A : Type 0} (files : List ℕ → Option (List ℕ)) (W : List ℕ
       ((act : Act) → In (File act) m.segments → W (act_path act)) →
       StepsGo r path j k j nothing_yet b m tools l) →
       AlikeRuns files W c.tools r j k b y m (Q' p r j) → RunGoes p path r j k b m l
-  run-goes p {path} {r} {k} {y} {m} {tools} {l} d b j fw fc out made a steps
-      (in_part o q acts wholes hw hc alike lacks may said) =
-      part-goes p path r j k b y m tools l d fw fc out made a o q acts wholes hw hc alike lacks may
-      said
-  run-goes p {path} {r} {k} {y} {m} {tools} {l} d b j fw fc out made a steps
-      (step_by_step alike may said) =
+  run-goes p {path} {r} {k} {y} {m} {tools} {l} d b j fw fc out is-made a steps
+      (in_part o q acts wholes hw hc alike lacks may so) =
+      part-goes p path r j k b y m tools l d fw fc out is-made a o q acts wholes hw hc alike lacks
+      may so
+  run-goes p {path} {r} {k} {y} {m} {tools} {l} d b j fw fc out is-made a steps
+      (step_by_step alike may so) =
       let start : Midway files W MadeSo r path [] j k j k = record {
         N = [];
         L = [];
@@ -337,10 +350,10 @@ module _ {P I A : Type 0} (files : List ℕ → Option (List ℕ)) (W : List ℕ
         tools,
         x.0,
         x.1,
-        said,
+        so,
         recs,
         went-closed files W MadeSo r path m m mid.pair mid.w_is mid.c_is mid.new_w mid.new_c fw fc
-            mid.outside out mid.mine_c (kept_whole mid.mine_w) made recs a mid.alike,
+            mid.outside out mid.mine_c (kept_whole mid.mine_w) is-made recs a mid.alike,
       )
 
   midway-known : (r : RunId) (path : List RunId) (segments : List Segment) (i j N : Journal) →
@@ -351,32 +364,32 @@ module _ {P I A : Type 0} (files : List ℕ → Option (List ℕ)) (W : List ℕ
       (λ s. r ≡ s) N j (λ s p. inl p) by (known-deeper r path j f.known))
 
   mutual
-    pub walk-goes : {path : List RunId} {k : Journal} {runs : List RunId} {y : Placed P I A}
-        {res : RequestResult} {l : Journal} → EachWalk c Q IsOfOneRun K path k runs y res l →
-        (x : Placed P I A) (j : Journal) → AlikeWalks files W Q' Q c.tools x y j k → Known path j →
+    pub walk-goes : {path : List RunId} {k : Journal} {runs : List RunId} {y : Walk P I A}
+        {res : RequestResult} {l : Journal} → OfWalk c (said Q IsOfOneRun K) path k runs y res l →
+        (x : Walk P I A) (j : Journal) → AlikeWalks files W Q' Q c.tools x y j k → Known path j →
         Known path k → Alike j k → WalkGoes path j k runs x res l
-    walk-goes (each_over {path = path} {j = k} {runs = runs} {reply = reply})
-        (replies other) j h kw kc a = (
+    walk-goes (over {path = path} {j = k} {runs = runs} {reply = reply})
+        (gives other) j h kw kc a = (
           j,
-          subst (λ z. EachWalk w Q' Anyhow K path j runs (replies other)
-              (result_of z runs) j) h each_over,
+          subst (λ z. OfWalk w (said Q' Anyhow K) path j runs (gives other)
+              (result_of z runs) j) h over,
           stays files W MadeSo path j k a,
         )
-    walk-goes each_over (wants_at p r b go) j h kw kc a = absurd h
-    walk-goes (each_used m e rest) (replies other) j h kw kc a = absurd h
-    walk-goes (each_used {path = path} {j = k} {k = l} {runs = runs} {res = res} {p = q} {r = s}
-        {b = y} {go = to} m e rest) (wants_at p r b go) j h kw kc a =
+    walk-goes over (wants p r b go) j h kw kc a = absurd h
+    walk-goes (used m e rest) (gives other) j h kw kc a = absurd h
+    walk-goes (used {path = path} {j = k} {k = l} {runs = runs} {res = res} {p = q} {r = s}
+        {b = y} {go = to} m e rest) (wants p r b go) j h kw kc a =
         let f = found-first (record_of j s) (record_of k s) (a.records s) m e in
         let x = walk-goes rest (go f.0 j) j (h.2 f.0 m j k f.2 a) kw kc a in (
           x.0,
-          subst (λ z. EachWalk w Q' Anyhow K path j runs (wants_at p z b go) res x.0) (sym h.0)
-              (each_used f.0 f.1 x.1),
+          subst (λ z. OfWalk w (said Q' Anyhow K) path j runs (wants p z b go) res x.0) (sym h.0)
+              (used f.0 f.1 x.1),
           x.2,
         )
-    walk-goes (each_made n f d q rest) (replies other) j h kw kc a = absurd h
-    walk-goes (each_made {path = path} {j = k} {i = i} {k = l} {runs = runs} {res = res} {p = q0}
+    walk-goes (made n f d q rest) (gives other) j h kw kc a = absurd h
+    walk-goes (made {path = path} {j = k} {i = i} {k = l} {runs = runs} {res = res} {p = q0}
         {r = s} {b = y} {go = to} {m = m} {tools = tools} out new d q rest)
-        (wants_at p r b go) j h kw kc a =
+        (wants p r b go) j h kw kc a =
         let none-c : record_of k s ≡ None = none-had k s new in
         let none-w : record_of j s ≡ None = found-none (record_of j s) (record_of k s)
         (a.records s) none-c in
@@ -403,31 +416,31 @@ module _ {P I A : Type 0} (files : List ℕ → Option (List ℕ)) (W : List ℕ
         (h.2 u.0 m (add u.2 (ended s u.0)) (add i (ended s m)) u.5 moved.alike)
         (known-w files W MadeSo moved kw) (known-c files W MadeSo moved kc) moved.alike in (
           x.0,
-          subst (λ z. EachWalk w Q' Anyhow K path j runs (wants_at p z b go) res x.0) (sym h.0)
-              (each_made out (had-none j s none-w) u.3 u.4 x.1),
+          subst (λ z. OfWalk w (said Q' Anyhow K) path j runs (wants p z b go) res x.0) (sym h.0)
+              (made out (had-none j s none-w) u.3 u.4 x.1),
           then-went files W MadeSo moved x.2,
         )
 
     steps-go : {path : List RunId} {r : RunId} {l : Journal} {so_far : SoFar I} {y : Body I A}
         {m : Record} {tools : List (ToolUse I)} {end : Journal} →
-        EachBody c Q IsOfOneRun K (r ∷ path) r l so_far y m tools end →
+        OfBody c (said Q IsOfOneRun K) (r ∷ path) r l so_far y m tools end →
         (b : Body I A) (i j k : Journal) → IsFree files W MadeSo r path j →
         IsFree files W MadeSo r path k → Alike j k → AlikeBodies files W b y →
         Midway files W MadeSo r path so_far.segments j k i l →
         ((act : Act) → In (File act) m.segments → W (act_path act)) →
         StepsGo r path j k i so_far b m tools end
-    steps-go {path} {r} (each_ended {so_far = so_far} {outcome = outcome})
+    steps-go {path} {r} (ended_so {so_far = so_far} {outcome = outcome})
         (makes o) i j k fw fc a alike mid may = (
           i,
-          subst (λ z. EachBody w Q' Anyhow K (r ∷ path) r i so_far (makes o)
-              (recorded z so_far.segments) so_far.tools i) alike each_ended,
+          subst (λ z. OfBody w (said Q' Anyhow K) (r ∷ path) r i so_far (makes o)
+              (recorded z so_far.segments) so_far.tools i) alike ended_so,
           mid,
         )
-    steps-go each_ended (does act go) i j k fw fc a alike mid may = absurd alike
-    steps-go each_ended (uses name input go) i j k fw fc a alike mid may = absurd alike
-    steps-go each_ended (calls key keys go) i j k fw fc a alike mid may = absurd alike
+    steps-go ended_so (does act go) i j k fw fc a alike mid may = absurd alike
+    steps-go ended_so (uses name input go) i j k fw fc a alike mid may = absurd alike
+    steps-go ended_so (calls key keys go) i j k fw fc a alike mid may = absurd alike
     steps-go {path} {r} {l} {m = m} {tools = tools}
-        (each_acted {so_far = so_far} {act = act} {go = to} rest)
+        (acted_one {so_far = so_far} {act = act} {go = to} rest)
         (does act' go) i j k fw fc a alike mid may =
         let wi : add i (acted r (length so_far.segments) act) ≡ acted r (length so_far.segments) act
         ∷ i = acted-w files W MadeSo r path so_far.segments fw fc a mid act in
@@ -450,36 +463,36 @@ module _ {P I A : Type 0} (files : List ℕ → Option (List ℕ)) (W : List ℕ
         (alike.1 (add i (acted r (length so_far.segments) act))
         (add l (acted r (length so_far.segments) act)) mid'.alike) mid' may in (
           x.0,
-          subst (λ z. EachBody w Q' Anyhow K (r ∷ path) r i so_far (does z go) m tools x.0)
-              (sym alike.0) (each_acted x.1),
+          subst (λ z. OfBody w (said Q' Anyhow K) (r ∷ path) r i so_far (does z go) m tools x.0)
+              (sym alike.0) (acted_one x.1),
           x.2,
         )
-    steps-go (each_acted rest) (makes o) i j k fw fc a alike mid may = absurd alike
-    steps-go (each_acted rest) (uses name input go) i j k fw fc a alike mid may = absurd alike
-    steps-go (each_acted rest) (calls key keys go) i j k fw fc a alike mid may = absurd alike
+    steps-go (acted_one rest) (makes o) i j k fw fc a alike mid may = absurd alike
+    steps-go (acted_one rest) (uses name input go) i j k fw fc a alike mid may = absurd alike
+    steps-go (acted_one rest) (calls key keys go) i j k fw fc a alike mid may = absurd alike
     steps-go {path} {r} {l} {m = m} {tools = tools}
-        (each_used_tool {so_far = so_far} {name = name} {input = input} {go = to} rest)
+        (used_tool {so_far = so_far} {name = name} {input = input} {go = to} rest)
         (uses name' input' go) i j k fw fc a alike mid may =
         let x = steps-go rest (go (c.tools name input)) i j k fw fc a
         (alike.2 (c.tools name input)) mid may in
         let same : w.tools name input ≡ c.tools name input = ap (λ t. t name input) side.tools in
-        let step : EachBody w Q' Anyhow K (r ∷ path) r i so_far (uses name input go) m tools x.0 =
-        each_used_tool (subst (λ z. EachBody w Q' Anyhow K (r ∷ path) r i
+        let step : OfBody w (said Q' Anyhow K) (r ∷ path) r i so_far (uses name input go) m tools
+        x.0 = used_tool (subst (λ z. OfBody w (said Q' Anyhow K) (r ∷ path) r i
         (with_tool so_far name input) (go z) m tools x.0) (sym same) x.1) in (
           x.0,
-          subst (λ z. EachBody w Q' Anyhow K (r ∷ path) r i so_far
+          subst (λ z. OfBody w (said Q' Anyhow K) (r ∷ path) r i so_far
               (uses z input' go) m tools x.0) (sym alike.0)
-              (subst (λ z. EachBody w Q' Anyhow K (r ∷ path) r i so_far (uses name z go) m tools
-              x.0)
+              (subst (λ z. OfBody w (said Q' Anyhow K) (r ∷ path) r i so_far (uses name z go) m
+              tools x.0)
               (sym alike.1) step),
           x.2,
         )
-    steps-go (each_used_tool rest) (makes o) i j k fw fc a alike mid may = absurd alike
-    steps-go (each_used_tool rest) (does act go) i j k fw fc a alike mid may = absurd alike
-    steps-go (each_used_tool rest) (calls key keys go) i j k fw fc a alike mid may = absurd alike
+    steps-go (used_tool rest) (makes o) i j k fw fc a alike mid may = absurd alike
+    steps-go (used_tool rest) (does act go) i j k fw fc a alike mid may = absurd alike
+    steps-go (used_tool rest) (calls key keys go) i j k fw fc a alike mid may = absurd alike
     steps-go {path} {r} {l} {m = m} {tools = tools}
-        (each_called {i = after} {so_far = so_far} {key = key} {keys = keys} {go = to} {results =
-        results} asked rest) (calls key' keys' go) i j k fw fc a alike mid may =
+        (called_all {i = after} {so_far = so_far} {key = key} {keys = keys} {go = to} {results =
+        results} t asked rest) (calls key' keys' go) i j k fw fc a alike mid may =
         let kw : Known (r ∷ path) i = midway-known r path so_far.segments i j mid.N mid.w_is
         mid.pair.by_w fw in
         let kc : Known (r ∷ path) l = midway-known r path so_far.segments l k mid.L mid.c_is
@@ -494,31 +507,31 @@ module _ {P I A : Type 0} (files : List ℕ → Option (List ℕ)) (W : List ℕ
         let y' = steps-go rest (go results x.0) x.0 j k fw fc a
         (alike.2 results x.0 after mid'.alike) mid' may in (
           y'.0,
-          subst (λ z. EachBody w Q' Anyhow K (r ∷ path) r i so_far
+          subst (λ z. OfBody w (said Q' Anyhow K) (r ∷ path) r i so_far
               (calls z keys' go) m tools y'.0) (sym alike.0)
-              (subst (λ z. EachBody w Q' Anyhow K (r ∷ path) r i so_far (calls key z go) m tools
-              y'.0)
-              (sym alike.1) (each_called x.1 y'.1)),
+              (subst (λ z. OfBody w (said Q' Anyhow K) (r ∷ path) r i so_far (calls key z go) m
+              tools y'.0)
+              (sym alike.1) (called_all tt x.1 y'.1)),
           y'.2,
         )
-    steps-go (each_called asked rest) (makes o) i j k fw fc a alike mid may = absurd alike
-    steps-go (each_called asked rest) (does act go) i j k fw fc a alike mid may = absurd alike
-    steps-go (each_called asked rest) (uses name input go) i j k fw fc a alike mid may =
+    steps-go (called_all t asked rest) (makes o) i j k fw fc a alike mid may = absurd alike
+    steps-go (called_all t asked rest) (does act go) i j k fw fc a alike mid may = absurd alike
+    steps-go (called_all t asked rest) (uses name input go) i j k fw fc a alike mid may =
         absurd alike
 
     calls-go : {path : List RunId} {k a : Journal} {keys : List RequestKey}
         {results : List RequestResult} {l : Journal} →
-        EachCalls c Q IsOfOneRun K path k a keys results l → (j i : Journal) → Known path j →
+        OfCalls c (said Q IsOfOneRun K) path k a keys results l → (j i : Journal) → Known path j →
         Known path k → Alike j k →
         Moved path j k i a → CallsGo path j k i keys results l
-    calls-go (each_no_calls {path = path} {j = k} {a = a}) j i kw kc base moved =
-        (i, each_no_calls, moved)
-    calls-go (each_call {path = path} {j = k} {a = a} {i = l} {k = end} {key = key} {keys = keys}
+    calls-go (no_calls {path = path} {j = k} {a = a}) j i kw kc base moved =
+        (i, no_calls, moved)
+    calls-go (one_call {path = path} {j = k} {a = a} {i = l} {k = end} {key = key} {keys = keys}
         {res = res} {results = results} known less walk of_one rest) j i kw kc base moved =
         let x = walk-goes walk (w.walks key j) j (side.walks key j k base) kw kc base in
         let y = calls-go rest j (merge i x.0) kw kc base
         (join-went files W MadeSo moved made-one base x.2 of_one) in
-        (y.0, each_call known less x.1 tt y.1, y.2)
+        (y.0, one_call known less x.1 tt y.1, y.2)
 
   pub meanings-go : (result : RequestResult) (last : Journal) →
       EachOfMeaning c Q IsOfOneRun K result last →

@@ -22,22 +22,23 @@ use Rattle.result_cache.specs.Journal.{
 }
 use Rattle.result_cache.proofs.JournalEntries.{Has, has-add, has-added, has-merge_left}
 use Rattle.build_meaning.proofs.MeaningDerived.{in-right}
-use Rattle.build_meaning.specs.Walk.{Body}
+use Rattle.build_meaning.specs.World.{World}
+use Rattle.build_meaning.specs.Walk.{Walk, Body}
 use Rattle.build_meaning.specs.SoFar.{ToolUse, SoFar, with_calls, called}
-use Rattle.build_incremental.specs.Placed.{Placed, PlacedWorld}
-use Rattle.build_incremental.specs.Each.{
-  EachWalk,
-  each_over,
-  each_used,
-  each_made,
-  EachBody,
-  each_ended,
-  each_acted,
-  each_used_tool,
-  each_called,
-  EachCalls,
-  each_no_calls,
-  each_call,
+use Rattle.build_meaning.specs.Derived.{
+  said,
+  OfWalk,
+  over,
+  used,
+  made,
+  OfBody,
+  ended_so,
+  acted_one,
+  used_tool,
+  called_all,
+  OfCalls,
+  no_calls,
+  one_call,
 }
 use Rattle.build_incremental.proofs.GoAlike.{has-so-far}
 use Rattle.build_incremental.proofs.Numbered.{acts_in, acts-more, acts-called}
@@ -52,64 +53,64 @@ own-added r j older n act f k q (inl e) =
 own-added r j older n act f k q (inr i) =
     has-add (act_of r k) j (acted r n act) (f k q i)
 
-module _ {P I A : Type 0} (w : PlacedWorld P I A) (Q : P → RunId → Journal → Record → Type 0)
+module _ {P I A : Type 0} (w : World P I A) (Q : P → RunId → Journal → Record → Type 0)
     (J : Journal → Journal → Journal → Type 0) (K : RequestKey → Type 0) where
   -- ---- marks stay
 
   mutual
-    pub walk-has : {path : List RunId} {j : Journal} {runs : List RunId} {x : Placed P I A}
-        {res : RequestResult} {k : Journal} → EachWalk w Q J K path j runs x res k →
+    pub walk-has : {path : List RunId} {j : Journal} {runs : List RunId} {x : Walk P I A}
+        {res : RequestResult} {k : Journal} → OfWalk w (said Q J K) path j runs x res k →
         (s : Mark) → Has s j → Has s k
-    walk-has each_over s h = h
-    walk-has (each_used m e rest) s h = walk-has rest s h
-    walk-has (each_made {i = i} {r = r} {m = m} out new d q rest) s h =
+    walk-has over s h = h
+    walk-has (used m e rest) s h = walk-has rest s h
+    walk-has (made {i = i} {r = r} {m = m} out new d q rest) s h =
         walk-has rest s (has-add s i (ended r m) (body-has d s h))
 
     pub body-has : {path : List RunId} {r : RunId} {j : Journal} {so_far : SoFar I}
         {b : Body I A} {m : Record} {tools : List (ToolUse I)} {k : Journal} →
-        EachBody w Q J K path r j so_far b m tools k → (s : Mark) → Has s j → Has s k
-    body-has each_ended s h = h
-    body-has (each_acted {r = r} {j = j} {so_far = so_far} {act = act} rest) s h =
+        OfBody w (said Q J K) path r j so_far b m tools k → (s : Mark) → Has s j → Has s k
+    body-has ended_so s h = h
+    body-has (acted_one {r = r} {j = j} {so_far = so_far} {act = act} rest) s h =
         body-has rest s (has-add s j (acted r (length so_far.segments) act) h)
-    body-has (each_used_tool rest) s h = body-has rest s h
-    body-has (each_called asked rest) s h = body-has rest s (calls-has asked s h)
+    body-has (used_tool rest) s h = body-has rest s h
+    body-has (called_all t asked rest) s h = body-has rest s (calls-has asked s h)
 
     pub calls-has : {path : List RunId} {j a : Journal} {keys : List RequestKey}
-        {results : List RequestResult} {k : Journal} → EachCalls w Q J K path j a keys results k →
-        (s : Mark) → Has s a → Has s k
-    calls-has each_no_calls s h = h
-    calls-has (each_call {a = a} {i = i} known less walk so rest) s h =
+        {results : List RequestResult} {k : Journal} →
+        OfCalls w (said Q J K) path j a keys results k → (s : Mark) → Has s a → Has s k
+    calls-has no_calls s h = h
+    calls-has (one_call {a = a} {i = i} known less walk so rest) s h =
         calls-has rest s (has-merge_left s a i h)
 
   -- ---- the acts and calls of a record
 
   pub has-acts : {path : List RunId} {r : RunId} {j : Journal} {so_far : SoFar I}
       {b : Body I A} {m : Record} {tools : List (ToolUse I)} {k : Journal} →
-      EachBody w Q J K path r j so_far b m tools k → (e : Entry) →
+      OfBody w (said Q J K) path r j so_far b m tools k → (e : Entry) →
       In e (acts_in r so_far.segments) → In e (acts_in r m.segments)
-  has-acts each_ended e i = i
-  has-acts (each_acted {r = r} {so_far = so_far} {act = act} rest) e i =
+  has-acts ended_so e i = i
+  has-acts (acted_one {r = r} {so_far = so_far} {act = act} rest) e i =
       has-acts rest e (subst (In e) (sym (acts-more r so_far.segments act)) (inr i))
-  has-acts (each_used_tool rest) e i = has-acts rest e i
-  has-acts (each_called {r = r} {so_far = so_far} {key = key} {keys = keys} {results = results}
-      asked rest) e i =
+  has-acts (used_tool rest) e i = has-acts rest e i
+  has-acts (called_all {r = r} {so_far = so_far} {key = key} {keys = keys} {results = results}
+      t asked rest) e i =
       has-acts rest e
       (subst (In e) (sym (acts-called r so_far.segments (key ∷ keys) results)) i)
 
   -- what the record has of acts is there when its body has come to its end
   pub own-there : {path : List RunId} {r : RunId} {j : Journal} {so_far : SoFar I}
       {b : Body I A} {m : Record} {tools : List (ToolUse I)} {k : Journal} →
-      EachBody w Q J K path r j so_far b m tools k → ((n : ℕ) (act : Act) →
+      OfBody w (said Q J K) path r j so_far b m tools k → ((n : ℕ) (act : Act) →
       In (acted r n act) (acts_in r so_far.segments) → Has (act_of r n) j) →
       (n : ℕ) (act : Act) → In (acted r n act) (acts_in r m.segments) → Has (act_of r n) k
-  own-there each_ended f n act i = f n act i
-  own-there (each_acted {r = r} {j = j} {so_far = so_far} {act = new} rest) f n act i =
+  own-there ended_so f n act i = f n act i
+  own-there (acted_one {r = r} {j = j} {so_far = so_far} {act = new} rest) f n act i =
       own-there rest (λ k q u. own-added r j (acts_in r so_far.segments)
       (length so_far.segments) new f k q
       (subst (In (acted r k q)) (acts-more r so_far.segments new) u)) n act i
-  own-there (each_used_tool rest) f n act i = own-there rest f n act i
-  own-there (each_called {r = r} {so_far = so_far} {key = key} {keys = keys} {results = results}
-      asked rest) f n act i =
+  own-there (used_tool rest) f n act i = own-there rest f n act i
+  own-there (called_all {r = r} {so_far = so_far} {key = key} {keys = keys} {results = results}
+      t asked rest) f n act i =
       own-there rest (λ k q u. calls-has asked (act_of r k) (f k q
       (subst (In (acted r k q)) (acts-called r so_far.segments (key ∷ keys) results) u))) n act i
 
@@ -117,11 +118,11 @@ module _ {P I A : Type 0} (w : PlacedWorld P I A) (Q : P → RunId → Journal �
   pub call-told : {path : List RunId} {r : RunId} {j a i k : Journal} {key : RequestKey}
       {keys : List RequestKey} {results : List RequestResult} {b : Body I A} {m : Record}
       {tools : List (ToolUse I)} (so_far : SoFar I) →
-      EachCalls w Q J K path j a (key ∷ keys) results i →
-      EachBody w Q J K path r i (with_calls so_far (key ∷ keys) results) b m tools k →
+      OfCalls w (said Q J K) path j a (key ∷ keys) results i →
+      OfBody w (said Q J K) path r i (with_calls so_far (key ∷ keys) results) b m tools k →
       (runs : List RunId) × In (Call key runs) m.segments
   call-told {key = key} {keys = keys} so_far
-      (each_call {res = res} {results = results} known less walk so rest) body = (
+      (one_call {res = res} {results = results} known less walk so rest) body = (
         res.runs,
         has-so-far w Q J K body (Call key res.runs) (in-right (Call key res.runs)
             so_far.segments (called (key ∷ keys) (res ∷ results)) (inl refl)),
@@ -146,34 +147,34 @@ module _ {P I A : Type 0} (w : PlacedWorld P I A) (Q : P → RunId → Journal �
       ((runs : List RunId) × In (Call key runs) m.segments) → Ready r m segments j →
       Ready r m (segments ++ called (key ∷ keys) results) i) where
     mutual
-      pub walk-keeps : {path : List RunId} {j : Journal} {runs : List RunId} {x : Placed P I A}
-          {res : RequestResult} {k : Journal} → EachWalk w Q J K path j runs x res k →
+      pub walk-keeps : {path : List RunId} {j : Journal} {runs : List RunId} {x : Walk P I A}
+          {res : RequestResult} {k : Journal} → OfWalk w (said Q J K) path j runs x res k →
           Inv j → Inv k
-      walk-keeps each_over v = v
-      walk-keeps (each_used m e rest) v = walk-keeps rest v
-      walk-keeps (each_made {j = j} {i = i} {p = p} {r = r} {m = m} out new d q rest) v =
+      walk-keeps over v = v
+      walk-keeps (used m e rest) v = walk-keeps rest v
+      walk-keeps (made {j = j} {i = i} {p = p} {r = r} {m = m} out new d q rest) v =
           walk-keeps rest (ends p r j m q i (body-keeps d (starts p r j m q) v))
 
       pub body-keeps : {path : List RunId} {r : RunId} {j : Journal} {so_far : SoFar I}
           {b : Body I A} {m : Record} {tools : List (ToolUse I)} {k : Journal} →
-          EachBody w Q J K path r j so_far b m tools k → Ready r m so_far.segments j →
+          OfBody w (said Q J K) path r j so_far b m tools k → Ready r m so_far.segments j →
           Inv j → Inv k
-      body-keeps each_ended g v = v
-      body-keeps (each_acted {r = r} {j = j} {so_far = so_far} {act = act} {m = m} rest) g v =
+      body-keeps ended_so g v = v
+      body-keeps (acted_one {r = r} {j = j} {so_far = so_far} {act = act} {m = m} rest) g v =
           let e : Entry = acted r (length so_far.segments) act in
           let there : In e (acts_in r (so_far.segments ++ File act ∷ [])) =
           subst (In e) (sym (acts-more r so_far.segments act)) (inl refl) in
           let x = acts r m so_far.segments act j (has-acts rest e there) g v in
           body-keeps rest x.1 x.0
-      body-keeps (each_used_tool rest) g v = body-keeps rest g v
-      body-keeps (each_called {r = r} {j = j} {i = i} {so_far = so_far} {key = key} {keys = keys}
-          {results = results} {m = m} asked rest) g v =
+      body-keeps (used_tool rest) g v = body-keeps rest g v
+      body-keeps (called_all {r = r} {j = j} {i = i} {so_far = so_far} {key = key} {keys = keys}
+          {results = results} {m = m} t asked rest) g v =
           body-keeps rest (calls r m so_far.segments key keys results j i (calls-has asked)
           (call-told so_far asked rest) g) (calls-keeps asked v v)
 
       pub calls-keeps : {path : List RunId} {j a : Journal} {keys : List RequestKey}
           {results : List RequestResult} {k : Journal} →
-          EachCalls w Q J K path j a keys results k → Inv j → Inv a → Inv k
-      calls-keeps each_no_calls v u = u
-      calls-keeps (each_call {a = a} {i = i} known less walk so rest) v u =
+          OfCalls w (said Q J K) path j a keys results k → Inv j → Inv a → Inv k
+      calls-keeps no_calls v u = u
+      calls-keeps (one_call {a = a} {i = i} known less walk so rest) v u =
           calls-keeps rest v (joins a i u (walk-keeps walk v))

@@ -11,3 +11,4 @@ pub mod OpenRuns
 pub mod Orders
 pub mod Pairs
 pub mod Whole
+pub mod WorldsGo

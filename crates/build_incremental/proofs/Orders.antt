@@ -66,8 +66,8 @@ use Rattle.result_cache.proofs.JournalEntries.{
   has-added,
   has-merge_right,
 }
-use Rattle.build_incremental.specs.Placed.{PlacedWorld}
-use Rattle.build_incremental.specs.Each.{EachOfMeaning}
+use Rattle.build_meaning.specs.Derived.{EachOfMeaning}
+use Rattle.build_meaning.specs.World.{World}
 use Rattle.build_incremental.proofs.Entries.{has-append}
 use Rattle.build_incremental.proofs.Keeping.{walk-keeps}
 use Rattle.build_incremental.proofs.Numbered.{acts_in, acts_from}
@@ -182,7 +182,7 @@ HasNoCall m = (key : RequestKey) (runs : List RunId) → In (Call key runs) m.se
 
 -- ---- the journal of a meaning
 
-module _ {P I A : Type 0} (w : PlacedWorld P I A) (Q : P → RunId → Journal → Record → Type 0)
+module _ {P I A : Type 0} (w : World P I A) (Q : P → RunId → Journal → Record → Type 0)
     (J : Journal → Journal → Journal → Type 0) (K : RequestKey → Type 0) where
   pub meaning-once : (result : RequestResult) (last : Journal) →
       EachOfMeaning w Q J K result last → Once last

@@ -24,6 +24,7 @@ use Rattle.build_meaning.specs.Meaning.{
   Demanded,
   requested,
   together,
+  joined,
   built,
   Given,
   meaning,
@@ -33,17 +34,19 @@ use Rattle.build_meaning.specs.Demand.{instances, distinct, IsWhole}
 use Rattle.build_meaning.proofs.NothingRefused.{distinct-least}
 
 -- the requests of an instance that is asked for
-asked-for : {I : Type 0} (demand : List (Demanded I)) (x : InstanceKey) → In x (instances demand) →
-    (key : RequestKey) × In (requested key) demand × (key.instance ≡ x)
+asked-for : {P I : Type 0} (demand : List (Demanded P I)) (x : InstanceKey) →
+    In x (instances demand) → (key : RequestKey) × In (requested key) demand × (key.instance ≡ x)
 asked-for [] x i = absurd i
 asked-for (requested key ∷ demand) x (inl p) = (key, inl refl, p)
 asked-for (requested key ∷ demand) x (inr i) =
     let u = asked-for demand x i in (u.0, inr u.1, u.2)
 asked-for (together keys ∷ demand) x i = let u = asked-for demand x i in (u.0, inr u.1, u.2)
-asked-for (built run made tools ∷ demand) x i =
+asked-for (joined caller so_far next ∷ demand) x i =
+    let u = asked-for demand x i in (u.0, inr u.1, u.2)
+asked-for (built site run from made tools ∷ demand) x i =
     let u = asked-for demand x i in (u.0, inr u.1, u.2)
 
-is-asked : {I : Type 0} (demand : List (Demanded I)) (key : RequestKey) →
+is-asked : {P I : Type 0} (demand : List (Demanded P I)) (key : RequestKey) →
     In (requested key) demand → In key.instance (instances demand)
 is-asked [] key i = absurd i
 is-asked (requested other ∷ demand) key (inl p) =
@@ -51,10 +54,12 @@ is-asked (requested other ∷ demand) key (inl p) =
 is-asked (requested other ∷ demand) key (inr i) = inr (is-asked demand key i)
 is-asked (together keys ∷ demand) key (inl p) = absurd (cc)
 is-asked (together keys ∷ demand) key (inr i) = is-asked demand key i
-is-asked (built run made tools ∷ demand) key (inl p) = absurd (cc)
-is-asked (built run made tools ∷ demand) key (inr i) = is-asked demand key i
+is-asked (joined caller so_far next ∷ demand) key (inl p) = absurd (cc)
+is-asked (joined caller so_far next ∷ demand) key (inr i) = is-asked demand key i
+is-asked (built site run from made tools ∷ demand) key (inl p) = absurd (cc)
+is-asked (built site run from made tools ∷ demand) key (inr i) = is-asked demand key i
 
-pub whole-too : {I A : Type 0} (w c : World I A) (x out : Given I RequestResult) →
+pub whole-too : {P I A : Type 0} (w c : World P I A) (x out : Given P I RequestResult) →
     IsWhole c out → meaning w ≡ Some x →
     ((key : RequestKey) → In (requested key) x.demand → In (requested key) out.demand) →
     IsWhole w x

@@ -5,6 +5,7 @@ use Rattle.msb_values.specs.declared.act.Act.{Act}
 use Rattle.result_cache.specs.declared.run.RunId.{RunId}
 use Rattle.result_cache.specs.Lists.{In}
 use Rattle.result_cache.specs.Journal.{Journal, acted, act_of, has}
+use Rattle.build_meaning.specs.Meaning.{Demanded, joined}
 
 -- the run has acted on the path after the earlier journal
 pub record ActedSince (earlier later : Journal) (run : RunId) (path : List ℕ) : Type 0 where
@@ -19,6 +20,11 @@ pub record ActedSince (earlier later : Journal) (run : RunId) (path : List ℕ) 
 abbrev pub IsOfOneRun : Journal → Journal → Journal → Type 0
 IsOfOneRun caller so_far next = (path : List ℕ) (run other : RunId) →
     ActedSince caller so_far run path → ActedSince caller next other path → run ≡ other
+
+-- so of each join that a meaning contains
+abbrev pub AreOfOneRun : {P I : Type 0} → List (Demanded P I) → Type 0
+AreOfOneRun demand = (caller so_far next : Journal) → In (joined caller so_far next) demand →
+    IsOfOneRun caller so_far next
 
 -- calls may be joined in any way
 abbrev pub Anyhow : Journal → Journal → Journal → Type 0

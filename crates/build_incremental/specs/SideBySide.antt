@@ -10,9 +10,19 @@ use Rattle.result_cache.specs.declared.record.Record.{Record}
 use Rattle.result_cache.specs.declared.record.Segment.TheVariants.{File}
 use Rattle.result_cache.specs.Lists.{In}
 use Rattle.result_cache.specs.Journal.{Journal, act_of, has}
-use Rattle.build_meaning.specs.Walk.{Body, makes, does, uses, calls, Outcome}
+use Rattle.build_meaning.specs.World.{World}
+use Rattle.build_meaning.specs.Walk.{
+  Walk,
+  gives,
+  wants,
+  Body,
+  makes,
+  does,
+  uses,
+  calls,
+  Outcome,
+}
 use Rattle.build_meaning.specs.SoFar.{recorded}
-use Rattle.build_incremental.specs.Placed.{Placed, replies, wants_at, PlacedWorld}
 use Rattle.build_incremental.specs.Alike.{AlikeOutcomes, AlikeRecords, AlikeJournals}
 use Rattle.build_incremental.specs.Alone.{alone, segments_of, LacksOnly}
 
@@ -56,9 +66,9 @@ module _ (files : List ℕ → Option (List ℕ)) (W : List ℕ → Type 0) {I A
   -- on alike by alike records and journals.
   abbrev pub AlikeWalks : {P : Type 0} → (P → RunId → Journal → Record → Type 0) →
       (P → RunId → Journal → Record → Type 0) → (List ℕ → I → A) →
-      Placed P I A → Placed P I A → Journal → Journal → Type 0
-  AlikeWalks Q' Q tools (replies reply) (replies other) j k = reply ≡ other
-  AlikeWalks Q' Q tools (wants_at p r b go) (wants_at q s c to) j k =
+      Walk P I A → Walk P I A → Journal → Journal → Type 0
+  AlikeWalks Q' Q tools (gives reply) (gives other) j k = reply ≡ other
+  AlikeWalks Q' Q tools (wants p r b go) (wants q s c to) j k =
       (r ≡ s)
       × ((made : Record) → Q q s k made → HasNotActed s j → HasNotActed s k →
       AlikeRuns tools s j k b c made (Q' p s j))
@@ -68,11 +78,15 @@ module _ (files : List ℕ → Option (List ℕ)) (W : List ℕ → Type 0) {I A
 
   -- two worlds of one root and of the same tools, whose requests go alike by alike journals
   pub record SideBySide {P : Type 0} (Q' Q : P → RunId → Journal → Record → Type 0)
-      (w c : PlacedWorld P I A) : Type 0 where
+      (w c : World P I A) : Type 0 where
     pub root : w.root ≡ c.root
     pub tools : w.tools ≡ c.tools
     pub walks : (key : RequestKey) (j k : Journal) → AlikeJournals files W j k →
         AlikeWalks Q' Q c.tools (w.walks key j) (c.walks key k) j k
+
+-- nothing is said of a body
+abbrev pub IsAny : {P : Type 0} → P → RunId → Journal → Record → Type 0
+IsAny site run from made = Unit {0}
 
 -- a run has one record, wherever its body is made
 abbrev pub HasOneRecord : {P : Type 0} → (P → RunId → Journal → Record → Type 0) → Type 0

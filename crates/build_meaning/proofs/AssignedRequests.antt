@@ -27,98 +27,132 @@ use Rattle.build_meaning.proofs.ListPlaces.{at-put_other, at-front, traverse-at}
 use Rattle.build_meaning.proofs.EventsKeepLawful.{only_if-some, unless-some, some-is, request_of}
 use Rattle.build_meaning.proofs.ParentsAndChildren.{same_some}
 
-module _ {I A : Type 0} (w : World I A) (id node : ℕ) (q : RequestState I A) (p : Place I A) (st : q.status ≡ assigned node p) where
-  abbrev pub There : State I A → Type 0
+module _ {P I A : Type 0} (w : World P I A) (id node : ℕ) (q : RequestState P I A) (p : Place P I A)
+    (st : q.status ≡ assigned node p) where
+  abbrev pub There : State P I A → Type 0
   There s = at s.requests id ≡ Some q
 
-  put-there : (s t : State I A) (other : ℕ) (z : RequestState I A) → (other ≡ id → ⊥) → There s → with_request s other z ≡ t → There t
-  put-there s t other z n e h = subst (λ (u : State I A). There u) h (at-put_other s.requests other z id q (λ d. n (sym d)) e)
+  put-there : (s t : State P I A) (other : ℕ) (z : RequestState P I A) → (other ≡ id → ⊥) →
+      There s → with_request s other z ≡ t → There t
+  put-there s t other z n e h =
+      subst (λ (u : State P I A). There u) h (at-put_other s.requests other z id q
+      (λ d. n (sym d)) e)
 
-  claimed-there : (s t : State I A) (other m : ℕ) (o : Origin) (j : Journal) (runs : List RunId) (r : RunId) (b : Body I A) (go : Record → Journal → Walk I A) (kind : ClaimKind) → (other ≡ id → ⊥) → There s → claimed w s other m o j runs r b go kind ≡ Some t → There t
+  claimed-there : (s t : State P I A) (other m : ℕ) (o : Origin) (j : Journal) (runs : List RunId)
+      (r : RunId) (b : Body I A) (go : Record → Journal → Walk P I A) (kind : ClaimKind) →
+      (other ≡ id → ⊥) → There s → claimed w s other m o j runs r b go kind ≡ Some t → There t
   claimed-there s t other m o j runs r b go Go n e h =
-      let z : RequestState I A = in_body w (assigned m) o runs r go (run_on w.tools r b j nothing_yet) in
+      let z : RequestState P I A =
+      in_body w (assigned m) o runs r go (run_on w.tools r b j nothing_yet) in
       let x = unless-some (is_begun r s.begun) (record { requests = put s.requests other z; begun = record { run = r; by = other } ∷ s.begun; table = s.table; tools_used = s.tools_used }) t h in
-      subst (λ (u : State I A). There u) x.1 (at-put_other s.requests other z id q (λ d. n (sym d)) e)
+      subst (λ (u : State P I A). There u) x.1 (at-put_other s.requests other z id q
+      (λ d. n (sym d)) e)
   claimed-there s t other m o j runs r b go Use n e h =
       let x = and_then-some (found s.table r) (λ made. and_then (replay s.table r j) (λ next. Some (with_request s other (goes_on w (assigned m) o runs r go made next)))) t h in
       let y = and_then-some (replay s.table r j) (λ next. Some (with_request s other (goes_on w (assigned m) o runs r go x.0 next))) t x.2 in
-      let z : RequestState I A = goes_on w (assigned m) o runs r go x.0 y.0 in
+      let z : RequestState P I A = goes_on w (assigned m) o runs r go x.0 y.0 in
       put-there s t other z n e (some-is (with_request s other z) t y.2)
   claimed-there s t other m o j runs r b go Wait n e h =
-      let next : State I A = waiting w s other o j runs r b go in
+      let next : State P I A = waiting w s other o j runs r b go in
       put-there s t other (request_of o j runs (waits r b go)) n e (only_if-some (may_wait w (is_begun r s.begun) (found s.table r) (is_in_cycle next r)) next t h).1
 
-  woken-there : (table : Records) (r : RunId) (m : Record) (z : RequestState I A) (u : Status I A) → q.status ≡ u → u ≡ assigned node p → woken_at w table r m q u ≡ Some z → z ≡ q
+  woken-there : (table : Records) (r : RunId) (m : Record) (z : RequestState P I A)
+      (u : Status P I A) → q.status ≡ u → u ≡ assigned node p → woken_at w table r m q u ≡ Some z →
+      z ≡ q
   woken-there table r m z (assigned k a) e f h = sym (some-is q z h)
   woken-there table r m z (ready a) e f h = absurd (cc)
   woken-there table r m z (waits a b go) e f h = absurd (cc)
   woken-there table r m z (calling a b c d) e f h = absurd (cc)
   woken-there table r m z (done a) e f h = absurd (cc)
 
-  back_at-there : (s t : State I A) (a : ℕ) (c : RequestState I A) (u : Status I A) → at s.requests a ≡ Some c → c.status ≡ u → There s → resume_at w s a c u ≡ Some t → There t
+  back_at-there : (s t : State P I A) (a : ℕ) (c : RequestState P I A) (u : Status P I A) →
+      at s.requests a ≡ Some c → c.status ≡ u → There s → resume_at w s a c u ≡ Some t → There t
   back_at-there s t a c (calling keys ids x go) f g e h = by_results (results_of w s.requests ids) h
     where
       not_it : a ≡ id → ⊥
       not_it d =
           let same : c ≡ q = same_some (at s.requests a) c q f (subst (λ k. at s.requests k ≡ Some q) (sym d) e) in
-          let clash : calling keys ids x go ≡ assigned node p = sym g ∙ (ap (λ (y : RequestState I A). y.status) same ∙ st) in cc
+          let clash : calling keys ids x go ≡ assigned node p =
+          sym g ∙ (ap (λ (y : RequestState P I A). y.status) same ∙ st) in cc
 
       by_results : (o : Option (List RequestResult)) → answered w s a c.origin c.journal c.runs keys x go o ≡ Some t → There t
-      by_results None h = subst (λ (v : State I A). There v) (some-is s t h) e
+      by_results None h = subst (λ (v : State P I A). There v) (some-is s t h) e
       by_results (Some results) h =
           let y = and_then-some (replay_all s.table (runs_of results) c.journal) (λ next. Some (with_request s a (in_body w ready c.origin c.runs x.run x.go (run_on w.tools x.run (go results next) next (with_calls x.so_far keys results))))) t h in
-          let z : RequestState I A = in_body w ready c.origin c.runs x.run x.go (run_on w.tools x.run (go results y.0) y.0 (with_calls x.so_far keys results)) in
+          let z : RequestState P I A = in_body w ready c.origin c.runs x.run x.go
+          (run_on w.tools x.run (go results y.0) y.0 (with_calls x.so_far keys results)) in
           put-there s t a z not_it e (some-is (with_request s a z) t y.2)
   back_at-there s t a c _ f g e h = absurd (cc)
 
-  back_to-there : (s t : State I A) (parent : Option ℕ) → There s → resume_caller w s parent ≡ Some t → There t
-  back_to-there s t None e h = subst (λ (v : State I A). There v) (some-is s t h) e
+  back_to-there : (s t : State P I A) (parent : Option ℕ) → There s →
+      resume_caller w s parent ≡ Some t → There t
+  back_to-there s t None e h = subst (λ (v : State P I A). There v) (some-is s t h) e
   back_to-there s t (Some a) e h =
       let y = and_then-some (at s.requests a) (λ q. resume_at w s a q q.status) t h in
       back_at-there s t a y.0 y.0.status y.1 refl e y.2
 
-  finished-there : (s t : State I A) (other m : ℕ) (o : Origin) (j : Journal) (runs : List RunId) (x : Within I A) (made : Record) → (other ≡ id → ⊥) → There s → finished w s other m o j runs x made ≡ Some t → There t
+  finished-there : (s t : State P I A) (other m : ℕ) (o : Origin) (j : Journal) (runs : List RunId)
+      (x : Within P I A) (made : Record) → (other ≡ id → ⊥) → There s →
+      finished w s other m o j runs x made ≡ Some t → There t
   finished-there s t other m o j runs x made n e h =
       let f : FinishedRun = record { run = x.run; made = made } in
-      let z : RequestState I A = goes_on w (assigned m) o runs x.run x.go made (add j (ended x.run made)) in
+      let z : RequestState P I A =
+      goes_on w (assigned m) o runs x.run x.go made (add j (ended x.run made)) in
       let u = and_then-some (traverse (woken w (f ∷ s.table) x.run made) (put s.requests other z)) (λ requests. Some (record { requests = requests; begun = s.begun; table = f ∷ s.table; tools_used = record { run = x.run; tools = x.so_far.tools } ∷ s.tools_used })) t h in
-      let last : State I A = record { requests = u.0; begun = s.begun; table = f ∷ s.table; tools_used = record { run = x.run; tools = x.so_far.tools } ∷ s.tools_used } in
+      let last : State P I A = record {
+        requests = u.0;
+        begun = s.begun;
+        table = f ∷ s.table;
+        tools_used = record { run = x.run; tools = x.so_far.tools } ∷ s.tools_used;
+      } in
       let y = traverse-at (woken w (f ∷ s.table) x.run made) (put s.requests other z) u.0 u.1 id q (at-put_other s.requests other z id q (λ d. n (sym d)) e) in
-      subst (λ (v : State I A). There v) (some-is last t u.2) (y.1 ∙ ap Some (woken-there (f ∷ s.table) x.run made y.0 q.status refl st y.2))
+      subst (λ (v : State P I A). There v) (some-is last t u.2)
+      (y.1 ∙ ap Some (woken-there (f ∷ s.table) x.run made y.0 q.status refl st y.2))
 
-  step_of-there : (s t : State I A) (event : Event) (o : Origin) (j : Journal) (runs : List RunId) (u : Status I A) → (whose event ≡ id → ⊥) → There s → step_of w s event (request_of o j runs u) ≡ Some t → There t
+  step_of-there : (s t : State P I A) (event : Event) (o : Origin) (j : Journal) (runs : List RunId)
+      (u : Status P I A) → (whose event ≡ id → ⊥) → There s →
+      step_of w s event (request_of o j runs u) ≡ Some t → There t
   step_of-there s t (Assign other m) o j runs (ready a) n e h = put-there s t other (request_of o j runs (assigned m a)) n e (some-is (with_request s other (request_of o j runs (assigned m a))) t h)
   step_of-there s t (Assign other m) o j runs (assigned k a) n e h = absurd (cc)
   step_of-there s t (Assign other m) o j runs (waits a b c) n e h = absurd (cc)
   step_of-there s t (Assign other m) o j runs (calling a b c d) n e h = absurd (cc)
   step_of-there s t (Assign other m) o j runs (done a) n e h = absurd (cc)
-  step_of-there s t (Claim other run kind) o j runs (assigned m (walking (wants r b go))) n e h =
+  step_of-there s t (Claim other run kind) o j runs (assigned m (walking (wants site r b go))) n e
+      h =
       let x = and_then-some (only_if (same_run r run) r) (λ run. claimed w s other m o j runs run b go kind) t h in
       claimed-there s t other m o j runs x.0 b go kind n e x.2
   step_of-there s t (Claim other run kind) o j runs _ n e h = absurd (cc)
   step_of-there s t (Request other keys) o j runs (assigned m (within x (asks key more go))) n e h =
       let y = only_if-some (same_keys (key ∷ more) keys && is_within_limits w s (x.run ∷ o.path) (key ∷ more)) (with_children w s other o j runs (key ∷ more) x go) t h in
-      let z : RequestState I A = request_of o j runs (calling (key ∷ more) (numbered_from (length s.requests) (key ∷ more)) x go) in
-      subst (λ (v : State I A). There v) y.1 (at-front (put s.requests other z) (map (new_request w (Some other) (x.run ∷ o.path) j) (key ∷ more)) id q (at-put_other s.requests other z id q (λ d. n (sym d)) e))
+      let z : RequestState P I A = request_of o j runs (calling (key ∷ more)
+      (numbered_from (length s.requests) (key ∷ more)) x go) in
+      subst (λ (v : State P I A). There v) y.1 (at-front (put s.requests other z)
+      (map (new_request w (Some other) (x.run ∷ o.path) j) (key ∷ more)) id q
+      (at-put_other s.requests other z id q (λ d. n (sym d)) e))
   step_of-there s t (Request other keys) o j runs _ n e h = absurd (cc)
   step_of-there s t (Result other run) o j runs (assigned m (within x (ends outcome))) n e h =
       let y = and_then-some (only_if (same_run x.run run) x) (λ x. finished w s other m o j runs x (recorded outcome x.so_far.segments)) t h in
       finished-there s t other m o j runs y.0 (recorded outcome y.0.so_far.segments) n e y.2
   step_of-there s t (Result other run) o j runs _ n e h = absurd (cc)
   step_of-there s t (Done other) o j runs (assigned m (walking (gives reply))) n e h =
-      let z : RequestState I A = request_of o j runs (done (result_of reply runs)) in
+      let z : RequestState P I A = request_of o j runs (done (result_of reply runs)) in
       back_to-there (with_request s other z) t o.parent (put-there s (with_request s other z) other z n e refl) h
   step_of-there s t (Done other) o j runs _ n e h = absurd (cc)
   step_of-there s t (Retire other m) o j runs (assigned k a) n e h =
-      let z : RequestState I A = request_of o j runs (ready a) in put-there s t other z n e (only_if-some (k == m) (with_request s other z) t h).1
+      let z : RequestState P I A = request_of o j runs (ready a) in put-there s t other z n e
+      (only_if-some (k == m) (with_request s other z) t h).1
   step_of-there s t (Retire other m) o j runs _ n e h = absurd (cc)
 
-  all-there : (events : List Event) (s t : State I A) → AreOfOthers id events → There s → after_all w s events ≡ Some t → There t
-  all-there [] s t n e h = subst (λ (v : State I A). There v) (some-is s t h) e
+  all-there : (events : List Event) (s t : State P I A) → AreOfOthers id events → There s →
+      after_all w s events ≡ Some t → There t
+  all-there [] s t n e h = subst (λ (v : State P I A). There v) (some-is s t h) e
   all-there (event ∷ events) s t n e h =
       let y = and_then-some (step w s event) (λ next. after_all w next events) t h in
       let z = and_then-some (at s.requests (whose event)) (step_of w s event) y.0 y.1 in
       all-there events y.0 t n.1 (step_of-there s y.0 event z.0.origin z.0.journal z.0.runs z.0.status n.0 e z.2) y.2
 
-pub stays : {I A : Type 0} (w : World I A) (s t : State I A) (events : List Event) (id node : ℕ) (q : RequestState I A) (p : Place I A) → at s.requests id ≡ Some q → q.status ≡ assigned node p → AreOfOthers id events → after_all w s events ≡ Some t → at t.requests id ≡ Some q
+pub stays : {P I A : Type 0} (w : World P I A) (s t : State P I A) (events : List Event)
+    (id node : ℕ) (q : RequestState P I A) (p : Place P I A) → at s.requests id ≡ Some q →
+    q.status ≡ assigned node p → AreOfOthers id events → after_all w s events ≡ Some t →
+    at t.requests id ≡ Some q
 stays w s t events id node q p e st n h = all-there w id node q p st events s t n e h

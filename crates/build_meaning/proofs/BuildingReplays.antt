@@ -65,29 +65,36 @@ pub reps-calls : {I : Type 0} {P : RunId → Record → Type 0} (r : RunId) (x :
     Reps P (effects_from r 0 x.segments) j k → Reps P (map replays_run (runs_of results)) k l → Reps P (effects_from r 0 (with_calls x keys results).segments) j l
 reps-calls {I} {P} r x keys results h {j} {k} {l} d e = subst (λ xs. Reps P xs j l) (sym (items-calls r x keys results h)) (reps-append d e)
 
-pub calls-length : {I A : Type 0} {w : World I A} {D : Demanded I → Type 0} {path : List RunId} {j a : Journal} {keys : List RequestKey} {results : List RequestResult} {k : Journal} →
+pub calls-length : {P I A : Type 0} {w : World P I A} {D : Demanded P I →
+    Type 0} {path : List RunId} {j a : Journal} {keys : List RequestKey}
+    {results : List RequestResult} {k : Journal} →
     OfCalls w D path j a keys results k → length keys ≡ length results
 calls-length no_calls = refl
-calls-length (one_call d h x rest) = ap suc (calls-length rest)
+calls-length (one_call d h x so rest) = ap suc (calls-length rest)
 
-module _ {I A : Type 0} (w : World I A) (D : Demanded I → Type 0) (one : (r : RunId) (m n : Record) → Made D r m → Made D r n → m ≡ n) where
+module _ {P I A : Type 0} (w : World P I A) (D : Demanded P I → Type 0)
+    (one : (r : RunId) (m n : Record) → Made D r m → Made D r n → m ≡ n) where
   mutual
     -- a request adds what its runs, replayed, would add
-    pub agree_walk : {path : List RunId} {i : Journal} {runs : List RunId} {x : Walk I A} {res : RequestResult} {k : Journal} → OfWalk w D path i runs x res k →
+    pub agree_walk : {path : List RunId} {i : Journal} {runs : List RunId} {x : Walk P I A}
+        {res : RequestResult} {k : Journal} → OfWalk w D path i runs x res k →
         (j : Journal) → Closed (Made D) one j → Reps (Made D) (map replays_run runs) j i → Reps (Made D) (map replays_run res.runs) j k
     agree_walk over j c d = d
     agree_walk (used {j = i} {runs = runs} {r = r} m h rest) j c d = agree_walk rest j c (reps-run runs r d (old (in-has r m i (had-in i r m h))))
-    agree_walk (made {j = i} {i = x} {runs = runs} {r = r} {m = m} {tools = tools} n h b p rest) j c d =
+    agree_walk (made {j = i} {i = x} {runs = runs} {p = site} {r = r} {m = m} {tools = tools} n h b
+        p rest) j c d =
         let y : Reps (Made D) (effects_of r m) i x = agree_body b i (reps-closed (Made D) one d c).1 none in
-        agree_walk rest j c (reps-run runs r d (new h (tools, p) y))
+        agree_walk rest j c (reps-run runs r d (new h (site, i, (tools, p)) y))
 
     -- a body adds what the items of its record, replayed, would add
     pub agree_body : {path : List RunId} {r : RunId} {i : Journal} {so_far : SoFar I} {b : Body I A} {m : Record} {tools : List (ToolUse I)} {k : Journal} → OfBody w D path r i so_far b m tools k →
         (j : Journal) → Closed (Made D) one j → Reps (Made D) (effects_from r 0 so_far.segments) j i → Reps (Made D) (effects_of r m) j k
     agree_body ended_so j c d = d
-    agree_body (acted_one {r = r} {so_far = so_far} {p = p} rest) j c d = agree_body rest j c (reps-acted r so_far p d)
+    agree_body (acted_one {r = r} {so_far = so_far} {act = p} rest) j c d =
+        agree_body rest j c (reps-acted r so_far p d)
     agree_body (used_tool rest) j c d = agree_body rest j c d
-    agree_body (called_all {r = r} {so_far = so_far} {key = key} {keys = keys} {results = results} asked rest) j c d =
+    agree_body (called_all {r = r} {so_far = so_far} {key = key} {keys = keys} {results = results}
+        all asked rest) j c d =
         let i : Closed (Made D) one _ = (reps-closed (Made D) one d c).1 in
         agree_body rest j c (reps-calls r so_far (key ∷ keys) results (calls-length asked) d (agree_calls asked (λ s h. h) i i))
 
@@ -95,7 +102,8 @@ module _ {I A : Type 0} (w : World I A) (D : Demanded I → Type 0) (one : (r : 
     pub agree_calls : {path : List RunId} {i a : Journal} {keys : List RequestKey} {results : List RequestResult} {k : Journal} → OfCalls w D path i a keys results k →
         ((s : Mark) → Has s i → Has s a) → Closed (Made D) one i → Closed (Made D) one a → Reps (Made D) (map replays_run (runs_of results)) a k
     agree_calls no_calls f ci ca = none
-    agree_calls (one_call {j = i} {a = a} {i = x} {k = k} {res = res} {results = results} e l walk rest) f ci ca =
+    agree_calls (one_call {j = i} {a = a} {i = x} {k = k} {res = res} {results = results} e l walk
+        so rest) f ci ca =
         let y : Reps (Made D) (map replays_run res.runs) i x = agree_walk walk i ci none in
         let z : Reps (Made D) (map replays_run res.runs) a (merge a x) = reps-grow (Made D) one y a ca f in
         let u = agree_calls rest (λ s h. has-merge_left s a x (f s h)) ci (reps-closed (Made D) one z ca).1 in

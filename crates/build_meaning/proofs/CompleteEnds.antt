@@ -8,9 +8,9 @@ use Rattle.result_cache.specs.Lists.{In}
 use Rattle.result_cache.specs.Journal.{Journal, end_of}
 use Rattle.result_cache.specs.Table.{FinishedRun, found}
 use Rattle.build_meaning.specs.World.{World}
-use Rattle.build_meaning.specs.SoFar.{ToolUse}
 use Rattle.build_meaning.specs.Meaning.{built, Given}
 use Rattle.build_meaning.specs.Demand.{IsWhole, IsSteady}
+use Rattle.build_meaning.specs.Sound.{IsMade}
 use Rattle.build_meaning.specs.State.{ToolsUsed, State, start}
 use Rattle.build_meaning.specs.History.{IsHistory, EndsWith}
 use Rattle.build_meaning.specs.Agrees.{IsComplete}
@@ -23,16 +23,20 @@ use Rattle.build_meaning.proofs.OrderlyHistories.{orderly, all-change, tooled_ru
 use Rattle.build_meaning.proofs.MeaningAgreed.{agrees}
 use Rattle.build_meaning.proofs.SingleWorlds.{meaning-extends, made-once}
 
-module _ {I A : Type 0} (w : World I A) (out : Given I RequestResult) (whole : IsWhole w out) (steady : IsSteady out.demand) (events : List Event) (s : State I A) (h : IsHistory w events s)
+module _ {P I A : Type 0} (w : World P I A) (out : Given P I RequestResult) (whole : IsWhole w out)
+    (steady : IsSteady out.demand) (events : List Event) (s : State P I A)
+    (h : IsHistory w events s)
     (result : RequestResult) (journal : Journal) (x : EndsWith s result journal) where
-  all : (r : RunId) (m : Record) (tools : List (ToolUse I)) → In (built r m tools) out.demand → found s.table r ≡ Some m
-  all r m tools i =
+  all : (r : RunId) (m : Record) → IsMade out.demand r m → found s.table r ≡ Some m
+  all r m i =
       let a = agrees w out whole steady events s h in
       let o = orderly w events s h in
-      let there : Has (end_of r) x.root.journal = subst (λ k. Has (end_of r) k) (sym (x.knows ∙ (a.root result journal x).1)) ((meaning-extends w out whole.means).fresh r m tools i).1 in
+      let there : Has (end_of r) x.root.journal = subst (λ k. Has (end_of r) k)
+      (sym (x.knows ∙ (a.root result journal x).1))
+      ((meaning-extends w out whole.means).fresh r m i).1 in
       let y = has-in r x.root.journal there in
       let f : found s.table r ≡ Some y.0 = o.shared 0 x.root x.there r y.0 y.1 in
-      f ∙ ap Some (sym (a.every r y.0 m tools f i))
+      f ∙ ap Some (sym (a.every r y.0 m f i))
 
   tools_used : tooled_runs s.tools_used ≡ finished_runs s.table
   tools_used = (all-change w events (start w) s (start-lawful w) h).tools_used refl
@@ -42,11 +46,16 @@ module _ {I A : Type 0} (w : World I A) (out : Given I RequestResult) (whole : I
     all = all;
     tools_used = tools_used;
     once = (meaning-extends w out whole.means).once;
-    same_tools = λ single r m tools i.
+    same_tools = λ single site r from m tools i.
         let a = agrees w out whole steady events s h in
-        let named : In r (tooled_runs s.tools_used) = subst (λ rs. In r rs) (sym tools_used) (in-map (λ (f : FinishedRun). f.run) (record { run = r; made = m }) s.table (in-found s.table r m (all r m tools i))) in
+        let named : In r (tooled_runs s.tools_used) = subst (λ rs. In r rs) (sym tools_used)
+        (in-map (λ (f : FinishedRun). f.run) (record { run = r; made = m }) s.table
+        (in-found s.table r m (all r m (site, from, (tools, i))))) in
         let t = in-mapped (λ (t : ToolsUsed I). t.run) s.tools_used r named in
         let b = a.tools t.0 t.1 in
-        let same : tools ≡ t.0.tools = (made-once out.demand ((meaning-extends w out whole.means).once single) r m b.0 tools t.0.tools i (subst (λ x. In (built x b.0 t.0.tools) out.demand) t.2 b.1)).1 in
+        let there = subst (λ x. In (built b.0 x b.1 b.2 t.0.tools) out.demand) t.2 b.3 in
+        let same : tools ≡ t.0.tools =
+        (made-once out.demand ((meaning-extends w out whole.means).once single) site b.0 r from b.1
+        m b.2 tools t.0.tools i there).1 in
         subst (λ (x : ToolsUsed I). In x s.tools_used) (ap (λ x. record { run = x; tools = t.0.tools }) t.2 ∙ ap (λ y. record { run = r; tools = y }) (sym same)) t.1;
   }

@@ -59,7 +59,9 @@ starts_of j [] = []
 starts_of j (key ∷ keys) = record { key = key; journal = j } ∷ starts_of j keys
 
 -- the first events
-begun-more : {I A : Type 0} (w : World I A) (events : List Event) (event : Event) (r : RunId) (b : Body I A) (from : Journal) → BegunIn w events r b from → BegunIn w (events ++ event ∷ []) r b from
+begun-more : {P I A : Type 0} (w : World P I A) (events : List Event) (event : Event) (r : RunId)
+    (b : Body I A) (from : Journal) → BegunIn w events r b from →
+    BegunIn w (events ++ event ∷ []) r b from
 begun-more w events event r b from x = record {
   before = x.before;
   later = x.later ++ event ∷ [];
@@ -67,6 +69,7 @@ begun-more w events event r b from x = record {
   id = x.id;
   node = x.node;
   request = x.request;
+  site = x.site;
   go = x.go;
   events_so = sym (append_assoc x.before (Claim x.id r Go ∷ x.later) (event ∷ [])) ∙ ap (λ es. es ++ event ∷ []) x.events_so;
   history = x.history;
@@ -75,7 +78,8 @@ begun-more w events event r b from x = record {
   journal_so = x.journal_so;
 }
 
-consistent-more : {I A : Type 0} (w : World I A) (events : List Event) (event : Event) (table : Records) → IsConsistent w events table → IsConsistent w (events ++ event ∷ []) table
+consistent-more : {P I A : Type 0} (w : World P I A) (events : List Event) (event : Event)
+    (table : Records) → IsConsistent w events table → IsConsistent w (events ++ event ∷ []) table
 consistent-more w events event [] c = tt
 consistent-more w events event (f ∷ table) c = ((c.0.0, c.0.1, c.0.2, begun-more w events event f.run c.0.0 c.0.1 c.0.3, c.0.4), consistent-more w events event table c.1)
 
@@ -83,51 +87,62 @@ append-nil : {X : Type 0} (xs : List X) → xs ++ [] ≡ xs
 append-nil [] = refl
 append-nil (x ∷ xs) = ap (λ ys. x ∷ ys) (append-nil xs)
 
-module _ {I A : Type 0} (w : World I A) where
+module _ {P I A : Type 0} (w : World P I A) where
   abbrev pub Equal : Records → {X : Type 0} → (Records → Option X) → (Records → Option X) → Type 0
   Equal T f g = (U : Records) → Newer T U → f U ≡ g U
 
   -- a body that was begun from a journal, and what is left of it
-  pub record TracedBody (T : Records) (events : List Event) (key : RequestKey) (first j : Journal) (runs : List RunId) (x : Within I A) (rest : Records → Option (Record × Journal)) (b : Body I A) (from : Journal) : Type 0 where
+  pub record TracedBody (T : Records) (events : List Event) (key : RequestKey) (first j : Journal)
+      (runs : List RunId) (x : Within P I A) (rest : Records → Option (Record × Journal))
+      (b : Body I A) (from : Journal) : Type 0 where
     pub from_closed : ClosedBy T from
     pub fresh : has (end_of x.run) from ≡ false
     pub so_far : Reps (Recorded T) (effects_from x.run 0 x.so_far.segments) from j
     pub ran : Reps (Recorded T) (map replays_run runs) first from
-    pub wanted : Equal T (λ U. request_by w U first key) (λ U. walk_by w U (wants x.run b x.go) from runs)
+    pub site : P
+    pub wanted : Equal T (λ U. request_by w U first key)
+        (λ U. walk_by w U (wants site x.run b x.go) from runs)
     pub left : Equal T (λ U. body_by w U x.run b from nothing_yet) rest
     pub begun : BegunIn w events x.run b from
 
-  abbrev pub InTrace : Records → List Event → RequestKey → Journal → Journal → List RunId → Within I A → (Records → Option (Record × Journal)) → Type 0
+  abbrev pub InTrace : Records → List Event → RequestKey → Journal → Journal → List RunId →
+      Within P I A → (Records → Option (Record × Journal)) → Type 0
   InTrace T events key first j runs x rest = (b : Body I A) × (from : Journal) × TracedBody T events key first j runs x rest b from
 
   -- a walk that has come so far
-  abbrev pub WalkTrace : Records → RequestKey → Journal → Journal → List RunId → Walk I A → Type 0
+  abbrev pub WalkTrace : Records → RequestKey → Journal → Journal → List RunId → Walk P I A → Type 0
   WalkTrace T key first j runs x = Reps (Recorded T) (map replays_run runs) first j × Equal T (λ U. request_by w U first key) (λ U. walk_by w U x j runs)
 
   abbrev pub after_calls : RunId → SoFar I → List RequestKey → (List RequestResult → Journal → Body I A) → Journal → Records → Option (Record × Journal)
   after_calls run so_far keys go j U = and_then (calls_by w U j j keys) (λ y. body_by w U run (go y.0 y.1) y.1 (with_calls so_far keys y.0))
 
-  abbrev pub PlaceTrace : Records → List Event → RequestKey → Journal → Journal → List RunId → Place I A → Type 0
+  abbrev pub PlaceTrace : Records → List Event → RequestKey → Journal → Journal → List RunId →
+      Place P I A → Type 0
   PlaceTrace T events key first j runs (walking x) = WalkTrace T key first j runs x
   PlaceTrace T events key first j runs (within x stop) = InTrace T events key first j runs x (λ U. body_by w U x.run (body_of stop) j x.so_far)
 
-  abbrev pub StatusTrace : Records → List Event → List Start → RequestKey → Journal → Journal → List RunId → Status I A → Type 0
+  abbrev pub StatusTrace : Records → List Event → List Start → RequestKey → Journal → Journal →
+      List RunId → Status P I A → Type 0
   StatusTrace T events starts key first j runs (ready p) = PlaceTrace T events key first j runs p
   StatusTrace T events starts key first j runs (assigned node p) = PlaceTrace T events key first j runs p
-  StatusTrace T events starts key first j runs (waits r b go) = WalkTrace T key first j runs (wants r b go)
+  StatusTrace T events starts key first j runs (waits r b go) =
+      (site : P) × WalkTrace T key first j runs (wants site r b go)
   StatusTrace T events starts key first j runs (calling keys ids x go) = InTrace T events key first j runs x (after_calls x.run x.so_far keys go j) × Kids starts ids keys j
   StatusTrace T events starts key first j runs (done res) = Reps (Recorded T) (map replays_run res.runs) first j × Equal T (λ U. request_by w U first key) (λ U. Some (res, j))
 
-  pub record Trace (T : Records) (events : List Event) (starts : List Start) (q : RequestState I A) (s : Start) : Type 0 where
+  pub record Trace (T : Records) (events : List Event) (starts : List Start)
+      (q : RequestState P I A) (s : Start) : Type 0 where
     pub status : StatusTrace T events starts s.key s.journal q.journal q.runs q.status
 
-  pub record Traced (events : List Event) (s : State I A) (starts : List Start) : Type 0 where
+  pub record Traced (events : List Event) (s : State P I A) (starts : List Start) : Type 0 where
     pub each : Paired (Trace s.table events starts) s.requests starts
     pub consistent : IsConsistent w events s.table
 
   -- more starts, and one more event
   module _ (T : Records) (events : List Event) (event : Event) (starts more : List Start) (f : (i : ℕ) (s : Start) → at starts i ≡ Some s → at more i ≡ Some s) where
-    in-later : (key : RequestKey) (first j : Journal) (runs : List RunId) (x : Within I A) (rest : Records → Option (Record × Journal)) → InTrace T events key first j runs x rest → InTrace T (events ++ event ∷ []) key first j runs x rest
+    in-later : (key : RequestKey) (first j : Journal) (runs : List RunId) (x : Within P I A)
+        (rest : Records → Option (Record × Journal)) → InTrace T events key first j runs x rest →
+        InTrace T (events ++ event ∷ []) key first j runs x rest
     in-later key first j runs x rest (b, from, v) = (
       b,
       from,
@@ -136,24 +151,30 @@ module _ {I A : Type 0} (w : World I A) where
         fresh = v.fresh;
         so_far = v.so_far;
         ran = v.ran;
+        site = v.site;
         wanted = v.wanted;
         left = v.left;
         begun = begun-more w events event x.run b from v.begun;
       },
     )
 
-    place-later : (key : RequestKey) (first j : Journal) (runs : List RunId) (p : Place I A) → PlaceTrace T events key first j runs p → PlaceTrace T (events ++ event ∷ []) key first j runs p
+    place-later : (key : RequestKey) (first j : Journal) (runs : List RunId) (p : Place P I A) →
+        PlaceTrace T events key first j runs p →
+        PlaceTrace T (events ++ event ∷ []) key first j runs p
     place-later key first j runs (walking x) v = v
     place-later key first j runs (within x stop) v = in-later key first j runs x (λ U. body_by w U x.run (body_of stop) j x.so_far) v
 
-    status-later : (key : RequestKey) (first j : Journal) (runs : List RunId) (st : Status I A) → StatusTrace T events starts key first j runs st → StatusTrace T (events ++ event ∷ []) more key first j runs st
+    status-later : (key : RequestKey) (first j : Journal) (runs : List RunId) (st : Status P I A) →
+        StatusTrace T events starts key first j runs st →
+        StatusTrace T (events ++ event ∷ []) more key first j runs st
     status-later key first j runs (ready p) v = place-later key first j runs p v
     status-later key first j runs (assigned node p) v = place-later key first j runs p v
     status-later key first j runs (waits r b go) v = v
     status-later key first j runs (calling keys ids x go) v = (in-later key first j runs x (after_calls x.run x.so_far keys go j) v.0, kids-mono starts more f ids keys j v.1)
     status-later key first j runs (done res) v = v
 
-    trace-later : (q : RequestState I A) (s : Start) → Trace T events starts q s → Trace T (events ++ event ∷ []) more q s
+    trace-later : (q : RequestState P I A) (s : Start) → Trace T events starts q s →
+        Trace T (events ++ event ∷ []) more q s
     trace-later q s v = record { status = status-later s.key s.journal q.journal q.runs q.status v.status }
 
   -- one more record
@@ -164,7 +185,9 @@ module _ {I A : Type 0} (w : World I A) where
     reps-newer : (items : List Effect) (j k : Journal) → Reps (Recorded T) items j k → Reps (Recorded (fin ∷ T)) items j k
     reps-newer items j k d = reps-map (Recorded T) (Recorded (fin ∷ T)) (found-grows T fin n) d
 
-    in-newer : (key : RequestKey) (first j : Journal) (runs : List RunId) (x : Within I A) (rest : Records → Option (Record × Journal)) → LawfulJournal T j runs → InTrace T events key first j runs x rest → InTrace (fin ∷ T) events key first j runs x rest
+    in-newer : (key : RequestKey) (first j : Journal) (runs : List RunId) (x : Within P I A)
+        (rest : Records → Option (Record × Journal)) → LawfulJournal T j runs →
+        InTrace T events key first j runs x rest → InTrace (fin ∷ T) events key first j runs x rest
     in-newer key first j runs x rest l (b, from, v) = (
       b,
       from,
@@ -173,23 +196,30 @@ module _ {I A : Type 0} (w : World I A) where
         fresh = v.fresh;
         so_far = reps-newer (effects_from x.run 0 x.so_far.segments) from j v.so_far;
         ran = reps-newer (map replays_run runs) first from v.ran;
+        site = v.site;
         wanted = λ U m. v.wanted U (step_newer U m);
         left = λ U m. v.left U (step_newer U m);
         begun = v.begun;
       },
     )
 
-    walk-newer : (key : RequestKey) (first j : Journal) (runs : List RunId) (x : Walk I A) → WalkTrace T key first j runs x → WalkTrace (fin ∷ T) key first j runs x
+    walk-newer : (key : RequestKey) (first j : Journal) (runs : List RunId) (x : Walk P I A) →
+        WalkTrace T key first j runs x → WalkTrace (fin ∷ T) key first j runs x
     walk-newer key first j runs x v = (reps-newer (map replays_run runs) first j v.0, λ U m. v.1 U (step_newer U m))
 
-    place-newer : (key : RequestKey) (first j : Journal) (runs : List RunId) (p : Place I A) → LawfulJournal T j runs → PlaceTrace T events key first j runs p → PlaceTrace (fin ∷ T) events key first j runs p
+    place-newer : (key : RequestKey) (first j : Journal) (runs : List RunId) (p : Place P I A) →
+        LawfulJournal T j runs → PlaceTrace T events key first j runs p →
+        PlaceTrace (fin ∷ T) events key first j runs p
     place-newer key first j runs (walking x) l v = walk-newer key first j runs x v
     place-newer key first j runs (within x stop) l v = in-newer key first j runs x (λ U. body_by w U x.run (body_of stop) j x.so_far) l v
 
-    status-newer : (key : RequestKey) (first j : Journal) (runs : List RunId) (st : Status I A) → LawfulJournal T j runs → StatusTrace T events starts key first j runs st → StatusTrace (fin ∷ T) events starts key first j runs st
+    status-newer : (key : RequestKey) (first j : Journal) (runs : List RunId) (st : Status P I A) →
+        LawfulJournal T j runs → StatusTrace T events starts key first j runs st →
+        StatusTrace (fin ∷ T) events starts key first j runs st
     status-newer key first j runs (ready p) l v = place-newer key first j runs p l v
     status-newer key first j runs (assigned node p) l v = place-newer key first j runs p l v
-    status-newer key first j runs (waits r b go) l v = walk-newer key first j runs (wants r b go) v
+    status-newer key first j runs (waits r b go) l v =
+        (v.0, walk-newer key first j runs (wants v.0 r b go) v.1)
     status-newer key first j runs (calling keys ids x go) l v = (in-newer key first j runs x (after_calls x.run x.so_far keys go j) l v.0, v.1)
     status-newer key first j runs (done res) l v = (reps-newer (map replays_run res.runs) first j v.0, λ U m. v.1 U (step_newer U m))
 
@@ -202,16 +232,20 @@ module _ {I A : Type 0} (w : World I A) where
   runs_by U r (calls key keys go) j so_far = refl
 
   -- a walk that uses a record
-  walk-uses : (T : Records) → IsOnce T → (key : RequestKey) (first j : Journal) (runs : List RunId) (r : RunId) (b : Body I A) (go : Record → Journal → Walk I A) (m : Record) (k : Journal) → Recorded T r m → replay T r j ≡ Some k →
-      WalkTrace T key first j runs (wants r b go) → WalkTrace T key first k (runs ++ r ∷ []) (go m k)
-  walk-uses T once key first j runs r b go m k f h v = (
+  walk-uses : (T : Records) → IsOnce T → (key : RequestKey) (first j : Journal) (runs : List RunId)
+      (site : P) (r : RunId) (b : Body I A) (go : Record → Journal → Walk P I A) (m : Record)
+      (k : Journal) → Recorded T r m → replay T r j ≡ Some k →
+      WalkTrace T key first j runs (wants site r b go) → WalkTrace T key first k (runs ++ r ∷ [])
+      (go m k)
+  walk-uses T once key first j runs site r b go m k f h v = (
     reps-run runs r v.0 (replay-rep T once r j k h),
     λ U n. v.1 U n
         ∙ (ap (λ o. and_then o (λ made. and_then (replay U r j) (λ next. walk_by w U (go made next) next (runs ++ r ∷ [])))) (newer-found n r m f)
         ∙ ap (λ o. and_then o (λ next. walk_by w U (go m next) next (runs ++ r ∷ []))) (newer-replay n r j (m, f) ∙ h)),
   )
 
-  put-traced : (events : List Event) (event : Event) (s : State I A) (starts : List Start) (id : ℕ) (q z : RequestState I A) → Traced events s starts → at s.requests id ≡ Some q →
+  put-traced : (events : List Event) (event : Event) (s : State P I A) (starts : List Start)
+      (id : ℕ) (q z : RequestState P I A) → Traced events s starts → at s.requests id ≡ Some q →
       ((a : Start) → Trace s.table events starts q a → Trace s.table (events ++ event ∷ []) starts z a) → Traced (events ++ event ∷ []) (with_request s id z) starts
   put-traced events event s starts id q z v e f = record {
     each = Paired-put (Trace s.table events starts) (Trace s.table (events ++ event ∷ []) starts) (trace-later s.table events event starts starts (λ i g h. h)) q z f s.requests id starts v.each e;
@@ -219,33 +253,45 @@ module _ {I A : Type 0} (w : World I A) where
   }
 
   module _ (events : List Event) (event : Event) where
-    abbrev pub Next : State I A → List Start → Type 0
+    abbrev pub Next : State P I A → List Start → Type 0
     Next t starts = Traced (events ++ event ∷ []) t starts
 
-    assign-traced : (s : State I A) (starts : List Start) (id node : ℕ) (o : Origin) (j : Journal) (runs : List RunId) (st : Status I A) (t : State I A) → Traced events s starts →
+    assign-traced : (s : State P I A) (starts : List Start) (id node : ℕ) (o : Origin) (j : Journal)
+        (runs : List RunId) (st : Status P I A) (t : State P I A) → Traced events s starts →
         at s.requests id ≡ Some (request_of o j runs st) → assign_at w s id node o j runs st ≡ Some t → Next t starts
     assign-traced s starts id node o j runs (ready p) t v e h =
-        let z : RequestState I A = request_of o j runs (assigned node p) in
-        subst (λ (u : State I A). Next u starts) (some-is (with_request s id z) t h) (put-traced events event s starts id (request_of o j runs (ready p)) z v e
+        let z : RequestState P I A = request_of o j runs (assigned node p) in
+        subst (λ (u : State P I A). Next u starts) (some-is (with_request s id z) t h)
+        (put-traced events event s starts id (request_of o j runs (ready p)) z v e
         (λ a x. record { status = place-later s.table events event starts starts (λ i g h. h) a.key a.journal j runs p x.status }))
     assign-traced s starts id node o j runs _ t v e h = absurd (cc)
 
-    retire-traced : (s : State I A) (starts : List Start) (id node : ℕ) (o : Origin) (j : Journal) (runs : List RunId) (st : Status I A) (t : State I A) → Traced events s starts →
+    retire-traced : (s : State P I A) (starts : List Start) (id node : ℕ) (o : Origin) (j : Journal)
+        (runs : List RunId) (st : Status P I A) (t : State P I A) → Traced events s starts →
         at s.requests id ≡ Some (request_of o j runs st) → retire_at w s id node o j runs st ≡ Some t → Next t starts
     retire-traced s starts id node o j runs (assigned by p) t v e h =
-        let z : RequestState I A = request_of o j runs (ready p) in
-        subst (λ (u : State I A). Next u starts) (only_if-some (by == node) (with_request s id z) t h).1 (put-traced events event s starts id (request_of o j runs (assigned by p)) z v e
+        let z : RequestState P I A = request_of o j runs (ready p) in
+        subst (λ (u : State P I A). Next u starts) (only_if-some (by == node)
+        (with_request s id z) t h).1 (put-traced events event s starts id (request_of o j runs
+        (assigned by p)) z v e
         (λ a x. record { status = place-later s.table events event starts starts (λ i g h. h) a.key a.journal j runs p x.status }))
     retire-traced s starts id node o j runs _ t v e h = absurd (cc)
 
-    claimed-traced : (s : State I A) (starts : List Start) (id node : ℕ) (o : Origin) (j : Journal) (runs : List RunId) (r : RunId) (b : Body I A) (go : Record → Journal → Walk I A) (kind : ClaimKind) (t : State I A) → event ≡ Claim id r kind → IsHistory w events s →
-        Lawful s → Traced events s starts → at s.requests id ≡ Some (request_of o j runs (assigned node (walking (wants r b go)))) → claimed w s id node o j runs r b go kind ≡ Some t → Next t starts
-    claimed-traced s starts id node o j runs r b go Go t ev hist l v e h =
-        let q : RequestState I A = request_of o j runs (assigned node (walking (wants r b go))) in
-        let z : RequestState I A = in_body w (assigned node) o runs r go (run_on w.tools r b j nothing_yet) in
+    claimed-traced : (s : State P I A) (starts : List Start) (id node : ℕ) (o : Origin)
+        (j : Journal) (runs : List RunId) (site : P) (r : RunId) (b : Body I A)
+        (go : Record → Journal → Walk P I A) (kind : ClaimKind) (t : State P I A) →
+        event ≡ Claim id r kind → IsHistory w events s →
+        Lawful s → Traced events s starts → at s.requests id ≡ Some (request_of o j runs
+        (assigned node (walking (wants site r b go)))) → claimed w s id node o j runs r b go
+        kind ≡ Some t → Next t starts
+    claimed-traced s starts id node o j runs site r b go Go t ev hist l v e h =
+        let q : RequestState P I A =
+        request_of o j runs (assigned node (walking (wants site r b go))) in
+        let z : RequestState P I A =
+        in_body w (assigned node) o runs r go (run_on w.tools r b j nothing_yet) in
         let x = unless-some (is_begun r s.begun) (record { requests = put s.requests id z; begun = record { run = r; by = id } ∷ s.begun; table = s.table; tools_used = s.tools_used }) t h in
         let lq = (l.each id q e).journal in
-        subst (λ (u : State I A). Next u starts) x.1 (record {
+        subst (λ (u : State P I A). Next u starts) x.1 (record {
           each = Paired-put (Trace s.table events starts) (Trace s.table (events ++ event ∷ []) starts) (trace-later s.table events event starts starts (λ i g h. h)) q z
               (λ a y. record {
                 status = (
@@ -256,32 +302,59 @@ module _ {I A : Type 0} (w : World I A) where
                     fresh = unfinished-fresh w s.table j runs r lq (unbegun-unfinished w s l r x.0);
                     so_far = run_on-reps (Recorded s.table) w.tools r b j j nothing_yet none;
                     ran = y.status.0;
+                    site = site;
                     wanted = y.status.1;
                     left = λ U n. runs_by U r b j nothing_yet;
-                    begun = record { before = events; later = []; state = s; id = id; node = node; request = q; go = go; events_so = ap (λ a. events ++ a ∷ []) (sym ev); history = hist; there = e; wants_so = refl; journal_so = refl };
+                    begun = record {
+                      before = events;
+                      later = [];
+                      state = s;
+                      id = id;
+                      node = node;
+                      request = q;
+                      site = site;
+                      go = go;
+                      events_so = ap (λ a. events ++ a ∷ []) (sym ev);
+                      history = hist;
+                      there = e;
+                      wants_so = refl;
+                      journal_so = refl;
+                    };
                   },
                 );
               }) s.requests id starts v.each e;
           consistent = consistent-more w events event s.table v.consistent;
         })
-    claimed-traced s starts id node o j runs r b go Use t ev hist l v e h =
+    claimed-traced s starts id node o j runs site r b go Use t ev hist l v e h =
         let x = and_then-some (found s.table r) (λ made. and_then (replay s.table r j) (λ next. Some (with_request s id (goes_on w (assigned node) o runs r go made next)))) t h in
         let y = and_then-some (replay s.table r j) (λ next. Some (with_request s id (goes_on w (assigned node) o runs r go x.0 next))) t x.2 in
-        let z : RequestState I A = goes_on w (assigned node) o runs r go x.0 y.0 in
-        subst (λ (u : State I A). Next u starts) (some-is (with_request s id z) t y.2) (put-traced events event s starts id (request_of o j runs (assigned node (walking (wants r b go)))) z v e
-        (λ a c. record { status = walk-uses s.table l.once a.key a.journal j runs r b go x.0 y.0 x.1 y.1 c.status }))
-    claimed-traced s starts id node o j runs r b go Wait t ev hist l v e h =
-        let next : State I A = waiting w s id o j runs r b go in
+        let z : RequestState P I A = goes_on w (assigned node) o runs r go x.0 y.0 in
+        subst (λ (u : State P I A). Next u starts) (some-is (with_request s id z) t y.2)
+        (put-traced events event s starts id (request_of o j runs
+        (assigned node (walking (wants site r b go)))) z v e
+        (λ a c. record {
+          status = walk-uses s.table l.once a.key a.journal j runs site r b go x.0
+              y.0 x.1 y.1 c.status;
+        }))
+    claimed-traced s starts id node o j runs site r b go Wait t ev hist l v e h =
+        let next : State P I A = waiting w s id o j runs r b go in
         let x = only_if-some (may_wait w (is_begun r s.begun) (found s.table r) (is_in_cycle next r)) next t h in
-        subst (λ (u : State I A). Next u starts) x.1 (put-traced events event s starts id (request_of o j runs (assigned node (walking (wants r b go)))) (request_of o j runs (waits r b go)) v e
-        (λ a c. record { status = c.status }))
+        subst (λ (u : State P I A). Next u starts) x.1 (put-traced events event s starts id
+        (request_of o j runs (assigned node (walking (wants site r b go)))) (request_of o j runs
+        (waits r b go)) v e
+        (λ a c. record { status = (site, c.status) }))
 
-    claim-traced : (s : State I A) (starts : List Start) (id : ℕ) (run : RunId) (kind : ClaimKind) (o : Origin) (j : Journal) (runs : List RunId) (st : Status I A) (t : State I A) → event ≡ Claim id run kind → IsHistory w events s →
+    claim-traced : (s : State P I A) (starts : List Start) (id : ℕ) (run : RunId) (kind : ClaimKind)
+        (o : Origin) (j : Journal) (runs : List RunId) (st : Status P I A) (t : State P I A) →
+        event ≡ Claim id run kind → IsHistory w events s →
         Lawful s → Traced events s starts → at s.requests id ≡ Some (request_of o j runs st) → claim_at w s id run kind o j runs st ≡ Some t → Next t starts
-    claim-traced s starts id run kind o j runs (assigned node (walking (wants r b go))) t ev hist l v e h =
+    claim-traced s starts id run kind o j runs (assigned node (walking (wants site r b go))) t ev
+        hist l v e h =
         let x = and_then-some (only_if (same_run r run) r) (λ run. claimed w s id node o j runs run b go kind) t h in
         let y = only_if-some (same_run r run) r x.0 x.1 in
-        claimed-traced s starts id node o j runs r b go kind t (ev ∙ ap (λ n. Claim id n kind) (sym (same_run-true r run y.0))) hist l v e (subst (λ n. claimed w s id node o j runs n b go kind ≡ Some t) (sym y.1) x.2)
+        claimed-traced s starts id node o j runs site r b go kind t (ev ∙ ap (λ n. Claim id n kind)
+        (sym (same_run-true r run y.0))) hist l v e
+        (subst (λ n. claimed w s id node o j runs n b go kind ≡ Some t) (sym y.1) x.2)
     claim-traced s starts id run kind o j runs _ t ev hist l v e h = absurd (cc)
 
     length-more : {X : Type 0} (xs : List X) (x : X) → length (xs ++ x ∷ []) ≡ suc (length xs)
@@ -302,13 +375,17 @@ module _ {I A : Type 0} (w : World I A) where
           subst (λ (n : ℕ). Kids more (numbered_from n keys) keys j) (length-more goals g) (kids-match (goals ++ g ∷ []) j keys more (h ∙ sym (append_assoc goals (g ∷ []) (starts_of j keys)))),
         )
 
-    children-traced : (s : State I A) (starts : List Start) (id node : ℕ) (o : Origin) (j : Journal) (runs : List RunId) (x : Within I A) (key : RequestKey) (more : List RequestKey) (go : List RequestResult → Journal → Body I A) → Traced events s starts →
+    children-traced : (s : State P I A) (starts : List Start) (id node : ℕ) (o : Origin)
+        (j : Journal) (runs : List RunId) (x : Within P I A) (key : RequestKey)
+        (more : List RequestKey) (go : List RequestResult → Journal → Body I A) →
+        Traced events s starts →
         at s.requests id ≡ Some (request_of o j runs (assigned node (within x (asks key more go)))) → Next (with_children w s id o j runs (key ∷ more) x go) (starts ++ starts_of j (key ∷ more))
     children-traced s starts id node o j runs x key more go v e =
         let keys : List RequestKey = key ∷ more in
-        let q : RequestState I A = request_of o j runs (assigned node (within x (asks key more go))) in
+        let q : RequestState P I A =
+        request_of o j runs (assigned node (within x (asks key more go))) in
         let ids : List ℕ = numbered_from (length s.requests) keys in
-        let z : RequestState I A = request_of o j runs (calling keys ids x go) in
+        let z : RequestState P I A = request_of o j runs (calling keys ids x go) in
         let all : List Start = starts ++ starts_of j keys in
         let here = Paired-some (Trace s.table events starts) s.requests starts id q v.each e in
         let kids : Kids all ids keys j = subst (λ (n : ℕ). Kids all (numbered_from n keys) keys j) (sym (Paired-length (Trace s.table events starts) s.requests starts v.each)) (kids-match starts j keys all refl) in
@@ -322,33 +399,50 @@ module _ {I A : Type 0} (w : World I A) where
           consistent = consistent-more w events event s.table v.consistent;
         }
 
-    request-traced : (s : State I A) (starts : List Start) (id : ℕ) (keys : List RequestKey) (o : Origin) (j : Journal) (runs : List RunId) (st : Status I A) (t : State I A) → Traced events s starts →
+    request-traced : (s : State P I A) (starts : List Start) (id : ℕ) (keys : List RequestKey)
+        (o : Origin) (j : Journal) (runs : List RunId) (st : Status P I A) (t : State P I A) →
+        Traced events s starts →
         at s.requests id ≡ Some (request_of o j runs st) → request_at w s id keys o j runs st ≡ Some t → (starts2 : List Start) × Next t (starts ++ starts2)
     request-traced s starts id keys o j runs (assigned node (within x (asks key more go))) t v e h =
-        let y = only_if-some (same_keys (key ∷ more) keys && is_within_limits w s (x.run ∷ o.path) (key ∷ more)) (with_children w s id o j runs (key ∷ more) x go) t h in
-        (starts_of j (key ∷ more), subst (λ (u : State I A). Next u (starts ++ starts_of j (key ∷ more))) y.1 (children-traced s starts id node o j runs x key more go v e))
+        let y = only_if-some (same_keys (key ∷ more) keys && is_within_limits w s (x.run ∷ o.path) (key ∷ more)) (with_children w s id o j runs (key ∷ more) x go) t h in (
+          starts_of j (key ∷ more),
+          subst (λ (u : State P I A). Next u (starts ++ starts_of j
+              (key ∷ more))) y.1 (children-traced s starts id node o j runs x key more go v e),
+        )
     request-traced s starts id keys o j runs _ t v e h = absurd (cc)
 
     -- a run is finished
-    woken-traced : (T : Records) (fin : FinishedRun) → found T fin.run ≡ None → IsOnce (fin ∷ T) → (starts : List Start) (q t : RequestState I A) (a : Start) → LawfulJournal T q.journal q.runs → (st : Status I A) →
+    woken-traced : (T : Records) (fin : FinishedRun) → found T fin.run ≡ None → IsOnce (fin ∷ T) →
+        (starts : List Start) (q t : RequestState P I A) (a : Start) →
+        LawfulJournal T q.journal q.runs → (st : Status P I A) →
         StatusTrace T (events ++ event ∷ []) starts a.key a.journal q.journal q.runs st → StatusTrace T (events ++ event ∷ []) starts a.key a.journal q.journal q.runs q.status →
         woken_at w (fin ∷ T) fin.run fin.made q st ≡ Some t → Trace (fin ∷ T) (events ++ event ∷ []) starts t a
     woken-traced T fin n once starts q t a l (waits r b go) v same h = f (same_run r fin.run) refl h
       where
         f : (y : Bool) → same_run r fin.run ≡ y → woken_if w y (fin ∷ T) q fin.made r go ≡ Some t → Trace (fin ∷ T) (events ++ event ∷ []) starts t a
-        f false e h = subst (λ (u : RequestState I A). Trace (fin ∷ T) (events ++ event ∷ []) starts u a) (some-is q t h)
+        f false e h =
+            subst (λ (u : RequestState P I A). Trace (fin ∷ T) (events ++ event ∷ []) starts u a)
+            (some-is q t h)
             (record { status = status-newer T fin n (events ++ event ∷ []) starts a.key a.journal q.journal q.runs q.status l same })
         f true e h =
             let y = and_then-some (replay (fin ∷ T) r q.journal) (λ next. Some (goes_on w ready q.origin q.runs r go fin.made next)) t h in
             let rec : Recorded (fin ∷ T) r fin.made = subst (λ x. Recorded (fin ∷ T) x fin.made) (sym (same_run-true r fin.run e)) (found-newest T fin) in
-            subst (λ (u : RequestState I A). Trace (fin ∷ T) (events ++ event ∷ []) starts u a) (some-is (goes_on w ready q.origin q.runs r go fin.made y.0) t y.2)
-            (record { status = walk-uses (fin ∷ T) once a.key a.journal q.journal q.runs r b go fin.made y.0 rec y.1 (walk-newer T fin n (events ++ event ∷ []) starts a.key a.journal q.journal q.runs (wants r b go) v) })
+            subst (λ (u : RequestState P I A). Trace (fin ∷ T) (events ++ event ∷ []) starts u a)
+            (some-is (goes_on w ready q.origin q.runs r go fin.made y.0) t y.2)
+            (record {
+              status = walk-uses (fin ∷ T) once a.key a.journal q.journal q.runs v.0 r b go fin.made
+                  y.0 rec y.1 (walk-newer T fin n (events ++ event ∷ []) starts a.key a.journal
+                  q.journal q.runs (wants v.0 r b go) v.1);
+            })
     woken-traced T fin n once starts q t a l _ v same h =
-        subst (λ (u : RequestState I A). Trace (fin ∷ T) (events ++ event ∷ []) starts u a) (some-is q t h)
+        subst (λ (u : RequestState P I A). Trace (fin ∷ T) (events ++ event ∷ []) starts u a)
+        (some-is q t h)
         (record { status = status-newer T fin n (events ++ event ∷ []) starts a.key a.journal q.journal q.runs q.status l same })
 
     -- the record that a body has made, at the end of its walk's replay
-    ends-walk : (T : Records) (x : Within I A) (outcome : Outcome) (key : RequestKey) (first j : Journal) (runs : List RunId) (n : found T x.run ≡ None) → IsOrdered (record { run = x.run; made = recorded outcome x.so_far.segments } ∷ T) →
+    ends-walk : (T : Records) (x : Within P I A) (outcome : Outcome) (key : RequestKey)
+        (first j : Journal) (runs : List RunId) (n : found T x.run ≡ None) →
+        IsOrdered (record { run = x.run; made = recorded outcome x.so_far.segments } ∷ T) →
         IsOnce (record { run = x.run; made = recorded outcome x.so_far.segments } ∷ T) → InTrace T events key first j runs x (λ U. body_by w U x.run (makes outcome) j x.so_far) →
         WalkTrace (record { run = x.run; made = recorded outcome x.so_far.segments } ∷ T) key first (add j (ended x.run (recorded outcome x.so_far.segments))) (runs ++ x.run ∷ [])
         (x.go (recorded outcome x.so_far.segments) (add j (ended x.run (recorded outcome x.so_far.segments))))
@@ -359,27 +453,37 @@ module _ {I A : Type 0} (w : World I A) where
         let y = replay-total (fin ∷ T) ordered x.run from (m, mine) in
         let d : Rep (Recorded (fin ∷ T)) (replays_run x.run) from (add j (ended x.run m)) = new v.fresh mine (reps-newer T fin n events [] (effects_from x.run 0 x.so_far.segments) from j v.so_far) in
         let k : y.0 ≡ add j (ended x.run m) = rep-one (Recorded (fin ∷ T)) (one_record (fin ∷ T)) (replay-rep (fin ∷ T) once x.run from y.0 y.1) (add j (ended x.run m)) d in
-        walk-uses (fin ∷ T) once key first from runs x.run b x.go m (add j (ended x.run m)) mine (y.1 ∙ ap Some k)
+        walk-uses (fin ∷ T) once key first from runs v.site x.run b x.go m
+        (add j (ended x.run m)) mine (y.1 ∙ ap Some k)
         (reps-newer T fin n events [] (map replays_run runs) first from v.ran, λ U u. v.wanted U (step_newer T fin n events [] U u))
 
-    finished-traced : (s : State I A) (starts : List Start) (id node : ℕ) (o : Origin) (j : Journal) (runs : List RunId) (x : Within I A) (outcome : Outcome) (t : State I A) → Lawful s → Traced events s starts →
+    finished-traced : (s : State P I A) (starts : List Start) (id node : ℕ) (o : Origin)
+        (j : Journal) (runs : List RunId) (x : Within P I A) (outcome : Outcome) (t : State P I A) →
+        Lawful s → Traced events s starts →
         at s.requests id ≡ Some (request_of o j runs (assigned node (within x (ends outcome)))) → finished w s id node o j runs x (recorded outcome x.so_far.segments) ≡ Some t → Next t starts
     finished-traced s starts id node o j runs x outcome t l v e h =
         let m : Record = recorded outcome x.so_far.segments in
         let fin : FinishedRun = record { run = x.run; made = m } in
-        let q : RequestState I A = request_of o j runs (assigned node (within x (ends outcome))) in
-        let z : RequestState I A = goes_on w (assigned node) o runs x.run x.go m (add j (ended x.run m)) in
+        let q : RequestState P I A =
+        request_of o j runs (assigned node (within x (ends outcome))) in
+        let z : RequestState P I A =
+        goes_on w (assigned node) o runs x.run x.go m (add j (ended x.run m)) in
         let lq = l.each id q e in
         let b = lq.status.1 in
         let n : found s.table x.run ≡ None = b.unfinished in
         let c = reps-closed (Recorded s.table) (one_record s.table) b.so_far b.from_closed in
         let ordered : IsOrdered (fin ∷ s.table) = ((λ r i. ended-finished s.table j runs lq.journal r (HasAll-in (effects_of x.run m) j (replays_run r) c.0 i)), l.ordered) in
         let u = and_then-some (traverse (woken w (fin ∷ s.table) x.run m) (put s.requests id z)) (λ requests. Some (record { requests = requests; begun = s.begun; table = fin ∷ s.table; tools_used = record { run = x.run; tools = x.so_far.tools } ∷ s.tools_used })) t h in
-        let last : State I A = record { requests = u.0; begun = s.begun; table = fin ∷ s.table; tools_used = record { run = x.run; tools = x.so_far.tools } ∷ s.tools_used } in
+        let last : State P I A = record {
+          requests = u.0;
+          begun = s.begun;
+          table = fin ∷ s.table;
+          tools_used = record { run = x.run; tools = x.so_far.tools } ∷ s.tools_used;
+        } in
         let here = Paired-some (Trace s.table events starts) s.requests starts id q v.each e in
         let mine = here.1.status in
         let later : List Event = events ++ event ∷ [] in
-        subst (λ (u : State I A). Next u starts) (some-is last t u.2) (record {
+        subst (λ (u : State P I A). Next u starts) (some-is last t u.2) (record {
           each = Paired-traverse (λ y a. ((y ≡ z) × Trace (fin ∷ s.table) later starts z a) ⊎ Trace s.table later starts y a) (Trace (fin ∷ s.table) later starts) (woken w (fin ∷ s.table) x.run m) (put s.requests id z) u.0 starts
               (Paired-put (Trace s.table events starts) (λ y a. ((y ≡ z) × Trace (fin ∷ s.table) later starts z a) ⊎ Trace s.table later starts y a)
               (λ y a c. inr (trace-later s.table events event starts starts (λ i g h. h) y a c)) q z
@@ -387,13 +491,19 @@ module _ {I A : Type 0} (w : World I A) where
               u.1
               (λ i y k a at_i c woke. elim c [
                 | inl d ↦
-                    let zk : Some z ≡ Some k = subst (λ (g : RequestState I A). woken w (fin ∷ s.table) x.run m g ≡ Some k) d.0 woke in
-                    subst (λ (g : RequestState I A). Trace (fin ∷ s.table) later starts g a) (some-is z k zk) d.1
+                    let zk : Some z ≡ Some k = subst (λ (g : RequestState P I A). woken w
+                    (fin ∷ s.table) x.run m g ≡ Some k) d.0 woke in
+                    subst (λ (g : RequestState P I A). Trace (fin ∷ s.table) later starts g a)
+                    (some-is z k zk) d.1
                 | inr d ↦ elim (at-put s.requests id z i y at_i) [
                   | inl r ↦
-                      let zk : Some z ≡ Some k = subst (λ (g : RequestState I A). woken w (fin ∷ s.table) x.run m g ≡ Some k) (sym r.1) woke in
-                      let tz : Trace s.table later starts z a = subst (λ (g : RequestState I A). Trace s.table later starts g a) (sym r.1) d in
-                      subst (λ (g : RequestState I A). Trace (fin ∷ s.table) later starts g a) (some-is z k zk)
+                      let zk : Some z ≡ Some k = subst (λ (g : RequestState P I A). woken w
+                      (fin ∷ s.table) x.run m g ≡ Some k) (sym r.1) woke in
+                      let tz : Trace s.table later starts z a =
+                      subst (λ (g : RequestState P I A). Trace s.table later starts g a)
+                      (sym r.1) d in
+                      subst (λ (g : RequestState P I A). Trace (fin ∷ s.table) later starts g a)
+                      (some-is z k zk)
                       (record { status = walk-newer s.table fin n later starts a.key a.journal z.journal z.runs (x.go m (add j (ended x.run m))) tz.status })
                   | inr r ↦ woken-traced s.table fin n (n, l.once) starts y k a (l.each i y r.1).journal y.status d.status d.status woke
                 ]
@@ -401,22 +511,32 @@ module _ {I A : Type 0} (w : World I A) where
           consistent = ((mine.0, mine.1, j, begun-more w events event x.run mine.0 mine.1 mine.2.begun, mine.2.left s.table same_table), consistent-more w events event s.table v.consistent);
         })
 
-    result-traced : (s : State I A) (starts : List Start) (id : ℕ) (run : RunId) (o : Origin) (j : Journal) (runs : List RunId) (st : Status I A) (t : State I A) → Lawful s → Traced events s starts →
+    result-traced : (s : State P I A) (starts : List Start) (id : ℕ) (run : RunId) (o : Origin)
+        (j : Journal) (runs : List RunId) (st : Status P I A) (t : State P I A) → Lawful s →
+        Traced events s starts →
         at s.requests id ≡ Some (request_of o j runs st) → result_at w s id run o j runs st ≡ Some t → Next t starts
     result-traced s starts id run o j runs (assigned node (within x (ends outcome))) t l v e h =
         let y = and_then-some (only_if (same_run x.run run) x) (λ x. finished w s id node o j runs x (recorded outcome x.so_far.segments)) t h in
         let p : x ≡ y.0 = (only_if-some (same_run x.run run) x y.0 y.1).1 in
-        finished-traced s starts id node o j runs x outcome t l v e (subst (λ (a : Within I A). finished w s id node o j runs a (recorded outcome a.so_far.segments) ≡ Some t) (sym p) y.2)
+        finished-traced s starts id node o j runs x outcome t l v e
+        (subst (λ (a : Within P I A). finished w s id node o j runs a
+        (recorded outcome a.so_far.segments) ≡ Some t) (sym p) y.2)
     result-traced s starts id run o j runs _ t l v e h = absurd (cc)
 
     -- what children have told is what their requests give
-    told-by : (T : Records) (starts : List Start) (key : RequestKey) (first j : Journal) (runs : List RunId) (st : Status I A) (res : RequestResult) → StatusTrace T (events ++ event ∷ []) starts key first j runs st → result_in w st ≡ Some res →
+    told-by : (T : Records) (starts : List Start) (key : RequestKey) (first j : Journal)
+        (runs : List RunId) (st : Status P I A) (res : RequestResult) →
+        StatusTrace T (events ++ event ∷ []) starts key first j runs st →
+        result_in w st ≡ Some res →
         Reps (Recorded T) (map replays_run res.runs) first j × Equal T (λ U. request_by w U first key) (λ U. Some (res, j))
     told-by T starts key first j runs (done r) res v h =
         subst (λ (x : RequestResult). Reps (Recorded T) (map replays_run x.runs) first j × Equal T (λ U. request_by w U first key) (λ U. Some (x, j))) (some-is r res h) v
     told-by T starts key first j runs _ res v h = absurd (cc)
 
-    kids-by : (T : Records) (all : List Start) (rs : List (RequestState I A)) (starts : List Start) → Paired (Trace T (events ++ event ∷ []) all) rs starts → (j : Journal) → ClosedBy T j → (a : Journal) → ClosedBy T a → ((m : Mark) → Has m j → Has m a) →
+    kids-by : (T : Records) (all : List Start) (rs : List (RequestState P I A))
+        (starts : List Start) → Paired (Trace T (events ++ event ∷ []) all) rs starts →
+        (j : Journal) → ClosedBy T j → (a : Journal) → ClosedBy T a →
+        ((m : Mark) → Has m j → Has m a) →
         (ids : List ℕ) (keys : List RequestKey) (results : List RequestResult) → Kids starts ids keys j → results_of w rs ids ≡ Some results →
         (k : Journal) × Reps (Recorded T) (map replays_run (runs_of results)) a k × Equal T (λ U. calls_by w U j a keys) (λ U. Some (results, k)) × (length keys ≡ length results)
     kids-by T all rs starts v j cj a ca f [] [] results m h =
@@ -441,16 +561,21 @@ module _ {I A : Type 0} (w : World I A) where
     kids-by T all rs starts v j cj a ca f (id ∷ ids) [] results m h = absurd m
 
     -- a request is over, and then its caller may go on
-    answered-traced : (s : State I A) (starts : List Start) (id : ℕ) (o : Origin) (j : Journal) (runs : List RunId) (keys : List RequestKey) (ids : List ℕ) (x : Within I A) (go : List RequestResult → Journal → Body I A) (t : State I A) → Lawful s → Next s starts →
+    answered-traced : (s : State P I A) (starts : List Start) (id : ℕ) (o : Origin) (j : Journal)
+        (runs : List RunId) (keys : List RequestKey) (ids : List ℕ) (x : Within P I A)
+        (go : List RequestResult → Journal → Body I A) (t : State P I A) → Lawful s →
+        Next s starts →
         at s.requests id ≡ Some (request_of o j runs (calling keys ids x go)) → (reply : Option (List RequestResult)) → results_of w s.requests ids ≡ reply → answered w s id o j runs keys x go reply ≡ Some t → Next t starts
-    answered-traced s starts id o j runs keys ids x go t l v e None g h = subst (λ (u : State I A). Next u starts) (some-is s t h) v
+    answered-traced s starts id o j runs keys ids x go t l v e None g h =
+        subst (λ (u : State P I A). Next u starts) (some-is s t h) v
     answered-traced s starts id o j runs keys ids x go t l v e (Some results) g h =
-        let q : RequestState I A = request_of o j runs (calling keys ids x go) in
+        let q : RequestState P I A = request_of o j runs (calling keys ids x go) in
         let lq = (l.each id q e).journal in
         let y = and_then-some (replay_all s.table (runs_of results) j) (λ next. Some (with_request s id (in_body w ready o runs x.run x.go (run_on w.tools x.run (go results next) next (with_calls x.so_far keys results))))) t h in
         let d : Reps (Recorded s.table) (map replays_run (runs_of results)) j y.0 = replay_all-reps s.table l.once (runs_of results) j y.0 y.1 in
-        let z : RequestState I A = in_body w ready o runs x.run x.go (run_on w.tools x.run (go results y.0) y.0 (with_calls x.so_far keys results)) in
-        subst (λ (u : State I A). Next u starts) (some-is (with_request s id z) t y.2) (record {
+        let z : RequestState P I A = in_body w ready o runs x.run x.go (run_on w.tools x.run
+        (go results y.0) y.0 (with_calls x.so_far keys results)) in
+        subst (λ (u : State P I A). Next u starts) (some-is (with_request s id z) t y.2) (record {
           each = Paired-put (Trace s.table (events ++ event ∷ []) starts) (Trace s.table (events ++ event ∷ []) starts) (λ a b c. c) q z
               (λ a c. record { status = back a c.status (kids-by s.table starts s.requests starts v.each j lq.closed j lq.closed (λ m h. h) ids keys results c.status.1 g) d }) s.requests id starts v.each e;
           consistent = v.consistent;
@@ -470,6 +595,7 @@ module _ {I A : Type 0} (w : World I A) where
                 fresh = c.fresh;
                 so_far = run_on-reps (Recorded s.table) w.tools x.run (go results k) from k (with_calls x.so_far keys results) (reps-calls x.run x.so_far keys results many c.so_far d);
                 ran = c.ran;
+                site = c.site;
                 wanted = c.wanted;
                 left = λ U n. c.left U n
                     ∙ (ap (λ o. and_then o (λ y. body_by w U x.run (go y.0 y.1) y.1 (with_calls x.so_far keys y.0))) (eq U n ∙ ap (λ i. Some (results, i)) p)
@@ -478,27 +604,37 @@ module _ {I A : Type 0} (w : World I A) where
               },
             )
 
-    back_at-traced : (s : State I A) (starts : List Start) (id : ℕ) (q : RequestState I A) (st : Status I A) (t : State I A) → Lawful s → Next s starts → at s.requests id ≡ Some q → q.status ≡ st → resume_at w s id q st ≡ Some t → Next t starts
+    back_at-traced : (s : State P I A) (starts : List Start) (id : ℕ) (q : RequestState P I A)
+        (st : Status P I A) (t : State P I A) → Lawful s → Next s starts →
+        at s.requests id ≡ Some q → q.status ≡ st → resume_at w s id q st ≡ Some t → Next t starts
     back_at-traced s starts id q (calling keys ids x go) t l v e p h =
-        answered-traced s starts id q.origin q.journal q.runs keys ids x go t l v (e ∙ ap (λ (a : Status I A). Some (request_of q.origin q.journal q.runs a)) p) (results_of w s.requests ids) refl h
+        answered-traced s starts id q.origin q.journal q.runs keys ids x go t l v
+        (e ∙ ap (λ (a : Status P I A). Some (request_of q.origin q.journal q.runs a)) p)
+        (results_of w s.requests ids) refl h
     back_at-traced s starts id q _ t l v e p h = absurd (cc)
 
-    back_to-traced : (s : State I A) (starts : List Start) (parent : Option ℕ) (t : State I A) → Lawful s → Next s starts → resume_caller w s parent ≡ Some t → Next t starts
-    back_to-traced s starts None t l v h = subst (λ (u : State I A). Next u starts) (some-is s t h) v
+    back_to-traced : (s : State P I A) (starts : List Start) (parent : Option ℕ) (t : State P I A) →
+        Lawful s → Next s starts → resume_caller w s parent ≡ Some t → Next t starts
+    back_to-traced s starts None t l v h =
+        subst (λ (u : State P I A). Next u starts) (some-is s t h) v
     back_to-traced s starts (Some id) t l v h =
         let y = and_then-some (at s.requests id) (λ q. resume_at w s id q q.status) t h in
         back_at-traced s starts id y.0 y.0.status t l v y.1 refl y.2
 
-    done-traced : (s : State I A) (starts : List Start) (id : ℕ) (o : Origin) (j : Journal) (runs : List RunId) (st : Status I A) (t : State I A) → Lawful s → Traced events s starts →
+    done-traced : (s : State P I A) (starts : List Start) (id : ℕ) (o : Origin) (j : Journal)
+        (runs : List RunId) (st : Status P I A) (t : State P I A) → Lawful s →
+        Traced events s starts →
         at s.requests id ≡ Some (request_of o j runs st) → done_at w s id o j runs st ≡ Some t → Next t starts
     done-traced s starts id o j runs (assigned node (walking (gives reply))) t l v e h =
-        let z : RequestState I A = request_of o j runs (done (result_of reply runs)) in
+        let z : RequestState P I A = request_of o j runs (done (result_of reply runs)) in
         let lq = l.each id (request_of o j runs (assigned node (walking (gives reply)))) e in
         let zl = put-lawful s id z l (record { journal = lq.journal; status = lq.journal.runs_in }) in
         back_to-traced (with_request s id z) starts o.parent t zl (put-traced events event s starts id (request_of o j runs (assigned node (walking (gives reply)))) z v e (λ a c. record { status = c.status })) h
     done-traced s starts id o j runs _ t l v e h = absurd (cc)
 
-  step_of-traced : (events : List Event) (s : State I A) (starts : List Start) (event : Event) (q : RequestState I A) (t : State I A) → IsHistory w events s → Lawful s → Traced events s starts → at s.requests (whose event) ≡ Some q → step_of w s event q ≡ Some t →
+  step_of-traced : (events : List Event) (s : State P I A) (starts : List Start) (event : Event)
+      (q : RequestState P I A) (t : State P I A) → IsHistory w events s → Lawful s →
+      Traced events s starts → at s.requests (whose event) ≡ Some q → step_of w s event q ≡ Some t →
       (starts2 : List Start) × Traced (events ++ event ∷ []) t starts2
   step_of-traced events s starts (Assign id node) q t hist l v e h = (starts, assign-traced events (Assign id node) s starts id node q.origin q.journal q.runs q.status t v e h)
   step_of-traced events s starts (Claim id run kind) q t hist l v e h = (starts, claim-traced events (Claim id run kind) s starts id run kind q.origin q.journal q.runs q.status t refl hist l v e h)
@@ -507,15 +643,22 @@ module _ {I A : Type 0} (w : World I A) where
   step_of-traced events s starts (Done id) q t hist l v e h = (starts, done-traced events (Done id) s starts id q.origin q.journal q.runs q.status t l v e h)
   step_of-traced events s starts (Retire id node) q t hist l v e h = (starts, retire-traced events (Retire id node) s starts id node q.origin q.journal q.runs q.status t v e h)
 
-  pub after-more : (events : List Event) (event : Event) (s t u : State I A) → after_all w s events ≡ Some t → step w t event ≡ Some u → after_all w s (events ++ event ∷ []) ≡ Some u
-  after-more [] event s t u h g = ap (λ o. and_then o (λ next. after_all w next [])) (subst (λ (x : State I A). step w x event ≡ Some u) (sym (some-is s t h)) g)
+  pub after-more : (events : List Event) (event : Event) (s t u : State P I A) →
+      after_all w s events ≡ Some t → step w t event ≡ Some u →
+      after_all w s (events ++ event ∷ []) ≡ Some u
+  after-more [] event s t u h g =
+      ap (λ o. and_then o (λ next. after_all w next []))
+      (subst (λ (x : State P I A). step w x event ≡ Some u) (sym (some-is s t h)) g)
   after-more (first ∷ events) event s t u h g =
       let y = and_then-some (step w s first) (λ next. after_all w next events) t h in
       ap (λ o. and_then o (λ next. after_all w next (events ++ event ∷ []))) y.1 ∙ after-more events event y.0 t u y.2 g
 
-  all-traced : (past events : List Event) (s t : State I A) (starts : List Start) → IsHistory w past s → Lawful s → Traced past s starts → after_all w s events ≡ Some t → IsConsistent w (past ++ events) t.table
+  all-traced : (past events : List Event) (s t : State P I A) (starts : List Start) →
+      IsHistory w past s → Lawful s → Traced past s starts → after_all w s events ≡ Some t →
+      IsConsistent w (past ++ events) t.table
   all-traced past [] s t starts hist l v h =
-      subst (λ es. IsConsistent w es t.table) (sym (append-nil past)) (subst (λ (u : State I A). IsConsistent w past u.table) (some-is s t h) v.consistent)
+      subst (λ es. IsConsistent w es t.table) (sym (append-nil past))
+      (subst (λ (u : State P I A). IsConsistent w past u.table) (some-is s t h) v.consistent)
   all-traced past (event ∷ events) s t starts hist l v h =
       let y = and_then-some (step w s event) (λ next. after_all w next events) t h in
       let z = and_then-some (at s.requests (whose event)) (step_of w s event) y.0 y.1 in
@@ -524,6 +667,7 @@ module _ {I A : Type 0} (w : World I A) where
       (all-traced (past ++ event ∷ []) events y.0 t n.0 (after-more past event (start w) s y.0 hist y.1) (step-lawful w s event y.0 l y.1) n.1 y.2)
 
   -- the table of every legal history is consistent
-  pub consistent : (events : List Event) (s : State I A) → IsHistory w events s → IsConsistent w events s.table
+  pub consistent : (events : List Event) (s : State P I A) → IsHistory w events s →
+      IsConsistent w events s.table
   consistent events s h =
       all-traced [] events (start w) s (record { key = w.root; journal = [] } ∷ []) refl (start-lawful w) (record { each = (record { status = (none, λ U n. refl) }, tt); consistent = tt }) h

@@ -16,13 +16,16 @@ use Rattle.build_meaning.proofs.MeaningAgreed.{agrees}
 use Rattle.build_meaning.proofs.CompleteEnds.{complete}
 
 -- a record of a history is one of the meaning, and all of these are in a complete table
-carried : {I A : Type 0} (out : Given I RequestResult) (s t : State I A) → Agrees out s → IsComplete out t → (r : RunId) (m : Record) → found s.table r ≡ Some m → found t.table r ≡ Some m
-carried out s t a c r m f = let b = a.occurs r m f in c.all r m b.0 b.1
+carried : {P I A : Type 0} (out : Given P I RequestResult) (s t : State P I A) → Agrees out s →
+    IsComplete out t → (r : RunId) (m : Record) → found s.table r ≡ Some m →
+    found t.table r ≡ Some m
+carried out s t a c r m f = c.all r m (a.occurs r m f)
 
-pub ends : {I A : Type 0} (w : World I A) (out : Given I RequestResult) → IsWhole w out → IsSteady out.demand → (events others : List Event) (s t : State I A) →
+pub ends : {P I A : Type 0} (w : World P I A) (out : Given P I RequestResult) → IsWhole w out →
+    IsSteady out.demand → (events others : List Event) (s t : State P I A) →
     IsHistory w events s → IsHistory w others t → (result other : RequestResult) (journal last : Journal) → EndsWith s result journal → EndsWith t other last →
     (result ≡ other) × (journal ≡ last) × SameRecords s.table t.table
-ends {I} {A} w out whole steady events others s t h g result other journal last x y =
+ends {P} {I} {A} w out whole steady events others s t h g result other journal last x y =
     let a = agrees w out whole steady events s h in
     let b = agrees w out whole steady others t g in
     let p = a.root result journal x in

@@ -111,29 +111,38 @@ run_on-reps P tools r (does p go) from j so_far d =
 run_on-reps P tools r (uses name input go) from j so_far d = run_on-reps P tools r (go (tools name input)) from j (with_tool so_far name input) d
 run_on-reps P tools r (calls key keys go) from j so_far d = d
 
-module _ {I A : Type 0} where
+module _ {P I A : Type 0} where
   -- one more run is begun
-  body-begun : (begun : List BegunRun) (b : BegunRun) → is_begun b.run begun ≡ false → (table : Records) (id : ℕ) (j : Journal) (x : Within I A) →
+  body-begun : (begun : List BegunRun) (b : BegunRun) → is_begun b.run begun ≡ false →
+      (table : Records) (id : ℕ) (j : Journal) (x : Within P I A) →
       (from : Journal) × LawfulBody begun table id j x from → (from : Journal) × LawfulBody (b ∷ begun) table id j x from
   body-begun begun b n table id j x (from, v) = (from, record { from_closed = v.from_closed; fresh = v.fresh; so_far = v.so_far; mine = beginner-grows begun b n x.run id v.mine; unfinished = v.unfinished })
 
-  place-begun : (begun : List BegunRun) (b : BegunRun) → is_begun b.run begun ≡ false → (table : Records) (id : ℕ) (j : Journal) (p : Place I A) → LawfulPlace begun table id j p → LawfulPlace (b ∷ begun) table id j p
+  place-begun : (begun : List BegunRun) (b : BegunRun) → is_begun b.run begun ≡ false →
+      (table : Records) (id : ℕ) (j : Journal) (p : Place P I A) → LawfulPlace begun table id j p →
+      LawfulPlace (b ∷ begun) table id j p
   place-begun begun b n table id j (walking walk) v = tt
   place-begun begun b n table id j (within x stop) v = body-begun begun b n table id j x v
 
-  status-begun : (begun : List BegunRun) (b : BegunRun) → is_begun b.run begun ≡ false → (table : Records) (id : ℕ) (j : Journal) (st : Status I A) → LawfulStatus begun table id j st → LawfulStatus (b ∷ begun) table id j st
+  status-begun : (begun : List BegunRun) (b : BegunRun) → is_begun b.run begun ≡ false →
+      (table : Records) (id : ℕ) (j : Journal) (st : Status P I A) →
+      LawfulStatus begun table id j st → LawfulStatus (b ∷ begun) table id j st
   status-begun begun b n table id j (ready p) v = place-begun begun b n table id j p v
   status-begun begun b n table id j (assigned node p) v = place-begun begun b n table id j p v
   status-begun begun b n table id j (waits r body go) v = (or_right (same_run b.run r) (is_begun r begun) v.0, v.1)
   status-begun begun b n table id j (calling keys ids x go) v = (body-begun begun b n table id j x v.0, v.1)
   status-begun begun b n table id j (done result) v = v
 
-  request-begun : (begun : List BegunRun) (b : BegunRun) → is_begun b.run begun ≡ false → (table : Records) (id : ℕ) (q : RequestState I A) → LawfulRequest begun table id q → LawfulRequest (b ∷ begun) table id q
+  request-begun : (begun : List BegunRun) (b : BegunRun) → is_begun b.run begun ≡ false →
+      (table : Records) (id : ℕ) (q : RequestState P I A) → LawfulRequest begun table id q →
+      LawfulRequest (b ∷ begun) table id q
   request-begun begun b n table id q v = record { journal = v.journal; status = status-begun begun b n table id q.journal q.status v.status }
 
   -- one more run is finished, by another request
   body-finished : (begun : List BegunRun) (table : Records) (f : FinishedRun) (by id : ℕ) → found table f.run ≡ None → beginner begun f.run ≡ Some by → (id ≡ by → ⊥) →
-      (j : Journal) (runs : List RunId) → LawfulJournal table j runs → (x : Within I A) → (from : Journal) × LawfulBody begun table id j x from → (from : Journal) × LawfulBody begun (f ∷ table) id j x from
+      (j : Journal) (runs : List RunId) → LawfulJournal table j runs → (x : Within P I A) →
+      (from : Journal) × LawfulBody begun table id j x from → (from : Journal) × LawfulBody begun
+      (f ∷ table) id j x from
   body-finished begun table f by id n o d j runs g x (from, v) = (
     from,
     record {
@@ -149,63 +158,91 @@ module _ {I A : Type 0} where
   )
 
   place-finished : (begun : List BegunRun) (table : Records) (f : FinishedRun) (by id : ℕ) → found table f.run ≡ None → beginner begun f.run ≡ Some by → (id ≡ by → ⊥) →
-      (j : Journal) (runs : List RunId) → LawfulJournal table j runs → (p : Place I A) → LawfulPlace begun table id j p → LawfulPlace begun (f ∷ table) id j p
+      (j : Journal) (runs : List RunId) → LawfulJournal table j runs → (p : Place P I A) →
+      LawfulPlace begun table id j p → LawfulPlace begun (f ∷ table) id j p
   place-finished begun table f by id n o d j runs g (walking walk) v = tt
   place-finished begun table f by id n o d j runs g (within x stop) v = body-finished begun table f by id n o d j runs g x v
 
   -- a request that doesn't wait for the run stays, and one that waits goes on with the record
-  woken_if-lawful : (w : World I A) (begun : List BegunRun) (table : Records) (f : FinishedRun) (id : ℕ) → found table f.run ≡ None → IsOnce (f ∷ table) → (q t : RequestState I A) (r : RunId) (b : Body I A) (go : Record → Journal → Walk I A) →
+  woken_if-lawful : (w : World P I A) (begun : List BegunRun) (table : Records) (f : FinishedRun)
+      (id : ℕ) → found table f.run ≡ None → IsOnce (f ∷ table) →
+      (q t : RequestState P I A) (r : RunId) (b : Body I A) (go : Record → Journal → Walk P I A) →
       LawfulRequest begun table id q → q.status ≡ waits r b go → (y : Bool) → same_run r f.run ≡ y → woken_if w y (f ∷ table) q f.made r go ≡ Some t → LawfulRequest begun (f ∷ table) id t
   woken_if-lawful w begun table f id n once q t r b go v e true y h =
       let x = and_then-some (replay (f ∷ table) r q.journal) (λ next. Some (goes_on w ready q.origin q.runs r go f.made next)) t h in
-      let z : RequestState I A = goes_on w ready q.origin q.runs r go f.made x.0 in
+      let z : RequestState P I A = goes_on w ready q.origin q.runs r go f.made x.0 in
       let p : z ≡ t = some-is z t x.2 in
       let zl : LawfulRequest begun (f ∷ table) id z = record {
         journal = journal-ran (f ∷ table) r q.journal x.0 q.runs (replay-rep (f ∷ table) once r q.journal x.0 x.1) (journal-grows table f n q.journal q.runs v.journal);
         status = tt;
       } in
-      subst (λ (u : RequestState I A). LawfulRequest begun (f ∷ table) id u) p zl
+      subst (λ (u : RequestState P I A). LawfulRequest begun (f ∷ table) id u) p zl
   woken_if-lawful w begun table f id n once q t r b go v e false y h =
       let p : q ≡ t = some-is q t h in
-      let s : LawfulStatus begun table id q.journal (waits r b go) = subst (λ (u : Status I A). LawfulStatus begun table id q.journal u) e v.status in
+      let s : LawfulStatus begun table id q.journal (waits r b go) =
+      subst (λ (u : Status P I A). LawfulStatus begun table id q.journal u) e v.status in
       let no : same_run f.run r ≡ false = flip (same_run f.run r) refl in
       let zl : LawfulRequest begun (f ∷ table) id q = record {
         journal = journal-grows table f n q.journal q.runs v.journal;
-        status = subst (λ (u : Status I A). LawfulStatus begun (f ∷ table) id q.journal u) (sym e) (s.0, ap (λ b. this_or b (found table r) f.made) no ∙ s.1);
+        status =
+            subst (λ (u : Status P I A). LawfulStatus begun (f ∷ table) id q.journal u) (sym e)
+            (s.0, ap (λ b. this_or b (found table r) f.made) no ∙ s.1);
       } in
-      subst (λ (u : RequestState I A). LawfulRequest begun (f ∷ table) id u) p zl
+      subst (λ (u : RequestState P I A). LawfulRequest begun (f ∷ table) id u) p zl
     where
       flip : (c : Bool) → same_run f.run r ≡ c → same_run f.run r ≡ false
       flip true k = absurd (clash (same_run r f.run) (same_run-eq r f.run (sym (same_run-true f.run r k))) y)
       flip false k = k
 
-  stays-lawful : (begun : List BegunRun) (table : Records) (f : FinishedRun) (id : ℕ) → found table f.run ≡ None → (q t : RequestState I A) → LawfulRequest begun table id q →
+  stays-lawful : (begun : List BegunRun) (table : Records) (f : FinishedRun) (id : ℕ) →
+      found table f.run ≡ None → (q t : RequestState P I A) → LawfulRequest begun table id q →
       LawfulStatus begun (f ∷ table) id q.journal q.status → Some q ≡ Some t → LawfulRequest begun (f ∷ table) id t
   stays-lawful begun table f id n q t v s h =
-      subst (λ (u : RequestState I A). LawfulRequest begun (f ∷ table) id u) (some-is q t h) (record { journal = journal-grows table f n q.journal q.runs v.journal; status = s })
+      subst (λ (u : RequestState P I A). LawfulRequest begun (f ∷ table) id u) (some-is q t h)
+      (record { journal = journal-grows table f n q.journal q.runs v.journal; status = s })
 
-  woken_at-lawful : (begun : List BegunRun) (table : Records) (f : FinishedRun) (by id : ℕ) → found table f.run ≡ None → IsOnce (f ∷ table) → beginner begun f.run ≡ Some by → (id ≡ by → ⊥) → (q t : RequestState I A) →
-      LawfulRequest begun table id q → (w : World I A) (st : Status I A) → q.status ≡ st → woken_at w (f ∷ table) f.run f.made q st ≡ Some t → LawfulRequest begun (f ∷ table) id t
+  woken_at-lawful : (begun : List BegunRun) (table : Records) (f : FinishedRun) (by id : ℕ) →
+      found table f.run ≡ None → IsOnce (f ∷ table) → beginner begun f.run ≡ Some by →
+      (id ≡ by → ⊥) → (q t : RequestState P I A) →
+      LawfulRequest begun table id q → (w : World P I A) (st : Status P I A) → q.status ≡ st →
+      woken_at w (f ∷ table) f.run f.made q st ≡ Some t → LawfulRequest begun (f ∷ table) id t
   woken_at-lawful begun table f by id n once o d q t v w (waits r b go) e h =
       woken_if-lawful w begun table f id n once q t r b go v e (same_run r f.run) refl h
   woken_at-lawful begun table f by id n once o d q t v w (ready p) e h =
-      let s : LawfulStatus begun table id q.journal (ready p) = subst (λ (u : Status I A). LawfulStatus begun table id q.journal u) e v.status in
-      stays-lawful begun table f id n q t v (subst (λ (u : Status I A). LawfulStatus begun (f ∷ table) id q.journal u) (sym e) (place-finished begun table f by id n o d q.journal q.runs v.journal p s)) h
+      let s : LawfulStatus begun table id q.journal (ready p) =
+      subst (λ (u : Status P I A). LawfulStatus begun table id q.journal u) e v.status in
+      stays-lawful begun table f id n q t v (subst (λ (u : Status P I A). LawfulStatus begun
+      (f ∷ table) id q.journal u) (sym e) (place-finished begun table f by id n o d q.journal q.runs
+      v.journal p s)) h
   woken_at-lawful begun table f by id n once o d q t v w (assigned node p) e h =
-      let s : LawfulStatus begun table id q.journal (assigned node p) = subst (λ (u : Status I A). LawfulStatus begun table id q.journal u) e v.status in
-      stays-lawful begun table f id n q t v (subst (λ (u : Status I A). LawfulStatus begun (f ∷ table) id q.journal u) (sym e) (place-finished begun table f by id n o d q.journal q.runs v.journal p s)) h
+      let s : LawfulStatus begun table id q.journal (assigned node p) =
+      subst (λ (u : Status P I A). LawfulStatus begun table id q.journal u) e v.status in
+      stays-lawful begun table f id n q t v (subst (λ (u : Status P I A). LawfulStatus begun
+      (f ∷ table) id q.journal u) (sym e) (place-finished begun table f by id n o d q.journal q.runs
+      v.journal p s)) h
   woken_at-lawful begun table f by id n once o d q t v w (calling keys ids x go) e h =
-      let s : LawfulStatus begun table id q.journal (calling keys ids x go) = subst (λ (u : Status I A). LawfulStatus begun table id q.journal u) e v.status in
-      stays-lawful begun table f id n q t v (subst (λ (u : Status I A). LawfulStatus begun (f ∷ table) id q.journal u) (sym e) (body-finished begun table f by id n o d q.journal q.runs v.journal x s.0, s.1)) h
+      let s : LawfulStatus begun table id q.journal (calling keys ids x go) =
+      subst (λ (u : Status P I A). LawfulStatus begun table id q.journal u) e v.status in
+      stays-lawful begun table f id n q t v (subst (λ (u : Status P I A). LawfulStatus begun
+      (f ∷ table) id q.journal u) (sym e) (
+        body-finished begun table f by id n o d q.journal q.runs
+            v.journal x s.0,
+        s.1,
+      )) h
   woken_at-lawful begun table f by id n once o d q t v w (done result) e h =
-      let s : HasAll (map replays_run result.runs) q.journal = subst (λ (u : Status I A). LawfulStatus begun table id q.journal u) e v.status in
-      stays-lawful begun table f id n q t v (subst (λ (u : Status I A). LawfulStatus begun (f ∷ table) id q.journal u) (sym e) s) h
+      let s : HasAll (map replays_run result.runs) q.journal =
+      subst (λ (u : Status P I A). LawfulStatus begun table id q.journal u) e v.status in
+      stays-lawful begun table f id n q t v (subst (λ (u : Status P I A). LawfulStatus begun
+      (f ∷ table) id q.journal u) (sym e) s) h
 
   -- one request changes
-  pub put-lawful : (s : State I A) (id : ℕ) (z : RequestState I A) → Lawful s → LawfulRequest s.begun s.table id z → Lawful (with_request s id z)
+  pub put-lawful : (s : State P I A) (id : ℕ) (z : RequestState P I A) → Lawful s →
+      LawfulRequest s.begun s.table id z → Lawful (with_request s id z)
   put-lawful s id z v l = record {
     each = λ k q h. elim (at-put s.requests id z k q h) [
-      | inl p ↦ subst (λ n. LawfulRequest s.begun s.table n q) (sym p.0) (subst (λ (y : RequestState I A). LawfulRequest s.begun s.table id y) p.1 l)
+      | inl p ↦
+          subst (λ n. LawfulRequest s.begun s.table n q) (sym p.0)
+          (subst (λ (y : RequestState P I A). LawfulRequest s.begun s.table id y) p.1 l)
       | inr p ↦ v.each k q p.1
     ];
     ordered = v.ordered;
@@ -214,31 +251,39 @@ module _ {I A : Type 0} where
     table_begun = v.table_begun;
   }
 
-  abbrev pub request_of : Origin → Journal → List RunId → Status I A → RequestState I A
+  abbrev pub request_of : Origin → Journal → List RunId → Status P I A → RequestState P I A
   request_of o j runs st = record { origin = o; journal = j; runs = runs; status = st }
 
-module _ {I A : Type 0} (w : World I A) where
-  abbrev pub Moves : (State I A → Status I A → Option (State I A)) → Origin → ℕ → Journal → List RunId → Type 0
-  Moves event o id j runs = (s t : State I A) (st : Status I A) → Lawful s → at s.requests id ≡ Some (request_of o j runs st) → event s st ≡ Some t → Lawful t
+module _ {P I A : Type 0} (w : World P I A) where
+  abbrev pub Moves : (State P I A → Status P I A → Option (State P I A)) → Origin → ℕ → Journal →
+      List RunId → Type 0
+  Moves event o id j runs =
+      (s t : State P I A) (st : Status P I A) → Lawful s → at s.requests id ≡ Some
+      (request_of o j runs st) → event s st ≡ Some t → Lawful t
 
-  assign-lawful : (s : State I A) (id node : ℕ) (o : Origin) (j : Journal) (runs : List RunId) (st : Status I A) (t : State I A) → Lawful s →
+  assign-lawful : (s : State P I A) (id node : ℕ) (o : Origin) (j : Journal) (runs : List RunId)
+      (st : Status P I A) (t : State P I A) → Lawful s →
       at s.requests id ≡ Some (request_of o j runs st) → assign_at w s id node o j runs st ≡ Some t → Lawful t
   assign-lawful s id node o j runs (ready p) t v e h =
-      let z : RequestState I A = request_of o j runs (assigned node p) in
+      let z : RequestState P I A = request_of o j runs (assigned node p) in
       let l = v.each id (request_of o j runs (ready p)) e in
-      subst (λ (u : State I A). Lawful u) (some-is (with_request s id z) t h) (put-lawful s id z v (record { journal = l.journal; status = l.status }))
+      subst (λ (u : State P I A). Lawful u) (some-is (with_request s id z) t h) (put-lawful s id z v
+      (record { journal = l.journal; status = l.status }))
   assign-lawful s id node o j runs _ t v e h = absurd (cc)
 
-  retire-lawful : (s : State I A) (id node : ℕ) (o : Origin) (j : Journal) (runs : List RunId) (st : Status I A) (t : State I A) → Lawful s →
+  retire-lawful : (s : State P I A) (id node : ℕ) (o : Origin) (j : Journal) (runs : List RunId)
+      (st : Status P I A) (t : State P I A) → Lawful s →
       at s.requests id ≡ Some (request_of o j runs st) → retire_at w s id node o j runs st ≡ Some t → Lawful t
   retire-lawful s id node o j runs (assigned by p) t v e h =
-      let z : RequestState I A = request_of o j runs (ready p) in
+      let z : RequestState P I A = request_of o j runs (ready p) in
       let l = v.each id (request_of o j runs (assigned by p)) e in
-      subst (λ (u : State I A). Lawful u) (only_if-some (by == node) (with_request s id z) t h).1 (put-lawful s id z v (record { journal = l.journal; status = l.status }))
+      subst (λ (u : State P I A). Lawful u) (only_if-some (by == node) (with_request s id z) t h).1
+      (put-lawful s id z v (record { journal = l.journal; status = l.status }))
   retire-lawful s id node o j runs _ t v e h = absurd (cc)
 
   -- a run is begun
-  pub unbegun-unfinished : (s : State I A) → Lawful s → (r : RunId) → is_begun r s.begun ≡ false → found s.table r ≡ None
+  pub unbegun-unfinished : (s : State P I A) → Lawful s → (r : RunId) → is_begun r s.begun ≡ false →
+      found s.table r ≡ None
   unbegun-unfinished s v r n = go (found s.table r) refl
     where
       go : (o : Option Record) → found s.table r ≡ o → found s.table r ≡ None
@@ -255,29 +300,34 @@ module _ {I A : Type 0} (w : World I A) where
   distinct-begun [] r h = refl
   distinct-begun (b ∷ begun) r h = let x = or_neither (same_run b.run r) (is_begun r begun) h in rw (x.0, distinct-begun begun r x.1)
 
-  begin-lawful : (s : State I A) (id node : ℕ) (o : Origin) (j : Journal) (runs : List RunId) (r : RunId) (b : Body I A) (go : Record → Journal → Walk I A) → Lawful s →
-      at s.requests id ≡ Some (request_of o j runs (assigned node (walking (wants r b go)))) → is_begun r s.begun ≡ false →
+  begin-lawful : (s : State P I A) (id node : ℕ) (o : Origin) (j : Journal) (runs : List RunId)
+      (site : P) (r : RunId) (b : Body I A) (go : Record → Journal → Walk P I A) → Lawful s →
+      at s.requests id ≡ Some (request_of o j runs (assigned node (walking (wants site r b go)))) →
+      is_begun r s.begun ≡ false →
       Lawful (record { requests = put s.requests id (in_body w (assigned node) o runs r go (run_on w.tools r b j nothing_yet)); begun = record { run = r; by = id } ∷ s.begun; table = s.table; tools_used = s.tools_used })
-  begin-lawful s id node o j runs r b go v e n =
+  begin-lawful s id node o j runs site r b go v e n =
       let new_one : BegunRun = record { run = r; by = id } in
-      let l = v.each id (request_of o j runs (assigned node (walking (wants r b go)))) e in
+      let l = v.each id (request_of o j runs (assigned node (walking (wants site r b go)))) e in
       let none_yet = unbegun-unfinished s v r n in
       let added = run_on-adds (Recorded s.table) w.tools r b j nothing_yet in
       record {
         each = λ k q h. elim (at-put s.requests id (in_body w (assigned node) o runs r go (run_on w.tools r b j nothing_yet)) k q h) [
-          | inl p ↦ subst (λ n. LawfulRequest (new_one ∷ s.begun) s.table n q) (sym p.0) (subst (λ (y : RequestState I A). LawfulRequest (new_one ∷ s.begun) s.table id y) p.1 (record {
-            journal = journal-replayed s.table added.0 j (run_on w.tools r b j nothing_yet).journal runs added.1 l.journal;
-            status = (
-              j,
-              record {
-                from_closed = l.journal.closed;
-                fresh = unfinished-fresh s.table j runs r l.journal none_yet;
-                so_far = run_on-reps (Recorded s.table) w.tools r b j j nothing_yet none;
-                mine = beginner-newest s.begun new_one;
-                unfinished = none_yet;
-              },
-            );
-          }))
+          | inl p ↦
+              subst (λ n. LawfulRequest (new_one ∷ s.begun) s.table n q) (sym p.0)
+              (subst (λ (y : RequestState P I A). LawfulRequest (new_one ∷ s.begun) s.table id y)
+              p.1 (record {
+                journal = journal-replayed s.table added.0 j (run_on w.tools r b j nothing_yet).journal runs added.1 l.journal;
+                status = (
+                  j,
+                  record {
+                    from_closed = l.journal.closed;
+                    fresh = unfinished-fresh s.table j runs r l.journal none_yet;
+                    so_far = run_on-reps (Recorded s.table) w.tools r b j j nothing_yet none;
+                    mine = beginner-newest s.begun new_one;
+                    unfinished = none_yet;
+                  },
+                );
+              }))
           | inr p ↦ request-begun s.begun new_one n s.table k q (v.each k q p.1)
         ];
         ordered = v.ordered;
@@ -292,45 +342,62 @@ module _ {I A : Type 0} (w : World I A) where
   may_wait-so true (Some m) c h = absurd (cc)
   may_wait-so false o c h = absurd (cc)
 
-  claimed-lawful : (s : State I A) (id node : ℕ) (o : Origin) (j : Journal) (runs : List RunId) (r : RunId) (b : Body I A) (go : Record → Journal → Walk I A) (kind : ClaimKind) (t : State I A) → Lawful s →
-      at s.requests id ≡ Some (request_of o j runs (assigned node (walking (wants r b go)))) → claimed w s id node o j runs r b go kind ≡ Some t → Lawful t
-  claimed-lawful s id node o j runs r b go Go t v e h =
+  claimed-lawful : (s : State P I A) (id node : ℕ) (o : Origin) (j : Journal) (runs : List RunId)
+      (site : P) (r : RunId) (b : Body I A) (go : Record → Journal → Walk P I A) (kind : ClaimKind)
+      (t : State P I A) → Lawful s →
+      at s.requests id ≡ Some (request_of o j runs (assigned node (walking (wants site r b go)))) →
+      claimed w s id node o j runs r b go kind ≡ Some t → Lawful t
+  claimed-lawful s id node o j runs site r b go Go t v e h =
       let x = unless-some (is_begun r s.begun) (record { requests = put s.requests id (in_body w (assigned node) o runs r go (run_on w.tools r b j nothing_yet)); begun = record { run = r; by = id } ∷ s.begun; table = s.table; tools_used = s.tools_used }) t h in
-      subst (λ (u : State I A). Lawful u) x.1 (begin-lawful s id node o j runs r b go v e x.0)
-  claimed-lawful s id node o j runs r b go Use t v e h =
+      subst (λ (u : State P I A). Lawful u) x.1
+      (begin-lawful s id node o j runs site r b go v e x.0)
+  claimed-lawful s id node o j runs site r b go Use t v e h =
       let x = and_then-some (found s.table r) (λ made. and_then (replay s.table r j) (λ next. Some (with_request s id (goes_on w (assigned node) o runs r go made next)))) t h in
       let y = and_then-some (replay s.table r j) (λ next. Some (with_request s id (goes_on w (assigned node) o runs r go x.0 next))) t x.2 in
-      let z : RequestState I A = goes_on w (assigned node) o runs r go x.0 y.0 in
-      let l = v.each id (request_of o j runs (assigned node (walking (wants r b go)))) e in
-      subst (λ (u : State I A). Lawful u) (some-is (with_request s id z) t y.2)
+      let z : RequestState P I A = goes_on w (assigned node) o runs r go x.0 y.0 in
+      let l = v.each id (request_of o j runs (assigned node (walking (wants site r b go)))) e in
+      subst (λ (u : State P I A). Lawful u) (some-is (with_request s id z) t y.2)
       (put-lawful s id z v (record { journal = journal-ran s.table r j y.0 runs (replay-rep s.table v.once r j y.0 y.1) l.journal; status = tt }))
-  claimed-lawful s id node o j runs r b go Wait t v e h =
-      let next : State I A = waiting w s id o j runs r b go in
+  claimed-lawful s id node o j runs site r b go Wait t v e h =
+      let next : State P I A = waiting w s id o j runs r b go in
       let x = only_if-some (may_wait w (is_begun r s.begun) (found s.table r) (is_in_cycle next r)) next t h in
       let y = may_wait-so (is_begun r s.begun) (found s.table r) (is_in_cycle next r) x.0 in
-      let l = v.each id (request_of o j runs (assigned node (walking (wants r b go)))) e in
-      subst (λ (u : State I A). Lawful u) x.1 (put-lawful s id (request_of o j runs (waits r b go)) v (record { journal = l.journal; status = (y.0, y.1) }))
+      let l = v.each id (request_of o j runs (assigned node (walking (wants site r b go)))) e in
+      subst (λ (u : State P I A). Lawful u) x.1
+      (put-lawful s id (request_of o j runs (waits r b go)) v (record {
+        journal = l.journal;
+        status = (y.0, y.1);
+      }))
 
-  claim-lawful : (s : State I A) (id : ℕ) (run : RunId) (kind : ClaimKind) (o : Origin) (j : Journal) (runs : List RunId) (st : Status I A) (t : State I A) → Lawful s →
+  claim-lawful : (s : State P I A) (id : ℕ) (run : RunId) (kind : ClaimKind) (o : Origin)
+      (j : Journal) (runs : List RunId) (st : Status P I A) (t : State P I A) → Lawful s →
       at s.requests id ≡ Some (request_of o j runs st) → claim_at w s id run kind o j runs st ≡ Some t → Lawful t
-  claim-lawful s id run kind o j runs (assigned node (walking (wants r b go))) t v e h =
+  claim-lawful s id run kind o j runs (assigned node (walking (wants site r b go))) t v e h =
       let x = and_then-some (only_if (same_run r run) r) (λ run. claimed w s id node o j runs run b go kind) t h in
       let y : r ≡ x.0 = (only_if-some (same_run r run) r x.0 x.1).1 in
-      claimed-lawful s id node o j runs r b go kind t v e (subst (λ n. claimed w s id node o j runs n b go kind ≡ Some t) (sym y) x.2)
+      claimed-lawful s id node o j runs site r b go kind t v e
+      (subst (λ n. claimed w s id node o j runs n b go kind ≡ Some t) (sym y) x.2)
   claim-lawful s id run kind o j runs _ t v e h = absurd (cc)
 
   -- calls are made
-  children-lawful : (s : State I A) (id : ℕ) (o : Origin) (j : Journal) (runs : List RunId) (keys : List RequestKey) (x : Within I A) (go : List RequestResult → Journal → Body I A) → Lawful s →
+  children-lawful : (s : State P I A) (id : ℕ) (o : Origin) (j : Journal) (runs : List RunId)
+      (keys : List RequestKey) (x : Within P I A) (go : List RequestResult → Journal → Body I A) →
+      Lawful s →
       LawfulJournal s.table j runs → (from : Journal) × LawfulBody s.begun s.table id j x from → Lawful (with_children w s id o j runs keys x go)
   children-lawful s id o j runs keys x go v l b =
-      let z : RequestState I A = request_of o j runs (calling keys (numbered_from (length s.requests) keys) x go) in
+      let z : RequestState P I A =
+      request_of o j runs (calling keys (numbered_from (length s.requests) keys) x go) in
       let p = put-lawful s id z v (record { journal = l; status = (b, sym (numbered-length (length s.requests) keys)) }) in
       record {
         each = λ k q h. elim (at-append (put s.requests id z) (map (new_request w (Some id) (x.run ∷ o.path) j) keys) k q h) [
           | inl a ↦ p.each k q a
           | inr a ↦
               let c = at-map (new_request w (Some id) (x.run ∷ o.path) j) keys a.0 q a.1 in
-              subst (λ (y : RequestState I A). LawfulRequest s.begun s.table k y) c.2 (record { journal = record { closed = l.closed; entries = l.entries; runs_in = tt }; status = tt })
+              subst (λ (y : RequestState P I A). LawfulRequest s.begun s.table k y) c.2
+              (record {
+                journal = record { closed = l.closed; entries = l.entries; runs_in = tt };
+                status = tt;
+              })
         ];
         ordered = v.ordered;
         once = v.once;
@@ -338,34 +405,46 @@ module _ {I A : Type 0} (w : World I A) where
         table_begun = v.table_begun;
       }
 
-  request-lawful : (s : State I A) (id : ℕ) (keys : List RequestKey) (o : Origin) (j : Journal) (runs : List RunId) (st : Status I A) (t : State I A) → Lawful s →
+  request-lawful : (s : State P I A) (id : ℕ) (keys : List RequestKey) (o : Origin) (j : Journal)
+      (runs : List RunId) (st : Status P I A) (t : State P I A) → Lawful s →
       at s.requests id ≡ Some (request_of o j runs st) → request_at w s id keys o j runs st ≡ Some t → Lawful t
   request-lawful s id keys o j runs (assigned node (within x (asks key more go))) t v e h =
       let y = only_if-some (same_keys (key ∷ more) keys && is_within_limits w s (x.run ∷ o.path) (key ∷ more)) (with_children w s id o j runs (key ∷ more) x go) t h in
       let l = v.each id (request_of o j runs (assigned node (within x (asks key more go)))) e in
-      subst (λ (u : State I A). Lawful u) y.1 (children-lawful s id o j runs (key ∷ more) x go v l.journal l.status)
+      subst (λ (u : State P I A). Lawful u) y.1 (children-lawful s id o j runs
+      (key ∷ more) x go v l.journal l.status)
   request-lawful s id keys o j runs _ t v e h = absurd (cc)
 
   -- a run is finished
-  finished-lawful : (s : State I A) (id node : ℕ) (o : Origin) (j : Journal) (runs : List RunId) (x : Within I A) (outcome : Outcome) (t : State I A) → Lawful s →
+  finished-lawful : (s : State P I A) (id node : ℕ) (o : Origin) (j : Journal) (runs : List RunId)
+      (x : Within P I A) (outcome : Outcome) (t : State P I A) → Lawful s →
       at s.requests id ≡ Some (request_of o j runs (assigned node (within x (ends outcome)))) → finished w s id node o j runs x (recorded outcome x.so_far.segments) ≡ Some t → Lawful t
   finished-lawful s id node o j runs x outcome t v e h =
       let m : Record = recorded outcome x.so_far.segments in
       let f : FinishedRun = record { run = x.run; made = m } in
-      let z : RequestState I A = goes_on w (assigned node) o runs x.run x.go m (add j (ended x.run m)) in
+      let z : RequestState P I A =
+      goes_on w (assigned node) o runs x.run x.go m (add j (ended x.run m)) in
       let l = v.each id (request_of o j runs (assigned node (within x (ends outcome)))) e in
       let b = l.status.1 in
       let n : found s.table x.run ≡ None = b.unfinished in
       let c = reps-closed (Recorded s.table) (one_record s.table) b.so_far b.from_closed in
       let u = and_then-some (traverse (woken w (f ∷ s.table) x.run m) (put s.requests id z)) (λ requests. Some (record { requests = requests; begun = s.begun; table = f ∷ s.table; tools_used = record { run = x.run; tools = x.so_far.tools } ∷ s.tools_used })) t h in
-      let last : State I A = record { requests = u.0; begun = s.begun; table = f ∷ s.table; tools_used = record { run = x.run; tools = x.so_far.tools } ∷ s.tools_used } in
-      subst (λ (u : State I A). Lawful u) (some-is last t u.2) (record {
+      let last : State P I A = record {
+        requests = u.0;
+        begun = s.begun;
+        table = f ∷ s.table;
+        tools_used = record { run = x.run; tools = x.so_far.tools } ∷ s.tools_used;
+      } in
+      subst (λ (u : State P I A). Lawful u) (some-is last t u.2) (record {
         each = λ k q a.
             let y = at-traverse (woken w (f ∷ s.table) x.run m) (put s.requests id z) u.0 u.1 k q a in
             elim (at-put s.requests id z k y.0 y.1) [
               | inl p ↦
-                  let zy : Some z ≡ Some q = subst (λ (g : RequestState I A). woken w (f ∷ s.table) x.run m g ≡ Some q) (sym p.1) y.2 in
-                  subst (λ n. LawfulRequest s.begun (f ∷ s.table) n q) (sym p.0) (subst (λ (g : RequestState I A). LawfulRequest s.begun (f ∷ s.table) id g) (some-is z q zy)
+                  let zy : Some z ≡ Some q = subst (λ (g : RequestState P I A). woken w
+                  (f ∷ s.table) x.run m g ≡ Some q) (sym p.1) y.2 in
+                  subst (λ n. LawfulRequest s.begun (f ∷ s.table) n q) (sym p.0)
+                  (subst (λ (g : RequestState P I A). LawfulRequest s.begun (f ∷ s.table) id g)
+                  (some-is z q zy)
                   (record { journal = journal-ended s.table f n j runs l.journal c.0; status = tt }))
               | inr p ↦ woken_at-lawful s.begun s.table f id k n (n, v.once) b.mine p.0 y.0 q (v.each k y.0 p.1) w y.0.status refl y.2
             ];
@@ -378,18 +457,24 @@ module _ {I A : Type 0} (w : World I A) where
         ];
       })
 
-  result-lawful : (s : State I A) (id : ℕ) (run : RunId) (o : Origin) (j : Journal) (runs : List RunId) (st : Status I A) (t : State I A) → Lawful s →
+  result-lawful : (s : State P I A) (id : ℕ) (run : RunId) (o : Origin) (j : Journal)
+      (runs : List RunId) (st : Status P I A) (t : State P I A) → Lawful s →
       at s.requests id ≡ Some (request_of o j runs st) → result_at w s id run o j runs st ≡ Some t → Lawful t
   result-lawful s id run o j runs (assigned node (within x (ends outcome))) t v e h =
       let y = and_then-some (only_if (same_run x.run run) x) (λ x. finished w s id node o j runs x (recorded outcome x.so_far.segments)) t h in
       let p : x ≡ y.0 = (only_if-some (same_run x.run run) x y.0 y.1).1 in
-      finished-lawful s id node o j runs x outcome t v e (subst (λ (a : Within I A). finished w s id node o j runs a (recorded outcome a.so_far.segments) ≡ Some t) (sym p) y.2)
+      finished-lawful s id node o j runs x outcome t v e
+      (subst (λ (a : Within P I A). finished w s id node o j runs a
+      (recorded outcome a.so_far.segments) ≡ Some t) (sym p) y.2)
   result-lawful s id run o j runs _ t v e h = absurd (cc)
 
   -- a request is over
-  answered-lawful : (s : State I A) (id : ℕ) (o : Origin) (j : Journal) (runs : List RunId) (keys : List RequestKey) (ids : List ℕ) (x : Within I A) (go : List RequestResult → Journal → Body I A) (t : State I A) → Lawful s →
+  answered-lawful : (s : State P I A) (id : ℕ) (o : Origin) (j : Journal) (runs : List RunId)
+      (keys : List RequestKey) (ids : List ℕ) (x : Within P I A) (go : List RequestResult →
+      Journal → Body I A) (t : State P I A) → Lawful s →
       at s.requests id ≡ Some (request_of o j runs (calling keys ids x go)) → (found : Option (List RequestResult)) → results_of w s.requests ids ≡ found → answered w s id o j runs keys x go found ≡ Some t → Lawful t
-  answered-lawful s id o j runs keys ids x go t v e None g h = subst (λ (u : State I A). Lawful u) (some-is s t h) v
+  answered-lawful s id o j runs keys ids x go t v e None g h =
+      subst (λ (u : State P I A). Lawful u) (some-is s t h) v
   answered-lawful s id o j runs keys ids x go t v e (Some results) g h =
       let l = v.each id (request_of o j runs (calling keys ids x go)) e in
       let b = l.status.0.1 in
@@ -397,9 +482,10 @@ module _ {I A : Type 0} (w : World I A) where
       let d = replay_all-reps s.table v.once (runs_of results) j y.0 y.1 in
       let k = run_on w.tools x.run (go results y.0) y.0 (with_calls x.so_far keys results) in
       let added = run_on-adds (Recorded s.table) w.tools x.run (go results y.0) y.0 (with_calls x.so_far keys results) in
-      let z : RequestState I A = in_body w ready o runs x.run x.go k in
+      let z : RequestState P I A = in_body w ready o runs x.run x.go k in
       let many : length keys ≡ length results = l.status.1 ∙ traverse-length (λ id. and_then (at s.requests id) (λ q. result_in w q.status)) ids results g in
-      subst (λ (u : State I A). Lawful u) (some-is (with_request s id z) t y.2) (put-lawful s id z v (record {
+      subst (λ (u : State P I A). Lawful u) (some-is (with_request s id z) t y.2)
+      (put-lawful s id z v (record {
         journal = journal-replayed s.table added.0 y.0 k.journal runs added.1 (journal-replayed s.table (map replays_run (runs_of results)) j y.0 runs d l.journal);
         status = (
           l.status.0.0,
@@ -413,26 +499,34 @@ module _ {I A : Type 0} (w : World I A) where
         );
       }))
 
-  back_at-lawful : (s : State I A) (id : ℕ) (q : RequestState I A) (st : Status I A) (t : State I A) → Lawful s → at s.requests id ≡ Some q → q.status ≡ st → resume_at w s id q st ≡ Some t → Lawful t
+  back_at-lawful : (s : State P I A) (id : ℕ) (q : RequestState P I A) (st : Status P I A)
+      (t : State P I A) → Lawful s → at s.requests id ≡ Some q → q.status ≡ st →
+      resume_at w s id q st ≡ Some t → Lawful t
   back_at-lawful s id q (calling keys ids x go) t v e p h =
-      answered-lawful s id q.origin q.journal q.runs keys ids x go t v (e ∙ ap (λ (a : Status I A). Some (request_of q.origin q.journal q.runs a)) p) (results_of w s.requests ids) refl h
+      answered-lawful s id q.origin q.journal q.runs keys ids x go t v
+      (e ∙ ap (λ (a : Status P I A). Some (request_of q.origin q.journal q.runs a)) p)
+      (results_of w s.requests ids) refl h
   back_at-lawful s id q _ t v e p h = absurd (cc)
 
-  back_to-lawful : (s : State I A) (parent : Option ℕ) (t : State I A) → Lawful s → resume_caller w s parent ≡ Some t → Lawful t
-  back_to-lawful s None t v h = subst (λ (u : State I A). Lawful u) (some-is s t h) v
+  back_to-lawful : (s : State P I A) (parent : Option ℕ) (t : State P I A) → Lawful s →
+      resume_caller w s parent ≡ Some t → Lawful t
+  back_to-lawful s None t v h = subst (λ (u : State P I A). Lawful u) (some-is s t h) v
   back_to-lawful s (Some id) t v h =
       let y = and_then-some (at s.requests id) (λ q. resume_at w s id q q.status) t h in
       back_at-lawful s id y.0 y.0.status t v y.1 refl y.2
 
-  done-lawful : (s : State I A) (id : ℕ) (o : Origin) (j : Journal) (runs : List RunId) (st : Status I A) (t : State I A) → Lawful s →
+  done-lawful : (s : State P I A) (id : ℕ) (o : Origin) (j : Journal) (runs : List RunId)
+      (st : Status P I A) (t : State P I A) → Lawful s →
       at s.requests id ≡ Some (request_of o j runs st) → done_at w s id o j runs st ≡ Some t → Lawful t
   done-lawful s id o j runs (assigned node (walking (gives reply))) t v e h =
-      let z : RequestState I A = request_of o j runs (done (result_of reply runs)) in
+      let z : RequestState P I A = request_of o j runs (done (result_of reply runs)) in
       let l = v.each id (request_of o j runs (assigned node (walking (gives reply)))) e in
       back_to-lawful (with_request s id z) o.parent t (put-lawful s id z v (record { journal = l.journal; status = l.journal.runs_in })) h
   done-lawful s id o j runs _ t v e h = absurd (cc)
 
-  pub step_of-lawful : (s : State I A) (event : Event) (q : RequestState I A) (t : State I A) → Lawful s → at s.requests (whose event) ≡ Some q → step_of w s event q ≡ Some t → Lawful t
+  pub step_of-lawful : (s : State P I A) (event : Event) (q : RequestState P I A)
+      (t : State P I A) → Lawful s → at s.requests (whose event) ≡ Some q →
+      step_of w s event q ≡ Some t → Lawful t
   step_of-lawful s (Assign id node) q t v e h = assign-lawful s id node q.origin q.journal q.runs q.status t v e h
   step_of-lawful s (Claim id run kind) q t v e h = claim-lawful s id run kind q.origin q.journal q.runs q.status t v e h
   step_of-lawful s (Request id keys) q t v e h = request-lawful s id keys q.origin q.journal q.runs q.status t v e h
@@ -440,7 +534,8 @@ module _ {I A : Type 0} (w : World I A) where
   step_of-lawful s (Done id) q t v e h = done-lawful s id q.origin q.journal q.runs q.status t v e h
   step_of-lawful s (Retire id node) q t v e h = retire-lawful s id node q.origin q.journal q.runs q.status t v e h
 
-  pub step-lawful : (s : State I A) (event : Event) (t : State I A) → Lawful s → step w s event ≡ Some t → Lawful t
+  pub step-lawful : (s : State P I A) (event : Event) (t : State P I A) → Lawful s →
+      step w s event ≡ Some t → Lawful t
   step-lawful s event t v h =
       let y = and_then-some (at s.requests (whose event)) (step_of w s event) t h in
       step_of-lawful s event y.0 t v y.1 y.2
@@ -454,13 +549,17 @@ module _ {I A : Type 0} (w : World I A) where
     table_begun = λ r m h. absurd (cc);
   }
     where
-      first : (id : ℕ) (q : RequestState I A) → at (new_request w None [] [] w.root ∷ []) id ≡ Some q → LawfulRequest [] [] id q
-      first zero q h = subst (λ (y : RequestState I A). LawfulRequest [] [] 0 y) (some-is (new_request w None [] [] w.root) q h)
+      first : (id : ℕ) (q : RequestState P I A) →
+          at (new_request w None [] [] w.root ∷ []) id ≡ Some q → LawfulRequest [] [] id q
+      first zero q h =
+          subst (λ (y : RequestState P I A). LawfulRequest [] [] 0 y)
+          (some-is (new_request w None [] [] w.root) q h)
           (record { journal = record { closed = closed-empty (Recorded []) (one_record []); entries = λ r m i. absurd i; runs_in = tt }; status = tt })
       first (suc id) q h = absurd (cc)
 
-  pub all-lawful : (events : List Event) (s t : State I A) → Lawful s → after_all w s events ≡ Some t → Lawful t
-  all-lawful [] s t v h = subst (λ (u : State I A). Lawful u) (some-is s t h) v
+  pub all-lawful : (events : List Event) (s t : State P I A) → Lawful s →
+      after_all w s events ≡ Some t → Lawful t
+  all-lawful [] s t v h = subst (λ (u : State P I A). Lawful u) (some-is s t h) v
   all-lawful (event ∷ events) s t v h =
       let y = and_then-some (step w s event) (λ next. after_all w next events) t h in
       all-lawful events y.0 t (step-lawful s event y.0 v y.1) y.2

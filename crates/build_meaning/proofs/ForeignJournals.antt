@@ -20,12 +20,13 @@ use Rattle.build_meaning.specs.Derived.{OfBody, OfCalls}
 use Rattle.build_meaning.proofs.BuildingReplays.{agree_body, agree_calls}
 use Rattle.build_meaning.proofs.MeaningDerived.{body-sound, at_once-sound, request-sound}
 
-module _ {I A : Type 0} (w : World I A) (demand : List (Demanded I)) (steady : IsSteady demand) where
-  abbrev Among : Demanded I → Type 0
+module _ {P I A : Type 0} (w : World P I A) (demand : List (Demanded P I))
+    (steady : IsSteady demand) where
+  abbrev Among : Demanded P I → Type 0
   Among e = In e demand
 
   one : (r : RunId) (m n : Record) → IsMade demand r m → IsMade demand r n → m ≡ n
-  one r m n p q = steady r m n p.0 q.0 p.1 q.1
+  one r m n p q = steady r m n p q
 
   sound-closed : (j : Journal) → IsSound demand j → Closed (IsMade demand) one j
   sound-closed j v = record {
@@ -35,7 +36,9 @@ module _ {I A : Type 0} (w : World I A) (demand : List (Demanded I)) (steady : I
   }
 
   pub building_is_replaying : (table : Records) → HasMade demand table → (depth : ℕ) (path : List RunId) → depth + suc (length path) ≡ deepest → (run : RunId) (b : Body I A) (journal : Journal) → IsSound demand journal →
-      has (end_of run) journal ≡ false → (x : Given I (Record × List (ToolUse I))) → body w (request w depth (run ∷ path)) run b journal nothing_yet ≡ Some x → IsPart x.demand demand → IsMade demand run x.value.0 →
+      has (end_of run) journal ≡ false → (x : Given P I (Record × List (ToolUse I))) →
+      body w (request w depth (run ∷ path)) run b journal nothing_yet ≡ Some x →
+      IsPart x.demand demand → IsMade demand run x.value.0 →
       (after : Journal) → replay table run journal ≡ Some after → after ≡ add x.journal (ended run x.value.0)
   building_is_replaying table t depth path h r b j v n x e part p k g =
       let c = sound-closed j v in
@@ -45,7 +48,10 @@ module _ {I A : Type 0} (w : World I A) (demand : List (Demanded I)) (steady : I
       rep-one (IsMade demand) one (replay-sound (IsMade demand) table t r j k g) (add x.journal (ended r x.value.0)) made
 
   pub replaying_is_merging : (table : Records) → HasMade demand table → (depth : ℕ) (path : List RunId) → depth + length path ≡ deepest → (keys : List RequestKey) (journal : Journal) → IsSound demand journal →
-      (x : Given I (List RequestResult)) → at_once w (request w depth path) journal journal keys ≡ Some x → IsPart x.demand demand → (after : Journal) → replay_all table (runs_of x.value) journal ≡ Some after → after ≡ x.journal
+      (x : Given P I (List RequestResult)) →
+      at_once w (request w depth path) journal journal keys ≡ Some x → IsPart x.demand demand →
+      (after : Journal) → replay_all table (runs_of x.value) journal ≡ Some after →
+      after ≡ x.journal
   replaying_is_merging table t depth path h keys j v x e part k g =
       let c = sound-closed j v in
       let d : OfCalls w Among path j j keys x.value x.journal = at_once-sound w Among (request w depth) path (request-sound w Among depth path h) j j keys x e part in

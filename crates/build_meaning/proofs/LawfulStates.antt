@@ -104,32 +104,35 @@ pub record LawfulJournal (table : Records) (j : Journal) (runs : List RunId) : T
   pub entries : (r : RunId) (m : Record) → In (ended r m) j → Recorded table r m
   pub runs_in : HasAll (map replays_run runs) j
 
-module _ {I A : Type 0} where
+module _ {P I A : Type 0} where
   -- a body that request id has begun, whose journal is that of its beginning with what it has done so far
-  pub record LawfulBody (begun : List BegunRun) (table : Records) (id : ℕ) (j : Journal) (x : Within I A) (from : Journal) : Type 0 where
+  pub record LawfulBody (begun : List BegunRun) (table : Records) (id : ℕ) (j : Journal)
+      (x : Within P I A) (from : Journal) : Type 0 where
     pub from_closed : ClosedBy table from
     pub fresh : has (end_of x.run) from ≡ false
     pub so_far : Reps (Recorded table) (effects_from x.run 0 x.so_far.segments) from j
     pub mine : beginner begun x.run ≡ Some id
     pub unfinished : found table x.run ≡ None
 
-  abbrev pub LawfulPlace : List BegunRun → Records → ℕ → Journal → Place I A → Type 0
+  abbrev pub LawfulPlace : List BegunRun → Records → ℕ → Journal → Place P I A → Type 0
   LawfulPlace begun table id j (walking walk) = Unit {0}
   LawfulPlace begun table id j (within x stop) = (from : Journal) × LawfulBody begun table id j x from
 
-  abbrev pub LawfulStatus : List BegunRun → Records → ℕ → Journal → Status I A → Type 0
+  abbrev pub LawfulStatus : List BegunRun → Records → ℕ → Journal → Status P I A → Type 0
   LawfulStatus begun table id j (ready place) = LawfulPlace begun table id j place
   LawfulStatus begun table id j (assigned node place) = LawfulPlace begun table id j place
   LawfulStatus begun table id j (waits r b go) = (is_begun r begun ≡ true) × (found table r ≡ None)
   LawfulStatus begun table id j (calling keys ids x go) = ((from : Journal) × LawfulBody begun table id j x from) × (length keys ≡ length ids)
   LawfulStatus begun table id j (done result) = HasAll (map replays_run result.runs) j
 
-  pub record LawfulRequest (begun : List BegunRun) (table : Records) (id : ℕ) (q : RequestState I A) : Type 0 where
+  pub record LawfulRequest (begun : List BegunRun) (table : Records) (id : ℕ)
+      (q : RequestState P I A) : Type 0 where
     pub journal : LawfulJournal table q.journal q.runs
     pub status : LawfulStatus begun table id q.journal q.status
 
-  pub record Lawful (s : State I A) : Type 0 where
-    pub each : (id : ℕ) (q : RequestState I A) → at s.requests id ≡ Some q → LawfulRequest s.begun s.table id q
+  pub record Lawful (s : State P I A) : Type 0 where
+    pub each : (id : ℕ) (q : RequestState P I A) → at s.requests id ≡ Some q →
+        LawfulRequest s.begun s.table id q
     pub ordered : IsOrdered s.table
     pub once : IsOnce s.table
     pub begun_once : AreDistinct (map (λ (b : BegunRun). b.run) s.begun)

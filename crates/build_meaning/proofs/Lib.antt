@@ -28,3 +28,4 @@ pub mod NewEntries
 pub mod DerivedMeaning
 pub mod AssignedRequests
 pub mod Unsteady
+pub mod Derivations

@@ -12,7 +12,25 @@ use Rattle.result_cache.specs.Journal.{Journal, acted, ended, add, merge, record
 use Rattle.build_meaning.specs.World.{World}
 use Rattle.build_meaning.specs.Walk.{Walk, gives, wants, Body, makes, does, uses, calls}
 use Rattle.build_meaning.specs.SoFar.{SoFar, nothing_yet, with_act, with_tool, with_calls, recorded, result_of}
-use Rattle.build_meaning.specs.Meaning.{Demanded, requested, together, built, Given, after, followed, containing, deepest, at_once, body, made_then, wanted, walk, request, meaning}
+use Rattle.build_meaning.specs.Meaning.{
+  Demanded,
+  requested,
+  together,
+  joined,
+  built,
+  Given,
+  after,
+  followed,
+  containing,
+  deepest,
+  at_once,
+  body,
+  made_then,
+  wanted,
+  walk,
+  request,
+  meaning,
+}
 use Rattle.result_cache.specs.Same.{is_in}
 use Rattle.result_cache.proofs.RunTests.{is_in-true, and_then-some}
 use Rattle.result_cache.proofs.JournalEntries.{had-none}
@@ -27,8 +45,10 @@ pub in-right : {X : Type 0} (a : X) (xs ys : List X) → In a ys → In a (xs ++
 in-right a [] ys i = i
 in-right a (x ∷ xs) ys i = inr (in-right a xs ys i)
 
-pub followed-some : {I S T : Type 0} (first : Option (Given I S)) (next : S → Journal → Option (Given I T)) (z : Given I T) → followed first next ≡ Some z →
-    (x : Given I S) × (y : Given I T) × (first ≡ Some x) × (next x.value x.journal ≡ Some y) × (after x.demand y ≡ z)
+pub followed-some : {P I S T : Type 0} (first : Option (Given P I S)) (next : S → Journal → Option
+    (Given P I T)) (z : Given P I T) → followed first next ≡ Some z →
+    (x : Given P I S) × (y : Given P I T) × (first ≡ Some x) × (next x.value x.journal ≡ Some y)
+    × (after x.demand y ≡ z)
 followed-some first next z h =
     let u = and_then-some first (λ x. and_then (next x.value x.journal) (λ y. Some (after x.demand y))) z h in
     let v = and_then-some (next u.0.value u.0.journal) (λ y. Some (after u.0.demand y)) z u.2 in
@@ -37,52 +57,73 @@ followed-some first next z h =
 less : (d n m : ℕ) → suc d + n ≡ m → nat_lt n m ≡ true
 less d n m h = lt-ltb n m (omega arith)
 
-module _ {I A : Type 0} (w : World I A) (D : Demanded I → Type 0) where
-  abbrev pub AllIn : List (Demanded I) → Type 0
-  AllIn demand = (e : Demanded I) → In e demand → D e
+module _ {P I A : Type 0} (w : World P I A) (D : Demanded P I → Type 0) where
+  abbrev pub AllIn : List (Demanded P I) → Type 0
+  AllIn demand = (e : Demanded P I) → In e demand → D e
 
-  abbrev pub GivesAll : {T : Type 0} → Option (Given I T) → (T → Journal → Type 0) → Type 0
-  GivesAll {T} o Q = (x : Given I T) → o ≡ Some x → AllIn x.demand → Q x.value x.journal
+  abbrev pub GivesAll : {T : Type 0} → Option (Given P I T) → (T → Journal → Type 0) → Type 0
+  GivesAll {T} o Q = (x : Given P I T) → o ≡ Some x → AllIn x.demand → Q x.value x.journal
 
   -- each part is contained
-  follows : {S T : Type 0} (first : Option (Given I S)) (next : S → Journal → Option (Given I T)) (R : S → Journal → Type 0) (Q : T → Journal → Type 0) →
+  follows : {S T : Type 0} (first : Option (Given P I S)) (next : S → Journal → Option
+      (Given P I T)) (R : S → Journal → Type 0) (Q : T → Journal → Type 0) →
       GivesAll first R → ((x : S) (j : Journal) → R x j → GivesAll (next x j) Q) → GivesAll (followed first next) Q
   follows first next R Q f g z h all =
       let u = followed-some first next z h in
-      let e : AllIn (u.0.demand ++ u.1.demand) = subst (λ (y : Given I _). AllIn y.demand) (sym u.4) all in
+      let e : AllIn (u.0.demand ++ u.1.demand) =
+      subst (λ (y : Given P I _). AllIn y.demand) (sym u.4) all in
       let r = f u.0 u.2 (λ a i. e a (in-left a u.0.demand u.1.demand i)) in
-      subst (λ (y : Given I _). Q y.value y.journal) u.4 (g u.0.value u.0.journal r u.1 u.3 (λ a i. e a (in-right a u.0.demand u.1.demand i)))
+      subst (λ (y : Given P I _). Q y.value y.journal) u.4 (g u.0.value u.0.journal r u.1 u.3
+      (λ a i. e a (in-right a u.0.demand u.1.demand i)))
 
-  pure : {T : Type 0} (x : T) (j : Journal) (demand : List (Demanded I)) (Q : T → Journal → Type 0) → (AllIn demand → Q x j) → GivesAll (Some (record { value = x; journal = j; demand = demand })) Q
+  pure : {T : Type 0} (x : T) (j : Journal) (demand : List (Demanded P I))
+      (Q : T → Journal → Type 0) → (AllIn demand → Q x j) →
+      GivesAll (Some (record { value = x; journal = j; demand = demand })) Q
   pure x j demand Q q z h all =
       let e : record { value = x; journal = j; demand = demand } ≡ z = cc in
-      subst (λ (y : Given I _). Q y.value y.journal) e (q (subst (λ (y : Given I _). AllIn y.demand) (sym e) all))
+      subst (λ (y : Given P I _). Q y.value y.journal) e
+      (q (subst (λ (y : Given P I _). AllIn y.demand) (sym e) all))
 
-  contains : {T : Type 0} (e : Demanded I) (o : Option (Given I T)) (Q : T → Journal → Type 0) → (D e → GivesAll o Q) → GivesAll (containing e o) Q
+  contains : {T : Type 0} (e : Demanded P I) (o : Option (Given P I T)) (Q : T → Journal → Type 0) →
+      (D e → GivesAll o Q) → GivesAll (containing e o) Q
   contains e None Q f z h all = absurd (cc)
   contains e (Some x) Q f z h all =
       let p : after (e ∷ []) x ≡ z = cc in
-      let a : AllIn (e ∷ x.demand) = subst (λ (y : Given I _). AllIn y.demand) (sym p) all in
-      subst (λ (y : Given I _). Q y.value y.journal) p (f (a e (inl refl)) x refl (λ b i. a b (inr i)))
+      let a : AllIn (e ∷ x.demand) = subst (λ (y : Given P I _). AllIn y.demand) (sym p) all in
+      subst (λ (y : Given P I _). Q y.value y.journal) p (f (a e (inl refl)) x refl
+      (λ b i. a b (inr i)))
 
   -- a request of this key on this path
   abbrev pub Asked : List RunId → Journal → RequestKey → RequestResult → Journal → Type 0
   Asked path j key res k = D (requested key) × (nat_lt (length path) deepest ≡ true) × OfWalk w D path j [] (w.walks key j) res k
 
-  abbrev pub Sound : (List RunId → Journal → RequestKey → Option (Given I RequestResult)) → List RunId → Type 0
+  abbrev pub Sound : (List RunId → Journal → RequestKey → Option (Given P I RequestResult)) →
+      List RunId → Type 0
   Sound ask path = (j : Journal) (key : RequestKey) → GivesAll (ask path j key) (Asked path j key)
 
-  pub at_once-sound : (ask : List RunId → Journal → RequestKey → Option (Given I RequestResult)) (path : List RunId) → Sound ask path → (j a : Journal) (keys : List RequestKey) →
+  pub at_once-sound : (ask : List RunId → Journal → RequestKey → Option (Given P I RequestResult))
+      (path : List RunId) → Sound ask path → (j a : Journal) (keys : List RequestKey) →
       GivesAll (at_once w (ask path) j a keys) (OfCalls w D path j a keys)
   at_once-sound ask path s j a [] = pure [] a [] (OfCalls w D path j a []) (λ n. no_calls)
   at_once-sound ask path s j a (key ∷ keys) =
-      follows (ask path j key) (λ result left. followed (at_once w (ask path) j (merge a left) keys) (λ results last. Some (record { value = result ∷ results; journal = last; demand = [] })))
+      follows (ask path j key) (λ result left.
+      followed (containing (joined j a left) (at_once w (ask path) j (merge a left) keys))
+      (λ results last. Some (record { value = result ∷ results; journal = last; demand = [] })))
       (Asked path j key) (OfCalls w D path j a (key ∷ keys)) (s j key)
-      (λ res i asked. follows (at_once w (ask path) j (merge a i) keys) (λ results last. Some (record { value = res ∷ results; journal = last; demand = [] }))
-      (OfCalls w D path j (merge a i) keys) (OfCalls w D path j a (key ∷ keys)) (at_once-sound ask path s j (merge a i) keys)
-      (λ results k rest. pure (res ∷ results) k [] (OfCalls w D path j a (key ∷ keys)) (λ n. one_call asked.0 asked.1 asked.2 rest)))
+      (λ res i asked.
+      follows (containing (joined j a i) (at_once w (ask path) j (merge a i) keys))
+      (λ results last. Some (record { value = res ∷ results; journal = last; demand = [] }))
+      (λ results k. D (joined j a i) × OfCalls w D path j (merge a i) keys results k)
+      (OfCalls w D path j a (key ∷ keys))
+      (contains (joined j a i) (at_once w (ask path) j (merge a i) keys)
+      (λ results k. D (joined j a i) × OfCalls w D path j (merge a i) keys results k)
+      (λ d x h all. (d, at_once-sound ask path s j (merge a i) keys x h all)))
+      (λ results k rest. pure (res ∷ results) k [] (OfCalls w D path j a (key ∷ keys))
+      (λ n. one_call asked.0 asked.1 asked.2 rest.0 rest.1)))
 
-  pub body-sound : (ask : List RunId → Journal → RequestKey → Option (Given I RequestResult)) (path : List RunId) → Sound ask path → (r : RunId) (b : Body I A) (j : Journal) (so_far : SoFar I) →
+  pub body-sound : (ask : List RunId → Journal → RequestKey → Option (Given P I RequestResult))
+      (path : List RunId) → Sound ask path → (r : RunId) (b : Body I A) (j : Journal)
+      (so_far : SoFar I) →
       GivesAll (body w (ask path) r b j so_far) (λ m k. OfBody w D path r j so_far b m.0 m.1 k)
   body-sound ask path s r (makes outcome) j so_far =
       pure (recorded outcome so_far.segments, so_far.tools) j [] (λ m k. OfBody w D path r j so_far (makes outcome) m.0 m.1 k) (λ n. ended_so)
@@ -91,28 +132,41 @@ module _ {I A : Type 0} (w : World I A) (D : Demanded I → Type 0) where
   body-sound ask path s r (uses name input go) j so_far = λ x h all. used_tool (body-sound ask path s r (go (w.tools name input)) j (with_tool so_far name input) x h all)
   body-sound ask path s r (calls key keys go) j so_far =
       follows (containing (together (key ∷ keys)) (at_once w (ask path) j j (key ∷ keys))) (λ results next. body w (ask path) r (go results next) next (with_calls so_far (key ∷ keys) results))
-      (OfCalls w D path j j (key ∷ keys)) (λ m k. OfBody w D path r j so_far (calls key keys go) m.0 m.1 k)
-      (contains (together (key ∷ keys)) (at_once w (ask path) j j (key ∷ keys)) (OfCalls w D path j j (key ∷ keys)) (λ d. at_once-sound ask path s j j (key ∷ keys)))
-      (λ results i asked x h all. called_all asked (body-sound ask path s r (go results i) i (with_calls so_far (key ∷ keys) results) x h all))
+      (λ results i. D (together (key ∷ keys)) × OfCalls w D path j j (key ∷ keys) results i)
+      (λ m k. OfBody w D path r j so_far (calls key keys go) m.0 m.1 k)
+      (contains (together (key ∷ keys)) (at_once w (ask path) j j (key ∷ keys))
+      (λ results i. D (together (key ∷ keys)) × OfCalls w D path j j (key ∷ keys) results i)
+      (λ d x h all. (d, at_once-sound ask path s j j (key ∷ keys) x h all)))
+      (λ results i asked x h all. called_all asked.0 asked.1 (body-sound ask path s r
+      (go results i) i (with_calls so_far (key ∷ keys) results) x h all))
 
-  abbrev pub Rest : List RunId → (Record → Journal → Walk I A) → List RunId → Record → Journal → RequestResult → Journal → Type 0
+  abbrev pub Rest : List RunId → (Record → Journal → Walk P I A) → List RunId → Record → Journal →
+      RequestResult → Journal → Type 0
   Rest path go runs m k res last = OfWalk w D path k runs (go m k) res last
 
-  walk-sound : (ask : List RunId → Journal → RequestKey → Option (Given I RequestResult)) (path : List RunId) → ((r : RunId) → Sound ask (r ∷ path)) → (x : Walk I A) (j : Journal) (runs : List RunId) →
+  walk-sound : (ask : List RunId → Journal → RequestKey → Option (Given P I RequestResult))
+      (path : List RunId) → ((r : RunId) → Sound ask (r ∷ path)) →
+      (x : Walk P I A) (j : Journal) (runs : List RunId) →
       GivesAll (walk w ask path x j runs) (OfWalk w D path j runs x)
   walk-sound ask path s (gives reply) j runs = pure (result_of reply runs) j [] (OfWalk w D path j runs (gives reply)) (λ n. over)
-  walk-sound ask path s (wants r b go) j runs =
+  walk-sound ask path s (wants site r b go) j runs =
       f (record_of j r) refl (is_in r path) refl (λ m k. walk-sound ask path s (go m k) k (runs ++ r ∷ []))
     where
       f : (o : Option Record) → record_of j r ≡ o → (p : Bool) → is_in r path ≡ p →
           ((m : Record) (k : Journal) → GivesAll (walk w ask path (go m k) k (runs ++ r ∷ [])) (OfWalk w D path k (runs ++ r ∷ []) (go m k))) →
-          GivesAll (wanted w o p (body w (ask (r ∷ path)) r b j nothing_yet) r j (λ m k. walk w ask path (go m k) k (runs ++ r ∷ []))) (OfWalk w D path j runs (wants r b go))
+          GivesAll (wanted w o p (body w (ask (r ∷ path)) r b j nothing_yet) site r j
+          (λ m k. walk w ask path (go m k) k (runs ++ r ∷ [])))
+          (OfWalk w D path j runs (wants site r b go))
       f (Some m) e p t ih = λ x h all. used m e (ih m j x h all)
       f None e true t ih = λ x h all. absurd (cc)
       f None e false t ih =
-          follows (body w (ask (r ∷ path)) r b j nothing_yet) (made_then w r (λ m k. walk w ask path (go m k) k (runs ++ r ∷ [])))
-          (λ m k. OfBody w D (r ∷ path) r j nothing_yet b m.0 m.1 k) (OfWalk w D path j runs (wants r b go)) (body-sound ask (r ∷ path) (s r) r b j nothing_yet)
-          (λ m i of. contains (built r m.0 m.1) (walk w ask path (go m.0 (add i (ended r m.0))) (add i (ended r m.0)) (runs ++ r ∷ [])) (OfWalk w D path j runs (wants r b go))
+          follows (body w (ask (r ∷ path)) r b j nothing_yet)
+          (made_then w site r j (λ m k. walk w ask path (go m k) k (runs ++ r ∷ [])))
+          (λ m k. OfBody w D (r ∷ path) r j nothing_yet b m.0 m.1 k) (OfWalk w D path j runs
+          (wants site r b go)) (body-sound ask (r ∷ path) (s r) r b j nothing_yet)
+          (λ m i of. contains (built site r j m.0 m.1)
+          (walk w ask path (go m.0 (add i (ended r m.0))) (add i (ended r m.0)) (runs ++ r ∷ []))
+          (OfWalk w D path j runs (wants site r b go))
           (λ d x h all. made (λ i. let z : true ≡ false = sym (is_in-true r path i) ∙ t in absurd (cc)) (had-none j r e) of d (ih m.0 (add i (ended r m.0)) x h all)))
 
   pub request-sound : (d : ℕ) (path : List RunId) → d + length path ≡ deepest → Sound (request w d) path
@@ -125,7 +179,8 @@ module _ {I A : Type 0} (w : World I A) (D : Demanded I → Type 0) where
       more d n m h = omega arith
 
   -- the meaning has a derivation
-  pub meaning-sound : (out : Given I RequestResult) → meaning w ≡ Some out → AllIn out.demand → Asked [] [] w.root out.value out.journal
+  pub meaning-sound : (out : Given P I RequestResult) → meaning w ≡ Some out → AllIn out.demand →
+      Asked [] [] w.root out.value out.journal
   meaning-sound out h all = request-sound deepest [] (plus deepest) [] w.root out h all
     where
       plus : (n : ℕ) → n + 0 ≡ n

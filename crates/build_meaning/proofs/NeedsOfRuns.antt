@@ -41,43 +41,51 @@ in-at a [] i = absurd i
 in-at a (x ∷ xs) (inl p) = (0, ap Some p)
 in-at a (x ∷ xs) (inr i) = let y = in-at a xs i in (suc y.0, y.1)
 
-module _ {I A : Type 0} where
+module _ {P I A : Type 0} where
   -- a need comes of a request that calls, and of a child of its calls
-  pub record Need (s : State I A) (r t : RunId) : Type 0 where
+  pub record Need (s : State P I A) (r t : RunId) : Type 0 where
     pub caller : ℕ
-    pub req : RequestState I A
+    pub req : RequestState P I A
     pub keys : List RequestKey
     pub ids : List ℕ
-    pub x : Within I A
+    pub x : Within P I A
     pub go : List RequestResult → Journal → Body I A
     pub req_at : at s.requests caller ≡ Some req
     pub calls_so : req.status ≡ calling keys ids x go
     pub is_run : x.run ≡ r
     pub child_id : ℕ
-    pub child : RequestState I A
+    pub child : RequestState P I A
     pub child_in : In child_id ids
     pub child_at : at s.requests child_id ≡ Some child
     pub child_holds : In t (holds child.status)
 
-  held_by-child : (all : List (RequestState I A)) (ids : List ℕ) (t : RunId) → In t (held_by all ids) → (id : ℕ) × (c : RequestState I A) × In id ids × (at all id ≡ Some c) × In t (holds c.status)
+  held_by-child : (all : List (RequestState P I A)) (ids : List ℕ) (t : RunId) →
+      In t (held_by all ids) → (id : ℕ) × (c : RequestState P I A) × In id ids
+      × (at all id ≡ Some c) × In t (holds c.status)
   held_by-child all [] t i = absurd i
   held_by-child all (id ∷ ids) t i = elim (in-append t (held_at (at all id)) (held_by all ids) i) [
     | inl p ↦ first (at all id) refl p
     | inr p ↦ let y = held_by-child all ids t p in (y.0, y.1, inr y.2, y.3, y.4)
   ]
     where
-      first : (o : Option (RequestState I A)) → at all id ≡ o → In t (held_at o) → (n : ℕ) × (c : RequestState I A) × In n (id ∷ ids) × (at all n ≡ Some c) × In t (holds c.status)
+      first : (o : Option (RequestState P I A)) → at all id ≡ o → In t (held_at o) →
+          (n : ℕ) × (c : RequestState P I A) × In n (id ∷ ids) × (at all n ≡ Some c) × In t
+          (holds c.status)
       first None e p = absurd p
       first (Some c) e p = (id, c, inl refl, e, p)
 
-  needed-request : (all requests : List (RequestState I A)) (r t : RunId) → In t (needed all r requests) → (q : RequestState I A) × In q requests × In t (needed_at all r q.status)
+  needed-request : (all requests : List (RequestState P I A)) (r t : RunId) →
+      In t (needed all r requests) → (q : RequestState P I A) × In q requests × In t
+      (needed_at all r q.status)
   needed-request all [] r t i = absurd i
   needed-request all (q ∷ requests) r t i = elim (in-append t (needed_at all r q.status) (needed all r requests) i) [
     | inl p ↦ (q, inl refl, p)
     | inr p ↦ let y = needed-request all requests r t p in (y.0, inr y.1, y.2)
   ]
 
-  need-of : (s : State I A) (r t : RunId) (k : ℕ) (q : RequestState I A) → at s.requests k ≡ Some q → (st : Status I A) → q.status ≡ st → In t (needed_at s.requests r st) → Need s r t
+  need-of : (s : State P I A) (r t : RunId) (k : ℕ) (q : RequestState P I A) →
+      at s.requests k ≡ Some q → (st : Status P I A) → q.status ≡ st →
+      In t (needed_at s.requests r st) → Need s r t
   need-of s r t k q e (calling keys ids x go) p i = f (same_run x.run r) refl i
     where
       f : (b : Bool) → same_run x.run r ≡ b → In t (if_same b (held_by s.requests ids)) → Need s r t
@@ -100,13 +108,16 @@ module _ {I A : Type 0} where
       }
   need-of s r t k q e _ p i = absurd i
 
-  pub need : (s : State I A) (r t : RunId) → Needs s r t → Need s r t
+  pub need : (s : State P I A) (r t : RunId) → Needs s r t → Need s r t
   need s r t i =
       let y = needed-request s.requests s.requests r t i in
       let z = in-at y.0 s.requests y.1 in
       need-of s r t z.0 y.0 z.1 y.0.status refl y.2
 
-  any-path : (s : State I A) (leads : RunId → Bool) (r last : RunId) → ((t : RunId) → leads t ≡ true → Path (Needs s) t last) → (runs : List RunId) → ((t : RunId) → In t runs → Needs s r t) → any_leads leads last runs ≡ true → Path (Needs s) r last
+  any-path : (s : State P I A) (leads : RunId → Bool) (r last : RunId) →
+      ((t : RunId) → leads t ≡ true → Path (Needs s) t last) → (runs : List RunId) →
+      ((t : RunId) → In t runs → Needs s r t) → any_leads leads last runs ≡ true →
+      Path (Needs s) r last
   any-path s leads r last f [] g h = absurd (cc)
   any-path s leads r last f (t ∷ runs) g h = elim (or_cases (same_run t last) (leads t || any_leads leads last runs) h) [
     | inl p ↦ last_one (subst (λ n. Needs s r n) (same_run-true t last p) (g t (inl refl)))
@@ -117,11 +128,13 @@ module _ {I A : Type 0} where
   ]
 
   -- the test finds only what is there
-  pub leads-path : (s : State I A) (n : ℕ) (last r : RunId) → leads_to (λ a. needed s.requests a s.requests) n last r ≡ true → Path (Needs s) r last
+  pub leads-path : (s : State P I A) (n : ℕ) (last r : RunId) →
+      leads_to (λ a. needed s.requests a s.requests) n last r ≡ true → Path (Needs s) r last
   leads-path s zero last r h = absurd (cc)
   leads-path s (suc n) last r h = any-path s (leads_to (λ a. needed s.requests a s.requests) n last) r last (λ t. leads-path s n last t) (needed s.requests r s.requests) (λ t i. i) h
 
-module _ {I A : Type 0} (w : World I A) (D : Demanded I → Type 0) (one : (r : RunId) (m n : Record) → Made D r m → Made D r n → m ≡ n) where
+module _ {P I A : Type 0} (w : World P I A) (D : Demanded P I → Type 0)
+    (one : (r : RunId) (m n : Record) → Made D r m → Made D r n → m ≡ n) where
   match-in : (goals : List Goal) (ids : List ℕ) (results : List RequestResult) (id : ℕ) → Match goals ids results → In id ids → (g : Goal) × (at goals id ≡ Some g) × In g.res results
   match-in goals [] [] id m i = absurd i
   match-in goals (x ∷ ids) (res ∷ results) id m (inl p) = (m.0.0, subst (λ n. at goals n ≡ Some m.0.0) p m.0.1, inl (sym m.0.2))
@@ -129,16 +142,20 @@ module _ {I A : Type 0} (w : World I A) (D : Demanded I → Type 0) (one : (r : 
   match-in goals [] (res ∷ results) id m i = absurd m
   match-in goals (x ∷ ids) [] id m i = absurd m
 
-  place-holds : (path : List RunId) (j : Journal) (runs : List RunId) (p : Place I A) (g : Goal) (t : RunId) → PlaceAt w D path j runs p g → In t (held p) → In t g.res.runs
+  place-holds : (path : List RunId) (j : Journal) (runs : List RunId) (p : Place P I A) (g : Goal)
+      (t : RunId) → PlaceAt w D path j runs p g → In t (held p) → In t g.res.runs
   place-holds path j runs (walking x) g t v i = absurd i
   place-holds path j runs (within x stop) g t (m, tools, k, v) (inl e) = subst (λ n. In n g.res.runs) e (walk-lists v.next x.run (in-right x.run runs (x.run ∷ []) (inl refl)))
   place-holds path j runs (within x stop) g t v (inr i) = absurd i
 
   -- what a request holds is among the runs of its result
-  stands-holds : (goals : List Goal) (path : List RunId) (j : Journal) (runs : List RunId) (st : Status I A) (g : Goal) (t : RunId) → StandsAt w D goals path j runs st g → In t (holds st) → In t g.res.runs
+  stands-holds : (goals : List Goal) (path : List RunId) (j : Journal) (runs : List RunId)
+      (st : Status P I A) (g : Goal) (t : RunId) → StandsAt w D goals path j runs st g →
+      In t (holds st) → In t g.res.runs
   stands-holds goals path j runs (ready p) g t v i = place-holds path j runs p g t v i
   stands-holds goals path j runs (assigned node p) g t v i = place-holds path j runs p g t v i
-  stands-holds goals path j runs (waits r b go) g t v (inl e) = subst (λ n. In n g.res.runs) e (walk-wants v)
+  stands-holds goals path j runs (waits r b go) g t v (inl e) =
+      subst (λ n. In n g.res.runs) e (walk-wants v.1)
   stands-holds goals path j runs (waits r b go) g t v (inr i) = absurd i
   stands-holds goals path j runs (calling keys ids x go) g t (results, k, v) (inl e) = subst (λ n. In n g.res.runs) e (walk-lists v.then_in.3.next x.run (in-right x.run runs (x.run ∷ []) (inl refl)))
   stands-holds goals path j runs (calling keys ids x go) g t v (inr i) = absurd i
@@ -153,7 +170,9 @@ module _ {I A : Type 0} (w : World I A) (D : Demanded I → Type 0) (one : (r : 
   }
 
   -- a need is a call of a record, and a run that needs another is on no circle
-  needs_calls : (s : State I A) (goals : List Goal) (r t : RunId) → Standing w D one s goals → Needs s r t → (m : Record) × Made D r m × In (replays_run t) (effects_of r m) × (Reach (Made D) r r → ⊥)
+  needs_calls : (s : State P I A) (goals : List Goal) (r t : RunId) → Standing w D one s goals →
+      Needs s r t → (m : Record) × Made D r m × In (replays_run t) (effects_of r m)
+      × (Reach (Made D) r r → ⊥)
   needs_calls s goals r t v i =
       let n = need s r t i in
       let here = Paired-some (Stands w D goals) s.requests goals n.caller n.req v.each n.req_at in
@@ -169,7 +188,8 @@ module _ {I A : Type 0} (w : World I A) (D : Demanded I → Type 0) (one : (r : 
       (in-right (replays_run t) (effects_from n.x.run 0 n.x.so_far.segments) (map replays_run (runs_of results)) (in-map replays_run t (runs_of results) (in-runs_of t found.0.res results found.2 among)))) in
       let lq = v.lawful.each n.caller n.req n.req_at in
       let ls = body n lq in
-      let known : Made D n.x.run m = (k.then_in.1, k.then_in.3.known) in
+      let there = k.then_in.3.known in
+      let known : Made D n.x.run m = (there.0, there.1, (k.then_in.1, there.2)) in
       let fc : Closed (Made D) one ls.0 = from-closed s.table v.known ls.0 ls.1.from_closed (λ q h. ended-finished s.table n.req.journal n.req.runs lq.journal q (reps-keep (Recorded s.table) ls.1.so_far (end_of q) h)) in
       let d = whole n ls.0 k.then_in.0 k.then_in.1 k.then_in.2 fc (reps-map (Recorded s.table) (Made D) v.known ls.1.so_far) k.asked k.then_in.3.body in
       let e : Rep (Made D) (replays_run n.x.run) ls.0 (add k.then_in.2 (ended n.x.run m)) = new ls.1.fresh known d in
@@ -186,33 +206,40 @@ module _ {I A : Type 0} (w : World I A) (D : Demanded I → Type 0) (one : (r : 
           let cj = (reps-closed (Made D) one d c).1 in
           agree_body w D one b from c (reps-calls n.x.run n.x.so_far n.keys results (calls-length asked) d (agree_calls w D one asked (λ s h. h) cj cj))
 
-  path_reaches : (s : State I A) (goals : List Goal) → Standing w D one s goals → {r t : RunId} → Path (Needs s) r t → Reach (Made D) r t
+  path_reaches : (s : State P I A) (goals : List Goal) → Standing w D one s goals → {r t : RunId} →
+      Path (Needs s) r t → Reach (Made D) r t
   path_reaches s goals v (last_one {r = r} {t = t} n) = let y = needs_calls s goals r t v n in one_step y.1 y.2
   path_reaches s goals v (step_on {r = r} {t = t} n p) = let y = needs_calls s goals r t v n in more_steps y.1 y.2 (path_reaches s goals v p)
 
-  pub no_circle : (s : State I A) (goals : List Goal) → Standing w D one s goals → {r : RunId} → Path (Needs s) r r → ⊥
+  pub no_circle : (s : State P I A) (goals : List Goal) → Standing w D one s goals → {r : RunId} →
+      Path (Needs s) r r → ⊥
   no_circle s goals v (last_one {r = r} {t = t} n) = let y = needs_calls s goals r t v n in y.3 (path_reaches s goals v (last_one n))
   no_circle s goals v (step_on {r = r} {t = t} n p) = let y = needs_calls s goals r t v n in y.3 (path_reaches s goals v (step_on n p))
 
-  pub no_cycle : (s : State I A) (goals : List Goal) (r : RunId) → Standing w D one s goals → is_in_cycle s r ≡ false
+  pub no_cycle : (s : State P I A) (goals : List Goal) (r : RunId) → Standing w D one s goals →
+      is_in_cycle s r ≡ false
   no_cycle s goals r v = elim (tells (is_in_cycle s r)) [
     | inl h ↦ absurd (no_circle s goals v (leads-path s (length s.begun) r r h))
     | inr h ↦ h
   ]
 
 -- a request that calls in a run, and a child of its calls that holds another, make a need
-module _ {I A : Type 0} where
-  in-held_by : (all : List (RequestState I A)) (ids : List ℕ) (id : ℕ) (c : RequestState I A) (t : RunId) → In id ids → at all id ≡ Some c → In t (holds c.status) → In t (held_by all ids)
+module _ {P I A : Type 0} where
+  in-held_by : (all : List (RequestState P I A)) (ids : List ℕ) (id : ℕ) (c : RequestState P I A)
+      (t : RunId) → In id ids → at all id ≡ Some c → In t (holds c.status) → In t (held_by all ids)
   in-held_by all [] id c t i e h = absurd i
   in-held_by all (x ∷ ids) id c t (inl p) e h = in-left t (held_at (at all x)) (held_by all ids) (subst (λ o. In t (held_at o)) (sym (ap (at all) p ∙ e)) h)
   in-held_by all (x ∷ ids) id c t (inr i) e h = in-right t (held_at (at all x)) (held_by all ids) (in-held_by all ids id c t i e h)
 
-  in-needed : (all requests : List (RequestState I A)) (r t : RunId) (q : RequestState I A) → In q requests → In t (needed_at all r q.status) → In t (needed all r requests)
+  in-needed : (all requests : List (RequestState P I A)) (r t : RunId) (q : RequestState P I A) →
+      In q requests → In t (needed_at all r q.status) → In t (needed all r requests)
   in-needed all [] r t q i h = absurd i
-  in-needed all (x ∷ requests) r t q (inl p) h = in-left t (needed_at all r x.status) (needed all r requests) (subst (λ (y : RequestState I A). In t (needed_at all r y.status)) (sym p) h)
+  in-needed all (x ∷ requests) r t q (inl p) h =
+      in-left t (needed_at all r x.status) (needed all r requests)
+      (subst (λ (y : RequestState P I A). In t (needed_at all r y.status)) (sym p) h)
   in-needed all (x ∷ requests) r t q (inr i) h = in-right t (needed_at all r x.status) (needed all r requests) (in-needed all requests r t q i h)
 
-  pub needs-of : (s : State I A) (r t : RunId) → Need s r t → Needs s r t
+  pub needs-of : (s : State P I A) (r t : RunId) → Need s r t → Needs s r t
   needs-of s r t n = in-needed s.requests s.requests r t n.req (at-in s.requests n.caller n.req n.req_at)
       (subst (λ st. In t (needed_at s.requests r st)) (sym n.calls_so) (subst (λ b. In t (if_same b (held_by s.requests n.ids))) (sym (same_run-eq n.x.run r n.is_run))
       (in-held_by s.requests n.ids n.child_id n.child t n.child_in n.child_at n.child_holds)))

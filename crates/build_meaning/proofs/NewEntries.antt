@@ -143,13 +143,13 @@ run_on-acts tools r (does p go) j so_far s n w =
 run_on-acts tools r (uses name input go) j so_far s n w = run_on-acts tools r (go (tools name input)) j (with_tool so_far name input) s n w
 run_on-acts tools r (calls key keys go) j so_far s n w = inl w
 
-module _ {I A : Type 0} where
+module _ {P I A : Type 0} where
   -- an act of the body that a request is in
-  abbrev pub OwnPlace : Place I A → RunId → ℕ → Type 0
+  abbrev pub OwnPlace : Place P I A → RunId → ℕ → Type 0
   OwnPlace (walking walk) s n = ⊥
   OwnPlace (within x stop) s n = (x.run ≡ s) × (n < length x.so_far.segments)
 
-  abbrev pub Own : Status I A → RunId → ℕ → Type 0
+  abbrev pub Own : Status P I A → RunId → ℕ → Type 0
   Own (ready p) s n = OwnPlace p s n
   Own (assigned node p) s n = OwnPlace p s n
   Own (waits r b go) s n = ⊥
@@ -157,24 +157,32 @@ module _ {I A : Type 0} where
   Own (done result) s n = ⊥
 
   -- each act is of a run that has ended there, or is in the path, or of the body that the request is in; and what is in the path was begun by requests before
-  pub record Known (begun : List BegunRun) (id : ℕ) (q : RequestState I A) : Type 0 where
+  pub record Known (begun : List BegunRun) (id : ℕ) (q : RequestState P I A) : Type 0 where
     pub acted_by : (s : RunId) (n : ℕ) → Has (act_of s n) q.journal → Has (end_of s) q.journal ⊎ (In s q.origin.path ⊎ Own q.status s n)
     pub before : (r : RunId) → In r q.origin.path → (k : ℕ) × (beginner begun r ≡ Some k) × (k < id)
 
-  abbrev pub AllKnown : State I A → Type 0
-  AllKnown s = (id : ℕ) (q : RequestState I A) → at s.requests id ≡ Some q → Known s.begun id q
+  abbrev pub AllKnown : State P I A → Type 0
+  AllKnown s = (id : ℕ) (q : RequestState P I A) → at s.requests id ≡ Some q → Known s.begun id q
 
-  known-begun : (begun : List BegunRun) (b : BegunRun) → is_begun b.run begun ≡ false → (id : ℕ) (q : RequestState I A) → Known begun id q → Known (b ∷ begun) id q
+  known-begun : (begun : List BegunRun) (b : BegunRun) → is_begun b.run begun ≡ false →
+      (id : ℕ) (q : RequestState P I A) → Known begun id q → Known (b ∷ begun) id q
   known-begun begun b n id q v = record { acted_by = v.acted_by; before = λ r i. let y = v.before r i in (y.0, beginner-grows begun b n r y.0 y.1, y.2) }
 
-  put-known : (s : State I A) (begun : List BegunRun) (id : ℕ) (z : RequestState I A) → ((k : ℕ) (q : RequestState I A) → at s.requests k ≡ Some q → Known begun k q) → Known begun id z → (k : ℕ) (q : RequestState I A) → at (put s.requests id z) k ≡ Some q → Known begun k q
+  put-known : (s : State P I A) (begun : List BegunRun) (id : ℕ) (z : RequestState P I A) →
+      ((k : ℕ) (q : RequestState P I A) → at s.requests k ≡ Some q → Known begun k q) →
+      Known begun id z → (k : ℕ) (q : RequestState P I A) → at (put s.requests id z) k ≡ Some q →
+      Known begun k q
   put-known s begun id z v l k q h = elim (at-put s.requests id z k q h) [
-    | inl p ↦ subst (λ n. Known begun n q) (sym p.0) (subst (λ (y : RequestState I A). Known begun id y) p.1 l)
+    | inl p ↦
+        subst (λ n. Known begun n q) (sym p.0)
+        (subst (λ (y : RequestState P I A). Known begun id y) p.1 l)
     | inr p ↦ v k q p.1
   ]
 
   -- a journal that gains what ends in it
-  gained : (begun : List BegunRun) (id : ℕ) (q z : RequestState I A) → Known begun id q → z.origin ≡ q.origin → ((s : RunId) (n : ℕ) → Own q.status s n → Has (end_of s) z.journal ⊎ Own z.status s n) → ((m : Mark) → Has m q.journal → Has m z.journal) →
+  gained : (begun : List BegunRun) (id : ℕ) (q z : RequestState P I A) → Known begun id q →
+      z.origin ≡ q.origin → ((s : RunId) (n : ℕ) → Own q.status s n → Has (end_of s) z.journal
+      ⊎ Own z.status s n) → ((m : Mark) → Has m q.journal → Has m z.journal) →
       ((s : RunId) (n : ℕ) → Has (act_of s n) z.journal → Has (act_of s n) q.journal ⊎ (Has (end_of s) z.journal ⊎ Own z.status s n)) → Known begun id z
   gained begun id q z v o own keep gains = record {
     acted_by = λ s n w. elim (gains s n w) [
@@ -190,19 +198,28 @@ module _ {I A : Type 0} where
     before = λ r i. v.before r (subst (λ (x : Origin). In r x.path) o i);
   }
 
-module _ {I A : Type 0} (w : World I A) where
-  assign-known : (s : State I A) (id node : ℕ) (o : Origin) (j : Journal) (runs : List RunId) (st : Status I A) (t : State I A) → AllKnown s → at s.requests id ≡ Some (request_of o j runs st) → assign_at w s id node o j runs st ≡ Some t → AllKnown t
+module _ {P I A : Type 0} (w : World P I A) where
+  assign-known : (s : State P I A) (id node : ℕ) (o : Origin) (j : Journal) (runs : List RunId)
+      (st : Status P I A) (t : State P I A) → AllKnown s → at s.requests id ≡ Some
+      (request_of o j runs st) → assign_at w s id node o j runs st ≡ Some t → AllKnown t
   assign-known s id node o j runs (ready p) t v e h =
-      let z : RequestState I A = request_of o j runs (assigned node p) in
+      let z : RequestState P I A = request_of o j runs (assigned node p) in
       let k = v id (request_of o j runs (ready p)) e in
-      subst (λ (u : State I A). AllKnown u) (some-is (with_request s id z) t h) (put-known s s.begun id z v (record { acted_by = k.acted_by; before = k.before }))
+      subst (λ (u : State P I A). AllKnown u) (some-is (with_request s id z) t h)
+      (put-known s s.begun id z v (record { acted_by = k.acted_by; before = k.before }))
   assign-known s id node o j runs _ t v e h = absurd (cc)
 
-  retire-known : (s : State I A) (id node : ℕ) (o : Origin) (j : Journal) (runs : List RunId) (st : Status I A) (t : State I A) → AllKnown s → at s.requests id ≡ Some (request_of o j runs st) → retire_at w s id node o j runs st ≡ Some t → AllKnown t
+  retire-known : (s : State P I A) (id node : ℕ) (o : Origin) (j : Journal) (runs : List RunId)
+      (st : Status P I A) (t : State P I A) → AllKnown s → at s.requests id ≡ Some
+      (request_of o j runs st) → retire_at w s id node o j runs st ≡ Some t → AllKnown t
   retire-known s id node o j runs (assigned by p) t v e h =
-      let z : RequestState I A = request_of o j runs (ready p) in
+      let z : RequestState P I A = request_of o j runs (ready p) in
       let k = v id (request_of o j runs (assigned by p)) e in
-      subst (λ (u : State I A). AllKnown u) (only_if-some (by == node) (with_request s id z) t h).1 (put-known s s.begun id z v (record { acted_by = k.acted_by; before = k.before }))
+      subst (λ (u : State P I A). AllKnown u) (only_if-some (by == node)
+      (with_request s id z) t h).1 (put-known s s.begun id z v (record {
+        acted_by = k.acted_by;
+        before = k.before;
+      }))
   retire-known s id node o j runs _ t v e h = absurd (cc)
 
   run_on-keeps : (r : RunId) (b : Body I A) (j : Journal) (so_far : SoFar I) (m : Mark) → Has m j → Has m (run_on w.tools r b j so_far).journal
@@ -212,54 +229,70 @@ module _ {I A : Type 0} (w : World I A) where
   run_on-keeps r (uses name input go) j so_far m h = run_on-keeps r (go (w.tools name input)) j (with_tool so_far name input) m h
   run_on-keeps r (calls key keys go) j so_far m h = h
 
-  claimed-known : (s : State I A) (id node : ℕ) (o : Origin) (j : Journal) (runs : List RunId) (r : RunId) (b : Body I A) (go : Record → Journal → Walk I A) (kind : ClaimKind) (t : State I A) → Lawful s → AllKnown s →
-      at s.requests id ≡ Some (request_of o j runs (assigned node (walking (wants r b go)))) → claimed w s id node o j runs r b go kind ≡ Some t → AllKnown t
-  claimed-known s id node o j runs r b go Go t l v e h =
-      let q : RequestState I A = request_of o j runs (assigned node (walking (wants r b go))) in
-      let z : RequestState I A = in_body w (assigned node) o runs r go (run_on w.tools r b j nothing_yet) in
+  claimed-known : (s : State P I A) (id node : ℕ) (o : Origin) (j : Journal) (runs : List RunId)
+      (site : P) (r : RunId) (b : Body I A) (go : Record → Journal → Walk P I A) (kind : ClaimKind)
+      (t : State P I A) → Lawful s → AllKnown s →
+      at s.requests id ≡ Some (request_of o j runs (assigned node (walking (wants site r b go)))) →
+      claimed w s id node o j runs r b go kind ≡ Some t → AllKnown t
+  claimed-known s id node o j runs site r b go Go t l v e h =
+      let q : RequestState P I A =
+      request_of o j runs (assigned node (walking (wants site r b go))) in
+      let z : RequestState P I A =
+      in_body w (assigned node) o runs r go (run_on w.tools r b j nothing_yet) in
       let one : BegunRun = record { run = r; by = id } in
       let x = unless-some (is_begun r s.begun) (record { requests = put s.requests id z; begun = one ∷ s.begun; table = s.table; tools_used = s.tools_used }) t h in
-      let grown : (k : ℕ) (q : RequestState I A) → at s.requests k ≡ Some q → Known (one ∷ s.begun) k q = λ k q a. known-begun s.begun one x.0 k q (v k q a) in
+      let grown : (k : ℕ) (q : RequestState P I A) → at s.requests k ≡ Some q →
+      Known (one ∷ s.begun) k q = λ k q a. known-begun s.begun one x.0 k q (v k q a) in
       let mine : Known (one ∷ s.begun) id z = gained (one ∷ s.begun) id q z (grown id q e) refl (λ s n a. absurd a) (run_on-keeps r b j nothing_yet)
       (λ s n a. elim (run_on-acts w.tools r b j nothing_yet s n a) [ inl c ↦ inl c | inr c ↦ inr (inr c) ]) in
-      subst (λ (u : State I A). AllKnown u) x.1 (put-known s (one ∷ s.begun) id z grown mine)
-  claimed-known s id node o j runs r b go Use t l v e h =
+      subst (λ (u : State P I A). AllKnown u) x.1 (put-known s (one ∷ s.begun) id z grown mine)
+  claimed-known s id node o j runs site r b go Use t l v e h =
       let x = and_then-some (found s.table r) (λ made. and_then (replay s.table r j) (λ next. Some (with_request s id (goes_on w (assigned node) o runs r go made next)))) t h in
       let y = and_then-some (replay s.table r j) (λ next. Some (with_request s id (goes_on w (assigned node) o runs r go x.0 next))) t x.2 in
-      let q : RequestState I A = request_of o j runs (assigned node (walking (wants r b go))) in
-      let z : RequestState I A = goes_on w (assigned node) o runs r go x.0 y.0 in
+      let q : RequestState P I A =
+      request_of o j runs (assigned node (walking (wants site r b go))) in
+      let z : RequestState P I A = goes_on w (assigned node) o runs r go x.0 y.0 in
       let d = replay-rep s.table l.once r j y.0 y.1 in
-      subst (λ (u : State I A). AllKnown u) (some-is (with_request s id z) t y.2) (put-known s s.begun id z v
+      subst (λ (u : State P I A). AllKnown u) (some-is (with_request s id z) t y.2)
+      (put-known s s.begun id z v
       (gained s.begun id q z (v id q e) refl (λ s n a. absurd a) (rep-keeps (Recorded s.table) d) (λ a n c. elim (run-acts (Recorded s.table) d a n c) [ inl u ↦ inl u | inr u ↦ inr (inl u) ])))
-  claimed-known s id node o j runs r b go Wait t l v e h =
-      let next : State I A = waiting w s id o j runs r b go in
+  claimed-known s id node o j runs site r b go Wait t l v e h =
+      let next : State P I A = waiting w s id o j runs r b go in
       let x = only_if-some (may_wait w (is_begun r s.begun) (found s.table r) (is_in_cycle next r)) next t h in
-      let k = v id (request_of o j runs (assigned node (walking (wants r b go)))) e in
-      subst (λ (u : State I A). AllKnown u) x.1 (put-known s s.begun id (request_of o j runs (waits r b go)) v (record { acted_by = k.acted_by; before = k.before }))
+      let k = v id (request_of o j runs (assigned node (walking (wants site r b go)))) e in
+      subst (λ (u : State P I A). AllKnown u) x.1 (put-known s s.begun id (request_of o j runs
+      (waits r b go)) v (record { acted_by = k.acted_by; before = k.before }))
 
-  claim-known : (s : State I A) (id : ℕ) (run : RunId) (kind : ClaimKind) (o : Origin) (j : Journal) (runs : List RunId) (st : Status I A) (t : State I A) → Lawful s → AllKnown s →
+  claim-known : (s : State P I A) (id : ℕ) (run : RunId) (kind : ClaimKind) (o : Origin)
+      (j : Journal) (runs : List RunId) (st : Status P I A) (t : State P I A) → Lawful s →
+      AllKnown s →
       at s.requests id ≡ Some (request_of o j runs st) → claim_at w s id run kind o j runs st ≡ Some t → AllKnown t
-  claim-known s id run kind o j runs (assigned node (walking (wants r b go))) t l v e h =
+  claim-known s id run kind o j runs (assigned node (walking (wants site r b go))) t l v e h =
       let x = and_then-some (only_if (same_run r run) r) (λ run. claimed w s id node o j runs run b go kind) t h in
       let y : r ≡ x.0 = (only_if-some (same_run r run) r x.0 x.1).1 in
-      claimed-known s id node o j runs r b go kind t l v e (subst (λ n. claimed w s id node o j runs n b go kind ≡ Some t) (sym y) x.2)
+      claimed-known s id node o j runs site r b go kind t l v e
+      (subst (λ n. claimed w s id node o j runs n b go kind ≡ Some t) (sym y) x.2)
   claim-known s id run kind o j runs _ t l v e h = absurd (cc)
 
-  request-known : (s : State I A) (id : ℕ) (keys : List RequestKey) (o : Origin) (j : Journal) (runs : List RunId) (st : Status I A) (t : State I A) → Lawful s → AllKnown s →
+  request-known : (s : State P I A) (id : ℕ) (keys : List RequestKey) (o : Origin) (j : Journal)
+      (runs : List RunId) (st : Status P I A) (t : State P I A) → Lawful s → AllKnown s →
       at s.requests id ≡ Some (request_of o j runs st) → request_at w s id keys o j runs st ≡ Some t → AllKnown t
   request-known s id keys o j runs (assigned node (within x (asks key more go))) t l v e h =
       let y = only_if-some (same_keys (key ∷ more) keys && is_within_limits w s (x.run ∷ o.path) (key ∷ more)) (with_children w s id o j runs (key ∷ more) x go) t h in
-      let q : RequestState I A = request_of o j runs (assigned node (within x (asks key more go))) in
-      let z : RequestState I A = request_of o j runs (calling (key ∷ more) (numbered_from (length s.requests) (key ∷ more)) x go) in
+      let q : RequestState P I A =
+      request_of o j runs (assigned node (within x (asks key more go))) in
+      let z : RequestState P I A = request_of o j runs (calling (key ∷ more)
+      (numbered_from (length s.requests) (key ∷ more)) x go) in
       let k = v id q e in
       let mine : beginner s.begun x.run ≡ Some id = (l.each id q e).status.1.mine in
       let front = put-known s s.begun id z v (record { acted_by = k.acted_by; before = k.before }) in
-      subst (λ (u : State I A). AllKnown u) y.1 (λ n c a. elim (at-append (put s.requests id z) (map (new_request w (Some id) (x.run ∷ o.path) j) (key ∷ more)) n c a) [
+      subst (λ (u : State P I A). AllKnown u) y.1 (λ n c a. elim (at-append (put s.requests id z)
+      (map (new_request w (Some id) (x.run ∷ o.path) j) (key ∷ more)) n c a) [
         | inl b ↦ front n c b
         | inr b ↦
             let d = at-map (new_request w (Some id) (x.run ∷ o.path) j) (key ∷ more) b.0 c b.1 in
             let far : id < n = above id (length s.requests) (length (put s.requests id z)) b.0 n (at-less s.requests id q e) (put-length s.requests id z) b.2 in
-            subst (λ (u : RequestState I A). Known s.begun n u) d.2 (record {
+            subst (λ (u : RequestState P I A). Known s.begun n u) d.2 (record {
               acted_by = λ s m f. elim (k.acted_by s m f) [ inl g ↦ inl g | inr g ↦ inr (inl (elim g [ inl i ↦ inr i | inr i ↦ inl i.0 ])) ];
               before = λ r i. elim i [
                 | inl p ↦ (id, subst (λ a. beginner s.begun a ≡ Some id) p mine, far)
@@ -275,56 +308,78 @@ module _ {I A : Type 0} (w : World I A) where
       through k id n h g = omega arith
   request-known s id keys o j runs _ t l v e h = absurd (cc)
 
-  woken-known : (begun : List BegunRun) (table : Records) → IsOnce table → (run : RunId) (m : Record) (id : ℕ) (q t : RequestState I A) (st : Status I A) → q.status ≡ st → Known begun id q → woken_at w table run m q st ≡ Some t → Known begun id t
+  woken-known : (begun : List BegunRun) (table : Records) → IsOnce table →
+      (run : RunId) (m : Record) (id : ℕ) (q t : RequestState P I A) (st : Status P I A) →
+      q.status ≡ st → Known begun id q → woken_at w table run m q st ≡ Some t → Known begun id t
   woken-known begun table once run m id q t (waits r b go) e v h = f (same_run r run) h
     where
       f : (y : Bool) → woken_if w y table q m r go ≡ Some t → Known begun id t
-      f false h = subst (λ (u : RequestState I A). Known begun id u) (some-is q t h) v
+      f false h = subst (λ (u : RequestState P I A). Known begun id u) (some-is q t h) v
       f true h =
           let y = and_then-some (replay table r q.journal) (λ next. Some (goes_on w ready q.origin q.runs r go m next)) t h in
           let d = replay-rep table once r q.journal y.0 y.1 in
-          let z : RequestState I A = goes_on w ready q.origin q.runs r go m y.0 in
-          subst (λ (u : RequestState I A). Known begun id u) (some-is z t y.2)
-          (gained begun id q z v refl (λ s n a. absurd (subst (λ (x : Status I A). Own x s n) e a)) (rep-keeps (Recorded table) d) (λ a n c. elim (run-acts (Recorded table) d a n c) [ inl u ↦ inl u | inr u ↦ inr (inl u) ]))
-  woken-known begun table once run m id q t _ e v h = subst (λ (u : RequestState I A). Known begun id u) (some-is q t h) v
+          let z : RequestState P I A = goes_on w ready q.origin q.runs r go m y.0 in
+          subst (λ (u : RequestState P I A). Known begun id u) (some-is z t y.2)
+          (gained begun id q z v refl
+          (λ s n a. absurd (subst (λ (x : Status P I A). Own x s n) e a))
+          (rep-keeps (Recorded table) d)
+          (λ a n c. elim
+          (run-acts (Recorded table) d a n c) [ inl u ↦ inl u | inr u ↦ inr (inl u) ]))
+  woken-known begun table once run m id q t _ e v h =
+      subst (λ (u : RequestState P I A). Known begun id u) (some-is q t h) v
 
-  finished-known : (s : State I A) (id node : ℕ) (o : Origin) (j : Journal) (runs : List RunId) (x : Within I A) (outcome : Outcome) (t : State I A) → Lawful s → AllKnown s →
+  finished-known : (s : State P I A) (id node : ℕ) (o : Origin) (j : Journal) (runs : List RunId)
+      (x : Within P I A) (outcome : Outcome) (t : State P I A) → Lawful s → AllKnown s →
       at s.requests id ≡ Some (request_of o j runs (assigned node (within x (ends outcome)))) → finished w s id node o j runs x (recorded outcome x.so_far.segments) ≡ Some t → AllKnown t
   finished-known s id node o j runs x outcome t l v e h =
       let m : Record = recorded outcome x.so_far.segments in
       let fin : FinishedRun = record { run = x.run; made = m } in
-      let q : RequestState I A = request_of o j runs (assigned node (within x (ends outcome))) in
-      let z : RequestState I A = goes_on w (assigned node) o runs x.run x.go m (add j (ended x.run m)) in
+      let q : RequestState P I A = request_of o j runs (assigned node (within x (ends outcome))) in
+      let z : RequestState P I A =
+      goes_on w (assigned node) o runs x.run x.go m (add j (ended x.run m)) in
       let n : found s.table x.run ≡ None = (l.each id q e).status.1.unfinished in
       let u = and_then-some (traverse (woken w (fin ∷ s.table) x.run m) (put s.requests id z)) (λ requests. Some (record { requests = requests; begun = s.begun; table = fin ∷ s.table; tools_used = record { run = x.run; tools = x.so_far.tools } ∷ s.tools_used })) t h in
-      let last : State I A = record { requests = u.0; begun = s.begun; table = fin ∷ s.table; tools_used = record { run = x.run; tools = x.so_far.tools } ∷ s.tools_used } in
+      let last : State P I A = record {
+        requests = u.0;
+        begun = s.begun;
+        table = fin ∷ s.table;
+        tools_used = record { run = x.run; tools = x.so_far.tools } ∷ s.tools_used;
+      } in
       let mine : Known s.begun id z = gained s.begun id q z (v id q e) refl
       (λ s k a. inl (subst (λ b. Has (end_of b) (add j (ended x.run m))) a.0 (has-added j (ended x.run m)))) (λ a. has-add a j (ended x.run m))
       (λ s k a. elim (of-add (act_of s k) j (ended x.run m) a) [ inl c ↦ absurd (cc) | inr c ↦ inl c ]) in
       let front = put-known s s.begun id z v mine in
-      subst (λ (u : State I A). AllKnown u) (some-is last t u.2) (λ k c a.
+      subst (λ (u : State P I A). AllKnown u) (some-is last t u.2) (λ k c a.
       let y = at-traverse (woken w (fin ∷ s.table) x.run m) (put s.requests id z) u.0 u.1 k c a in
       woken-known s.begun (fin ∷ s.table) (n, l.once) x.run m k y.0 c y.0.status refl (front k y.0 y.1) y.2)
 
-  result-known : (s : State I A) (id : ℕ) (run : RunId) (o : Origin) (j : Journal) (runs : List RunId) (st : Status I A) (t : State I A) → Lawful s → AllKnown s →
+  result-known : (s : State P I A) (id : ℕ) (run : RunId) (o : Origin) (j : Journal)
+      (runs : List RunId) (st : Status P I A) (t : State P I A) → Lawful s → AllKnown s →
       at s.requests id ≡ Some (request_of o j runs st) → result_at w s id run o j runs st ≡ Some t → AllKnown t
   result-known s id run o j runs (assigned node (within x (ends outcome))) t l v e h =
       let y = and_then-some (only_if (same_run x.run run) x) (λ x. finished w s id node o j runs x (recorded outcome x.so_far.segments)) t h in
       let p : x ≡ y.0 = (only_if-some (same_run x.run run) x y.0 y.1).1 in
-      finished-known s id node o j runs x outcome t l v e (subst (λ (a : Within I A). finished w s id node o j runs a (recorded outcome a.so_far.segments) ≡ Some t) (sym p) y.2)
+      finished-known s id node o j runs x outcome t l v e
+      (subst (λ (a : Within P I A). finished w s id node o j runs a
+      (recorded outcome a.so_far.segments) ≡ Some t) (sym p) y.2)
   result-known s id run o j runs _ t l v e h = absurd (cc)
 
-  answered-known : (s : State I A) (id : ℕ) (o : Origin) (j : Journal) (runs : List RunId) (keys : List RequestKey) (ids : List ℕ) (x : Within I A) (go : List RequestResult → Journal → Body I A) (t : State I A) → Lawful s → AllKnown s →
+  answered-known : (s : State P I A) (id : ℕ) (o : Origin) (j : Journal) (runs : List RunId)
+      (keys : List RequestKey) (ids : List ℕ) (x : Within P I A) (go : List RequestResult →
+      Journal → Body I A) (t : State P I A) → Lawful s → AllKnown s →
       at s.requests id ≡ Some (request_of o j runs (calling keys ids x go)) → (reply : Option (List RequestResult)) → answered w s id o j runs keys x go reply ≡ Some t → AllKnown t
-  answered-known s id o j runs keys ids x go t l v e None h = subst (λ (u : State I A). AllKnown u) (some-is s t h) v
+  answered-known s id o j runs keys ids x go t l v e None h =
+      subst (λ (u : State P I A). AllKnown u) (some-is s t h) v
   answered-known s id o j runs keys ids x go t l v e (Some results) h =
-      let q : RequestState I A = request_of o j runs (calling keys ids x go) in
+      let q : RequestState P I A = request_of o j runs (calling keys ids x go) in
       let y = and_then-some (replay_all s.table (runs_of results) j) (λ next. Some (with_request s id (in_body w ready o runs x.run x.go (run_on w.tools x.run (go results next) next (with_calls x.so_far keys results))))) t h in
       let d = replay_all-reps s.table l.once (runs_of results) j y.0 y.1 in
       let so_far : SoFar I = with_calls x.so_far keys results in
-      let z : RequestState I A = in_body w ready o runs x.run x.go (run_on w.tools x.run (go results y.0) y.0 so_far) in
+      let z : RequestState P I A =
+      in_body w ready o runs x.run x.go (run_on w.tools x.run (go results y.0) y.0 so_far) in
       let longer = run_on-least w.tools x.run (go results y.0) y.0 so_far in
-      subst (λ (u : State I A). AllKnown u) (some-is (with_request s id z) t y.2) (put-known s s.begun id z v (gained s.begun id q z (v id q e) refl
+      subst (λ (u : State P I A). AllKnown u) (some-is (with_request s id z) t y.2)
+      (put-known s s.begun id z v (gained s.begun id q z (v id q e) refl
       (λ s n a. inr (a.0, low (length x.so_far.segments) (length (called keys results)) (length so_far.segments) (length (run_on w.tools x.run (go results y.0) y.0 so_far).so_far.segments) n a.1 (length-append x.so_far.segments (called keys results)) longer))
       (λ m a. run_on-keeps x.run (go results y.0) y.0 so_far m (reps-keep (Recorded s.table) d m a))
       (λ b n a. elim (run_on-acts w.tools x.run (go results y.0) y.0 so_far b n a) [
@@ -335,28 +390,36 @@ module _ {I A : Type 0} (w : World I A) where
       low : (a b c d n : ℕ) → n < a → c ≡ a + b → c ≤ d → n < d
       low a b c d n h e g = omega arith
 
-  back_at-known : (s : State I A) (id : ℕ) (q : RequestState I A) (st : Status I A) (t : State I A) → Lawful s → AllKnown s → at s.requests id ≡ Some q → q.status ≡ st → resume_at w s id q st ≡ Some t → AllKnown t
+  back_at-known : (s : State P I A) (id : ℕ) (q : RequestState P I A) (st : Status P I A)
+      (t : State P I A) → Lawful s → AllKnown s → at s.requests id ≡ Some q → q.status ≡ st →
+      resume_at w s id q st ≡ Some t → AllKnown t
   back_at-known s id q (calling keys ids x go) t l v e p h =
-      answered-known s id q.origin q.journal q.runs keys ids x go t l v (e ∙ ap (λ (a : Status I A). Some (request_of q.origin q.journal q.runs a)) p) (results_of w s.requests ids) h
+      answered-known s id q.origin q.journal q.runs keys ids x go t l v
+      (e ∙ ap (λ (a : Status P I A). Some (request_of q.origin q.journal q.runs a)) p)
+      (results_of w s.requests ids) h
   back_at-known s id q _ t l v e p h = absurd (cc)
 
-  back_to-known : (s : State I A) (parent : Option ℕ) (t : State I A) → Lawful s → AllKnown s → resume_caller w s parent ≡ Some t → AllKnown t
-  back_to-known s None t l v h = subst (λ (u : State I A). AllKnown u) (some-is s t h) v
+  back_to-known : (s : State P I A) (parent : Option ℕ) (t : State P I A) → Lawful s → AllKnown s →
+      resume_caller w s parent ≡ Some t → AllKnown t
+  back_to-known s None t l v h = subst (λ (u : State P I A). AllKnown u) (some-is s t h) v
   back_to-known s (Some id) t l v h =
       let y = and_then-some (at s.requests id) (λ q. resume_at w s id q q.status) t h in
       back_at-known s id y.0 y.0.status t l v y.1 refl y.2
 
-  done-known : (s : State I A) (id : ℕ) (o : Origin) (j : Journal) (runs : List RunId) (st : Status I A) (t : State I A) → Lawful s → AllKnown s →
+  done-known : (s : State P I A) (id : ℕ) (o : Origin) (j : Journal) (runs : List RunId)
+      (st : Status P I A) (t : State P I A) → Lawful s → AllKnown s →
       at s.requests id ≡ Some (request_of o j runs st) → done_at w s id o j runs st ≡ Some t → AllKnown t
   done-known s id o j runs (assigned node (walking (gives reply))) t l v e h =
-      let z : RequestState I A = request_of o j runs (done (result_of reply runs)) in
-      let q : RequestState I A = request_of o j runs (assigned node (walking (gives reply))) in
+      let z : RequestState P I A = request_of o j runs (done (result_of reply runs)) in
+      let q : RequestState P I A = request_of o j runs (assigned node (walking (gives reply))) in
       let lq = l.each id q e in
       let k = v id q e in
       back_to-known (with_request s id z) o.parent t (put-lawful s id z l (record { journal = lq.journal; status = lq.journal.runs_in })) (put-known s s.begun id z v (record { acted_by = k.acted_by; before = k.before })) h
   done-known s id o j runs _ t l v e h = absurd (cc)
 
-  step_of-known : (s : State I A) (event : Event) (q : RequestState I A) (t : State I A) → Lawful s → AllKnown s → at s.requests (whose event) ≡ Some q → step_of w s event q ≡ Some t → AllKnown t
+  step_of-known : (s : State P I A) (event : Event) (q : RequestState P I A) (t : State P I A) →
+      Lawful s → AllKnown s → at s.requests (whose event) ≡ Some q → step_of w s event q ≡ Some t →
+      AllKnown t
   step_of-known s (Assign id node) q t l v e h = assign-known s id node q.origin q.journal q.runs q.status t v e h
   step_of-known s (Claim id run kind) q t l v e h = claim-known s id run kind q.origin q.journal q.runs q.status t l v e h
   step_of-known s (Request id keys) q t l v e h = request-known s id keys q.origin q.journal q.runs q.status t l v e h
@@ -365,24 +428,33 @@ module _ {I A : Type 0} (w : World I A) where
   step_of-known s (Retire id node) q t l v e h = retire-known s id node q.origin q.journal q.runs q.status t v e h
 
   start-known : AllKnown (start w)
-  start-known zero q h = subst (λ (u : RequestState I A). Known [] 0 u) (some-is (new_request w None [] [] w.root) q h) (record { acted_by = λ s n a. absurd (cc); before = λ r i. absurd i })
+  start-known zero q h =
+      subst (λ (u : RequestState P I A). Known [] 0 u)
+      (some-is (new_request w None [] [] w.root) q h) (record {
+        acted_by = λ s n a. absurd (cc);
+        before = λ r i. absurd i;
+      })
   start-known (suc id) q h = absurd (cc)
 
-  all-known : (events : List Event) (s t : State I A) → Lawful s → AllKnown s → after_all w s events ≡ Some t → AllKnown t
-  all-known [] s t l v h = subst (λ (u : State I A). AllKnown u) (some-is s t h) v
+  all-known : (events : List Event) (s t : State P I A) → Lawful s → AllKnown s →
+      after_all w s events ≡ Some t → AllKnown t
+  all-known [] s t l v h = subst (λ (u : State P I A). AllKnown u) (some-is s t h) v
   all-known (event ∷ events) s t l v h =
       let y = and_then-some (step w s event) (λ next. after_all w next events) t h in
       let z = and_then-some (at s.requests (whose event)) (step_of w s event) y.0 y.1 in
       all-known events y.0 t (step-lawful w s event y.0 l y.1) (step_of-known s event z.0 y.0 l v z.1 z.2) y.2
 
   -- what comes next of a body is new
-  pub entries_are_new : (events : List Event) (s : State I A) → IsHistory w events s → (id node : ℕ) (q : RequestState I A) (x : Within I A) (stop : Stop I A) → at s.requests id ≡ Some q → q.status ≡ assigned node (within x stop) →
+  pub entries_are_new : (events : List Event) (s : State P I A) → IsHistory w events s →
+      (id node : ℕ) (q : RequestState P I A) (x : Within P I A) (stop : Stop I A) →
+      at s.requests id ≡ Some q → q.status ≡ assigned node (within x stop) →
       (has (end_of x.run) q.journal ≡ false) × ((n : ℕ) → length x.so_far.segments ≤ n → has (act_of x.run n) q.journal ≡ false)
   entries_are_new events s h id node q x stop e st =
       let l = all-lawful w events (start w) s (start-lawful w) h in
       let v = all-known events (start w) s (start-lawful w) start-known h id q e in
       let lq = l.each id q e in
-      let b = (subst (λ (a : Status I A). LawfulStatus s.begun s.table id q.journal a) st lq.status).1 in
+      let b =
+      (subst (λ (a : Status P I A). LawfulStatus s.begun s.table id q.journal a) st lq.status).1 in
       let fresh = unfinished-fresh w s.table q.journal q.runs x.run lq.journal b.unfinished in (
         fresh,
         λ n g. elim (tells (has (act_of x.run n) q.journal)) [
@@ -391,7 +463,9 @@ module _ {I A : Type 0} (w : World I A) where
             | inl c ↦ absurd (clash (has (end_of x.run) q.journal) c fresh)
             | inr c ↦ elim c [
               | inl d ↦ let y = v.before x.run d in absurd (not_less y.0 id (some-is y.0 id (sym y.1 ∙ b.mine)) y.2)
-              | inr d ↦ absurd (too_far n (length x.so_far.segments) (subst (λ (a : Status I A). Own a x.run n) st d).1 g)
+              | inr d ↦
+                  absurd (too_far n (length x.so_far.segments)
+                  (subst (λ (a : Status P I A). Own a x.run n) st d).1 g)
             ]
           ]
         ],

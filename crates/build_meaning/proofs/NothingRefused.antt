@@ -14,7 +14,16 @@ use Rattle.build_meaning.specs.Lists.{at, Paired}
 use Rattle.result_cache.specs.Journal.{Journal}
 use Rattle.build_meaning.specs.World.{World}
 use Rattle.build_meaning.specs.Walk.{gives, wants}
-use Rattle.build_meaning.specs.Meaning.{Demanded, requested, together, built, Given, deepest, most_instances}
+use Rattle.build_meaning.specs.Meaning.{
+  Demanded,
+  requested,
+  together,
+  joined,
+  built,
+  Given,
+  deepest,
+  most_instances,
+}
 use Rattle.build_meaning.specs.Demand.{instances, is_among, with_unless, distinct, IsWhole, IsSteady}
 use Rattle.build_meaning.specs.Stop.{ends, asks}
 use Rattle.build_meaning.specs.State.{Place, walking, within, Status, assigned, waits, Origin, RequestState, State}
@@ -128,42 +137,55 @@ no-more (x ∷ xs) ys a f =
 pub distinct-least : (xs ys : List InstanceKey) → ((x : InstanceKey) → In x xs → In x ys) → length (distinct xs) ≤ length (distinct ys)
 distinct-least xs ys f = no-more (distinct xs) (distinct ys) (distinct-apart xs) (λ x i. in-distinct x ys (f x (distinct-in x xs i)))
 
-in-instances : {I : Type 0} (demand : List (Demanded I)) (key : RequestKey) → In (requested key) demand → In key.instance (instances demand)
+in-instances : {P I : Type 0} (demand : List (Demanded P I)) (key : RequestKey) →
+    In (requested key) demand → In key.instance (instances demand)
 in-instances [] key i = absurd i
 in-instances (requested k ∷ demand) key (inl p) = let q : k ≡ key = cc in inl (ap (λ (y : RequestKey). y.instance) q)
 in-instances (requested k ∷ demand) key (inr i) = inr (in-instances demand key i)
 in-instances (together keys ∷ demand) key (inl p) = absurd (cc)
 in-instances (together keys ∷ demand) key (inr i) = in-instances demand key i
-in-instances (built r m t ∷ demand) key (inl p) = absurd (cc)
-in-instances (built r m t ∷ demand) key (inr i) = in-instances demand key i
+in-instances (joined a b c ∷ demand) key (inl p) = absurd (cc)
+in-instances (joined a b c ∷ demand) key (inr i) = in-instances demand key i
+in-instances (built s r j m t ∷ demand) key (inl p) = absurd (cc)
+in-instances (built s r j m t ∷ demand) key (inr i) = in-instances demand key i
 
 pub in-mapped : {X Y : Type 0} (f : X → Y) (xs : List X) (y : Y) → In y (map f xs) → (x : X) × In x xs × (f x ≡ y)
 in-mapped f [] y i = absurd i
 in-mapped f (x ∷ xs) y (inl p) = (x, inl refl, p)
 in-mapped f (x ∷ xs) y (inr i) = let u = in-mapped f xs y i in (u.0, inr u.1, u.2)
 
-calls-asked : {I A : Type 0} {w : World I A} {D : Demanded I → Type 0} {path : List RunId} {j a : Journal} {keys : List RequestKey} {results : List RequestResult} {k : Journal} →
+calls-asked : {P I A : Type 0} {w : World P I A} {D : Demanded P I → Type 0} {path : List RunId}
+    {j a : Journal} {keys : List RequestKey} {results : List RequestResult} {k : Journal} →
     OfCalls w D path j a keys results k → (key : RequestKey) → In key keys → D (requested key)
 calls-asked no_calls k i = absurd i
-calls-asked {D = D} (one_call {key = key} d less x rest) k (inl p) = subst (λ (y : RequestKey). D (requested y)) p d
-calls-asked (one_call d less x rest) k (inr i) = calls-asked rest k i
+calls-asked {D = D} (one_call {key = key} d less x so rest) k (inl p) =
+    subst (λ (y : RequestKey). D (requested y)) p d
+calls-asked (one_call d less x so rest) k (inr i) = calls-asked rest k i
 
-not-deep : {I A : Type 0} {w : World I A} {D : Demanded I → Type 0} {path : List RunId} {j a : Journal} {key : RequestKey} {keys : List RequestKey} {results : List RequestResult} {k : Journal} →
+not-deep : {P I A : Type 0} {w : World P I A} {D : Demanded P I → Type 0} {path : List RunId}
+    {j a : Journal} {key : RequestKey} {keys : List RequestKey} {results : List RequestResult}
+    {k : Journal} →
     OfCalls w D path j a (key ∷ keys) results k → nat_lt (length path) deepest ≡ true
-not-deep (one_call d less x rest) = less
+not-deep (one_call d less x so rest) = less
 
-module _ {I A : Type 0} (w : World I A) (out : Given I RequestResult) (whole : IsWhole w out) (steady : IsSteady out.demand) where
-  abbrev pub S : State I A → List Goal → Type 0
+module _ {P I A : Type 0} (w : World P I A) (out : Given P I RequestResult) (whole : IsWhole w out)
+    (steady : IsSteady out.demand) where
+  abbrev pub S : State P I A → List Goal → Type 0
   S = Standing w (Contained out) (one_made out steady)
 
-  requests-asked : (all goals : List Goal) (rs : List (RequestState I A)) → Paired (Stands w (Contained out) all) rs goals → (q : RequestState I A) → In q rs → In (requested q.origin.key) out.demand
+  requests-asked : (all goals : List Goal) (rs : List (RequestState P I A)) →
+      Paired (Stands w (Contained out) all) rs goals → (q : RequestState P I A) → In q rs →
+      In (requested q.origin.key) out.demand
   requests-asked all [] [] v q i = absurd i
-  requests-asked all (g ∷ goals) (x ∷ rs) v q (inl p) = subst (λ (y : RequestState I A). In (requested y.origin.key) out.demand) p v.0.asked
+  requests-asked all (g ∷ goals) (x ∷ rs) v q (inl p) =
+      subst (λ (y : RequestState P I A). In (requested y.origin.key) out.demand) p v.0.asked
   requests-asked all (g ∷ goals) (x ∷ rs) v q (inr i) = requests-asked all goals rs v.1 q i
   requests-asked all [] (x ∷ rs) v q i = absurd v
   requests-asked all (g ∷ goals) [] v q i = absurd v
 
-  within-limits : (s : State I A) (goals : List Goal) → S s goals → {path : List RunId} {j : Journal} {key : RequestKey} {more : List RequestKey} {results : List RequestResult} {k : Journal} →
+  within-limits : (s : State P I A) (goals : List Goal) → S s goals →
+      {path : List RunId} {j : Journal} {key : RequestKey} {more : List RequestKey}
+      {results : List RequestResult} {k : Journal} →
       OfCalls w (Contained out) path j j (key ∷ more) results k → is_within_limits w s path (key ∷ more) ≡ true
   within-limits s goals v {path = path} {key = key} {more = more} c =
       let all : List InstanceKey = map (instance_of w) s.requests ++ map (λ (k : RequestKey). k.instance) (key ∷ more) in
@@ -177,14 +199,19 @@ module _ {I A : Type 0} (w : World I A) (out : Given I RequestResult) (whole : I
       low : (a b c : ℕ) → a ≤ b → b ≤ c → a ≤ c
       low a b c h g = omega arith
 
-  place-free : (s : State I A) (goals : List Goal) → S s goals → (id node : ℕ) (o : Origin) (j : Journal) (runs : List RunId) (place : Place I A) → at s.requests id ≡ Some (request_of o j runs (assigned node place)) →
+  place-free : (s : State P I A) (goals : List Goal) → S s goals →
+      (id node : ℕ) (o : Origin) (j : Journal) (runs : List RunId) (place : Place P I A) →
+      at s.requests id ≡ Some (request_of o j runs (assigned node place)) →
       IsRefused w s id (request_of o j runs (assigned node place)) place → ⊥
   place-free s goals v id node o j runs (walking (gives reply)) e h = h
-  place-free s goals v id node o j runs (walking (wants r b go)) e h =
-      let q : RequestState I A = request_of o j runs (assigned node (walking (wants r b go))) in
+  place-free s goals v id node o j runs (walking (wants site r b go)) e h =
+      let q : RequestState P I A =
+      request_of o j runs (assigned node (walking (wants site r b go))) in
       let l = v.lawful.each id q e in
       let lw = put-lawful s id (request_of o j runs (waits r b go)) v.lawful (record { journal = l.journal; status = (h.0, h.1) }) in
-      let t = put-stands w (Contained out) (one_made out steady) s goals id q (request_of o j runs (waits r b go)) v e lw (λ g a. record { asked = a.asked; stands = a.stands }) in
+      let t = put-stands w (Contained out) (one_made out steady) s goals id q (request_of o j runs
+      (waits r b go)) v e lw
+      (λ g a. record { asked = a.asked; stands = (site, a.stands) }) in
       clash (is_in_cycle (waiting w s id o j runs r b go) r) h.2 (no_cycle w (Contained out) (one_made out steady) (waiting w s id o j runs r b go) goals r t)
   place-free s goals v id node o j runs (within x (ends outcome)) e h = h
   place-free s goals v id node o j runs (within x (asks key more go)) e h =
@@ -193,11 +220,16 @@ module _ {I A : Type 0} (w : World I A) (out : Given I RequestResult) (whole : I
       clash (is_within_limits w s (x.run ∷ o.path) (key ∷ more)) (within-limits s goals v y.2) h
 
   -- nothing that a request with a node asks for is refused
-  pub nothing_refused : (events : List Event) (s : State I A) → IsHistory w events s → (id node : ℕ) (q : RequestState I A) (place : Place I A) → at s.requests id ≡ Some q → q.status ≡ assigned node place → CanGoOn w s id place
+  pub nothing_refused : (events : List Event) (s : State P I A) → IsHistory w events s →
+      (id node : ℕ) (q : RequestState P I A) (place : Place P I A) → at s.requests id ≡ Some q →
+      q.status ≡ assigned node place → CanGoOn w s id place
   nothing_refused events s h id node q place e st =
       let k = stands w out whole steady events s h in
-      let d : q ≡ request_of q.origin q.journal q.runs (assigned node place) = ap (λ (a : Status I A). request_of q.origin q.journal q.runs a) st in
+      let d : q ≡ request_of q.origin q.journal q.runs (assigned node place) =
+      ap (λ (a : Status P I A). request_of q.origin q.journal q.runs a) st in
       elim (goes w events s h id node q place e st) [
         | inl y ↦ y
-        | inr y ↦ absurd (place-free s k.0 k.1 id node q.origin q.journal q.runs place (e ∙ ap Some d) (subst (λ (a : RequestState I A). IsRefused w s id a place) d y))
+        | inr y ↦
+            absurd (place-free s k.0 k.1 id node q.origin q.journal q.runs place (e ∙ ap Some d)
+            (subst (λ (a : RequestState P I A). IsRefused w s id a place) d y))
       ]

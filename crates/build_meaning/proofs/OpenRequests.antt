@@ -105,54 +105,59 @@ newest table f r h e = let b : same_run f.run r ≡ true = same_run-eq f.run r e
 done-needs : {f g : Kins} {id : ℕ} {old new : Kin} → PutAt f g id old new → new.calls ≡ None → new.inside ≡ None → new.waits ≡ None → (r t : RunId) → NeedOf g r t → NeedOf f r t
 done-needs p c i x = put-fewer p (λ ids a. none_some _ ids a c) (λ t a. elim a [ inl d ↦ none_some _ t d i | inr d ↦ none_some _ t d x ])
 
-module _ {I A : Type 0} where
-  abbrev pub ids_in : Status I A → Option (List ℕ)
+module _ {P I A : Type 0} where
+  abbrev pub ids_in : Status P I A → Option (List ℕ)
   ids_in (calling keys ids x go) = Some ids
   ids_in status = None
 
-  abbrev pub told_in : Status I A → Option RequestResult
+  abbrev pub told_in : Status P I A → Option RequestResult
   told_in (done result) = Some result
   told_in status = None
 
-  abbrev pub inside_place : Place I A → Option RunId
+  abbrev pub inside_place : Place P I A → Option RunId
   inside_place (walking walk) = None
   inside_place (within x stop) = Some x.run
 
-  abbrev pub inside_of : Status I A → Option RunId
+  abbrev pub inside_of : Status P I A → Option RunId
   inside_of (ready p) = inside_place p
   inside_of (assigned node p) = inside_place p
   inside_of (waits r b go) = None
   inside_of (calling keys ids x go) = Some x.run
   inside_of (done result) = None
 
-  abbrev pub waits_of : Status I A → Option RunId
+  abbrev pub waits_of : Status P I A → Option RunId
   waits_of (waits r b go) = Some r
   waits_of status = None
 
-  abbrev pub kin_of : RequestState I A → Kin
+  abbrev pub kin_of : RequestState P I A → Kin
   kin_of q = record { parent = q.origin.parent; calls = ids_in q.status; reply = told_in q.status; inside = inside_of q.status; waits = waits_of q.status }
 
-  abbrev pub kins_of : List (RequestState I A) → Kins
+  abbrev pub kins_of : List (RequestState P I A) → Kins
   kins_of requests id = and_then (at requests id) (λ q. Some (kin_of q))
 
-  pub kins-at : (rs : List (RequestState I A)) (id : ℕ) (q : RequestState I A) → at rs id ≡ Some q → kins_of rs id ≡ Some (kin_of q)
+  pub kins-at : (rs : List (RequestState P I A)) (id : ℕ) (q : RequestState P I A) →
+      at rs id ≡ Some q → kins_of rs id ≡ Some (kin_of q)
   kins-at rs id q h = ap (λ o. and_then o (λ q. Some (kin_of q))) h
 
-  pub at-kins : (rs : List (RequestState I A)) (id : ℕ) (k : Kin) → kins_of rs id ≡ Some k → (q : RequestState I A) × (at rs id ≡ Some q) × (kin_of q ≡ k)
+  pub at-kins : (rs : List (RequestState P I A)) (id : ℕ) (k : Kin) → kins_of rs id ≡ Some k →
+      (q : RequestState P I A) × (at rs id ≡ Some q) × (kin_of q ≡ k)
   at-kins rs id k h = let y = and_then-some (at rs id) (λ q. Some (kin_of q)) k h in (y.0, y.1, some-is (kin_of y.0) k y.2)
 
-  pub put-kins : (rs : List (RequestState I A)) (id : ℕ) (q z : RequestState I A) → at rs id ≡ Some q → PutAt (kins_of rs) (kins_of (put rs id z)) id (kin_of q) (kin_of z)
+  pub put-kins : (rs : List (RequestState P I A)) (id : ℕ) (q z : RequestState P I A) →
+      at rs id ≡ Some q → PutAt (kins_of rs) (kins_of (put rs id z)) id (kin_of q) (kin_of z)
   put-kins rs id q z h = record {
     was = kins-at rs id q h;
     is = kins-at (put rs id z) id z (at-put_same rs id q z h);
     others = λ n d. ap (λ o. and_then o (λ q. Some (kin_of q))) (at-put_else rs id z n d);
   }
 
-  pub calling-so : (st : Status I A) (ids : List ℕ) → ids_in st ≡ Some ids → (keys : List RequestKey) × (x : Within I A) × (go : List RequestResult → Journal → Body I A) × (st ≡ calling keys ids x go)
+  pub calling-so : (st : Status P I A) (ids : List ℕ) → ids_in st ≡ Some ids →
+      (keys : List RequestKey) × (x : Within P I A) × (go : List RequestResult → Journal → Body I A)
+      × (st ≡ calling keys ids x go)
   calling-so (calling keys js x go) ids h = (keys, x, go, ap (λ is. calling keys is x go) (some-is js ids h))
   calling-so _ ids h = absurd (cc)
 
-  inside-holds : (st : Status I A) (t : RunId) → inside_of st ≡ Some t → In t (holds st)
+  inside-holds : (st : Status P I A) (t : RunId) → inside_of st ≡ Some t → In t (holds st)
   inside-holds (ready (within x stop)) t h = inl (some-is x.run t h)
   inside-holds (ready (walking y)) t h = absurd (cc)
   inside-holds (assigned node (within x stop)) t h = inl (some-is x.run t h)
@@ -161,11 +166,12 @@ module _ {I A : Type 0} where
   inside-holds (calling keys ids x go) t h = inl (some-is x.run t h)
   inside-holds (done result) t h = absurd (cc)
 
-  waits-holds : (st : Status I A) (t : RunId) → waits_of st ≡ Some t → In t (holds st)
+  waits-holds : (st : Status P I A) (t : RunId) → waits_of st ≡ Some t → In t (holds st)
   waits-holds (waits r b go) t h = inl (some-is r t h)
   waits-holds _ t h = absurd (cc)
 
-  holds-cases : (st : Status I A) (t : RunId) → In t (holds st) → (inside_of st ≡ Some t) ⊎ (waits_of st ≡ Some t)
+  holds-cases : (st : Status P I A) (t : RunId) → In t (holds st) →
+      (inside_of st ≡ Some t) ⊎ (waits_of st ≡ Some t)
   holds-cases (ready (within x stop)) t (inl e) = inl (ap Some e)
   holds-cases (assigned node (within x stop)) t (inl e) = inl (ap Some e)
   holds-cases (waits r b go) t (inl e) = inr (ap Some e)
@@ -179,13 +185,17 @@ module _ {I A : Type 0} where
   holds-cases (done result) t i = absurd i
 
   -- a run that is begun and not finished
-  abbrev pub Open : State I A → RunId → Type 0
+  abbrev pub Open : State P I A → RunId → Type 0
   Open s r = (is_begun r s.begun ≡ true) × (found s.table r ≡ None)
 
-  body_is : (begun : List BegunRun) (table : Records) (id : ℕ) (j : Journal) (x : Within I A) (r : RunId) → (from : Journal) × LawfulBody begun table id j x from → Some x.run ≡ Some r → (beginner begun r ≡ Some id) × (found table r ≡ None)
+  body_is : (begun : List BegunRun) (table : Records) (id : ℕ) (j : Journal) (x : Within P I A)
+      (r : RunId) → (from : Journal) × LawfulBody begun table id j x from → Some x.run ≡ Some r →
+      (beginner begun r ≡ Some id) × (found table r ≡ None)
   body_is begun table id j x r (from, b) h = subst (λ t. (beginner begun t ≡ Some id) × (found table t ≡ None)) (some-is x.run r h) (b.mine, b.unfinished)
 
-  status-inside : (begun : List BegunRun) (table : Records) (id : ℕ) (j : Journal) (st : Status I A) (r : RunId) → LawfulStatus begun table id j st → inside_of st ≡ Some r → (beginner begun r ≡ Some id) × (found table r ≡ None)
+  status-inside : (begun : List BegunRun) (table : Records) (id : ℕ) (j : Journal)
+      (st : Status P I A) (r : RunId) → LawfulStatus begun table id j st → inside_of st ≡ Some r →
+      (beginner begun r ≡ Some id) × (found table r ≡ None)
   status-inside begun table id j (ready (within x stop)) r v h = body_is begun table id j x r v h
   status-inside begun table id j (assigned node (within x stop)) r v h = body_is begun table id j x r v h
   status-inside begun table id j (calling keys ids x go) r v h = body_is begun table id j x r v.0 h
@@ -194,27 +204,32 @@ module _ {I A : Type 0} where
   status-inside begun table id j (waits s b go) r v h = absurd (cc)
   status-inside begun table id j (done result) r v h = absurd (cc)
 
-  status-waits : (begun : List BegunRun) (table : Records) (id : ℕ) (j : Journal) (st : Status I A) (r : RunId) → LawfulStatus begun table id j st → waits_of st ≡ Some r → (is_begun r begun ≡ true) × (found table r ≡ None)
+  status-waits : (begun : List BegunRun) (table : Records) (id : ℕ) (j : Journal)
+      (st : Status P I A) (r : RunId) → LawfulStatus begun table id j st → waits_of st ≡ Some r →
+      (is_begun r begun ≡ true) × (found table r ≡ None)
   status-waits begun table id j (waits s b go) r v h = subst (λ t. (is_begun t begun ≡ true) × (found table t ≡ None)) (some-is s r h) v
   status-waits begun table id j _ r v h = absurd (cc)
 
-  pub inside-open : (s : State I A) → Lawful s → (id : ℕ) (k : Kin) (r : RunId) → kins_of s.requests id ≡ Some k → k.inside ≡ Some r → Open s r × (beginner s.begun r ≡ Some id)
+  pub inside-open : (s : State P I A) → Lawful s → (id : ℕ) (k : Kin) (r : RunId) →
+      kins_of s.requests id ≡ Some k → k.inside ≡ Some r → Open s r × (beginner s.begun r ≡ Some id)
   inside-open s v id k r h i =
       let q = at-kins s.requests id k h in
       let y = status-inside s.begun s.table id q.0.journal q.0.status r (v.each id q.0 q.1).status (ap (λ (a : Kin). a.inside) q.2 ∙ i) in
       ((beginner-begun s.begun r id y.0, y.1), y.0)
 
-  pub waits-open : (s : State I A) → Lawful s → (id : ℕ) (k : Kin) (r : RunId) → kins_of s.requests id ≡ Some k → k.waits ≡ Some r → Open s r
+  pub waits-open : (s : State P I A) → Lawful s → (id : ℕ) (k : Kin) (r : RunId) →
+      kins_of s.requests id ≡ Some k → k.waits ≡ Some r → Open s r
   waits-open s v id k r h i =
       let q = at-kins s.requests id k h in
       status-waits s.begun s.table id q.0.journal q.0.status r (v.each id q.0 q.1).status (ap (λ (a : Kin). a.waits) q.2 ∙ i)
 
-  pub record Kindred (s : State I A) : Type 0 where
+  pub record Kindred (s : State P I A) : Type 0 where
     pub family : Family (kins_of s.requests)
     pub free : Free (kins_of s.requests) (Open s)
 
   -- a request that changes nothing here
-  same-kin : (s : State I A) (id : ℕ) (q z : RequestState I A) → Kindred s → at s.requests id ≡ Some q → kin_of q ≡ kin_of z → Kindred (with_request s id z)
+  same-kin : (s : State P I A) (id : ℕ) (q z : RequestState P I A) → Kindred s →
+      at s.requests id ≡ Some q → kin_of q ≡ kin_of z → Kindred (with_request s id z)
   same-kin s id q z v h e =
       let p = put-kins s.requests id q z h in
       record {
@@ -227,27 +242,36 @@ module _ {I A : Type 0} where
         };
       }
 
-module _ {I A : Type 0} (w : World I A) where
-  assign-kindred : (s : State I A) (id node : ℕ) (o : Origin) (j : Journal) (runs : List RunId) (st : Status I A) (t : State I A) → Kindred s →
+module _ {P I A : Type 0} (w : World P I A) where
+  assign-kindred : (s : State P I A) (id node : ℕ) (o : Origin) (j : Journal) (runs : List RunId)
+      (st : Status P I A) (t : State P I A) → Kindred s →
       at s.requests id ≡ Some (request_of o j runs st) → assign_at w s id node o j runs st ≡ Some t → Kindred t
   assign-kindred s id node o j runs (ready p) t v e h =
-      subst (λ (u : State I A). Kindred u) (some-is (with_request s id (request_of o j runs (assigned node p))) t h)
+      subst (λ (u : State P I A). Kindred u)
+      (some-is (with_request s id (request_of o j runs (assigned node p))) t h)
       (same-kin s id (request_of o j runs (ready p)) (request_of o j runs (assigned node p)) v e refl)
   assign-kindred s id node o j runs _ t v e h = absurd (cc)
 
-  retire-kindred : (s : State I A) (id node : ℕ) (o : Origin) (j : Journal) (runs : List RunId) (st : Status I A) (t : State I A) → Kindred s →
+  retire-kindred : (s : State P I A) (id node : ℕ) (o : Origin) (j : Journal) (runs : List RunId)
+      (st : Status P I A) (t : State P I A) → Kindred s →
       at s.requests id ≡ Some (request_of o j runs st) → retire_at w s id node o j runs st ≡ Some t → Kindred t
   retire-kindred s id node o j runs (assigned by p) t v e h =
-      subst (λ (u : State I A). Kindred u) (only_if-some (by == node) (with_request s id (request_of o j runs (ready p))) t h).1
+      subst (λ (u : State P I A). Kindred u) (only_if-some (by == node)
+      (with_request s id (request_of o j runs (ready p))) t h).1
       (same-kin s id (request_of o j runs (assigned by p)) (request_of o j runs (ready p)) v e refl)
   retire-kindred s id node o j runs _ t v e h = absurd (cc)
 
-  begin-kindred : (s : State I A) (id node : ℕ) (o : Origin) (j : Journal) (runs : List RunId) (r : RunId) (b : Body I A) (go : Record → Journal → Walk I A) → Lawful s → Kindred s →
-      at s.requests id ≡ Some (request_of o j runs (assigned node (walking (wants r b go)))) → is_begun r s.begun ≡ false →
+  begin-kindred : (s : State P I A) (id node : ℕ) (o : Origin) (j : Journal) (runs : List RunId)
+      (site : P) (r : RunId) (b : Body I A) (go : Record → Journal → Walk P I A) → Lawful s →
+      Kindred s →
+      at s.requests id ≡ Some (request_of o j runs (assigned node (walking (wants site r b go)))) →
+      is_begun r s.begun ≡ false →
       Kindred (record { requests = put s.requests id (in_body w (assigned node) o runs r go (run_on w.tools r b j nothing_yet)); begun = record { run = r; by = id } ∷ s.begun; table = s.table; tools_used = s.tools_used })
-  begin-kindred s id node o j runs r b go l v e n =
-      let q : RequestState I A = request_of o j runs (assigned node (walking (wants r b go))) in
-      let z : RequestState I A = in_body w (assigned node) o runs r go (run_on w.tools r b j nothing_yet) in
+  begin-kindred s id node o j runs site r b go l v e n =
+      let q : RequestState P I A =
+      request_of o j runs (assigned node (walking (wants site r b go))) in
+      let z : RequestState P I A =
+      in_body w (assigned node) o runs r go (run_on w.tools r b j nothing_yet) in
       let p = put-kins s.requests id q z e in
       record {
         family = tied-family (put-tied p (record { parent = refl; calls = refl; reply = refl; when_calling = λ ids a. absurd (cc) })) v.family;
@@ -269,7 +293,7 @@ module _ {I A : Type 0} (w : World I A) where
       }
 
   -- needs by kin are needs
-  need-kin : (s : State I A) (r t : RunId) → NeedOf (kins_of s.requests) r t → Needs s r t
+  need-kin : (s : State P I A) (r t : RunId) → NeedOf (kins_of s.requests) r t → Needs s r t
   need-kin s r t n =
       let q = at-kins s.requests n.caller n.kin n.at_caller in
       let c = at-kins s.requests n.child_id n.child n.at_child in
@@ -295,7 +319,8 @@ module _ {I A : Type 0} (w : World I A) where
         ];
       })
 
-  needs-begun : (s : State I A) → Lawful s → (r t : RunId) → Needs s r t → In t (begun_runs s.begun)
+  needs-begun : (s : State P I A) → Lawful s → (r t : RunId) → Needs s r t →
+      In t (begun_runs s.begun)
   needs-begun s l r t i =
       let n = need s r t i in
       let k = kins-at s.requests n.child_id n.child n.child_at in
@@ -305,17 +330,23 @@ module _ {I A : Type 0} (w : World I A) where
       ]
 
   -- the test finds every circle
-  pub circle-tested : (s : State I A) → Lawful s → (r : RunId) → Path (Needs s) r r → is_in_cycle s r ≡ true
+  pub circle-tested : (s : State P I A) → Lawful s → (r : RunId) → Path (Needs s) r r →
+      is_in_cycle s r ≡ true
   circle-tested s l r p =
       subst (λ n. leads_to (λ a. needed s.requests a s.requests) n r r ≡ true) (length-map s.begun (λ (b : BegunRun). b.run))
       (circle-found (λ a. needed s.requests a s.requests) (begun_runs s.begun) (needs-begun s l) r p)
 
-  wait-kindred : (s : State I A) (id node : ℕ) (o : Origin) (j : Journal) (runs : List RunId) (r : RunId) (b : Body I A) (go : Record → Journal → Walk I A) → Lawful (waiting w s id o j runs r b go) → Kindred s →
-      at s.requests id ≡ Some (request_of o j runs (assigned node (walking (wants r b go)))) → is_in_cycle (waiting w s id o j runs r b go) r ≡ false → Kindred (waiting w s id o j runs r b go)
-  wait-kindred s id node o j runs r b go l v e n =
-      let q : RequestState I A = request_of o j runs (assigned node (walking (wants r b go))) in
-      let z : RequestState I A = request_of o j runs (waits r b go) in
-      let t : State I A = waiting w s id o j runs r b go in
+  wait-kindred : (s : State P I A) (id node : ℕ) (o : Origin) (j : Journal) (runs : List RunId)
+      (site : P) (r : RunId) (b : Body I A) (go : Record → Journal → Walk P I A) →
+      Lawful (waiting w s id o j runs r b go) → Kindred s →
+      at s.requests id ≡ Some (request_of o j runs (assigned node (walking (wants site r b go)))) →
+      is_in_cycle (waiting w s id o j runs r b go) r ≡ false →
+      Kindred (waiting w s id o j runs r b go)
+  wait-kindred s id node o j runs site r b go l v e n =
+      let q : RequestState P I A =
+      request_of o j runs (assigned node (walking (wants site r b go))) in
+      let z : RequestState P I A = request_of o j runs (waits r b go) in
+      let t : State P I A = waiting w s id o j runs r b go in
       let p = put-kins s.requests id q z e in
       record {
         family = tied-family (put-tied p (record { parent = refl; calls = refl; reply = refl; when_calling = λ ids a. absurd (cc) })) v.family;
@@ -328,43 +359,55 @@ module _ {I A : Type 0} (w : World I A) where
         };
       }
 
-  claimed-kindred : (s : State I A) (id node : ℕ) (o : Origin) (j : Journal) (runs : List RunId) (r : RunId) (b : Body I A) (go : Record → Journal → Walk I A) (kind : ClaimKind) (t : State I A) → Lawful s → Kindred s → Lawful t →
-      at s.requests id ≡ Some (request_of o j runs (assigned node (walking (wants r b go)))) → claimed w s id node o j runs r b go kind ≡ Some t → Kindred t
-  claimed-kindred s id node o j runs r b go Go t l v lt e h =
+  claimed-kindred : (s : State P I A) (id node : ℕ) (o : Origin) (j : Journal) (runs : List RunId)
+      (site : P) (r : RunId) (b : Body I A) (go : Record → Journal → Walk P I A) (kind : ClaimKind)
+      (t : State P I A) → Lawful s → Kindred s → Lawful t →
+      at s.requests id ≡ Some (request_of o j runs (assigned node (walking (wants site r b go)))) →
+      claimed w s id node o j runs r b go kind ≡ Some t → Kindred t
+  claimed-kindred s id node o j runs site r b go Go t l v lt e h =
       let x = unless-some (is_begun r s.begun) (record { requests = put s.requests id (in_body w (assigned node) o runs r go (run_on w.tools r b j nothing_yet)); begun = record { run = r; by = id } ∷ s.begun; table = s.table; tools_used = s.tools_used }) t h in
-      subst (λ (u : State I A). Kindred u) x.1 (begin-kindred s id node o j runs r b go l v e x.0)
-  claimed-kindred s id node o j runs r b go Use t l v lt e h =
+      subst (λ (u : State P I A). Kindred u) x.1
+      (begin-kindred s id node o j runs site r b go l v e x.0)
+  claimed-kindred s id node o j runs site r b go Use t l v lt e h =
       let x = and_then-some (found s.table r) (λ made. and_then (replay s.table r j) (λ next. Some (with_request s id (goes_on w (assigned node) o runs r go made next)))) t h in
       let y = and_then-some (replay s.table r j) (λ next. Some (with_request s id (goes_on w (assigned node) o runs r go x.0 next))) t x.2 in
-      let z : RequestState I A = goes_on w (assigned node) o runs r go x.0 y.0 in
-      subst (λ (u : State I A). Kindred u) (some-is (with_request s id z) t y.2) (same-kin s id (request_of o j runs (assigned node (walking (wants r b go)))) z v e refl)
-  claimed-kindred s id node o j runs r b go Wait t l v lt e h =
-      let next : State I A = waiting w s id o j runs r b go in
+      let z : RequestState P I A = goes_on w (assigned node) o runs r go x.0 y.0 in
+      subst (λ (u : State P I A). Kindred u) (some-is (with_request s id z) t y.2)
+      (same-kin s id (request_of o j runs (assigned node (walking (wants site r b go)))) z v e refl)
+  claimed-kindred s id node o j runs site r b go Wait t l v lt e h =
+      let next : State P I A = waiting w s id o j runs r b go in
       let x = only_if-some (may_wait w (is_begun r s.begun) (found s.table r) (is_in_cycle next r)) next t h in
       let y = may_wait-so w (is_begun r s.begun) (found s.table r) (is_in_cycle next r) x.0 in
-      subst (λ (u : State I A). Kindred u) x.1 (wait-kindred s id node o j runs r b go (subst (λ (u : State I A). Lawful u) (sym x.1) lt) v e y.2)
+      subst (λ (u : State P I A). Kindred u) x.1 (wait-kindred s id node o j runs site r b go
+      (subst (λ (u : State P I A). Lawful u) (sym x.1) lt) v e y.2)
 
-  claim-kindred : (s : State I A) (id : ℕ) (run : RunId) (kind : ClaimKind) (o : Origin) (j : Journal) (runs : List RunId) (st : Status I A) (t : State I A) → Lawful s → Kindred s → Lawful t →
+  claim-kindred : (s : State P I A) (id : ℕ) (run : RunId) (kind : ClaimKind) (o : Origin)
+      (j : Journal) (runs : List RunId) (st : Status P I A) (t : State P I A) → Lawful s →
+      Kindred s → Lawful t →
       at s.requests id ≡ Some (request_of o j runs st) → claim_at w s id run kind o j runs st ≡ Some t → Kindred t
-  claim-kindred s id run kind o j runs (assigned node (walking (wants r b go))) t l v lt e h =
+  claim-kindred s id run kind o j runs (assigned node (walking (wants site r b go))) t l v lt e h =
       let x = and_then-some (only_if (same_run r run) r) (λ run. claimed w s id node o j runs run b go kind) t h in
       let y : r ≡ x.0 = (only_if-some (same_run r run) r x.0 x.1).1 in
-      claimed-kindred s id node o j runs r b go kind t l v lt e (subst (λ n. claimed w s id node o j runs n b go kind ≡ Some t) (sym y) x.2)
+      claimed-kindred s id node o j runs site r b go kind t l v lt e
+      (subst (λ n. claimed w s id node o j runs n b go kind ≡ Some t) (sym y) x.2)
   claim-kindred s id run kind o j runs _ t l v lt e h = absurd (cc)
 
   -- calls
-  children-calls : (s : State I A) (id node : ℕ) (o : Origin) (j : Journal) (runs : List RunId) (key : RequestKey) (more : List RequestKey) (x : Within I A) (go : List RequestResult → Journal → Body I A) →
+  children-calls : (s : State P I A) (id node : ℕ) (o : Origin) (j : Journal) (runs : List RunId)
+      (key : RequestKey) (more : List RequestKey) (x : Within P I A) (go : List RequestResult →
+      Journal → Body I A) →
       at s.requests id ≡ Some (request_of o j runs (assigned node (within x (asks key more go)))) →
       Calls (kins_of s.requests) (kins_of (with_children w s id o j runs (key ∷ more) x go).requests) id (kin_of (request_of o j runs (assigned node (within x (asks key more go)))))
       (kin_of (request_of o j runs (calling (key ∷ more) (numbered_from (length s.requests) (key ∷ more)) x go))) (numbered_from (length s.requests) (key ∷ more))
   children-calls s id node o j runs key more x go e =
       let keys : List RequestKey = key ∷ more in
-      let q : RequestState I A = request_of o j runs (assigned node (within x (asks key more go))) in
+      let q : RequestState P I A =
+      request_of o j runs (assigned node (within x (asks key more go))) in
       let ids : List ℕ = numbered_from (length s.requests) keys in
-      let z : RequestState I A = request_of o j runs (calling keys ids x go) in
+      let z : RequestState P I A = request_of o j runs (calling keys ids x go) in
       let kid = new_request w (Some id) (x.run ∷ o.path) j in
-      let front : List (RequestState I A) = put s.requests id z in
-      let all : List (RequestState I A) = front ++ map kid keys in
+      let front : List (RequestState P I A) = put s.requests id z in
+      let all : List (RequestState P I A) = front ++ map kid keys in
       record {
         was = kins-at s.requests id q e;
         idle = (refl, refl, refl);
@@ -395,7 +438,9 @@ module _ {I A : Type 0} (w : World I A) where
       above : (id m i n : ℕ) → id < m → n ≡ m + i → id < n
       above id m i n h e = omega arith
 
-  children-kindred : (s : State I A) (id node : ℕ) (o : Origin) (j : Journal) (runs : List RunId) (key : RequestKey) (more : List RequestKey) (x : Within I A) (go : List RequestResult → Journal → Body I A) → Kindred s →
+  children-kindred : (s : State P I A) (id node : ℕ) (o : Origin) (j : Journal) (runs : List RunId)
+      (key : RequestKey) (more : List RequestKey) (x : Within P I A) (go : List RequestResult →
+      Journal → Body I A) → Kindred s →
       at s.requests id ≡ Some (request_of o j runs (assigned node (within x (asks key more go)))) → Kindred (with_children w s id o j runs (key ∷ more) x go)
   children-kindred s id node o j runs key more x go v e =
       let q : Kin = kin_of (request_of o j runs (assigned node (within x (asks key more go)))) in
@@ -415,21 +460,28 @@ module _ {I A : Type 0} (w : World I A) where
         };
       }
 
-  request-kindred : (s : State I A) (id : ℕ) (keys : List RequestKey) (o : Origin) (j : Journal) (runs : List RunId) (st : Status I A) (t : State I A) → Kindred s →
+  request-kindred : (s : State P I A) (id : ℕ) (keys : List RequestKey) (o : Origin) (j : Journal)
+      (runs : List RunId) (st : Status P I A) (t : State P I A) → Kindred s →
       at s.requests id ≡ Some (request_of o j runs st) → request_at w s id keys o j runs st ≡ Some t → Kindred t
   request-kindred s id keys o j runs (assigned node (within x (asks key more go))) t v e h =
       let y = only_if-some (same_keys (key ∷ more) keys && is_within_limits w s (x.run ∷ o.path) (key ∷ more)) (with_children w s id o j runs (key ∷ more) x go) t h in
-      subst (λ (u : State I A). Kindred u) y.1 (children-kindred s id node o j runs key more x go v e)
+      subst (λ (u : State P I A). Kindred u) y.1
+      (children-kindred s id node o j runs key more x go v e)
   request-kindred s id keys o j runs _ t v e h = absurd (cc)
 
-  woken_if-less : (y : Bool) (table : Records) (q t : RequestState I A) (m : Record) (r : RunId) (b : Body I A) (go : Record → Journal → Walk I A) → q.status ≡ waits r b go → woken_if w y table q m r go ≡ Some t →
+  woken_if-less : (y : Bool) (table : Records) (q t : RequestState P I A) (m : Record) (r : RunId)
+      (b : Body I A) (go : Record → Journal → Walk P I A) → q.status ≡ waits r b go →
+      woken_if w y table q m r go ≡ Some t →
       Less (kin_of q) (kin_of t) × (inside_of q.status ≡ inside_of t.status)
   woken_if-less false table q t m r b go e h =
-      subst (λ (u : RequestState I A). Less (kin_of q) (kin_of u) × (inside_of q.status ≡ inside_of u.status)) (some-is q t h) (record { ties = refl-ties (kin_of q); inside = λ t a. a; waits_less = λ t a. a }, refl)
+      subst (λ (u : RequestState P I A). Less (kin_of q) (kin_of u)
+      × (inside_of q.status ≡ inside_of u.status)) (some-is q t h)
+      (record { ties = refl-ties (kin_of q); inside = λ t a. a; waits_less = λ t a. a }, refl)
   woken_if-less true table q t m r b go e h =
       let y = and_then-some (replay table r q.journal) (λ next. Some (goes_on w ready q.origin q.runs r go m next)) t h in
-      let z : RequestState I A = goes_on w ready q.origin q.runs r go m y.0 in
-      subst (λ (u : RequestState I A). Less (kin_of q) (kin_of u) × (inside_of q.status ≡ inside_of u.status)) (some-is z t y.2) (
+      let z : RequestState P I A = goes_on w ready q.origin q.runs r go m y.0 in
+      subst (λ (u : RequestState P I A). Less (kin_of q) (kin_of u)
+      × (inside_of q.status ≡ inside_of u.status)) (some-is z t y.2) (
         record {
           ties = record { parent = refl; calls = ap ids_in (sym e); reply = ap told_in (sym e); when_calling = λ ids a. none_some (ids_in q.status) ids a (ap ids_in e) };
           inside = λ t a. absurd (cc);
@@ -438,21 +490,32 @@ module _ {I A : Type 0} (w : World I A) where
         ap inside_of e,
       )
 
-  woken_at-less : (table : Records) (r : RunId) (m : Record) (q t : RequestState I A) (st : Status I A) → q.status ≡ st → woken_at w table r m q st ≡ Some t → Less (kin_of q) (kin_of t) × (inside_of q.status ≡ inside_of t.status)
-  woken_at-less table r m q t (waits s b go) e h = woken_if-less (same_run s r) table q t m s b go e h
+  woken_at-less : (table : Records) (r : RunId) (m : Record) (q t : RequestState P I A)
+      (st : Status P I A) → q.status ≡ st → woken_at w table r m q st ≡ Some t →
+      Less (kin_of q) (kin_of t) × (inside_of q.status ≡ inside_of t.status)
+  woken_at-less table r m q t (waits s b go) e h =
+      woken_if-less (same_run s r) table q t m s b go e h
   woken_at-less table r m q t _ e h =
-      subst (λ (u : RequestState I A). Less (kin_of q) (kin_of u) × (inside_of q.status ≡ inside_of u.status)) (some-is q t h) (record { ties = refl-ties (kin_of q); inside = λ t a. a; waits_less = λ t a. a }, refl)
+      subst (λ (u : RequestState P I A). Less (kin_of q) (kin_of u)
+      × (inside_of q.status ≡ inside_of u.status)) (some-is q t h)
+      (record { ties = refl-ties (kin_of q); inside = λ t a. a; waits_less = λ t a. a }, refl)
 
-  module _ (rs : List (RequestState I A)) (id : ℕ) (q z : RequestState I A) (table : Records) (r : RunId) (m : Record) (us : List (RequestState I A)) (at_id : at rs id ≡ Some q) (less : Less (kin_of q) (kin_of z))
+  module _ (rs : List (RequestState P I A)) (id : ℕ) (q z : RequestState P I A) (table : Records)
+      (r : RunId) (m : Record) (us : List (RequestState P I A)) (at_id : at rs id ≡ Some q)
+      (less : Less (kin_of q) (kin_of z))
       (woke : traverse (woken w table r m) (put rs id z) ≡ Some us) where
-    forward : (n : ℕ) (a : RequestState I A) → at rs n ≡ Some a → (b : RequestState I A) × (at us n ≡ Some b) × Less (kin_of a) (kin_of b) × ((n ≡ id) ⊎ (inside_of a.status ≡ inside_of b.status))
+    forward : (n : ℕ) (a : RequestState P I A) → at rs n ≡ Some a →
+        (b : RequestState P I A) × (at us n ≡ Some b) × Less (kin_of a) (kin_of b)
+        × ((n ≡ id) ⊎ (inside_of a.status ≡ inside_of b.status))
     forward n a h = elim (same_or_not n id) [
       | inl e ↦
           let y = traverse-at (woken w table r m) (put rs id z) us woke id z (at-put_same rs id q z at_id) in
           let aq : a ≡ q = same_some (at rs n) a q h (subst (λ k. at rs k ≡ Some q) (sym e) at_id) in (
             y.0,
             subst (λ k. at us k ≡ Some y.0) (sym e) y.1,
-            subst (λ (k : RequestState I A). Less (kin_of k) (kin_of y.0)) (sym aq) (less-trans (kin_of q) (kin_of z) (kin_of y.0) less (woken_at-less table r m z y.0 z.status refl y.2).0),
+            subst (λ (k : RequestState P I A). Less (kin_of k) (kin_of y.0)) (sym aq)
+                (less-trans (kin_of q) (kin_of z) (kin_of y.0) less
+                (woken_at-less table r m z y.0 z.status refl y.2).0),
             inl e,
           )
       | inr e ↦
@@ -461,7 +524,8 @@ module _ {I A : Type 0} (w : World I A) where
           (y.0, y.1, k.0, inr k.1)
     ]
 
-    back : (n : ℕ) (b : RequestState I A) → at us n ≡ Some b → (a : RequestState I A) × (at rs n ≡ Some a) × Less (kin_of a) (kin_of b)
+    back : (n : ℕ) (b : RequestState P I A) → at us n ≡ Some b →
+        (a : RequestState P I A) × (at rs n ≡ Some a) × Less (kin_of a) (kin_of b)
     back n b h =
         let y = at-traverse (woken w table r m) (put rs id z) us woke n b h in
         let k = (woken_at-less table r m y.0 b y.0.status refl y.2).0 in
@@ -469,24 +533,32 @@ module _ {I A : Type 0} (w : World I A) where
           | inl e ↦ (
             q,
             subst (λ k. at rs k ≡ Some q) (sym e.0) at_id,
-            less-trans (kin_of q) (kin_of z) (kin_of b) less (subst (λ (u : RequestState I A). Less (kin_of u) (kin_of b)) (sym e.1) k),
+            less-trans (kin_of q) (kin_of z) (kin_of b) less
+                (subst (λ (u : RequestState P I A). Less (kin_of u) (kin_of b)) (sym e.1) k),
           )
           | inr e ↦ (y.0, e.1, k)
         ]
 
-  finished-kindred : (s : State I A) (id node : ℕ) (o : Origin) (j : Journal) (runs : List RunId) (x : Within I A) (outcome : Outcome) (t : State I A) → Kindred s →
+  finished-kindred : (s : State P I A) (id node : ℕ) (o : Origin) (j : Journal) (runs : List RunId)
+      (x : Within P I A) (outcome : Outcome) (t : State P I A) → Kindred s →
       at s.requests id ≡ Some (request_of o j runs (assigned node (within x (ends outcome)))) → finished w s id node o j runs x (recorded outcome x.so_far.segments) ≡ Some t → Kindred t
   finished-kindred s id node o j runs x outcome t v e h =
       let m : Record = recorded outcome x.so_far.segments in
       let f : FinishedRun = record { run = x.run; made = m } in
-      let q : RequestState I A = request_of o j runs (assigned node (within x (ends outcome))) in
-      let z : RequestState I A = goes_on w (assigned node) o runs x.run x.go m (add j (ended x.run m)) in
+      let q : RequestState P I A = request_of o j runs (assigned node (within x (ends outcome))) in
+      let z : RequestState P I A =
+      goes_on w (assigned node) o runs x.run x.go m (add j (ended x.run m)) in
       let u = and_then-some (traverse (woken w (f ∷ s.table) x.run m) (put s.requests id z)) (λ requests. Some (record { requests = requests; begun = s.begun; table = f ∷ s.table; tools_used = record { run = x.run; tools = x.so_far.tools } ∷ s.tools_used })) t h in
-      let last : State I A = record { requests = u.0; begun = s.begun; table = f ∷ s.table; tools_used = record { run = x.run; tools = x.so_far.tools } ∷ s.tools_used } in
+      let last : State P I A = record {
+        requests = u.0;
+        begun = s.begun;
+        table = f ∷ s.table;
+        tools_used = record { run = x.run; tools = x.so_far.tools } ∷ s.tools_used;
+      } in
       let qz : Less (kin_of q) (kin_of z) = record { ties = record { parent = refl; calls = refl; reply = refl; when_calling = λ ids a. absurd (cc) }; inside = λ t a. absurd (cc); waits_less = λ t a. absurd (cc) } in
       let fw = forward s.requests id q z (f ∷ s.table) x.run m u.0 e qz u.1 in
       let bk = back s.requests id q z (f ∷ s.table) x.run m u.0 e qz u.1 in
-      subst (λ (u : State I A). Kindred u) (some-is last t u.2) (record {
+      subst (λ (u : State P I A). Kindred u) (some-is last t u.2) (record {
         family = tied-family (record {
           forward = λ n a at_n. let y = at-kins s.requests n a at_n in let g = fw n y.0 y.1 in (kin_of g.0, kins-at u.0 n g.0 g.1, subst (λ k. SameTies k (kin_of g.0)) y.2 g.2.ties);
           back = λ n b at_n. let y = at-kins u.0 n b at_n in let g = bk n y.0 y.1 in (kin_of g.0, kins-at s.requests n g.0 g.1, subst (λ k. SameTies (kin_of g.0) k) y.2 g.2.ties);
@@ -503,7 +575,9 @@ module _ {I A : Type 0} (w : World I A) where
                 elim g.3 [
                   | inl d ↦
                       let aq : a.0 ≡ q = same_some (at s.requests y.0) a.0 q a.1 (subst (λ k. at s.requests k ≡ Some q) (sym d) e) in
-                      absurd (newest s.table f r c.1 (some-is x.run r (sym (ap (λ (k : RequestState I A). inside_of k.status) aq) ∙ i)))
+                      absurd (newest s.table f r c.1
+                      (some-is x.run r (sym (ap (λ (k : RequestState P I A). inside_of k.status) aq)
+                      ∙ i)))
                   | inr d ↦ sym d ∙ i
                 ],
               );
@@ -523,34 +597,41 @@ module _ {I A : Type 0} (w : World I A) where
         };
       })
 
-  result-kindred : (s : State I A) (id : ℕ) (run : RunId) (o : Origin) (j : Journal) (runs : List RunId) (st : Status I A) (t : State I A) → Kindred s →
+  result-kindred : (s : State P I A) (id : ℕ) (run : RunId) (o : Origin) (j : Journal)
+      (runs : List RunId) (st : Status P I A) (t : State P I A) → Kindred s →
       at s.requests id ≡ Some (request_of o j runs st) → result_at w s id run o j runs st ≡ Some t → Kindred t
   result-kindred s id run o j runs (assigned node (within x (ends outcome))) t v e h =
       let y = and_then-some (only_if (same_run x.run run) x) (λ x. finished w s id node o j runs x (recorded outcome x.so_far.segments)) t h in
       let p : x ≡ y.0 = (only_if-some (same_run x.run run) x y.0 y.1).1 in
-      finished-kindred s id node o j runs x outcome t v e (subst (λ (a : Within I A). finished w s id node o j runs a (recorded outcome a.so_far.segments) ≡ Some t) (sym p) y.2)
+      finished-kindred s id node o j runs x outcome t v e
+      (subst (λ (a : Within P I A). finished w s id node o j runs a
+      (recorded outcome a.so_far.segments) ≡ Some t) (sym p) y.2)
   result-kindred s id run o j runs _ t v e h = absurd (cc)
 
   -- a request is over
-  told-kins : (rs : List (RequestState I A)) (id : ℕ) → and_then (at rs id) (λ q. result_in w q.status) ≡ told_at (kins_of rs) id
+  told-kins : (rs : List (RequestState P I A)) (id : ℕ) → and_then (at rs id)
+      (λ q. result_in w q.status) ≡ told_at (kins_of rs) id
   told-kins rs id = go (at rs id)
     where
-      same : (st : Status I A) → result_in w st ≡ told_in st
+      same : (st : Status P I A) → result_in w st ≡ told_in st
       same (done result) = refl
       same _ = refl
 
-      go : (o : Option (RequestState I A)) → and_then o (λ q. result_in w q.status) ≡ and_then (and_then o (λ q. Some (kin_of q))) (λ k. k.reply)
+      go : (o : Option (RequestState P I A)) → and_then o (λ q. result_in w q.status) ≡ and_then
+          (and_then o (λ q. Some (kin_of q))) (λ k. k.reply)
       go None = refl
       go (Some q) = same q.status
 
-  module _ (s : State I A) (id node : ℕ) (o : Origin) (j : Journal) (runs : List RunId) (reply : Reply) (v : Kindred s) (e : at s.requests id ≡ Some (request_of o j runs (assigned node (walking (gives reply))))) where
-    abbrev before : RequestState I A
+  module _ (s : State P I A) (id node : ℕ) (o : Origin) (j : Journal) (runs : List RunId)
+      (reply : Reply) (v : Kindred s) (e : at s.requests id ≡ Some (request_of o j runs
+      (assigned node (walking (gives reply))))) where
+    abbrev before : RequestState P I A
     before = request_of o j runs (assigned node (walking (gives reply)))
 
-    abbrev over : RequestState I A
+    abbrev over : RequestState P I A
     over = request_of o j runs (done (result_of reply runs))
 
-    abbrev then_state : State I A
+    abbrev then_state : State P I A
     then_state = with_request s id over
 
     over-put : PutAt (kins_of s.requests) (kins_of (put s.requests id over)) id (kin_of before) (kin_of over)
@@ -567,29 +648,35 @@ module _ {I A : Type 0} (w : World I A) where
     over-family f = done-family id (kin_of before) (kin_of over) over-put refl refl refl refl (result_of reply runs) refl v.family f
 
     -- its caller
-    caller-was : (a : ℕ) (q : RequestState I A) (ids : List ℕ) → at (put s.requests id over) a ≡ Some q → ids_in q.status ≡ Some ids → kins_of s.requests a ≡ Some (kin_of q)
+    caller-was : (a : ℕ) (q : RequestState P I A) (ids : List ℕ) →
+        at (put s.requests id over) a ≡ Some q → ids_in q.status ≡ Some ids →
+        kins_of s.requests a ≡ Some (kin_of q)
     caller-was a q ids h c = elim (put-cases over-put a (kin_of q) (kins-at (put s.requests id over) a q h)) [
       | inl x ↦ none_some (ids_in q.status) ids c (ap (λ (k : Kin). k.calls) x.1)
       | inr x ↦ x.1
     ]
 
-    answered-kindred : (a : ℕ) → o.parent ≡ Some a → (po : Origin) (pj : Journal) (pruns : List RunId) (keys : List RequestKey) (ids : List ℕ) (x : Within I A) (go : List RequestResult → Journal → Body I A) (t : State I A) →
+    answered-kindred : (a : ℕ) → o.parent ≡ Some a →
+        (po : Origin) (pj : Journal) (pruns : List RunId) (keys : List RequestKey) (ids : List ℕ)
+        (x : Within P I A) (go : List RequestResult → Journal → Body I A) (t : State P I A) →
         at (put s.requests id over) a ≡ Some (request_of po pj pruns (calling keys ids x go)) → (found : Option (List RequestResult)) → results_of w (put s.requests id over) ids ≡ found → answered w then_state a po pj pruns keys x go found ≡ Some t → Kindred t
     answered-kindred a pa po pj pruns keys ids x go t h None g k =
         let y = traverse-none (λ n. and_then (at (put s.requests id over) n) (λ q. result_in w q.status)) ids g in
-        subst (λ (u : State I A). Kindred u) (some-is then_state t k) (record {
+        subst (λ (u : State P I A). Kindred u) (some-is then_state t k) (record {
           family = over-family (λ b i.
               let ab : a ≡ b = same_some o.parent a b pa i in
-              let c : RequestState I A = request_of po pj pruns (calling keys ids x go) in
+              let c : RequestState P I A = request_of po pj pruns (calling keys ids x go) in
               (kin_of c, ids, subst (λ n. kins_of s.requests n ≡ Some (kin_of c)) ab (caller-was a c ids h refl), refl, (y.0, y.1, sym (told-kins (put s.requests id over) y.0) ∙ y.2)));
           free = over-free;
         })
     answered-kindred a pa po pj pruns keys ids x go t h (Some results) g k =
-        let c : RequestState I A = request_of po pj pruns (calling keys ids x go) in
+        let c : RequestState P I A = request_of po pj pruns (calling keys ids x go) in
         let y = and_then-some (replay_all s.table (runs_of results) pj) (λ next. Some (with_request then_state a (in_body w ready po pruns x.run x.go (run_on w.tools x.run (go results next) next (with_calls x.so_far keys results))))) t k in
-        let z : RequestState I A = in_body w ready po pruns x.run x.go (run_on w.tools x.run (go results y.0) y.0 (with_calls x.so_far keys results)) in
+        let z : RequestState P I A = in_body w ready po pruns x.run x.go (run_on w.tools x.run
+        (go results y.0) y.0 (with_calls x.so_far keys results)) in
         let p2 = put-kins (put s.requests id over) a c z h in
-        subst (λ (u : State I A). Kindred u) (some-is (with_request then_state a z) t y.2) (record {
+        subst (λ (u : State P I A). Kindred u) (some-is (with_request then_state a z) t y.2)
+        (record {
           family = last-family id (kin_of before) (kin_of over) over-put refl refl refl refl (result_of reply runs) refl v.family
               (kins_of (put (put s.requests id over) a z)) a (kin_of c) (kin_of z) ids p2 pa refl refl refl refl
               (λ m i. let r = traverse-all (λ n. and_then (at (put s.requests id over) n) (λ q. result_in w q.status)) ids results g m i in (r.0, sym (told-kins (put s.requests id over) m) ∙ r.1));
@@ -599,23 +686,33 @@ module _ {I A : Type 0} (w : World I A) where
           };
         })
 
-    back_at-kindred : (a : ℕ) → o.parent ≡ Some a → (q : RequestState I A) (st : Status I A) (t : State I A) → at (put s.requests id over) a ≡ Some q → q.status ≡ st → resume_at w then_state a q st ≡ Some t → Kindred t
+    back_at-kindred : (a : ℕ) → o.parent ≡ Some a → (q : RequestState P I A) (st : Status P I A)
+        (t : State P I A) → at (put s.requests id over) a ≡ Some q → q.status ≡ st →
+        resume_at w then_state a q st ≡ Some t → Kindred t
     back_at-kindred a pa q (calling keys ids x go) t h p k =
-        answered-kindred a pa q.origin q.journal q.runs keys ids x go t (h ∙ ap (λ (b : Status I A). Some (request_of q.origin q.journal q.runs b)) p) (results_of w (put s.requests id over) ids) refl k
+        answered-kindred a pa q.origin q.journal q.runs keys ids x go t
+        (h ∙ ap (λ (b : Status P I A). Some (request_of q.origin q.journal q.runs b)) p)
+        (results_of w (put s.requests id over) ids) refl k
     back_at-kindred a pa q _ t h p k = absurd (cc)
 
-    back_to-kindred : (u : Option ℕ) → o.parent ≡ u → (t : State I A) → resume_caller w then_state u ≡ Some t → Kindred t
-    back_to-kindred None p t h = subst (λ (u : State I A). Kindred u) (some-is then_state t h) (record { family = over-family (λ a i. none_some o.parent a i p); free = over-free })
+    back_to-kindred : (u : Option ℕ) → o.parent ≡ u → (t : State P I A) →
+        resume_caller w then_state u ≡ Some t → Kindred t
+    back_to-kindred None p t h =
+        subst (λ (u : State P I A). Kindred u) (some-is then_state t h)
+        (record { family = over-family (λ a i. none_some o.parent a i p); free = over-free })
     back_to-kindred (Some a) p t h =
         let y = and_then-some (at (put s.requests id over) a) (λ q. resume_at w then_state a q q.status) t h in
         back_at-kindred a p y.0 y.0.status t y.1 refl y.2
 
-  done-kindred : (s : State I A) (id : ℕ) (o : Origin) (j : Journal) (runs : List RunId) (st : Status I A) (t : State I A) → Kindred s →
+  done-kindred : (s : State P I A) (id : ℕ) (o : Origin) (j : Journal) (runs : List RunId)
+      (st : Status P I A) (t : State P I A) → Kindred s →
       at s.requests id ≡ Some (request_of o j runs st) → done_at w s id o j runs st ≡ Some t → Kindred t
   done-kindred s id o j runs (assigned node (walking (gives reply))) t v e h = back_to-kindred s id node o j runs reply v e o.parent refl t h
   done-kindred s id o j runs _ t v e h = absurd (cc)
 
-  pub step_of-kindred : (s : State I A) (event : Event) (q : RequestState I A) (t : State I A) → Lawful s → Kindred s → Lawful t → at s.requests (whose event) ≡ Some q → step_of w s event q ≡ Some t → Kindred t
+  pub step_of-kindred : (s : State P I A) (event : Event) (q : RequestState P I A)
+      (t : State P I A) → Lawful s → Kindred s → Lawful t → at s.requests (whose event) ≡ Some q →
+      step_of w s event q ≡ Some t → Kindred t
   step_of-kindred s (Assign id node) q t l v lt e h = assign-kindred s id node q.origin q.journal q.runs q.status t v e h
   step_of-kindred s (Claim id run kind) q t l v lt e h = claim-kindred s id run kind q.origin q.journal q.runs q.status t l v lt e h
   step_of-kindred s (Request id keys) q t l v lt e h = request-kindred s id keys q.origin q.journal q.runs q.status t v e h
@@ -646,8 +743,9 @@ module _ {I A : Type 0} (w : World I A) where
       first zero k h = some-is (record { parent = None; calls = None; reply = None; inside = None; waits = None }) k h
       first (suc id) k h = absurd (cc)
 
-  pub all-kindred : (events : List Event) (s t : State I A) → Lawful s → Kindred s → after_all w s events ≡ Some t → Kindred t
-  all-kindred [] s t l v h = subst (λ (u : State I A). Kindred u) (some-is s t h) v
+  pub all-kindred : (events : List Event) (s t : State P I A) → Lawful s → Kindred s →
+      after_all w s events ≡ Some t → Kindred t
+  all-kindred [] s t l v h = subst (λ (u : State P I A). Kindred u) (some-is s t h) v
   all-kindred (event ∷ events) s t l v h =
       let y = and_then-some (step w s event) (λ next. after_all w next events) t h in
       let z = and_then-some (at s.requests (whose event)) (step_of w s event) y.0 y.1 in

@@ -41,15 +41,17 @@ abbrev pub tooled_runs : {I : Type 0} → List (ToolsUsed I) → List RunId
 tooled_runs {I} = map (λ (t : ToolsUsed I). t.run)
 
 -- what an event does to the runs that are begun and to the table
-pub record Changes {I A : Type 0} (event : Event) (s t : State I A) : Type 0 where
+pub record Changes {P I A : Type 0} (event : Event) (s t : State P I A) : Type 0 where
   pub begins : begun_runs t.begun ≡ begun_by (event ∷ []) (begun_runs s.begun)
   pub finishes : finished_runs t.table ≡ finished_by (event ∷ []) (finished_runs s.table)
   pub stays : Newer s.table t.table
   pub tools_used : tooled_runs s.tools_used ≡ finished_runs s.table → tooled_runs t.tools_used ≡ finished_runs t.table
 
-module _ {I A : Type 0} (w : World I A) where
+module _ {P I A : Type 0} (w : World P I A) where
   -- nothing
-  same_lists : (event : Event) (s t : State I A) → begun_by (event ∷ []) (begun_runs s.begun) ≡ begun_runs s.begun → finished_by (event ∷ []) (finished_runs s.table) ≡ finished_runs s.table →
+  same_lists : (event : Event) (s t : State P I A) → begun_by (event ∷ [])
+      (begun_runs s.begun) ≡ begun_runs s.begun → finished_by (event ∷ [])
+      (finished_runs s.table) ≡ finished_runs s.table →
       s.begun ≡ t.begun → s.table ≡ t.table → s.tools_used ≡ t.tools_used → Changes event s t
   same_lists event s t b f p q z = record {
     tools_used = λ h. ap tooled_runs (sym z) ∙ (h ∙ ap finished_runs q);
@@ -58,98 +60,156 @@ module _ {I A : Type 0} (w : World I A) where
     stays = subst (λ x. Newer s.table x) q same_table;
   }
 
-  assign-changes : (s : State I A) (id node : ℕ) (o : Origin) (j : Journal) (runs : List RunId) (st : Status I A) (t : State I A) → assign_at w s id node o j runs st ≡ Some t → Changes (Assign id node) s t
+  assign-changes : (s : State P I A) (id node : ℕ) (o : Origin) (j : Journal) (runs : List RunId)
+      (st : Status P I A) (t : State P I A) → assign_at w s id node o j runs st ≡ Some t →
+      Changes (Assign id node) s t
   assign-changes s id node o j runs (ready p) t h =
       let e = some-is (with_request s id (request_of o j runs (assigned node p))) t h in
-      same_lists (Assign id node) s t refl refl (ap (λ (u : State I A). u.begun) e) (ap (λ (u : State I A). u.table) e) (ap (λ (u : State I A). u.tools_used) e)
+      same_lists (Assign id node) s t refl refl (ap (λ (u : State P I A). u.begun) e)
+      (ap (λ (u : State P I A). u.table) e) (ap (λ (u : State P I A). u.tools_used) e)
   assign-changes s id node o j runs _ t h = absurd (cc)
 
-  retire-changes : (s : State I A) (id node : ℕ) (o : Origin) (j : Journal) (runs : List RunId) (st : Status I A) (t : State I A) → retire_at w s id node o j runs st ≡ Some t → Changes (Retire id node) s t
+  retire-changes : (s : State P I A) (id node : ℕ) (o : Origin) (j : Journal) (runs : List RunId)
+      (st : Status P I A) (t : State P I A) → retire_at w s id node o j runs st ≡ Some t →
+      Changes (Retire id node) s t
   retire-changes s id node o j runs (assigned by p) t h =
       let e = (only_if-some (by == node) (with_request s id (request_of o j runs (ready p))) t h).1 in
-      same_lists (Retire id node) s t refl refl (ap (λ (u : State I A). u.begun) e) (ap (λ (u : State I A). u.table) e) (ap (λ (u : State I A). u.tools_used) e)
+      same_lists (Retire id node) s t refl refl (ap (λ (u : State P I A). u.begun) e)
+      (ap (λ (u : State P I A). u.table) e) (ap (λ (u : State P I A). u.tools_used) e)
   retire-changes s id node o j runs _ t h = absurd (cc)
 
-  claimed-changes : (s : State I A) (id node : ℕ) (o : Origin) (j : Journal) (runs : List RunId) (r : RunId) (b : Body I A) (go : Record → Journal → Walk I A) (kind : ClaimKind) (t : State I A) →
+  claimed-changes : (s : State P I A) (id node : ℕ) (o : Origin) (j : Journal) (runs : List RunId)
+      (r : RunId) (b : Body I A) (go : Record → Journal → Walk P I A) (kind : ClaimKind)
+      (t : State P I A) →
       claimed w s id node o j runs r b go kind ≡ Some t → Changes (Claim id r kind) s t
   claimed-changes s id node o j runs r b go Go t h =
-      let u : State I A = record { requests = put s.requests id (in_body w (assigned node) o runs r go (run_on w.tools r b j nothing_yet)); begun = record { run = r; by = id } ∷ s.begun; table = s.table; tools_used = s.tools_used } in
+      let u : State P I A =
+      record {
+        requests = put s.requests id (in_body w (assigned node) o runs r go
+            (run_on w.tools r b j nothing_yet));
+        begun = record { run = r; by = id } ∷ s.begun;
+        table = s.table;
+        tools_used = s.tools_used;
+      } in
       let e = (unless-some (is_begun r s.begun) u t h).1 in
       record {
-        begins = ap (λ (u : State I A). begun_runs u.begun) (sym e);
-        finishes = ap (λ (u : State I A). finished_runs u.table) (sym e);
-        stays = subst (λ (u : State I A). Newer s.table u.table) e same_table;
-        tools_used = λ g. subst (λ (u : State I A). tooled_runs u.tools_used ≡ finished_runs u.table) e g;
+        begins = ap (λ (u : State P I A). begun_runs u.begun) (sym e);
+        finishes = ap (λ (u : State P I A). finished_runs u.table) (sym e);
+        stays = subst (λ (u : State P I A). Newer s.table u.table) e same_table;
+        tools_used =
+            λ g. subst (λ (u : State P I A). tooled_runs u.tools_used ≡ finished_runs u.table) e g;
       }
   claimed-changes s id node o j runs r b go Use t h =
       let x = and_then-some (found s.table r) (λ made. and_then (replay s.table r j) (λ next. Some (with_request s id (goes_on w (assigned node) o runs r go made next)))) t h in
       let y = and_then-some (replay s.table r j) (λ next. Some (with_request s id (goes_on w (assigned node) o runs r go x.0 next))) t x.2 in
       let e = some-is (with_request s id (goes_on w (assigned node) o runs r go x.0 y.0)) t y.2 in
-      same_lists (Claim id r Use) s t refl refl (ap (λ (u : State I A). u.begun) e) (ap (λ (u : State I A). u.table) e) (ap (λ (u : State I A). u.tools_used) e)
+      same_lists (Claim id r Use) s t refl refl (ap (λ (u : State P I A). u.begun) e)
+      (ap (λ (u : State P I A). u.table) e) (ap (λ (u : State P I A). u.tools_used) e)
   claimed-changes s id node o j runs r b go Wait t h =
-      let next : State I A = waiting w s id o j runs r b go in
+      let next : State P I A = waiting w s id o j runs r b go in
       let e = (only_if-some (may_wait w (is_begun r s.begun) (found s.table r) (is_in_cycle next r)) next t h).1 in
-      same_lists (Claim id r Wait) s t refl refl (ap (λ (u : State I A). u.begun) e) (ap (λ (u : State I A). u.table) e) (ap (λ (u : State I A). u.tools_used) e)
+      same_lists (Claim id r Wait) s t refl refl (ap (λ (u : State P I A). u.begun) e)
+      (ap (λ (u : State P I A). u.table) e) (ap (λ (u : State P I A). u.tools_used) e)
 
-  claim-changes : (s : State I A) (id : ℕ) (run : RunId) (kind : ClaimKind) (o : Origin) (j : Journal) (runs : List RunId) (st : Status I A) (t : State I A) → claim_at w s id run kind o j runs st ≡ Some t → Changes (Claim id run kind) s t
-  claim-changes s id run kind o j runs (assigned node (walking (wants r b go))) t h =
+  claim-changes : (s : State P I A) (id : ℕ) (run : RunId) (kind : ClaimKind) (o : Origin)
+      (j : Journal) (runs : List RunId) (st : Status P I A) (t : State P I A) →
+      claim_at w s id run kind o j runs st ≡ Some t → Changes (Claim id run kind) s t
+  claim-changes s id run kind o j runs (assigned node (walking (wants site r b go))) t h =
       let x = and_then-some (only_if (same_run r run) r) (λ run. claimed w s id node o j runs run b go kind) t h in
       let y = only_if-some (same_run r run) r x.0 x.1 in
       subst (λ n. Changes (Claim id n kind) s t) (same_run-true r run y.0) (claimed-changes s id node o j runs r b go kind t (subst (λ n. claimed w s id node o j runs n b go kind ≡ Some t) (sym y.1) x.2))
   claim-changes s id run kind o j runs _ t h = absurd (cc)
 
-  request-changes : (s : State I A) (id : ℕ) (keys : List RequestKey) (o : Origin) (j : Journal) (runs : List RunId) (st : Status I A) (t : State I A) → request_at w s id keys o j runs st ≡ Some t → Changes (Request id keys) s t
+  request-changes : (s : State P I A) (id : ℕ) (keys : List RequestKey) (o : Origin) (j : Journal)
+      (runs : List RunId) (st : Status P I A) (t : State P I A) →
+      request_at w s id keys o j runs st ≡ Some t → Changes (Request id keys) s t
   request-changes s id keys o j runs (assigned node (within x (asks key more go))) t h =
       let e = (only_if-some (same_keys (key ∷ more) keys && is_within_limits w s (x.run ∷ o.path) (key ∷ more)) (with_children w s id o j runs (key ∷ more) x go) t h).1 in
-      same_lists (Request id keys) s t refl refl (ap (λ (u : State I A). u.begun) e) (ap (λ (u : State I A). u.table) e) (ap (λ (u : State I A). u.tools_used) e)
+      same_lists (Request id keys) s t refl refl (ap (λ (u : State P I A). u.begun) e)
+      (ap (λ (u : State P I A). u.table) e) (ap (λ (u : State P I A). u.tools_used) e)
   request-changes s id keys o j runs _ t h = absurd (cc)
 
-  result-changes : (s : State I A) (id : ℕ) (run : RunId) (o : Origin) (j : Journal) (runs : List RunId) (st : Status I A) (t : State I A) → Lawful s → at s.requests id ≡ Some (request_of o j runs st) →
+  result-changes : (s : State P I A) (id : ℕ) (run : RunId) (o : Origin) (j : Journal)
+      (runs : List RunId) (st : Status P I A) (t : State P I A) → Lawful s → at s.requests id ≡ Some
+      (request_of o j runs st) →
       result_at w s id run o j runs st ≡ Some t → Changes (Result id run) s t
   result-changes s id run o j runs (assigned node (within x (ends outcome))) t v e h =
       let m : Record = recorded outcome x.so_far.segments in
       let f : FinishedRun = record { run = x.run; made = m } in
       let y = and_then-some (only_if (same_run x.run run) x) (λ x. finished w s id node o j runs x (recorded outcome x.so_far.segments)) t h in
       let p = only_if-some (same_run x.run run) x y.0 y.1 in
-      let g = subst (λ (a : Within I A). finished w s id node o j runs a (recorded outcome a.so_far.segments) ≡ Some t) (sym p.1) y.2 in
-      let z : RequestState I A = goes_on w (assigned node) o runs x.run x.go m (add j (ended x.run m)) in
+      let g = subst (λ (a : Within P I A). finished w s id node o j runs a
+      (recorded outcome a.so_far.segments) ≡ Some t) (sym p.1) y.2 in
+      let z : RequestState P I A =
+      goes_on w (assigned node) o runs x.run x.go m (add j (ended x.run m)) in
       let u = and_then-some (traverse (woken w (f ∷ s.table) x.run m) (put s.requests id z)) (λ requests. Some (record { requests = requests; begun = s.begun; table = f ∷ s.table; tools_used = record { run = x.run; tools = x.so_far.tools } ∷ s.tools_used })) t g in
-      let last : State I A = record { requests = u.0; begun = s.begun; table = f ∷ s.table; tools_used = record { run = x.run; tools = x.so_far.tools } ∷ s.tools_used } in
+      let last : State P I A = record {
+        requests = u.0;
+        begun = s.begun;
+        table = f ∷ s.table;
+        tools_used = record { run = x.run; tools = x.so_far.tools } ∷ s.tools_used;
+      } in
       let q : last ≡ t = some-is last t u.2 in
       let n : found s.table x.run ≡ None = (v.each id (request_of o j runs (assigned node (within x (ends outcome)))) e).status.1.unfinished in
       subst (λ r. Changes (Result id r) s t) (same_run-true x.run run p.0) (record {
-        begins = ap (λ (u : State I A). begun_runs u.begun) (sym q);
-        finishes = ap (λ (u : State I A). finished_runs u.table) (sym q);
-        stays = subst (λ (u : State I A). Newer s.table u.table) q (one_newer same_table n);
-        tools_used = λ g. subst (λ (u : State I A). tooled_runs u.tools_used ≡ finished_runs u.table) q (ap (λ rs. x.run ∷ rs) g);
+        begins = ap (λ (u : State P I A). begun_runs u.begun) (sym q);
+        finishes = ap (λ (u : State P I A). finished_runs u.table) (sym q);
+        stays = subst (λ (u : State P I A). Newer s.table u.table) q (one_newer same_table n);
+        tools_used =
+            λ g. subst (λ (u : State P I A). tooled_runs u.tools_used ≡ finished_runs u.table) q
+            (ap (λ rs. x.run ∷ rs) g);
       })
   result-changes s id run o j runs _ t v e h = absurd (cc)
 
-  abbrev pub Same : State I A → State I A → Type 0
+  abbrev pub Same : State P I A → State P I A → Type 0
   Same s t = (s.begun ≡ t.begun) × (s.table ≡ t.table) × (s.tools_used ≡ t.tools_used)
 
-  answered-same : (s : State I A) (id : ℕ) (o : Origin) (j : Journal) (runs : List RunId) (keys : List RequestKey) (x : Within I A) (go : List RequestResult → Journal → Body I A) (reply : Option (List RequestResult)) (t : State I A) →
+  answered-same : (s : State P I A) (id : ℕ) (o : Origin) (j : Journal) (runs : List RunId)
+      (keys : List RequestKey) (x : Within P I A) (go : List RequestResult → Journal → Body I A)
+      (reply : Option (List RequestResult)) (t : State P I A) →
       answered w s id o j runs keys x go reply ≡ Some t → Same s t
-  answered-same s id o j runs keys x go None t h = let e = some-is s t h in (ap (λ (u : State I A). u.begun) e, ap (λ (u : State I A). u.table) e, ap (λ (u : State I A). u.tools_used) e)
+  answered-same s id o j runs keys x go None t h =
+      let e = some-is s t h in (
+        ap (λ (u : State P I A). u.begun) e,
+        ap (λ (u : State P I A). u.table) e,
+        ap
+            (λ (u : State P I A). u.tools_used) e,
+      )
   answered-same s id o j runs keys x go (Some results) t h =
       let y = and_then-some (replay_all s.table (runs_of results) j) (λ next. Some (with_request s id (in_body w ready o runs x.run x.go (run_on w.tools x.run (go results next) next (with_calls x.so_far keys results))))) t h in
-      let e = some-is (with_request s id (in_body w ready o runs x.run x.go (run_on w.tools x.run (go results y.0) y.0 (with_calls x.so_far keys results)))) t y.2 in
-      (ap (λ (u : State I A). u.begun) e, ap (λ (u : State I A). u.table) e, ap (λ (u : State I A). u.tools_used) e)
+      let e = some-is (with_request s id (in_body w ready o runs x.run x.go (run_on w.tools x.run (go results y.0) y.0 (with_calls x.so_far keys results)))) t y.2 in (
+        ap (λ (u : State P I A). u.begun) e,
+        ap (λ (u : State P I A). u.table) e,
+        ap
+            (λ (u : State P I A). u.tools_used) e,
+      )
 
-  back_at-same : (s : State I A) (id : ℕ) (q : RequestState I A) (st : Status I A) (t : State I A) → resume_at w s id q st ≡ Some t → Same s t
+  back_at-same : (s : State P I A) (id : ℕ) (q : RequestState P I A) (st : Status P I A)
+      (t : State P I A) → resume_at w s id q st ≡ Some t → Same s t
   back_at-same s id q (calling keys ids x go) t h = answered-same s id q.origin q.journal q.runs keys x go (results_of w s.requests ids) t h
   back_at-same s id q _ t h = absurd (cc)
 
-  back_to-same : (s : State I A) (parent : Option ℕ) (t : State I A) → resume_caller w s parent ≡ Some t → Same s t
-  back_to-same s None t h = let e = some-is s t h in (ap (λ (u : State I A). u.begun) e, ap (λ (u : State I A). u.table) e, ap (λ (u : State I A). u.tools_used) e)
+  back_to-same : (s : State P I A) (parent : Option ℕ) (t : State P I A) →
+      resume_caller w s parent ≡ Some t → Same s t
+  back_to-same s None t h =
+      let e = some-is s t h in (
+        ap (λ (u : State P I A). u.begun) e,
+        ap (λ (u : State P I A). u.table) e,
+        ap
+            (λ (u : State P I A). u.tools_used) e,
+      )
   back_to-same s (Some id) t h = let y = and_then-some (at s.requests id) (λ q. resume_at w s id q q.status) t h in back_at-same s id y.0 y.0.status t y.2
 
-  done-changes : (s : State I A) (id : ℕ) (o : Origin) (j : Journal) (runs : List RunId) (st : Status I A) (t : State I A) → done_at w s id o j runs st ≡ Some t → Changes (Done id) s t
+  done-changes : (s : State P I A) (id : ℕ) (o : Origin) (j : Journal) (runs : List RunId)
+      (st : Status P I A) (t : State P I A) → done_at w s id o j runs st ≡ Some t →
+      Changes (Done id) s t
   done-changes s id o j runs (assigned node (walking (gives reply))) t h =
       let e = back_to-same (with_request s id (request_of o j runs (done (result_of reply runs)))) o.parent t h in same_lists (Done id) s t refl refl e.0 e.1 e.2
   done-changes s id o j runs _ t h = absurd (cc)
 
-  step_of-changes : (s : State I A) (event : Event) (q : RequestState I A) (t : State I A) → Lawful s → at s.requests (whose event) ≡ Some q → step_of w s event q ≡ Some t → Changes event s t
+  step_of-changes : (s : State P I A) (event : Event) (q : RequestState P I A) (t : State P I A) →
+      Lawful s → at s.requests (whose event) ≡ Some q → step_of w s event q ≡ Some t →
+      Changes event s t
   step_of-changes s (Assign id node) q t v e h = assign-changes s id node q.origin q.journal q.runs q.status t h
   step_of-changes s (Claim id run kind) q t v e h = claim-changes s id run kind q.origin q.journal q.runs q.status t h
   step_of-changes s (Request id keys) q t v e h = request-changes s id keys q.origin q.journal q.runs q.status t h
@@ -165,18 +225,20 @@ module _ {I A : Type 0} (w : World I A) where
   finished_one (Result id run) events runs = refl
   finished_one _ events runs = refl
 
-  pub record Changed (events : List Event) (s t : State I A) : Type 0 where
+  pub record Changed (events : List Event) (s t : State P I A) : Type 0 where
     pub begins : begun_runs t.begun ≡ begun_by events (begun_runs s.begun)
     pub finishes : finished_runs t.table ≡ finished_by events (finished_runs s.table)
     pub stays : Newer s.table t.table
     pub tools_used : tooled_runs s.tools_used ≡ finished_runs s.table → tooled_runs t.tools_used ≡ finished_runs t.table
 
-  pub all-change : (events : List Event) (s t : State I A) → Lawful s → after_all w s events ≡ Some t → Changed events s t
+  pub all-change : (events : List Event) (s t : State P I A) → Lawful s →
+      after_all w s events ≡ Some t → Changed events s t
   all-change [] s t v h = let e = some-is s t h in record {
-    begins = ap (λ (u : State I A). begun_runs u.begun) (sym e);
-    finishes = ap (λ (u : State I A). finished_runs u.table) (sym e);
-    stays = subst (λ (u : State I A). Newer s.table u.table) e same_table;
-    tools_used = λ g. subst (λ (u : State I A). tooled_runs u.tools_used ≡ finished_runs u.table) e g;
+    begins = ap (λ (u : State P I A). begun_runs u.begun) (sym e);
+    finishes = ap (λ (u : State P I A). finished_runs u.table) (sym e);
+    stays = subst (λ (u : State P I A). Newer s.table u.table) e same_table;
+    tools_used =
+        λ g. subst (λ (u : State P I A). tooled_runs u.tools_used ≡ finished_runs u.table) e g;
   }
   all-change (event ∷ events) s t v h =
       let y = and_then-some (step w s event) (λ next. after_all w next events) t h in
@@ -215,7 +277,8 @@ pub begun-named : (begun : List BegunRun) (r : RunId) → is_begun r begun ≡ t
 begun-named [] r h = absurd (cc)
 begun-named (b ∷ begun) r h = elim (or_cases (same_run b.run r) (is_begun r begun) h) [ inl p ↦ inl (same_run-true b.run r p) | inr p ↦ inr (begun-named begun r p) ]
 
-pub orderly : {I A : Type 0} (w : World I A) (events : List Event) (s : State I A) → IsHistory w events s → IsOrderly events s
+pub orderly : {P I A : Type 0} (w : World P I A) (events : List Event) (s : State P I A) →
+    IsHistory w events s → IsOrderly events s
 orderly w events s h =
     let v = all-lawful w events (start w) s (start-lawful w) h in
     let c = all-change w events (start w) s (start-lawful w) h in
@@ -231,7 +294,8 @@ orderly w events s h =
       closed = λ id q e r m i. (v.each id q e).journal.closed.has_items r (in-has r m q.journal i) m ((v.each id q e).journal.entries r m i);
     }
 
-pub records_stay : {I A : Type 0} (w : World I A) (before more : List Event) (s t : State I A) → IsHistory w before s → after_all w s more ≡ Some t → RecordsStay s t
+pub records_stay : {P I A : Type 0} (w : World P I A) (before more : List Event)
+    (s t : State P I A) → IsHistory w before s → after_all w s more ≡ Some t → RecordsStay s t
 records_stay w before more s t h g r m f =
     let n = (all-change w more s t (all-lawful w before (start w) s (start-lawful w) h) g).stays in
     (newer-found n r m f, λ j. newer-replay n r j (m, f))

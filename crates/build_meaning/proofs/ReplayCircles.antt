@@ -72,14 +72,18 @@ in-runs_of r res [] i h = absurd i
 in-runs_of r res (x ∷ results) (inl p) h = in-left r x.runs (runs_of results) (subst (λ (y : RequestResult). In r y.runs) (sym p) h)
 in-runs_of r res (x ∷ results) (inr i) h = in-right r x.runs (runs_of results) (in-runs_of r res results i h)
 
-module _ {I A : Type 0} {w : World I A} {D : Demanded I → Type 0} where
+module _ {P I A : Type 0} {w : World P I A} {D : Demanded P I → Type 0} where
   -- a result lists all runs that were made or used
-  pub walk-lists : {path : List RunId} {j : Journal} {runs : List RunId} {x : Walk I A} {res : RequestResult} {k : Journal} → OfWalk w D path j runs x res k → (s : RunId) → In s runs → In s res.runs
+  pub walk-lists : {path : List RunId} {j : Journal} {runs : List RunId} {x : Walk P I A}
+      {res : RequestResult} {k : Journal} → OfWalk w D path j runs x res k →
+      (s : RunId) → In s runs → In s res.runs
   walk-lists over s i = i
   walk-lists (used {runs = runs} {r = r} m h rest) s i = walk-lists rest s (in-left s runs (r ∷ []) i)
   walk-lists (made {runs = runs} {r = r} n h b p rest) s i = walk-lists rest s (in-left s runs (r ∷ []) i)
 
-  pub walk-wants : {path : List RunId} {j : Journal} {runs : List RunId} {r : RunId} {b : Body I A} {go : Record → Journal → Walk I A} {res : RequestResult} {k : Journal} → OfWalk w D path j runs (wants r b go) res k → In r res.runs
+  pub walk-wants : {path : List RunId} {j : Journal} {runs : List RunId} {site : P} {r : RunId}
+      {b : Body I A} {go : Record → Journal → Walk P I A} {res : RequestResult} {k : Journal} →
+      OfWalk w D path j runs (wants site r b go) res k → In r res.runs
   walk-wants (used {runs = runs} {r = r} m h rest) = walk-lists rest r (in-right r runs (r ∷ []) (inl refl))
   walk-wants (made {runs = runs} {r = r} n h b p rest) = walk-lists rest r (in-right r runs (r ∷ []) (inl refl))
 
@@ -87,8 +91,9 @@ module _ {I A : Type 0} {w : World I A} {D : Demanded I → Type 0} where
   pub body-lists : {path : List RunId} {r : RunId} {j : Journal} {so_far : SoFar I} {b : Body I A} {m : Record} {tools : List (ToolUse I)} {k : Journal} → OfBody w D path r j so_far b m tools k →
       (x : Effect) → In x (effects_from r 0 so_far.segments) → In x (effects_of r m)
   body-lists ended_so x i = i
-  body-lists (acted_one {r = r} {so_far = so_far} {p = p} rest) x i =
+  body-lists (acted_one {r = r} {so_far = so_far} {act = p} rest) x i =
       body-lists rest x (subst (λ xs. In x xs) (sym (items-acted r so_far p)) (in-left x (effects_from r 0 so_far.segments) (puts_act r (length so_far.segments) p ∷ []) i))
   body-lists (used_tool rest) x i = body-lists rest x i
-  body-lists (called_all {r = r} {so_far = so_far} {key = key} {keys = keys} {results = results} asked rest) x i =
+  body-lists (called_all {r = r} {so_far = so_far} {key = key} {keys = keys} {results = results} all
+      asked rest) x i =
       body-lists rest x (subst (λ xs. In x xs) (sym (items-calls r so_far (key ∷ keys) results (calls-length asked))) (in-left x (effects_from r 0 so_far.segments) (map replays_run (runs_of results)) i))

@@ -42,23 +42,27 @@ match-mono gs hs f (id ∷ ids) (res ∷ results) h = ((h.0.0, f id h.0.0 h.0.1,
 match-mono gs hs f [] (res ∷ results) h = absurd h
 match-mono gs hs f (id ∷ ids) [] h = absurd h
 
-module _ {I A : Type 0} (w : World I A) (D : Demanded I → Type 0) (one : (r : RunId) (m n : Record) → Made D r m → Made D r n → m ≡ n) where
-  pub record Standing (s : State I A) (goals : List Goal) : Type 0 where
+module _ {P I A : Type 0} (w : World P I A) (D : Demanded P I → Type 0)
+    (one : (r : RunId) (m n : Record) → Made D r m → Made D r n → m ≡ n) where
+  pub record Standing (s : State P I A) (goals : List Goal) : Type 0 where
     pub lawful : Lawful s
     pub each : Paired (Stands w D goals) s.requests goals
     pub known : (r : RunId) (m : Record) → Recorded s.table r m → Made D r m
-    pub tools_used : (t : ToolsUsed I) → In t s.tools_used → (m : Record) × D (built t.run m t.tools)
+    pub tools_used : (t : ToolsUsed I) → In t s.tools_used →
+        (site : P) × (from : Journal) × (m : Record) × D (built site t.run from m t.tools)
 
   -- more goals
   module _ (goals more : List Goal) (f : (i : ℕ) (g : Goal) → at goals i ≡ Some g → at more i ≡ Some g) where
-    stands_at-mono : (path : List RunId) (j : Journal) (runs : List RunId) (st : Status I A) (g : Goal) → StandsAt w D goals path j runs st g → StandsAt w D more path j runs st g
+    stands_at-mono : (path : List RunId) (j : Journal) (runs : List RunId) (st : Status P I A)
+        (g : Goal) → StandsAt w D goals path j runs st g → StandsAt w D more path j runs st g
     stands_at-mono path j runs (ready p) g x = x
     stands_at-mono path j runs (assigned node p) g x = x
     stands_at-mono path j runs (waits r b go) g x = x
     stands_at-mono path j runs (calling keys ids y go) g (results, i, x) = (results, i, record { asked = x.asked; matched = match-mono goals more f ids results x.matched; then_in = x.then_in })
     stands_at-mono path j runs (done res) g x = x
 
-    pub stands-mono : (q : RequestState I A) (g : Goal) → Stands w D goals q g → Stands w D more q g
+    pub stands-mono : (q : RequestState P I A) (g : Goal) → Stands w D goals q g →
+        Stands w D more q g
     stands-mono q g x = record { asked = x.asked; stands = stands_at-mono q.origin.path q.journal q.runs q.status g x.stands }
 
   -- a lawful journal is closed by the records of the meaning
@@ -71,26 +75,42 @@ module _ {I A : Type 0} (w : World I A) (D : Demanded I → Type 0) (one : (r : 
   }
 
   -- where a walk wants a run the meaning has a record of it, and goes on with it and the journal with its replay
-  wants_gives : (path : List RunId) (j : Journal) (runs : List RunId) (r : RunId) (b : Body I A) (go : Record → Journal → Walk I A) (res : RequestResult) (k : Journal) → Closed (Made D) one j →
-      ((r : RunId) (m : Record) → In (ended r m) j → Made D r m) → OfWalk w D path j runs (wants r b go) res k →
+  wants_gives : (path : List RunId) (j : Journal) (runs : List RunId) (site : P) (r : RunId)
+      (b : Body I A) (go : Record → Journal → Walk P I A) (res : RequestResult) (k : Journal) →
+      Closed (Made D) one j →
+      ((r : RunId) (m : Record) → In (ended r m) j → Made D r m) → OfWalk w D path j runs
+      (wants site r b go) res k →
       (m : Record) × (i : Journal) × Made D r m × Rep (Made D) (replays_run r) j i × OfWalk w D path i (runs ++ r ∷ []) (go m i) res k
-  wants_gives path j runs r b go res k c e (used m h rest) = let i = had-in j r m h in (m, j, e r m i, old (in-has r m j i), rest)
-  wants_gives path j runs r b go res k c e (made {i = i} {m = m} {tools = tools} n h d p rest) =
-      (m, add i (ended r m), (tools, p), new h (tools, p) (agree_body w D one d j c none), rest)
+  wants_gives path j runs site r b go res k c e (used m h rest) =
+      let i = had-in j r m h in (m, j, e r m i, old (in-has r m j i), rest)
+  wants_gives path j runs site r b go res k c e
+      (made {i = i} {m = m} {tools = tools} n h d p rest) =
+      let known : Made D r m = (site, j, (tools, p)) in
+      (m, add i (ended r m), known, new h known (agree_body w D one d j c none), rest)
 
   -- where the run has not ended in the journal, the meaning builds it
-  wants_builds : (path : List RunId) (j : Journal) (runs : List RunId) (r : RunId) (b : Body I A) (go : Record → Journal → Walk I A) (g : Goal) → has (end_of r) j ≡ false →
-      OfWalk w D path j runs (wants r b go) g.res g.journal → InSome w D path j runs r nothing_yet b go g
-  wants_builds path j runs r b go g n (used m h rest) = absurd (clash (has (end_of r) j) (in-has r m j (had-in j r m h)) n)
-  wants_builds path j runs r b go g n (made {i = i} {m = m} {tools = tools} f h d p rest) = (m, tools, i, record { body = d; known = p; next = rest })
+  wants_builds : (path : List RunId) (j : Journal) (runs : List RunId) (site : P) (r : RunId)
+      (b : Body I A) (go : Record → Journal → Walk P I A) (g : Goal) → has (end_of r) j ≡ false →
+      OfWalk w D path j runs (wants site r b go) g.res g.journal →
+      InSome w D path j runs r nothing_yet b go g
+  wants_builds path j runs site r b go g n (used m h rest) =
+      absurd (clash (has (end_of r) j) (in-has r m j (had-in j r m h)) n)
+  wants_builds path j runs site r b go g n (made {i = i} {m = m} {tools = tools} f h d p rest) =
+      (m, tools, i, record { body = d; known = (site, j, p); next = rest })
 
   -- a record of the table is that of the meaning
-  uses_table : (table : Records) → IsOnce table → ((r : RunId) (m : Record) → Recorded table r m → Made D r m) → (path : List RunId) (j : Journal) (runs : List RunId) (r : RunId) (b : Body I A) (go : Record → Journal → Walk I A) (g : Goal) (m : Record) (k : Journal) →
-      LawfulJournal table j runs → OfWalk w D path j runs (wants r b go) g.res g.journal → Made D r m → replay table r j ≡ Some k → OfWalk w D path k (runs ++ r ∷ []) (go m k) g.res g.journal
-  uses_table table once known path j runs r b go g m k v x p h =
+  uses_table : (table : Records) → IsOnce table →
+      ((r : RunId) (m : Record) → Recorded table r m → Made D r m) →
+      (path : List RunId) (j : Journal) (runs : List RunId) (site : P) (r : RunId) (b : Body I A)
+      (go : Record → Journal → Walk P I A) (g : Goal) (m : Record) (k : Journal) →
+      LawfulJournal table j runs → OfWalk w D path j runs (wants site r b go) g.res g.journal →
+      Made D r m → replay table r j ≡ Some k → OfWalk w D path k (runs ++ r ∷ [])
+      (go m k) g.res g.journal
+  uses_table table once known path j runs site r b go g m k v x p h =
       let c = closed-made table known j runs v in
       let d : Rep (Made D) (replays_run r) j k = rep-map (Recorded table) (Made D) known (replay-rep table once r j k h) in
-      let y = wants_gives path j runs r b go g.res g.journal c (λ s n i. known s n (v.entries s n i)) x in
+      let y = wants_gives path j runs site r b go g.res g.journal c
+      (λ s n i. known s n (v.entries s n i)) x in
       let mm : y.0 ≡ m = one r y.0 m y.2 p in
       let ik : y.1 ≡ k = rep-one (Made D) one y.3 k d in
       subst (λ n. OfWalk w D path k (runs ++ r ∷ []) (go n k) g.res g.journal) mm (subst (λ i. OfWalk w D path i (runs ++ r ∷ []) (go y.0 i) g.res g.journal) ik y.4)
@@ -112,12 +132,15 @@ module _ {I A : Type 0} (w : World I A) (D : Demanded I → Type 0) (one : (r : 
   runs_so path r (uses name input go) j so_far m tools i d = runs_so path r (go (w.tools name input)) j (with_tool so_far name input) m tools i (used_so path r j so_far name input go m tools i d)
   runs_so path r (calls key keys go) j so_far m tools i d = d
 
-  runs_in : (path : List RunId) (j : Journal) (runs : List RunId) (r : RunId) (so_far : SoFar I) (b : Body I A) (go : Record → Journal → Walk I A) (g : Goal) → InSome w D path j runs r so_far b go g →
+  runs_in : (path : List RunId) (j : Journal) (runs : List RunId) (r : RunId) (so_far : SoFar I)
+      (b : Body I A) (go : Record → Journal → Walk P I A) (g : Goal) →
+      InSome w D path j runs r so_far b go g →
       InSome w D path (run_on w.tools r b j so_far).journal runs r (run_on w.tools r b j so_far).so_far (body_of (run_on w.tools r b j so_far).stop) go g
   runs_in path j runs r so_far b go g (m, tools, i, x) = (m, tools, i, record { body = runs_so (r ∷ path) r b j so_far m tools i x.body; known = x.known; next = x.next })
 
   -- one request changes, and keeps what it stands for
-  pub put-stands : (s : State I A) (goals : List Goal) (id : ℕ) (q z : RequestState I A) → Standing s goals → at s.requests id ≡ Some q → Lawful (with_request s id z) →
+  pub put-stands : (s : State P I A) (goals : List Goal) (id : ℕ) (q z : RequestState P I A) →
+      Standing s goals → at s.requests id ≡ Some q → Lawful (with_request s id z) →
       ((g : Goal) → Stands w D goals q g → Stands w D goals z g) → Standing (with_request s id z) goals
   put-stands s goals id q z v e l f = record {
     lawful = l;
@@ -126,91 +149,148 @@ module _ {I A : Type 0} (w : World I A) (D : Demanded I → Type 0) (one : (r : 
     tools_used = v.tools_used;
   }
 
-  assign-stands : (s : State I A) (goals : List Goal) (id node : ℕ) (o : Origin) (j : Journal) (runs : List RunId) (st : Status I A) (t : State I A) → Standing s goals → Lawful t →
+  assign-stands : (s : State P I A) (goals : List Goal) (id node : ℕ) (o : Origin) (j : Journal)
+      (runs : List RunId) (st : Status P I A) (t : State P I A) → Standing s goals → Lawful t →
       at s.requests id ≡ Some (request_of o j runs st) → assign_at w s id node o j runs st ≡ Some t → Standing t goals
   assign-stands s goals id node o j runs (ready p) t v l e h =
-      let z : RequestState I A = request_of o j runs (assigned node p) in
+      let z : RequestState P I A = request_of o j runs (assigned node p) in
       let q : with_request s id z ≡ t = some-is (with_request s id z) t h in
-      subst (λ (u : State I A). Standing u goals) q (put-stands s goals id (request_of o j runs (ready p)) z v e (subst (λ (u : State I A). Lawful u) (sym q) l)
+      subst (λ (u : State P I A). Standing u goals) q (put-stands s goals id (request_of o j runs
+      (ready p)) z v e (subst (λ (u : State P I A). Lawful u) (sym q) l)
       (λ g x. record { asked = x.asked; stands = x.stands }))
   assign-stands s goals id node o j runs _ t v l e h = absurd (cc)
 
-  retire-stands : (s : State I A) (goals : List Goal) (id node : ℕ) (o : Origin) (j : Journal) (runs : List RunId) (st : Status I A) (t : State I A) → Standing s goals → Lawful t →
+  retire-stands : (s : State P I A) (goals : List Goal) (id node : ℕ) (o : Origin) (j : Journal)
+      (runs : List RunId) (st : Status P I A) (t : State P I A) → Standing s goals → Lawful t →
       at s.requests id ≡ Some (request_of o j runs st) → retire_at w s id node o j runs st ≡ Some t → Standing t goals
   retire-stands s goals id node o j runs (assigned by p) t v l e h =
-      let z : RequestState I A = request_of o j runs (ready p) in
+      let z : RequestState P I A = request_of o j runs (ready p) in
       let q : with_request s id z ≡ t = (only_if-some (by == node) (with_request s id z) t h).1 in
-      subst (λ (u : State I A). Standing u goals) q (put-stands s goals id (request_of o j runs (assigned by p)) z v e (subst (λ (u : State I A). Lawful u) (sym q) l)
+      subst (λ (u : State P I A). Standing u goals) q (put-stands s goals id (request_of o j runs
+      (assigned by p)) z v e (subst (λ (u : State P I A). Lawful u) (sym q) l)
       (λ g x. record { asked = x.asked; stands = x.stands }))
   retire-stands s goals id node o j runs _ t v l e h = absurd (cc)
 
-  claimed-stands : (s : State I A) (goals : List Goal) (id node : ℕ) (o : Origin) (j : Journal) (runs : List RunId) (r : RunId) (b : Body I A) (go : Record → Journal → Walk I A) (kind : ClaimKind) (t : State I A) → Standing s goals → Lawful t →
-      at s.requests id ≡ Some (request_of o j runs (assigned node (walking (wants r b go)))) → claimed w s id node o j runs r b go kind ≡ Some t → Standing t goals
-  claimed-stands s goals id node o j runs r b go Go t v l e h =
-      let z : RequestState I A = in_body w (assigned node) o runs r go (run_on w.tools r b j nothing_yet) in
-      let u : State I A = record { requests = put s.requests id z; begun = record { run = r; by = id } ∷ s.begun; table = s.table; tools_used = s.tools_used } in
+  claimed-stands : (s : State P I A) (goals : List Goal) (id node : ℕ) (o : Origin) (j : Journal)
+      (runs : List RunId) (site : P) (r : RunId) (b : Body I A) (go : Record → Journal → Walk P I A)
+      (kind : ClaimKind) (t : State P I A) → Standing s goals → Lawful t →
+      at s.requests id ≡ Some (request_of o j runs (assigned node (walking (wants site r b go)))) →
+      claimed w s id node o j runs r b go kind ≡ Some t → Standing t goals
+  claimed-stands s goals id node o j runs site r b go Go t v l e h =
+      let z : RequestState P I A =
+      in_body w (assigned node) o runs r go (run_on w.tools r b j nothing_yet) in
+      let u : State P I A = record {
+        requests = put s.requests id z;
+        begun = record {
+          run = r;
+          by = id;
+        } ∷ s.begun;
+        table = s.table;
+        tools_used = s.tools_used;
+      } in
       let x = unless-some (is_begun r s.begun) u t h in
-      let lq = v.lawful.each id (request_of o j runs (assigned node (walking (wants r b go)))) e in
+      let lq =
+      v.lawful.each id (request_of o j runs (assigned node (walking (wants site r b go)))) e in
       let fresh = unfinished-fresh w s.table j runs r lq.journal (unbegun-unfinished w s v.lawful r x.0) in
-      subst (λ (u : State I A). Standing u goals) x.1 (record {
-        lawful = subst (λ (u : State I A). Lawful u) (sym x.1) l;
-        each = Paired-put (Stands w D goals) (Stands w D goals) (λ x y h. h) (request_of o j runs (assigned node (walking (wants r b go)))) z
-            (λ g y. record { asked = y.asked; stands = runs_in o.path j runs r nothing_yet b go g (wants_builds o.path j runs r b go g fresh y.stands) })
+      subst (λ (u : State P I A). Standing u goals) x.1 (record {
+        lawful = subst (λ (u : State P I A). Lawful u) (sym x.1) l;
+        each =
+            Paired-put (Stands w D goals) (Stands w D goals) (λ x y h. h) (request_of o j runs
+            (assigned node (walking (wants site r b go)))) z
+            (λ g y. record {
+              asked = y.asked;
+              stands = runs_in o.path j runs r nothing_yet b go g
+                  (wants_builds o.path j runs site r b go g fresh y.stands);
+            })
             s.requests id goals v.each e;
         known = v.known;
         tools_used = v.tools_used;
       })
-  claimed-stands s goals id node o j runs r b go Use t v l e h =
+  claimed-stands s goals id node o j runs site r b go Use t v l e h =
       let x = and_then-some (found s.table r) (λ made. and_then (replay s.table r j) (λ next. Some (with_request s id (goes_on w (assigned node) o runs r go made next)))) t h in
       let y = and_then-some (replay s.table r j) (λ next. Some (with_request s id (goes_on w (assigned node) o runs r go x.0 next))) t x.2 in
-      let z : RequestState I A = goes_on w (assigned node) o runs r go x.0 y.0 in
+      let z : RequestState P I A = goes_on w (assigned node) o runs r go x.0 y.0 in
       let q : with_request s id z ≡ t = some-is (with_request s id z) t y.2 in
-      let lq = v.lawful.each id (request_of o j runs (assigned node (walking (wants r b go)))) e in
-      subst (λ (u : State I A). Standing u goals) q (put-stands s goals id (request_of o j runs (assigned node (walking (wants r b go)))) z v e (subst (λ (u : State I A). Lawful u) (sym q) l)
-      (λ g a. record { asked = a.asked; stands = uses_table s.table v.lawful.once v.known o.path j runs r b go g x.0 y.0 lq.journal a.stands (v.known r x.0 x.1) y.1 }))
-  claimed-stands s goals id node o j runs r b go Wait t v l e h =
-      let next : State I A = waiting w s id o j runs r b go in
+      let lq =
+      v.lawful.each id (request_of o j runs (assigned node (walking (wants site r b go)))) e in
+      subst (λ (u : State P I A). Standing u goals) q (put-stands s goals id (request_of o j runs
+      (assigned node (walking (wants site r b go)))) z v e (subst (λ (u : State P I A). Lawful u)
+      (sym q) l)
+      (λ g a. record {
+        asked = a.asked;
+        stands = uses_table s.table v.lawful.once v.known o.path j
+            runs site r b go g x.0 y.0 lq.journal a.stands (v.known r x.0 x.1) y.1;
+      }))
+  claimed-stands s goals id node o j runs site r b go Wait t v l e h =
+      let next : State P I A = waiting w s id o j runs r b go in
       let x = only_if-some (may_wait w (is_begun r s.begun) (found s.table r) (is_in_cycle next r)) next t h in
-      subst (λ (u : State I A). Standing u goals) x.1 (put-stands s goals id (request_of o j runs (assigned node (walking (wants r b go)))) (request_of o j runs (waits r b go)) v e (subst (λ (u : State I A). Lawful u) (sym x.1) l)
-      (λ g a. record { asked = a.asked; stands = a.stands }))
+      subst (λ (u : State P I A). Standing u goals) x.1 (put-stands s goals id (request_of o j runs
+      (assigned node (walking (wants site r b go)))) (request_of o j runs (waits r b go)) v e
+      (subst (λ (u : State P I A). Lawful u) (sym x.1) l)
+      (λ g a. record { asked = a.asked; stands = (site, a.stands) }))
 
-  claim-stands : (s : State I A) (goals : List Goal) (id : ℕ) (run : RunId) (kind : ClaimKind) (o : Origin) (j : Journal) (runs : List RunId) (st : Status I A) (t : State I A) → Standing s goals → Lawful t →
+  claim-stands : (s : State P I A) (goals : List Goal) (id : ℕ) (run : RunId) (kind : ClaimKind)
+      (o : Origin) (j : Journal) (runs : List RunId) (st : Status P I A) (t : State P I A) →
+      Standing s goals → Lawful t →
       at s.requests id ≡ Some (request_of o j runs st) → claim_at w s id run kind o j runs st ≡ Some t → Standing t goals
-  claim-stands s goals id run kind o j runs (assigned node (walking (wants r b go))) t v l e h =
+  claim-stands s goals id run kind o j runs (assigned node (walking (wants site r b go))) t v l e
+      h =
       let x = and_then-some (only_if (same_run r run) r) (λ run. claimed w s id node o j runs run b go kind) t h in
       let y : r ≡ x.0 = (only_if-some (same_run r run) r x.0 x.1).1 in
-      claimed-stands s goals id node o j runs r b go kind t v l e (subst (λ n. claimed w s id node o j runs n b go kind ≡ Some t) (sym y) x.2)
+      claimed-stands s goals id node o j runs site r b go kind t v l e
+      (subst (λ n. claimed w s id node o j runs n b go kind ≡ Some t) (sym y) x.2)
   claim-stands s goals id run kind o j runs _ t v l e h = absurd (cc)
 
   -- a request that waits goes on
-  woken_if-stands : (goals : List Goal) (table : Records) → IsOnce table → ((r : RunId) (m : Record) → Recorded table r m → Made D r m) → (q t : RequestState I A) (g : Goal) (r : RunId) (b : Body I A) (go : Record → Journal → Walk I A) (m : Record) →
-      LawfulJournal table q.journal q.runs → Made D r m → D (requested q.origin.key) → OfWalk w D q.origin.path q.journal q.runs (wants r b go) g.res g.journal →
+  woken_if-stands : (goals : List Goal) (table : Records) → IsOnce table →
+      ((r : RunId) (m : Record) → Recorded table r m → Made D r m) →
+      (q t : RequestState P I A) (g : Goal) (site : P) (r : RunId) (b : Body I A)
+      (go : Record → Journal → Walk P I A) (m : Record) →
+      LawfulJournal table q.journal q.runs → Made D r m → D (requested q.origin.key) →
+      OfWalk w D q.origin.path q.journal q.runs (wants site r b go) g.res g.journal →
       woken_if w true table q m r go ≡ Some t → Stands w D goals t g
-  woken_if-stands goals table once known q t g r b go m l p a x h =
+  woken_if-stands goals table once known q t g site r b go m l p a x h =
       let y = and_then-some (replay table r q.journal) (λ next. Some (goes_on w ready q.origin q.runs r go m next)) t h in
-      let z : RequestState I A = goes_on w ready q.origin q.runs r go m y.0 in
-      subst (λ (u : RequestState I A). Stands w D goals u g) (some-is z t y.2) (record { asked = a; stands = uses_table table once known q.origin.path q.journal q.runs r b go g m y.0 l x p y.1 })
+      let z : RequestState P I A = goes_on w ready q.origin q.runs r go m y.0 in
+      subst (λ (u : RequestState P I A). Stands w D goals u g) (some-is z t y.2)
+      (record {
+        asked = a;
+        stands = uses_table table once known q.origin.path q.journal q.runs site
+            r b go g m y.0 l x p y.1;
+      })
 
-  woken_at-stands : (goals : List Goal) (table : Records) → IsOnce table → ((r : RunId) (m : Record) → Recorded table r m → Made D r m) → (run : RunId) (m : Record) → Made D run m → (q t : RequestState I A) (g : Goal) → LawfulJournal table q.journal q.runs →
-      Stands w D goals q g → (st : Status I A) → StandsAt w D goals q.origin.path q.journal q.runs st g → woken_at w table run m q st ≡ Some t → Stands w D goals t g
+  woken_at-stands : (goals : List Goal) (table : Records) → IsOnce table →
+      ((r : RunId) (m : Record) → Recorded table r m → Made D r m) → (run : RunId) (m : Record) →
+      Made D run m → (q t : RequestState P I A) (g : Goal) → LawfulJournal table q.journal q.runs →
+      Stands w D goals q g → (st : Status P I A) →
+      StandsAt w D goals q.origin.path q.journal q.runs st g →
+      woken_at w table run m q st ≡ Some t → Stands w D goals t g
   woken_at-stands goals table once known run m p q t g l v (waits r b go) x h = f (same_run r run) refl h
     where
       f : (y : Bool) → same_run r run ≡ y → woken_if w y table q m r go ≡ Some t → Stands w D goals t g
-      f false e h = subst (λ (u : RequestState I A). Stands w D goals u g) (some-is q t h) v
-      f true e h = woken_if-stands goals table once known q t g r b go m l (subst (λ n. Made D n m) (sym (same_run-true r run e)) p) v.asked x h
-  woken_at-stands goals table once known run m p q t g l v _ x h = subst (λ (u : RequestState I A). Stands w D goals u g) (some-is q t h) v
+      f false e h = subst (λ (u : RequestState P I A). Stands w D goals u g) (some-is q t h) v
+      f true e h = woken_if-stands goals table once known q t g x.0 r b go m l
+          (subst (λ n. Made D n m) (sym (same_run-true r run e)) p) v.asked x.1 h
+  woken_at-stands goals table once known run m p q t g l v _ x h =
+      subst (λ (u : RequestState P I A). Stands w D goals u g) (some-is q t h) v
 
   -- a body that is over
   makes_so : (path : List RunId) (r : RunId) (j : Journal) (so_far : SoFar I) (outcome : Outcome) (m : Record) (tools : List (ToolUse I)) (i : Journal) → OfBody w D path r j so_far (makes outcome) m tools i →
       (recorded outcome so_far.segments ≡ m) × (so_far.tools ≡ tools) × (j ≡ i)
   makes_so path r j so_far outcome m tools i ended_so = (refl, refl, refl)
 
-  made_in : (path : List RunId) (j : Journal) (runs : List RunId) (r : RunId) (so_far : SoFar I) (outcome : Outcome) (go : Record → Journal → Walk I A) (g : Goal) → InSome w D path j runs r so_far (makes outcome) go g →
-      D (built r (recorded outcome so_far.segments) so_far.tools)
+  made_in : (path : List RunId) (j : Journal) (runs : List RunId) (r : RunId) (so_far : SoFar I)
+      (outcome : Outcome) (go : Record → Journal → Walk P I A) (g : Goal) →
+      InSome w D path j runs r so_far (makes outcome) go g →
+      (site : P) × (from : Journal)
+      × D (built site r from (recorded outcome so_far.segments) so_far.tools)
       × OfWalk w D path (add j (ended r (recorded outcome so_far.segments))) (runs ++ r ∷ []) (go (recorded outcome so_far.segments) (add j (ended r (recorded outcome so_far.segments)))) g.res g.journal
   made_in path j runs r so_far outcome go g (m, tools, i, x) =
       let e = makes_so (r ∷ path) r j so_far outcome m tools i x.body in (
-        subst (λ n. D (built r n so_far.tools)) (sym e.0) (subst (λ u. D (built r m u)) (sym e.1) x.known),
+        x.known.0,
+        x.known.1,
+        subst (λ n. D (built x.known.0 r x.known.1 n so_far.tools)) (sym e.0)
+            (subst (λ u. D (built x.known.0 r x.known.1 m u)) (sym e.1) x.known.2),
         subst (λ n. OfWalk w D path (add j (ended r n)) (runs ++ r ∷ []) (go n (add j (ended r n))) g.res g.journal) (sym e.0)
             (subst (λ a. OfWalk w D path (add a (ended r m)) (runs ++ r ∷ []) (go m (add a (ended r m))) g.res g.journal) (sym e.2) x.next),
       )
@@ -222,59 +302,90 @@ module _ {I A : Type 0} (w : World I A) (D : Demanded I → Type 0) (one : (r : 
       go true e h = subst (λ n. Made D r n) (some-is f.made m h) (subst (λ n. Made D n f.made) (same_run-true f.run r e) p)
       go false e h = known r m h
 
-  tooled-more : (f : ToolsUsed I) (m : Record) (tools_used : List (ToolsUsed I)) → D (built f.run m f.tools) → ((t : ToolsUsed I) → In t tools_used → (m : Record) × D (built t.run m t.tools)) →
-      (t : ToolsUsed I) → In t (f ∷ tools_used) → (m : Record) × D (built t.run m t.tools)
-  tooled-more f m tools_used p k t (inl e) = (m, subst (λ (x : ToolsUsed I). D (built x.run m x.tools)) e p)
-  tooled-more f m tools_used p k t (inr i) = k t i
+  tooled-more : (f : ToolsUsed I) (site : P) (from : Journal) (m : Record)
+      (tools_used : List (ToolsUsed I)) → D (built site f.run from m f.tools) →
+      ((t : ToolsUsed I) → In t tools_used →
+      (site : P) × (from : Journal) × (m : Record) × D (built site t.run from m t.tools)) →
+      (t : ToolsUsed I) → In t (f ∷ tools_used) →
+      (site : P) × (from : Journal) × (m : Record) × D (built site t.run from m t.tools)
+  tooled-more f site from m tools_used p k t (inl e) =
+      (site, from, m, subst (λ (x : ToolsUsed I). D (built site x.run from m x.tools)) e p)
+  tooled-more f site from m tools_used p k t (inr i) = k t i
 
-  finished-stands : (s : State I A) (goals : List Goal) (id node : ℕ) (o : Origin) (j : Journal) (runs : List RunId) (x : Within I A) (outcome : Outcome) (t : State I A) → Standing s goals → Lawful t →
+  finished-stands : (s : State P I A) (goals : List Goal) (id node : ℕ) (o : Origin) (j : Journal)
+      (runs : List RunId) (x : Within P I A) (outcome : Outcome) (t : State P I A) →
+      Standing s goals → Lawful t →
       at s.requests id ≡ Some (request_of o j runs (assigned node (within x (ends outcome)))) → finished w s id node o j runs x (recorded outcome x.so_far.segments) ≡ Some t → Standing t goals
   finished-stands s goals id node o j runs x outcome t v l e h =
       let m : Record = recorded outcome x.so_far.segments in
       let f : FinishedRun = record { run = x.run; made = m } in
-      let old_q : RequestState I A = request_of o j runs (assigned node (within x (ends outcome))) in
-      let z : RequestState I A = goes_on w (assigned node) o runs x.run x.go m (add j (ended x.run m)) in
+      let old_q : RequestState P I A =
+      request_of o j runs (assigned node (within x (ends outcome))) in
+      let z : RequestState P I A =
+      goes_on w (assigned node) o runs x.run x.go m (add j (ended x.run m)) in
       let lq = v.lawful.each id old_q e in
       let b = lq.status.1 in
       let n : found s.table x.run ≡ None = b.unfinished in
       let u = and_then-some (traverse (woken w (f ∷ s.table) x.run m) (put s.requests id z)) (λ requests. Some (record { requests = requests; begun = s.begun; table = f ∷ s.table; tools_used = record { run = x.run; tools = x.so_far.tools } ∷ s.tools_used })) t h in
-      let last : State I A = record { requests = u.0; begun = s.begun; table = f ∷ s.table; tools_used = record { run = x.run; tools = x.so_far.tools } ∷ s.tools_used } in
+      let last : State P I A = record {
+        requests = u.0;
+        begun = s.begun;
+        table = f ∷ s.table;
+        tools_used = record { run = x.run; tools = x.so_far.tools } ∷ s.tools_used;
+      } in
       let q : last ≡ t = some-is last t u.2 in
       let here = Paired-some (Stands w D goals) s.requests goals id old_q v.each e in
-      let p : D (built x.run m x.so_far.tools) = (made_in o.path j runs x.run x.so_far outcome x.go here.0 here.1.stands).0 in
-      let known = known-more s.table f (x.so_far.tools, p) v.known in
+      let told = made_in o.path j runs x.run x.so_far outcome x.go here.0 here.1.stands in
+      let mine : Made D x.run m = (told.0, told.1, (x.so_far.tools, told.2)) in
+      let known = known-more s.table f mine v.known in
       let c = reps-closed (Recorded s.table) (one_record s.table) b.so_far b.from_closed in
-      subst (λ (u : State I A). Standing u goals) q (record {
-        lawful = subst (λ (u : State I A). Lawful u) (sym q) l;
+      subst (λ (u : State P I A). Standing u goals) q (record {
+        lawful = subst (λ (u : State P I A). Lawful u) (sym q) l;
         each = Paired-traverse (Stands w D goals) (Stands w D goals) (woken w (f ∷ s.table) x.run m) (put s.requests id z) u.0 goals
             (Paired-put (Stands w D goals) (Stands w D goals) (λ x y a. a) old_q z
-            (λ g y. record { asked = y.asked; stands = (made_in o.path j runs x.run x.so_far outcome x.go g y.stands).1 }) s.requests id goals v.each e)
+            (λ g y. record {
+              asked = y.asked;
+              stands = (made_in o.path j runs x.run x.so_far outcome x.go g y.stands).3;
+            }) s.requests id goals v.each e)
             u.1
             (λ i a y g at_i stands woke.
             let lj : LawfulJournal (f ∷ s.table) a.journal a.runs = elim (at-put s.requests id z i a at_i) [
-              | inl r ↦ subst (λ (k : RequestState I A). LawfulJournal (f ∷ s.table) k.journal k.runs) r.1 (journal-ended s.table f n j runs lq.journal c.0)
+              | inl r ↦
+                  subst (λ (k : RequestState P I A). LawfulJournal (f ∷ s.table) k.journal k.runs)
+                  r.1 (journal-ended s.table f n j runs lq.journal c.0)
               | inr r ↦ journal-grows s.table f n a.journal a.runs (v.lawful.each i a r.1).journal
             ] in
-            woken_at-stands goals (f ∷ s.table) (n, v.lawful.once) known x.run m (x.so_far.tools, p) a y g lj stands a.status stands.stands woke);
+            woken_at-stands goals (f ∷ s.table) (n, v.lawful.once) known x.run m mine a y g lj
+            stands
+            a.status stands.stands woke);
         known = known;
-        tools_used = tooled-more (record { run = x.run; tools = x.so_far.tools }) m s.tools_used p v.tools_used;
+        tools_used = tooled-more (record { run = x.run; tools = x.so_far.tools }) told.0 told.1 m
+            s.tools_used told.2 v.tools_used;
       })
 
-  result-stands : (s : State I A) (goals : List Goal) (id : ℕ) (run : RunId) (o : Origin) (j : Journal) (runs : List RunId) (st : Status I A) (t : State I A) → Standing s goals → Lawful t →
+  result-stands : (s : State P I A) (goals : List Goal) (id : ℕ) (run : RunId) (o : Origin)
+      (j : Journal) (runs : List RunId) (st : Status P I A) (t : State P I A) → Standing s goals →
+      Lawful t →
       at s.requests id ≡ Some (request_of o j runs st) → result_at w s id run o j runs st ≡ Some t → Standing t goals
   result-stands s goals id run o j runs (assigned node (within x (ends outcome))) t v l e h =
       let y = and_then-some (only_if (same_run x.run run) x) (λ x. finished w s id node o j runs x (recorded outcome x.so_far.segments)) t h in
       let p : x ≡ y.0 = (only_if-some (same_run x.run run) x y.0 y.1).1 in
-      finished-stands s goals id node o j runs x outcome t v l e (subst (λ (a : Within I A). finished w s id node o j runs a (recorded outcome a.so_far.segments) ≡ Some t) (sym p) y.2)
+      finished-stands s goals id node o j runs x outcome t v l e
+      (subst (λ (a : Within P I A). finished w s id node o j runs a
+      (recorded outcome a.so_far.segments) ≡ Some t) (sym p) y.2)
   result-stands s goals id run o j runs _ t v l e h = absurd (cc)
 
   -- a body that calls
   calls_so : (path : List RunId) (r : RunId) (j : Journal) (so_far : SoFar I) (key : RequestKey) (keys : List RequestKey) (k : List RequestResult → Journal → Body I A) (m : Record) (tools : List (ToolUse I)) (i : Journal) →
       OfBody w D path r j so_far (calls key keys k) m tools i →
       (results : List RequestResult) × (a : Journal) × OfCalls w D path j j (key ∷ keys) results a × OfBody w D path r a (with_calls so_far (key ∷ keys) results) (k results a) m tools i
-  calls_so path r j so_far key keys k m tools i (called_all {i = a} {results = results} asked rest) = (results, a, asked, rest)
+  calls_so path r j so_far key keys k m tools i
+      (called_all {i = a} {results = results} all asked rest) =
+      (results, a, asked, rest)
 
-  pub called_in : (path : List RunId) (j : Journal) (runs : List RunId) (r : RunId) (so_far : SoFar I) (key : RequestKey) (keys : List RequestKey) (k : List RequestResult → Journal → Body I A) (go : Record → Journal → Walk I A) (g : Goal) →
+  pub called_in : (path : List RunId) (j : Journal) (runs : List RunId) (r : RunId)
+      (so_far : SoFar I) (key : RequestKey) (keys : List RequestKey) (k : List RequestResult →
+      Journal → Body I A) (go : Record → Journal → Walk P I A) (g : Goal) →
       InSome w D path j runs r so_far (calls key keys k) go g →
       (results : List RequestResult) × (a : Journal) × OfCalls w D (r ∷ path) j j (key ∷ keys) results a × InSome w D path a runs r (with_calls so_far (key ∷ keys) results) (k results a) go g
   called_in path j runs r so_far key keys k go g (m, tools, i, x) =
@@ -289,7 +400,8 @@ module _ {I A : Type 0} (w : World I A) (D : Demanded I → Type 0) (one : (r : 
   children : {path : List RunId} {j a : Journal} {keys : List RequestKey} {results : List RequestResult} {i : Journal} → OfCalls w D path j a keys results i → (parent : Option ℕ) (all goals : List Goal) →
       (gs : List Goal) × Paired (Stands w D all) (map (new_request w parent path j) keys) gs × ((more : List Goal) → more ≡ goals ++ gs → Match more (numbered_from (length goals) keys) results)
   children no_calls parent all goals = ([], tt, λ more h. tt)
-  children (one_call {path = path} {j = j} {i = i} {key = key} {keys = keys} {res = res} {results = results} d less x rest) parent all goals =
+  children (one_call {path = path} {j = j} {i = i} {key = key} {keys = keys} {res = res}
+      {results = results} d less x so rest) parent all goals =
       let g : Goal = record { res = res; journal = i } in
       let ih = children rest parent all (goals ++ g ∷ []) in (
         g ∷ ih.0,
@@ -300,17 +412,20 @@ module _ {I A : Type 0} (w : World I A) (D : Demanded I → Type 0) (one : (r : 
         ),
       )
 
-  abbrev pub Keeps : Goal → State I A → Type 0
+  abbrev pub Keeps : Goal → State P I A → Type 0
   Keeps g s = (goals : List Goal) × Standing s goals × (at goals 0 ≡ Some g)
 
-  children-stand : (s : State I A) (goals : List Goal) (id node : ℕ) (o : Origin) (j : Journal) (runs : List RunId) (x : Within I A) (key : RequestKey) (more : List RequestKey) (go : List RequestResult → Journal → Body I A) → Standing s goals →
+  children-stand : (s : State P I A) (goals : List Goal) (id node : ℕ) (o : Origin) (j : Journal)
+      (runs : List RunId) (x : Within P I A) (key : RequestKey) (more : List RequestKey)
+      (go : List RequestResult → Journal → Body I A) → Standing s goals →
       Lawful (with_children w s id o j runs (key ∷ more) x go) → at s.requests id ≡ Some (request_of o j runs (assigned node (within x (asks key more go)))) → (root : Goal) → at goals 0 ≡ Some root →
       Keeps root (with_children w s id o j runs (key ∷ more) x go)
   children-stand s goals id node o j runs x key more go v l e root at_root =
       let keys : List RequestKey = key ∷ more in
-      let old_q : RequestState I A = request_of o j runs (assigned node (within x (asks key more go))) in
+      let old_q : RequestState P I A =
+      request_of o j runs (assigned node (within x (asks key more go))) in
       let ids : List ℕ = numbered_from (length s.requests) keys in
-      let z : RequestState I A = request_of o j runs (calling keys ids x go) in
+      let z : RequestState P I A = request_of o j runs (calling keys ids x go) in
       let here = Paired-some (Stands w D goals) s.requests goals id old_q v.each e in
       let g : Goal = here.0 in
       let st : Stands w D goals old_q g = here.1 in
@@ -333,19 +448,27 @@ module _ {I A : Type 0} (w : World I A) (D : Demanded I → Type 0) (one : (r : 
         at-front goals kids0.0 0 root at_root,
       )
 
-  request-stands : (s : State I A) (goals : List Goal) (id : ℕ) (keys : List RequestKey) (o : Origin) (j : Journal) (runs : List RunId) (st : Status I A) (t : State I A) → Standing s goals → Lawful t →
+  request-stands : (s : State P I A) (goals : List Goal) (id : ℕ) (keys : List RequestKey)
+      (o : Origin) (j : Journal) (runs : List RunId) (st : Status P I A) (t : State P I A) →
+      Standing s goals → Lawful t →
       at s.requests id ≡ Some (request_of o j runs st) → request_at w s id keys o j runs st ≡ Some t → (root : Goal) → at goals 0 ≡ Some root → Keeps root t
   request-stands s goals id keys o j runs (assigned node (within x (asks key more go))) t v l e h root at_root =
       let y = only_if-some (same_keys (key ∷ more) keys && is_within_limits w s (x.run ∷ o.path) (key ∷ more)) (with_children w s id o j runs (key ∷ more) x go) t h in
-      subst (λ (u : State I A). Keeps root u) y.1 (children-stand s goals id node o j runs x key more go v (subst (λ (u : State I A). Lawful u) (sym y.1) l) e root at_root)
+      subst (λ (u : State P I A). Keeps root u) y.1
+      (children-stand s goals id node o j runs x key more go v
+      (subst (λ (u : State P I A). Lawful u) (sym y.1) l) e root at_root)
   request-stands s goals id keys o j runs _ t v l e h root at_root = absurd (cc)
 
   -- results of calls
-  result_in-goal : (goals : List Goal) (path : List RunId) (j : Journal) (runs : List RunId) (st : Status I A) (g : Goal) (res : RequestResult) → StandsAt w D goals path j runs st g → result_in w st ≡ Some res → g.res ≡ res
+  result_in-goal : (goals : List Goal) (path : List RunId) (j : Journal) (runs : List RunId)
+      (st : Status P I A) (g : Goal) (res : RequestResult) → StandsAt w D goals path j runs st g →
+      result_in w st ≡ Some res → g.res ≡ res
   result_in-goal goals path j runs (done r) g res x h = x.0 ∙ some-is r res h
   result_in-goal goals path j runs _ g res x h = absurd (cc)
 
-  pub results_of-match : (all : List Goal) (requests : List (RequestState I A)) (goals : List Goal) → Paired (Stands w D all) requests goals → (ids : List ℕ) (results reply : List RequestResult) →
+  pub results_of-match : (all : List Goal) (requests : List (RequestState P I A))
+      (goals : List Goal) → Paired (Stands w D all) requests goals →
+      (ids : List ℕ) (results reply : List RequestResult) →
       Match goals ids results → results_of w requests ids ≡ Some reply → reply ≡ results
   results_of-match all requests goals v [] [] reply m h = let e : [] ≡ reply = some-is [] reply h in sym e
   results_of-match all requests goals v (id ∷ ids) (res ∷ results) reply m h =
@@ -359,17 +482,23 @@ module _ {I A : Type 0} (w : World I A) (D : Demanded I → Type 0) (one : (r : 
   results_of-match all requests goals v [] (res ∷ results) reply m h = absurd m
   results_of-match all requests goals v (id ∷ ids) [] reply m h = absurd m
 
-  answered-stands : (s : State I A) (goals : List Goal) (id : ℕ) (o : Origin) (j : Journal) (runs : List RunId) (keys : List RequestKey) (ids : List ℕ) (x : Within I A) (go : List RequestResult → Journal → Body I A) (t : State I A) → Standing s goals → Lawful t →
+  answered-stands : (s : State P I A) (goals : List Goal) (id : ℕ) (o : Origin) (j : Journal)
+      (runs : List RunId) (keys : List RequestKey) (ids : List ℕ) (x : Within P I A)
+      (go : List RequestResult → Journal → Body I A) (t : State P I A) → Standing s goals →
+      Lawful t →
       at s.requests id ≡ Some (request_of o j runs (calling keys ids x go)) → (reply : Option (List RequestResult)) → results_of w s.requests ids ≡ reply → answered w s id o j runs keys x go reply ≡ Some t → Standing t goals
-  answered-stands s goals id o j runs keys ids x go t v l e None g h = subst (λ (u : State I A). Standing u goals) (some-is s t h) v
+  answered-stands s goals id o j runs keys ids x go t v l e None g h =
+      subst (λ (u : State P I A). Standing u goals) (some-is s t h) v
   answered-stands s goals id o j runs keys ids x go t v l e (Some reply) g h =
       let lq = v.lawful.each id (request_of o j runs (calling keys ids x go)) e in
       let y = and_then-some (replay_all s.table (runs_of reply) j) (λ next. Some (with_request s id (in_body w ready o runs x.run x.go (run_on w.tools x.run (go reply next) next (with_calls x.so_far keys reply))))) t h in
       let d : Reps (Made D) (map replays_run (runs_of reply)) j y.0 = reps-map (Recorded s.table) (Made D) v.known (replay_all-reps s.table v.lawful.once (runs_of reply) j y.0 y.1) in
       let c = closed-made s.table v.known j runs lq.journal in
-      let z : RequestState I A = in_body w ready o runs x.run x.go (run_on w.tools x.run (go reply y.0) y.0 (with_calls x.so_far keys reply)) in
+      let z : RequestState P I A = in_body w ready o runs x.run x.go (run_on w.tools x.run
+      (go reply y.0) y.0 (with_calls x.so_far keys reply)) in
       let q : with_request s id z ≡ t = some-is (with_request s id z) t y.2 in
-      subst (λ (u : State I A). Standing u goals) q (put-stands s goals id (request_of o j runs (calling keys ids x go)) z v e (subst (λ (u : State I A). Lawful u) (sym q) l)
+      subst (λ (u : State P I A). Standing u goals) q (put-stands s goals id (request_of o j runs
+      (calling keys ids x go)) z v e (subst (λ (u : State P I A). Lawful u) (sym q) l)
       (λ a b. record { asked = b.asked; stands = back a (results_of-match goals s.requests goals v.each ids b.stands.0 reply b.stands.2.matched g) c d b.stands.2 }))
     where
       back : {results : List RequestResult} {i k : Journal} (a : Goal) → reply ≡ results → Closed (Made D) one j → Reps (Made D) (map replays_run (runs_of reply)) j k → Calling w D goals o.path j runs keys ids x go a results i →
@@ -383,13 +512,19 @@ module _ {I A : Type 0} (w : World I A) (D : Demanded I → Type 0) (one : (r : 
           (subst (λ (n : List RequestResult). InSome w D o.path i runs x.run (with_calls x.so_far keys n) (go n i) x.go a) (sym e) y.then_in) in
           runs_in o.path k runs x.run (with_calls x.so_far keys reply) (go reply k) x.go a n
 
-  back_at-stands : (s : State I A) (goals : List Goal) (id : ℕ) (q : RequestState I A) (st : Status I A) (t : State I A) → Standing s goals → Lawful t → at s.requests id ≡ Some q → q.status ≡ st → resume_at w s id q st ≡ Some t → Standing t goals
+  back_at-stands : (s : State P I A) (goals : List Goal) (id : ℕ) (q : RequestState P I A)
+      (st : Status P I A) (t : State P I A) → Standing s goals → Lawful t →
+      at s.requests id ≡ Some q → q.status ≡ st → resume_at w s id q st ≡ Some t → Standing t goals
   back_at-stands s goals id q (calling keys ids x go) t v l e p h =
-      answered-stands s goals id q.origin q.journal q.runs keys ids x go t v l (e ∙ ap (λ (a : Status I A). Some (request_of q.origin q.journal q.runs a)) p) (results_of w s.requests ids) refl h
+      answered-stands s goals id q.origin q.journal q.runs keys ids x go t v l
+      (e ∙ ap (λ (a : Status P I A). Some (request_of q.origin q.journal q.runs a)) p)
+      (results_of w s.requests ids) refl h
   back_at-stands s goals id q _ t v l e p h = absurd (cc)
 
-  back_to-stands : (s : State I A) (goals : List Goal) (parent : Option ℕ) (t : State I A) → Standing s goals → Lawful t → resume_caller w s parent ≡ Some t → Standing t goals
-  back_to-stands s goals None t v l h = subst (λ (u : State I A). Standing u goals) (some-is s t h) v
+  back_to-stands : (s : State P I A) (goals : List Goal) (parent : Option ℕ) (t : State P I A) →
+      Standing s goals → Lawful t → resume_caller w s parent ≡ Some t → Standing t goals
+  back_to-stands s goals None t v l h =
+      subst (λ (u : State P I A). Standing u goals) (some-is s t h) v
   back_to-stands s goals (Some id) t v l h =
       let y = and_then-some (at s.requests id) (λ q. resume_at w s id q q.status) t h in
       back_at-stands s goals id y.0 y.0.status t v l y.1 refl y.2
@@ -397,17 +532,20 @@ module _ {I A : Type 0} (w : World I A) (D : Demanded I → Type 0) (one : (r : 
   pub gives_so : (path : List RunId) (j : Journal) (runs : List RunId) (reply : Reply) (res : RequestResult) (k : Journal) → OfWalk w D path j runs (gives reply) res k → (res ≡ result_of reply runs) × (k ≡ j)
   gives_so path j runs reply res k over = (refl, refl)
 
-  done-stands : (s : State I A) (goals : List Goal) (id : ℕ) (o : Origin) (j : Journal) (runs : List RunId) (st : Status I A) (t : State I A) → Standing s goals → Lawful t →
+  done-stands : (s : State P I A) (goals : List Goal) (id : ℕ) (o : Origin) (j : Journal)
+      (runs : List RunId) (st : Status P I A) (t : State P I A) → Standing s goals → Lawful t →
       at s.requests id ≡ Some (request_of o j runs st) → done_at w s id o j runs st ≡ Some t → Standing t goals
   done-stands s goals id o j runs (assigned node (walking (gives reply))) t v l e h =
-      let z : RequestState I A = request_of o j runs (done (result_of reply runs)) in
+      let z : RequestState P I A = request_of o j runs (done (result_of reply runs)) in
       let lq = v.lawful.each id (request_of o j runs (assigned node (walking (gives reply)))) e in
       let zl = put-lawful s id z v.lawful (record { journal = lq.journal; status = lq.journal.runs_in }) in
       back_to-stands (with_request s id z) goals o.parent t
       (put-stands s goals id (request_of o j runs (assigned node (walking (gives reply)))) z v e zl (λ g x. record { asked = x.asked; stands = gives_so o.path j runs reply g.res g.journal x.stands })) l h
   done-stands s goals id o j runs _ t v l e h = absurd (cc)
 
-  step_of-stands : (s : State I A) (goals : List Goal) (event : Event) (q : RequestState I A) (t : State I A) (root : Goal) → at goals 0 ≡ Some root → Standing s goals → at s.requests (whose event) ≡ Some q → step_of w s event q ≡ Some t → Keeps root t
+  step_of-stands : (s : State P I A) (goals : List Goal) (event : Event) (q : RequestState P I A)
+      (t : State P I A) (root : Goal) → at goals 0 ≡ Some root → Standing s goals →
+      at s.requests (whose event) ≡ Some q → step_of w s event q ≡ Some t → Keeps root t
   step_of-stands s goals (Assign id node) q t root z v e h = (goals, assign-stands s goals id node q.origin q.journal q.runs q.status t v (step_of-lawful w s (Assign id node) q t v.lawful e h) e h, z)
   step_of-stands s goals (Claim id run kind) q t root z v e h = (goals, claim-stands s goals id run kind q.origin q.journal q.runs q.status t v (step_of-lawful w s (Claim id run kind) q t v.lawful e h) e h, z)
   step_of-stands s goals (Request id keys) q t root z v e h = request-stands s goals id keys q.origin q.journal q.runs q.status t v (step_of-lawful w s (Request id keys) q t v.lawful e h) e h root z
@@ -415,8 +553,9 @@ module _ {I A : Type 0} (w : World I A) (D : Demanded I → Type 0) (one : (r : 
   step_of-stands s goals (Done id) q t root z v e h = (goals, done-stands s goals id q.origin q.journal q.runs q.status t v (step_of-lawful w s (Done id) q t v.lawful e h) e h, z)
   step_of-stands s goals (Retire id node) q t root z v e h = (goals, retire-stands s goals id node q.origin q.journal q.runs q.status t v (step_of-lawful w s (Retire id node) q t v.lawful e h) e h, z)
 
-  all-stand : (events : List Event) (s t : State I A) (root : Goal) → Keeps root s → after_all w s events ≡ Some t → Keeps root t
-  all-stand [] s t root v h = subst (λ (u : State I A). Keeps root u) (some-is s t h) v
+  all-stand : (events : List Event) (s t : State P I A) (root : Goal) → Keeps root s →
+      after_all w s events ≡ Some t → Keeps root t
+  all-stand [] s t root v h = subst (λ (u : State P I A). Keeps root u) (some-is s t h) v
   all-stand (event ∷ events) s t root (goals, v, z) h =
       let x = and_then-some (step w s event) (λ t. after_all w t events) t h in
       let y = and_then-some (at s.requests (whose event)) (step_of w s event) x.0 x.1 in
@@ -431,6 +570,8 @@ module _ {I A : Type 0} (w : World I A) (D : Demanded I → Type 0) (one : (r : 
   }
 
   -- every legal history stands where the meaning does
-  pub history-stands : (res : RequestResult) (k : Journal) → D (requested w.root) → OfWalk w D [] [] [] (w.walks w.root []) res k → (events : List Event) (t : State I A) → after_all w (start w) events ≡ Some t →
+  pub history-stands : (res : RequestResult) (k : Journal) → D (requested w.root) →
+      OfWalk w D [] [] [] (w.walks w.root []) res k → (events : List Event) (t : State P I A) →
+      after_all w (start w) events ≡ Some t →
       Keeps (record { res = res; journal = k }) t
   history-stands res k d x events t h = all-stand events (start w) t (record { res = res; journal = k }) ((record { res = res; journal = k } ∷ []), start-stands res k d x, refl) h

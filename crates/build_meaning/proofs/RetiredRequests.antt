@@ -55,44 +55,58 @@ module _ {X : Type 0} where
   put-twice (x ∷ xs) zero y z = refl
   put-twice (x ∷ xs) (suc i) y z = ap (λ us. x ∷ us) (put-twice xs i y z)
 
-module _ {I A : Type 0} where
-  same_runs : (q : RequestState I A) → HasSameRuns q q
+module _ {P I A : Type 0} where
+  same_runs : (q : RequestState P I A) → HasSameRuns q q
   same_runs q = record { origin = refl; journal = refl; runs = refl }
 
-  each-same : (requests : List (RequestState I A)) → Paired HasSameRuns requests requests
+  each-same : (requests : List (RequestState P I A)) → Paired HasSameRuns requests requests
   each-same [] = tt
   each-same (q ∷ requests) = (same_runs q, each-same requests)
 
-  put-same : (requests : List (RequestState I A)) (id : ℕ) (q z : RequestState I A) → at requests id ≡ Some q → HasSameRuns q z → Paired HasSameRuns requests (put requests id z)
+  put-same : (requests : List (RequestState P I A)) (id : ℕ) (q z : RequestState P I A) →
+      at requests id ≡ Some q → HasSameRuns q z → Paired HasSameRuns requests (put requests id z)
   put-same [] id q z e h = tt
-  put-same (x ∷ requests) zero q z e h = (subst (λ (y : RequestState I A). HasSameRuns y z) (sym (some-is x q e)) h, each-same requests)
+  put-same (x ∷ requests) zero q z e h = (
+    subst (λ (y : RequestState P I A). HasSameRuns y z) (sym (some-is x q e)) h,
+    each-same requests,
+  )
   put-same (x ∷ requests) (suc id) q z e h = (same_runs x, put-same requests id q z e h)
 
-module _ {I A : Type 0} (w : World I A) where
+module _ {P I A : Type 0} (w : World P I A) where
   -- the request, as it goes back
-  pub retired_at : (s : State I A) (id node : ℕ) (q : RequestState I A) (st : Status I A) (t : State I A) → retire_at w s id node q.origin q.journal q.runs st ≡ Some t →
-      (by : ℕ) × (place : Place I A) × (st ≡ assigned by place) × (with_request s id (with_status q (ready place)) ≡ t)
+  pub retired_at : (s : State P I A) (id node : ℕ) (q : RequestState P I A) (st : Status P I A)
+      (t : State P I A) → retire_at w s id node q.origin q.journal q.runs st ≡ Some t →
+      (by : ℕ) × (place : Place P I A) × (st ≡ assigned by place) × (with_request s id
+      (with_status q (ready place)) ≡ t)
   retired_at s id node q (assigned by place) t h = (by, place, refl, (only_if-some (by == node) (with_request s id (with_status q (ready place))) t h).1)
   retired_at s id node q _ t h = absurd (cc)
 
-  pub retire_keeps_runs : (s t : State I A) (id node : ℕ) → step w s (Retire id node) ≡ Some t → SameRuns s t
+  pub retire_keeps_runs : (s t : State P I A) (id node : ℕ) → step w s (Retire id node) ≡ Some t →
+      SameRuns s t
   retire_keeps_runs s t id node h =
       let x = and_then-some (at s.requests id) (step_of w s (Retire id node)) t h in
       let y = retired_at s id node x.0 x.0.status t x.2 in
-      let z : RequestState I A = with_status x.0 (ready y.1) in
-      subst (λ (u : State I A). SameRuns s u) y.3
+      let z : RequestState P I A = with_status x.0 (ready y.1) in
+      subst (λ (u : State P I A). SameRuns s u) y.3
       (record { begun = refl; table = refl; tools_used = refl; requests = put-same s.requests id x.0 z x.1 (record { origin = refl; journal = refl; runs = refl }) })
 
-  pub retired_goes_on : (s t : State I A) (id node other : ℕ) (q : RequestState I A) (place : Place I A) → step w s (Retire id node) ≡ Some t → at s.requests id ≡ Some q → q.status ≡ assigned node place →
+  pub retired_goes_on : (s t : State P I A) (id node other : ℕ) (q : RequestState P I A)
+      (place : Place P I A) → step w s (Retire id node) ≡ Some t → at s.requests id ≡ Some q →
+      q.status ≡ assigned node place →
       step w t (Assign id other) ≡ Some (with_request s id (with_status q (assigned other place)))
   retired_goes_on s t id node other q place h e st =
       let x = and_then-some (at s.requests id) (step_of w s (Retire id node)) t h in
       let y = retired_at s id node x.0 x.0.status t x.2 in
       let same : x.0 ≡ q = same_some (at s.requests id) x.0 q x.1 e in
-      let there : place ≡ y.1 = (let p : assigned node place ≡ assigned y.0 y.1 = sym st ∙ (ap (λ (a : RequestState I A). a.status) (sym same) ∙ y.2) in cc) in
-      let z : RequestState I A = with_status q (ready place) in
-      let back : with_request s id z ≡ t = ap (λ (a : RequestState I A). with_request s id (with_status a (ready place))) (sym same) ∙ (ap (λ (p : Place I A). with_request s id (with_status x.0 (ready p))) there ∙ y.3) in
+      let there : place ≡ y.1 =
+      (let p : assigned node place ≡ assigned y.0 y.1 = sym st
+      ∙ (ap (λ (a : RequestState P I A). a.status) (sym same) ∙ y.2) in cc) in
+      let z : RequestState P I A = with_status q (ready place) in
+      let back : with_request s id z ≡ t = ap (λ (a : RequestState P I A). with_request s id
+      (with_status a (ready place))) (sym same) ∙ (ap (λ (p : Place P I A). with_request s id
+      (with_status x.0 (ready p))) there ∙ y.3) in
       let on : step w (with_request s id z) (Assign id other) ≡ Some (with_request (with_request s id z) id (with_status q (assigned other place))) =
       ap (λ o. and_then o (step_of w (with_request s id z) (Assign id other))) (at-put_same s.requests id q z e) in
-      subst (λ (u : State I A). step w u (Assign id other) ≡ Some (with_request s id (with_status q (assigned other place)))) back
+      subst (λ (u : State P I A). step w u (Assign id other) ≡ Some
+      (with_request s id (with_status q (assigned other place)))) back
       (on ∙ ap (λ rs. Some (record { requests = rs; begun = s.begun; table = s.table; tools_used = s.tools_used })) (put-twice s.requests id z (with_status q (assigned other place))))

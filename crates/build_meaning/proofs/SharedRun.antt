@@ -3,6 +3,7 @@ use Rattle.std.proofs.Common.{◌≡◌, ◌≤◌, ℕ, ◌⊎◌, inl, inr, Li
 use Rattle.result_cache.specs.declared.run.RunId.{RunId}
 use Rattle.result_cache.specs.declared.record.Record.{Record}
 use Rattle.result_cache.specs.Lists.{In}
+use Rattle.result_cache.specs.Journal.{Journal}
 use Rattle.result_cache.specs.Same.{same_run, same_instance, same_key}
 use Rattle.build_meaning.specs.SoFar.{ToolUse}
 use Rattle.build_meaning.specs.Meaning.{built, deepest, most_instances, meaning}
@@ -24,15 +25,22 @@ pub history : ends_so ≡ Some (run_of 0 ∷ run_of 1 ∷ [], root_journal ∷ c
 unfolding same_run same_instance same_key deepest most_instances
 history = refl
 
-one_of : (run : RunId) (made : Record) (tools : List (ToolUse ℕ)) → In (built run made tools) given.demand → ((run_of 1 ≡ run) × (child_record ≡ made)) ⊎ ((run_of 0 ≡ run) × (root_record ≡ made))
-one_of run made tools (inl e) = absurd (cc)
-one_of run made tools (inr (inl e)) = absurd (cc)
-one_of run made tools (inr (inr (inl e))) = absurd (cc)
-one_of run made tools (inr (inr (inr (inl e)))) = let p : run_of 1 ≡ run = cc in let q : child_record ≡ made = cc in inl (p, q)
-one_of run made tools (inr (inr (inr (inr (inl e))))) = absurd (cc)
-one_of run made tools (inr (inr (inr (inr (inr (inl e)))))) = let p : run_of 1 ≡ run = cc in let q : child_record ≡ made = cc in inl (p, q)
-one_of run made tools (inr (inr (inr (inr (inr (inr (inl e))))))) = let p : run_of 0 ≡ run = cc in let q : root_record ≡ made = cc in inr (p, q)
-one_of run made tools (inr (inr (inr (inr (inr (inr (inr i))))))) = absurd i
+one_of : (site : ℕ) (run : RunId) (from : Journal) (made : Record) (tools : List (ToolUse ℕ)) →
+    In (built site run from made tools) given.demand →
+    ((run_of 1 ≡ run) × (child_record ≡ made)) ⊎ ((run_of 0 ≡ run) × (root_record ≡ made))
+one_of site run from made tools (inl e) = absurd (cc)
+one_of site run from made tools (inr (inl e)) = absurd (cc)
+one_of site run from made tools (inr (inr (inl e))) = absurd (cc)
+one_of site run from made tools (inr (inr (inr (inl e)))) =
+    let p : run_of 1 ≡ run = cc in let q : child_record ≡ made = cc in inl (p, q)
+one_of site run from made tools (inr (inr (inr (inr (inl e))))) = absurd (cc)
+one_of site run from made tools (inr (inr (inr (inr (inr (inl e)))))) = absurd (cc)
+one_of site run from made tools (inr (inr (inr (inr (inr (inr (inl e))))))) =
+    let p : run_of 1 ≡ run = cc in let q : child_record ≡ made = cc in inl (p, q)
+one_of site run from made tools (inr (inr (inr (inr (inr (inr (inr (inl e)))))))) = absurd (cc)
+one_of site run from made tools (inr (inr (inr (inr (inr (inr (inr (inr (inl e))))))))) =
+    let p : run_of 0 ≡ run = cc in let q : root_record ≡ made = cc in inr (p, q)
+one_of site run from made tools (inr (inr (inr (inr (inr (inr (inr (inr (inr i))))))))) = absurd i
 
 differ : run_of 1 ≡ run_of 0 → ⊥
 differ h = let e : ◌≡◌ {A = List ℕ} (1 ∷ []) (0 ∷ []) = ap (λ (r : RunId). r.instance.path) h in let n : ◌≡◌ {A = ℕ} 1 0 = cc in absurd (zero_one n)
@@ -41,12 +49,12 @@ differ h = let e : ◌≡◌ {A = List ℕ} (1 ∷ []) (0 ∷ []) = ap (λ (r : 
     zero_one h = omega arith
 
 pub steady : IsSteady given.demand
-steady run first second tools others i j = elim (one_of run first tools i) [
-  | inl p ↦ elim (one_of run second others j) [
+steady run first second i j = elim (one_of i.0 run i.1 first i.2.0 i.2.1) [
+  | inl p ↦ elim (one_of j.0 run j.1 second j.2.0 j.2.1) [
     | inl q ↦ sym p.1 ∙ q.1
     | inr q ↦ absurd (differ (p.0 ∙ sym q.0))
   ]
-  | inr p ↦ elim (one_of run second others j) [
+  | inr p ↦ elim (one_of j.0 run j.1 second j.2.0 j.2.1) [
     | inl q ↦ absurd (differ (q.0 ∙ sym p.0))
     | inr q ↦ sym p.1 ∙ q.1
   ]

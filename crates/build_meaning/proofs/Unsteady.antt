@@ -9,7 +9,15 @@ use Rattle.result_cache.specs.Same.{same_run, same_instance, same_key}
 use Rattle.build_meaning.specs.Meaning.{deepest, most_instances, meaning}
 use Rattle.build_meaning.specs.Demand.{IsWhole, IsSteady, distinct, instances}
 use Rattle.build_meaning.specs.SharedRun.{run_of}
-use Rattle.build_meaning.specs.Unsteady.{unsteady, looked, given, writer_first, looker_first, left_by}
+use Rattle.build_meaning.specs.Unsteady.{
+  unsteady,
+  looked,
+  written,
+  given,
+  writer_first,
+  looker_first,
+  left_by,
+}
 
 means : meaning unsteady ≡ Some given
 unfolding same_run same_instance deepest
@@ -29,7 +37,10 @@ byte_of (Call key runs ∷ segments) = []
 
 pub not_steady : IsSteady given.demand → ⊥
 not_steady steady =
-    let same : looked 1 ≡ looked 0 = steady (run_of 1) (looked 1) (looked 0) [] [] (inr (inr (inr (inr (inl refl))))) (inr (inr (inr (inr (inr (inr (inl refl))))))) in
+    let same : looked 1 ≡ looked 0 =
+    steady (run_of 1) (looked 1) (looked 0)
+    (1, written, ([], inr (inr (inr (inr (inl refl))))))
+    (1, [], ([], inr (inr (inr (inr (inr (inr (inr (inl refl))))))))) in
     let e : ◌≡◌ {A = List ℕ} (1 ∷ []) (0 ∷ []) = ap (λ (r : Record). byte_of r.segments) same in
     let n : ◌≡◌ {A = ℕ} 1 0 = cc in
     zero_one n

@@ -9,22 +9,33 @@ use Rattle.result_cache.specs.Table.{FinishedRun, found}
 use Rattle.build_meaning.specs.SoFar.{ToolUse}
 use Rattle.build_meaning.specs.Meaning.{built, Given}
 use Rattle.build_meaning.specs.Demand.{built_runs, IsSingle}
+use Rattle.build_meaning.specs.Sound.{IsMade}
 use Rattle.build_meaning.specs.State.{ToolsUsed, State}
 use Rattle.build_meaning.specs.History.{EndsWith}
 use Rattle.build_meaning.specs.Orderly.{AreDistinct}
 
 -- each record of the table is that of every body of its run in the meaning, and there is such a body; the tools of a finished run were used as
 -- by one of these bodies; and a root that is done has the meaning's result and journal
-pub record Agrees {I A : Type 0} (out : Given I RequestResult) (s : State I A) : Type 0 where
-  pub occurs : (run : RunId) (made : Record) → found s.table run ≡ Some made → (tools : List (ToolUse I)) × In (built run made tools) out.demand
-  pub every : (run : RunId) (made other : Record) (tools : List (ToolUse I)) → found s.table run ≡ Some made → In (built run other tools) out.demand → other ≡ made
-  pub tools : (t : ToolsUsed I) → In t s.tools_used → (made : Record) × In (built t.run made t.tools) out.demand
+pub record Agrees {P I A : Type 0} (out : Given P I RequestResult) (s : State P I A)
+    : Type 0 where
+  pub occurs : (run : RunId) (made : Record) → found s.table run ≡ Some made →
+      IsMade out.demand run made
+  pub every : (run : RunId) (made other : Record) → found s.table run ≡ Some made →
+      IsMade out.demand run other → other ≡ made
+  pub tools : (t : ToolsUsed I) → In t s.tools_used →
+      (site : P) × (from : Journal) × (made : Record)
+      × In (built site t.run from made t.tools) out.demand
   pub root : (result : RequestResult) (journal : Journal) → EndsWith s result journal → (result ≡ out.value) × (journal ≡ out.journal)
 
 -- all runs of the meaning are finished; of each finished run it is told how its body used tools; and where no calls are made at once, the
 -- meaning makes each run once, and it used tools as there
-pub record IsComplete {I A : Type 0} (out : Given I RequestResult) (s : State I A) : Type 0 where
-  pub all : (run : RunId) (made : Record) (tools : List (ToolUse I)) → In (built run made tools) out.demand → found s.table run ≡ Some made
+pub record IsComplete {P I A : Type 0} (out : Given P I RequestResult) (s : State P I A)
+    : Type 0 where
+  pub all : (run : RunId) (made : Record) → IsMade out.demand run made →
+      found s.table run ≡ Some made
   pub tools_used : map (λ (t : ToolsUsed I). t.run) s.tools_used ≡ map (λ (f : FinishedRun). f.run) s.table
   pub once : IsSingle out.demand → AreDistinct (built_runs out.demand)
-  pub same_tools : IsSingle out.demand → (run : RunId) (made : Record) (tools : List (ToolUse I)) → In (built run made tools) out.demand → In (record { run = run; tools = tools }) s.tools_used
+  pub same_tools : IsSingle out.demand → (site : P) (run : RunId) (from : Journal)
+      (made : Record) (tools : List (ToolUse I)) →
+      In (built site run from made tools) out.demand →
+      In (record { run = run; tools = tools }) s.tools_used

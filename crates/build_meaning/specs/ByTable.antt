@@ -18,11 +18,11 @@ use Rattle.build_meaning.specs.SoFar.{SoFar, nothing_yet, with_act, with_tool, w
 use Rattle.build_meaning.specs.State.{walking, assigned, RequestState, State}
 use Rattle.build_meaning.specs.History.{IsHistory}
 
-module _ {I A : Type 0} (w : World I A) (table : Records) where
+module _ {P I A : Type 0} (w : World P I A) (table : Records) where
   -- a request from here on, with its runs so far: its result, and the journal then
-  abbrev pub walk_by : Walk I A → Journal → List RunId → Option (RequestResult × Journal)
+  abbrev pub walk_by : Walk P I A → Journal → List RunId → Option (RequestResult × Journal)
   walk_by (gives reply) journal runs = Some (result_of reply runs, journal)
-  walk_by (wants run b go) journal runs =
+  walk_by (wants site run b go) journal runs =
       and_then (found table run) (λ made. and_then (replay table run journal) (λ next. walk_by (go made next) next (runs ++ run ∷ [])))
 
   -- a request of this key, by its caller's journal
@@ -45,23 +45,25 @@ module _ {I A : Type 0} (w : World I A) (table : Records) where
       and_then (calls_by journal journal (key ∷ keys)) (λ y. body_by run (go y.0 y.1) y.1 (with_calls so_far (key ∷ keys) y.0))
 
 -- among the events a Claim answered Go began the run: its request wanted it with this body, and had this journal
-pub record BegunIn {I A : Type 0} (w : World I A) (events : List Event) (run : RunId) (b : Body I A) (from : Journal) : Type 0 where
+pub record BegunIn {P I A : Type 0} (w : World P I A) (events : List Event) (run : RunId)
+    (b : Body I A) (from : Journal) : Type 0 where
   pub before : List Event
   pub later : List Event
-  pub state : State I A
+  pub state : State P I A
   pub id : ℕ
   pub node : ℕ
-  pub request : RequestState I A
-  pub go : Record → Journal → Walk I A
+  pub request : RequestState P I A
+  pub site : P
+  pub go : Record → Journal → Walk P I A
   pub events_so : before ++ Claim id run Go ∷ later ≡ events
   pub history : IsHistory w before state
   pub there : at state.requests id ≡ Some request
-  pub wants_so : request.status ≡ assigned node (walking (wants run b go))
+  pub wants_so : request.status ≡ assigned node (walking (wants site run b go))
   pub journal_so : request.journal ≡ from
 
 -- each record is what the body of its run makes by the records that were finished before it, from the journal with which it was begun
-abbrev pub IsConsistent : {I A : Type 0} → World I A → List Event → Records → Type 0
+abbrev pub IsConsistent : {P I A : Type 0} → World P I A → List Event → Records → Type 0
 IsConsistent w events [] = Unit {0}
-IsConsistent {I} {A} w events (f ∷ table) =
+IsConsistent {P} {I} {A} w events (f ∷ table) =
     ((b : Body I A) × (from : Journal) × (last : Journal) × BegunIn w events f.run b from × (body_by w table f.run b from nothing_yet ≡ Some (f.made, last)))
     × IsConsistent w events table

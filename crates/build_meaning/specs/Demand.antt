@@ -8,15 +8,25 @@ use Rattle.result_cache.specs.declared.record.Record.{Record}
 use Rattle.result_cache.specs.Same.{same_instance}
 use Rattle.result_cache.specs.Lists.{In}
 use Rattle.build_meaning.specs.World.{World}
-use Rattle.build_meaning.specs.SoFar.{ToolUse}
-use Rattle.build_meaning.specs.Meaning.{Demanded, requested, together, built, Given, meaning, most_instances}
+use Rattle.build_meaning.specs.Sound.{IsMade}
+use Rattle.build_meaning.specs.Meaning.{
+  Demanded,
+  requested,
+  together,
+  joined,
+  built,
+  Given,
+  meaning,
+  most_instances,
+}
 
 -- the instances that requests ask for
-abbrev pub instances : {I : Type 0} → List (Demanded I) → List InstanceKey
+abbrev pub instances : {P I : Type 0} → List (Demanded P I) → List InstanceKey
 instances [] = []
 instances (requested key ∷ demand) = key.instance ∷ instances demand
 instances (together keys ∷ demand) = instances demand
-instances (built run made tools ∷ demand) = instances demand
+instances (joined caller so_far next ∷ demand) = instances demand
+instances (built site run from made tools ∷ demand) = instances demand
 
 -- the instance is one of these
 abbrev pub is_among : InstanceKey → List InstanceKey → Bool
@@ -34,22 +44,23 @@ distinct [] = []
 distinct (instance ∷ others) = with_unless (is_among instance others) instance (distinct others)
 
 -- a whole world, which means this: its meaning exists, and asks for no more instances than may be
-pub record IsWhole {I A : Type 0} (w : World I A) (out : Given I RequestResult) : Type 0 where
+pub record IsWhole {P I A : Type 0} (w : World P I A) (out : Given P I RequestResult) : Type 0 where
   pub means : meaning w ≡ Some out
   pub few : length (distinct (instances out.demand)) ≤ most_instances
 
 -- the runs whose bodies are made, as often as they are
-abbrev pub built_runs : {I : Type 0} → List (Demanded I) → List RunId
+abbrev pub built_runs : {P I : Type 0} → List (Demanded P I) → List RunId
 built_runs [] = []
 built_runs (requested key ∷ demand) = built_runs demand
 built_runs (together keys ∷ demand) = built_runs demand
-built_runs (built run made tools ∷ demand) = run ∷ built_runs demand
+built_runs (joined caller so_far next ∷ demand) = built_runs demand
+built_runs (built site run from made tools ∷ demand) = run ∷ built_runs demand
 
 -- a steady world: wherever in its meaning a run is made, it makes one record
-abbrev pub IsSteady : {I : Type 0} → List (Demanded I) → Type 0
-IsSteady {I} demand = (run : RunId) (first second : Record) (tools others : List (ToolUse I)) →
-    In (built run first tools) demand → In (built run second others) demand → first ≡ second
+abbrev pub IsSteady : {P I : Type 0} → List (Demanded P I) → Type 0
+IsSteady demand = (run : RunId) (first second : Record) →
+    IsMade demand run first → IsMade demand run second → first ≡ second
 
 -- a single world: no two calls are made at once
-abbrev pub IsSingle : {I : Type 0} → List (Demanded I) → Type 0
+abbrev pub IsSingle : {P I : Type 0} → List (Demanded P I) → Type 0
 IsSingle demand = (keys : List RequestKey) → In (together keys) demand → length keys ≤ 1

@@ -12,7 +12,7 @@ use Rattle.build_meaning.specs.State.{done, RequestState, State, start}
 use Rattle.build_meaning.specs.Step.{whose, after_all}
 
 -- the events lead from the start of the world to this state
-abbrev pub IsHistory : {I A : Type 0} → World I A → List Event → State I A → Type 0
+abbrev pub IsHistory : {P I A : Type 0} → World P I A → List Event → State P I A → Type 0
 IsHistory w events s = after_all w (start w) events ≡ Some s
 
 -- how many nodes have retired
@@ -27,8 +27,9 @@ abbrev pub AreOfNodes : ℕ → List Event → Type 0
 AreOfNodes nodes events = retires events < nodes
 
 -- the root is done with this result, and this is its journal then
-pub record EndsWith {I A : Type 0} (s : State I A) (result : RequestResult) (journal : Journal) : Type 0 where
-  pub root : RequestState I A
+pub record EndsWith {P I A : Type 0} (s : State P I A) (result : RequestResult)
+    (journal : Journal) : Type 0 where
+  pub root : RequestState P I A
   pub there : at s.requests 0 ≡ Some root
   pub over : root.status ≡ done result
   pub knows : root.journal ≡ journal

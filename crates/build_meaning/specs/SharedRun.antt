@@ -17,7 +17,7 @@ use Rattle.build_meaning.specs.declared.event.ClaimKind.TheVariants.{Go, Wait}
 use Rattle.build_meaning.specs.Walk.{Outcome, Reply, Walk, gives, wants, makes, does, uses, calls}
 use Rattle.build_meaning.specs.World.{World}
 use Rattle.build_meaning.specs.SoFar.{ToolUse, recorded, result_of}
-use Rattle.build_meaning.specs.Meaning.{requested, together, built, Given}
+use Rattle.build_meaning.specs.Meaning.{Demanded, requested, together, joined, built, Given}
 use Rattle.build_meaning.specs.State.{RequestState, start}
 use Rattle.build_meaning.specs.Step.{after_all}
 
@@ -48,19 +48,24 @@ abbrev pub file_of : ℕ → Act
 file_of n = Write (record { path = n ∷ []; bytes = n ∷ [] })
 
 -- the root's run writes the file 5 and calls two requests at once
-abbrev pub root_walk : Walk ℕ ℕ
-root_walk = wants (run_of 0) (does (file_of 5) (λ j. calls (key_of 1 1) (key_of 1 2 ∷ []) (λ results k. makes good))) (λ made k. gives good_reply)
+abbrev pub root_walk : Walk ℕ ℕ ℕ
+root_walk =
+    wants 0 (run_of 0)
+    (does (file_of 5) (λ j. calls (key_of 1 1) (key_of 1 2 ∷ []) (λ results k. makes good)))
+    (λ made k. gives good_reply)
 
 -- both want the run of project 1, which gives 3 to the tool 7 and writes the file that it answers
-abbrev pub child_walk : Walk ℕ ℕ
-child_walk = wants (run_of 1) (uses (7 ∷ []) 3 (λ answer. does (file_of answer) (λ k. makes good))) (λ made k. gives good_reply)
+abbrev pub child_walk : Walk ℕ ℕ ℕ
+child_walk =
+    wants 1 (run_of 1) (uses (7 ∷ []) 3 (λ answer. does (file_of answer) (λ k. makes good)))
+    (λ made k. gives good_reply)
 
-abbrev pub walk_for : List (List ℕ) → Walk ℕ ℕ
+abbrev pub walk_for : List (List ℕ) → Walk ℕ ℕ ℕ
 walk_for [] = root_walk
 walk_for (t ∷ targets) = child_walk
 
 -- the tools answer with the number after
-abbrev pub shared_run : World ℕ ℕ
+abbrev pub shared_run : World ℕ ℕ ℕ
 shared_run = record { root = default_key 0; tools = λ name input. suc input; walks = λ key journal. walk_for key.targets }
 
 -- the records of its two runs
@@ -70,9 +75,12 @@ child_record = recorded good (File (file_of 4) ∷ [])
 abbrev pub root_record : Record
 root_record = recorded good (File (file_of 5) ∷ Call (key_of 1 1) (run_of 1 ∷ []) ∷ Call (key_of 1 2) (run_of 1 ∷ []) ∷ [])
 
--- a child's journal in the end, and the root's
+-- the journal with which a child begins, the one that it leaves, and the root's
+abbrev pub call_journal : Journal
+call_journal = acted (run_of 0) 0 (file_of 5) ∷ []
+
 abbrev pub child_journal : Journal
-child_journal = ended (run_of 1) child_record ∷ acted (run_of 1) 0 (file_of 4) ∷ acted (run_of 0) 0 (file_of 5) ∷ []
+child_journal = ended (run_of 1) child_record ∷ acted (run_of 1) 0 (file_of 4) ∷ call_journal
 
 abbrev pub root_journal : Journal
 root_journal = ended (run_of 0) root_record ∷ child_journal
@@ -81,13 +89,19 @@ root_journal = ended (run_of 0) root_record ∷ child_journal
 abbrev pub child_tools : List (ToolUse ℕ)
 child_tools = record { name = 7 ∷ []; input = 3 } ∷ []
 
+-- the run of project 1, as either child makes it
+abbrev pub child_run : Demanded ℕ ℕ
+child_run = built 1 (run_of 1) call_journal child_record child_tools
+
 -- what it means: the meaning makes the run of project 1 twice
-abbrev pub given : Given ℕ RequestResult
+abbrev pub given : Given ℕ ℕ RequestResult
 given = record {
   value = result_of good_reply (run_of 0 ∷ []);
   journal = root_journal;
-  demand = requested (default_key 0) ∷ together (key_of 1 1 ∷ key_of 1 2 ∷ []) ∷ requested (key_of 1 1) ∷ built (run_of 1) child_record child_tools
-      ∷ requested (key_of 1 2) ∷ built (run_of 1) child_record child_tools ∷ built (run_of 0) root_record [] ∷ [];
+  demand = requested (default_key 0) ∷ together (key_of 1 1 ∷ key_of 1 2 ∷ [])
+      ∷ requested (key_of 1 1) ∷ child_run ∷ joined call_journal call_journal child_journal
+      ∷ requested (key_of 1 2) ∷ child_run ∷ joined call_journal child_journal child_journal
+      ∷ built 0 (run_of 0) [] root_record [] ∷ [];
 }
 
 -- a history on two nodes: the second child begins the run, the first one waits for it
@@ -99,4 +113,8 @@ events =
 -- the runs that are finished after these events, the last one first, and the journals of the requests
 abbrev pub ends_so : Option (List RunId × List Journal)
 ends_so = and_then (after_all shared_run (start shared_run) events)
-    (λ s. Some (map (λ (f : FinishedRun). f.run) s.table, map (λ (q : RequestState ℕ ℕ). q.journal) s.requests))
+    (λ s. Some (
+      map (λ (f : FinishedRun). f.run) s.table,
+      map
+          (λ (q : RequestState ℕ ℕ ℕ). q.journal) s.requests,
+    ))

@@ -1,4 +1,6 @@
--- A request and a run as trees of what they do and ask. I is what a tool is given, and A what it answers. (Target build order; MSBuild targets.)
+-- A request and a run as trees of what they do and ask. P is the site of a run, which target is run
+-- and in what scope; I is what a tool is given, and A what it answers. (Target build order; MSBuild
+-- targets.)
 use Rattle.std.specs.Prelude.{ℕ, Bool, List, Option}
 use Rattle.msb_values.specs.declared.item.Item.{Item}
 use Rattle.msb_values.specs.declared.change.Change.{Change}
@@ -37,8 +39,10 @@ pub data Body (I A : Type 0) : Type 0 where
   uses : List ℕ → I → (A → Body I A) → Body I A
   calls : RequestKey → List RequestKey → (List RequestResult → Journal → Body I A) → Body I A
 
--- a request, by what it does next. It is over; or it wants a run, and goes on by the run's record and the journal then. The body is what the
--- run does where nobody has made it. How a request goes on doesn't say whether the run was made here or its record was used. (Target build order)
-pub data Walk (I A : Type 0) : Type 0 where
-  gives : Reply → Walk I A
-  wants : RunId → Body I A → (Record → Journal → Walk I A) → Walk I A
+-- a request, by what it does next. It is over; or it wants a run at a site, and goes on by the
+-- run's record and the journal then. The body is what the run does where nobody has made it. How a
+-- request goes on doesn't say whether the run was made here or its record was used, nor does a
+-- run's record say its site. (Target build order)
+pub data Walk (P I A : Type 0) : Type 0 where
+  gives : Reply → Walk P I A
+  wants : P → RunId → Body I A → (Record → Journal → Walk P I A) → Walk P I A

@@ -54,7 +54,7 @@ any-dropped node (suc n) (x ∷ xs) e = or-right (is_retire_of node x) (list_any
 pub retired-now : (node number : ℕ) (events : List Event) (end : Option End) → list_any (is_retire_of node) (drop number events) ≡ true → has_left node (marked events end) ≡ true
 retired-now node number events end e = left-is node events end ∙ ap (λ b. b || is_some end) (any-dropped node number events e)
 
-module _ {W I A : Type 0} (seen : W → Seen I A) (earlier : W → Option (Position I A × ℕ)) (node : ℕ) (w : World I A) where
+module _ {W P I A : Type 0} (seen : W → Seen P I A) (earlier : W → Option (Position P I A × ℕ)) (node : ℕ) (w : World P I A) where
   idle-of : (past : List (Option Event)) (b : Brought W) → IsBrought seen earlier node w past b → ∥ IsIdle seen earlier node w past (number_of b) ∥₁
   idle-of past (Nothing number) h = h
   idle-of past (Walk a) h = ∥∥₁_map h (λ k. record { events = k.events; number_is = k.number; begins = k.begins; active = k.active })

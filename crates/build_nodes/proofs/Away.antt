@@ -37,13 +37,13 @@ use Rattle.build_nodes.proofs.Here.{still-here}
 use Rattle.build_nodes.proofs.HistoryParts.{goes-on}
 use Rattle.build_nodes.proofs.Marks.{none-more, continues-of, drop-front}
 
-module _ {I A : Type 0} (w : World I A) where
-  answered-newer : {T U : Records} → Newer T U → (p next : Position I A) (answer : Answer) → answered w T p answer ≡ Some next → answered w U p answer ≡ Some next
+module _ {P I A : Type 0} (w : World P I A) where
+  answered-newer : {T U : Records} → Newer T U → (p next : Position P I A) (answer : Answer) → answered w T p answer ≡ Some next → answered w U p answer ≡ Some next
   answered-newer same_table p next answer e = e
   answered-newer (one_newer {U = U} {f = f} n g) p next answer e = answered-more w U f g p next answer (answered-newer n p next answer e)
 
   -- a walk stays its request's own through the events of others
-  pub own-still : (before more events : List Event) (old table : Records) (id : ℕ) (walk : Seen I A) (s : State I A) (o : IsOwn w before old id walk) → o.stands.state.table ≡ old →
+  pub own-still : (before more events : List Event) (old table : Records) (id : ℕ) (walk : Seen P I A) (s : State P I A) (o : IsOwn w before old id walk) → o.stands.state.table ≡ old →
       events ≡ before ++ more → AreOfOthers id more → IsHistory w events s → table ≡ s.table → IsOwn w events table id walk
   own-still before more events old table id walk s o was e others h is =
       let g : after_all w o.stands.state more ≡ Some s = goes-on w before more (start w) o.stands.state s o.stands.history (subst (λ es. IsHistory w es s) e h) in
@@ -67,7 +67,7 @@ module _ {I A : Type 0} (w : World I A) where
       }
 
   -- and so does one with its next answer
-  pub out-still : (before more events : List Event) (old table : Records) (id : ℕ) (walk : Seen I A) (answer : Answer) (s : State I A) (o : IsOut w before old id walk answer) → o.stands.state.table ≡ old →
+  pub out-still : (before more events : List Event) (old table : Records) (id : ℕ) (walk : Seen P I A) (answer : Answer) (s : State P I A) (o : IsOut w before old id walk answer) → o.stands.state.table ≡ old →
       events ≡ before ++ more → AreOfOthers id more → IsHistory w events s → table ≡ s.table → IsOut w events table id walk answer
   out-still before more events old table id walk answer s o was e others h is =
       let g : after_all w o.stands.state more ≡ Some s = goes-on w before more (start w) o.stands.state s o.stands.history (subst (λ es. IsHistory w es s) e h) in
@@ -92,10 +92,10 @@ pub both-shown : {A B : Type 0} → ∥ A ∥₁ → ∥ B ∥₁ → ∥ A × B
 both-shown a b = ∥∥₁_map₂ a b (λ x y. (x, y))
 
 -- equal in what contracts see of them
-pub seen-same : {I A : Type 0} (s t : Seen I A) → s.world ≡ t.world → s.position ≡ t.position → s.asked ≡ t.asked → s.learnt ≡ t.learnt → s ≡ t
+pub seen-same : {P I A : Type 0} (s t : Seen P I A) → s.world ≡ t.world → s.position ≡ t.position → s.asked ≡ t.asked → s.learnt ≡ t.learnt → s ≡ t
 seen-same s t world position asked learnt = λ i. record { world = world i; position = position i; asked = asked i; learnt = learnt i }
 
-module _ {W I A : Type 0} (seen : W → Seen I A) (earlier : W → Option (Position I A × ℕ)) (node : ℕ) (w : World I A) where
+module _ {W P I A : Type 0} (seen : W → Seen P I A) (earlier : W → Option (Position P I A × ℕ)) (node : ℕ) (w : World P I A) where
   module _ {log : Logged} {origins : List Origin} {slots : List (Slot W)} {making : List (Option RunId)} {table : TableRuns} {end : Option End} (x : Shown seen w log origins slots making table end) where
     -- none of the events behind the node's own is of the request
     pub asking-still : (a : Asking W) → IsAsking seen earlier node w (marked log.events end) a → AreOfOthers a.id (drop a.number log.events) → IsOwn w log.events table.finished a.id (seen a.walk)
@@ -115,7 +115,7 @@ module _ {W I A : Type 0} (seen : W → Seen I A) (earlier : W → Option (Posit
         let m = continues-of k.events log.events None end k.begins in
         let behind : drop a.number log.events ≡ m.0 = ap (λ n. drop n log.events) k.number ∙ (ap (drop (length k.events)) m.1 ∙ drop-front k.events m.0) in
         let b = k.back in
-        let table_is = ap (λ (s : State I A). s.table) (one_state w k.events b.out.stands.state k.own.stands.state b.out.stands.history k.own.stands.history) ∙ k.table_is in
+        let table_is = ap (λ (s : State P I A). s.table) (one_state w k.events b.out.stands.state k.own.stands.state b.out.stands.history k.own.stands.history) ∙ k.table_is in
         record {
           position = b.position;
           asked = b.asked;
@@ -143,7 +143,7 @@ module _ {W I A : Type 0} (seen : W → Seen I A) (earlier : W → Option (Posit
         IsAnswered seen earlier node w (marked log.events end) (record { id = id; walk = after; answer = answer; number = number })
     answer-given id walk after answer number none active here o n few learns part same_world same_position same_asked =
         let learns_so : answered w (seen after).learnt (seen walk).position answer ≡ answered w table.finished (seen walk).position answer =
-        subst (λ (v : World I A). answered v (seen after).learnt (seen walk).position answer ≡ answered v table.finished (seen walk).position answer) o.world learns in
+        subst (λ (v : World P I A). answered v (seen after).learnt (seen walk).position answer ≡ answered v table.finished (seen walk).position answer) o.world learns in
         record {
           events = log.events;
           table = table.finished;
@@ -157,12 +157,12 @@ module _ {W I A : Type 0} (seen : W → Seen I A) (earlier : W → Option (Posit
             stands = o.stands;
             world = same_world ∙ o.world;
             learnt = part;
-            goes = ap (λ (p : Position I A). answered w table.finished p answer) same_position ∙ o.goes;
+            goes = ap (λ (p : Position P I A). answered w table.finished p answer) same_position ∙ o.goes;
             turn = subst (λ n. IsInTurn n answer) (sym same_asked) o.turn;
             few = let a = o.few in omega (arith, same_asked);
           };
-          table_is = ap (λ (s : State I A). s.table) (one_state w log.events o.stands.state x.state o.stands.history x.history) ∙ sym x.finished;
-          enough = ap (λ (p : Position I A). answered w (seen after).learnt p answer) same_position ∙ (learns_so ∙ o.goes);
+          table_is = ap (λ (s : State P I A). s.table) (one_state w log.events o.stands.state x.state o.stands.history x.history) ∙ sym x.finished;
+          enough = ap (λ (p : Position P I A). answered w (seen after).learnt p answer) same_position ∙ (learns_so ∙ o.goes);
         }
 
   -- the walk has gone on with its answer
@@ -172,7 +172,7 @@ module _ {W I A : Type 0} (seen : W → Seen I A) (earlier : W → Option (Posit
       IsAsking seen earlier node w past (record { id = a.id; walk = after; answer = a.answer; ask = ask; number = a.number })
   asks-next past a after ask k asks goes_on same_asked same_world same_learnt stood =
       let goes_so : answered w (seen a.walk).learnt (seen a.walk).position a.answer ≡ Some (seen after).position =
-      subst (λ (v : World I A). answered v (seen a.walk).learnt (seen a.walk).position a.answer ≡ Some (seen after).position) k.out.world goes_on in
+      subst (λ (v : World P I A). answered v (seen a.walk).learnt (seen a.walk).position a.answer ≡ Some (seen after).position) k.out.world goes_on in
       let stands_so : k.out.next ≡ (seen after).position = some-is k.out.next (seen after).position (sym k.enough ∙ goes_so) in
       record {
         events = k.events;
@@ -185,7 +185,7 @@ module _ {W I A : Type 0} (seen : W → Seen I A) (earlier : W → Option (Posit
           position = (seen a.walk).position;
           asked = (seen a.walk).asked;
           stood = stood;
-          out = subst (λ (v : Seen I A). IsOut w k.events k.table a.id v a.answer) (seen-same (seen a.walk) (record { world = (seen after).world; position = (seen a.walk).position; asked = (seen a.walk).asked; learnt = (seen after).learnt }) (sym same_world) refl refl (sym same_learnt)) k.out;
+          out = subst (λ (v : Seen P I A). IsOut w k.events k.table a.id v a.answer) (seen-same (seen a.walk) (record { world = (seen after).world; position = (seen a.walk).position; asked = (seen a.walk).asked; learnt = (seen after).learnt }) (sym same_world) refl refl (sym same_learnt)) k.out;
         };
         own = record {
           stands = record {
@@ -193,7 +193,7 @@ module _ {W I A : Type 0} (seen : W → Seen I A) (earlier : W → Option (Posit
             origin = k.out.stands.origin;
             node = k.out.stands.node;
             history = k.out.stands.history;
-            there = k.out.stands.there ∙ ap (λ (p : Position I A). Some (placed k.out.stands.origin p (assigned k.out.stands.node))) stands_so;
+            there = k.out.stands.there ∙ ap (λ (p : Position P I A). Some (placed k.out.stands.origin p (assigned k.out.stands.node))) stands_so;
           };
           world = same_world ∙ k.out.world;
           learnt = subst (λ l. ArePartOf l k.table) (sym same_learnt) k.out.learnt;
@@ -222,17 +222,17 @@ module _ {W I A : Type 0} (seen : W → Seen I A) (earlier : W → Option (Posit
           stands = k.out.stands;
           world = world ∙ k.out.world;
           learnt = subst (λ l. ArePartOf l k.table) (sym learnt) k.out.learnt;
-          goes = ap (λ (p : Position I A). answered w k.table p a.answer) position ∙ k.out.goes;
+          goes = ap (λ (p : Position P I A). answered w k.table p a.answer) position ∙ k.out.goes;
           turn = subst (λ n. IsInTurn n a.answer) (sym asked) k.out.turn;
           few = subst (λ n. n < length k.events) (sym asked) k.out.few;
         };
         table_is = k.table_is;
-        enough = ap (λ (v : Seen I A). answered w v.learnt v.position a.answer) (sym same) ∙ k.enough;
+        enough = ap (λ (v : Seen P I A). answered w v.learnt v.position a.answer) (sym same) ∙ k.enough;
       }
 
   module _ (past : List (Option Event)) (a : Answered W) (k : IsAnswered seen earlier node w past a) where
     pub answer-fits : IsSome (answered (seen a.walk).world (seen a.walk).learnt (seen a.walk).position a.answer)
-    answer-fits = ap is_some (subst (λ (v : World I A). answered v (seen a.walk).learnt (seen a.walk).position a.answer ≡ Some k.out.next) (sym k.out.world) k.enough)
+    answer-fits = ap is_some (subst (λ (v : World P I A). answered v (seen a.walk).learnt (seen a.walk).position a.answer ≡ Some k.out.next) (sym k.out.world) k.enough)
 
     pub answer-in-room : (seen a.walk).asked < 2 ^ 63
     answer-in-room = let b = k.out.few in let c = k.few in omega arith
@@ -255,24 +255,24 @@ part-prop part table p q =
     shared-prop : (part table : Records) → IsProp ((run : RunId) (made : _) → found part run ≡ Some made → found table run ≡ Some made)
     shared-prop part table = hlevel props
 
-module _ {W I A : Type 0} (seen : W → Seen I A) (earlier : W → Option (Position I A × ℕ)) (w : World I A) where
+module _ {W P I A : Type 0} (seen : W → Seen P I A) (earlier : W → Option (Position P I A × ℕ)) (w : World P I A) where
   -- a walk that stands as before
   pub refused-out : (events : List Event) (table : Records) (id : ℕ) (walk after : W) (answer : Answer) → IsOut w events table id (seen walk) answer → (seen after).world ≡ (seen walk).world → (seen after).position ≡ (seen walk).position →
       (seen after).asked ≡ (seen walk).asked → (seen after).learnt ≡ (seen walk).learnt → IsOut w events table id (seen after) answer
-  refused-out events table id walk after answer o world position asked learnt = subst (λ (v : Seen I A). IsOut w events table id v answer) (seen-same (seen walk) (seen after) (sym world) (sym position) (sym asked) (sym learnt)) o
+  refused-out events table id walk after answer o world position asked learnt = subst (λ (v : Seen P I A). IsOut w events table id v answer) (seen-same (seen walk) (seen after) (sym world) (sym position) (sym asked) (sym learnt)) o
 
   -- a walk whose last answer is taken back
   pub back-out : (events : List Event) (table : Records) (id : ℕ) (walk after : W) (answer : Answer) → CanGoBack seen earlier w events table id walk answer → earlier walk ≡ Some ((seen after).position, (seen after).asked) →
       (seen after).world ≡ (seen walk).world → (seen after).learnt ≡ (seen walk).learnt → IsOut w events table id (seen after) answer
   back-out events table id walk after answer b stood world learnt =
       let pair : (b.position, b.asked) ≡ ((seen after).position, (seen after).asked) = some-is _ _ (sym b.stood ∙ stood) in
-      subst (λ (v : Seen I A). IsOut w events table id v answer) (seen-same (record { world = (seen walk).world; position = b.position; asked = b.asked; learnt = (seen walk).learnt }) (seen after) (sym world) (ap (λ p. p.0) pair) (ap (λ p. p.1) pair) (sym learnt)) b.out
+      subst (λ (v : Seen P I A). IsOut w events table id v answer) (seen-same (record { world = (seen walk).world; position = b.position; asked = b.asked; learnt = (seen walk).learnt }) (seen after) (sym world) (ap (λ p. p.0) pair) (ap (λ p. p.1) pair) (sym learnt)) b.out
 
   pub back-fits : (events : List Event) (table : Records) (id : ℕ) (walk : W) (answer : Answer) → CanGoBack seen earlier w events table id walk answer → IsSome (earlier walk)
   back-fits events table id walk answer b = ap is_some b.stood
 
-  pub back-kept : (v : World I A) (events after : List Event) (table now : Records) (id : ℕ) (walk held : W) (answer : Answer) → v ≡ w → after ≡ events → now ≡ table → held ≡ walk →
+  pub back-kept : (v : World P I A) (events after : List Event) (table now : Records) (id : ℕ) (walk held : W) (answer : Answer) → v ≡ w → after ≡ events → now ≡ table → held ≡ walk →
       CanGoBack seen earlier w events table id walk answer → CanGoBack seen earlier v after now id held answer
   back-kept v events after table now id walk held answer same es t h b =
-      subst (λ (u : World I A). CanGoBack seen earlier u after now id held answer) (sym same)
+      subst (λ (u : World P I A). CanGoBack seen earlier u after now id held answer) (sym same)
       (subst (λ es. CanGoBack seen earlier w es now id held answer) (sym es) (subst (λ t. CanGoBack seen earlier w events t id held answer) (sym t) (subst (λ (a : W). CanGoBack seen earlier w events table id a answer) (sym h) b)))

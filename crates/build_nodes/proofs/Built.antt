@@ -23,14 +23,14 @@ use Rattle.build_nodes.proofs.Marks.{continues-of}
 pub built-continues : (before after : List Event) (b a : Option End) (first last : List (Option Event)) → first ≡ marked before b → IsPrefix first last → marked after a ≡ last → ∥ Continues before after ∥₁
 built-continues before after b a first last f p l = ∣ continues-of before after b a (subst (λ x. IsPrefix x (marked after a)) f (subst (IsPrefix first) (sym l) p)) ∣₁
 
-pub built-legal : {W I A : Type 0} (seen : W → Seen I A) (w v : World I A) {log : Logged} {origins : List Origin} {slots : List (Slot W)} {making : List (Option RunId)} {table : TableRuns} {end : Option End} →
+pub built-legal : {W P I A : Type 0} (seen : W → Seen P I A) (w v : World P I A) {log : Logged} {origins : List Origin} {slots : List (Slot W)} {making : List (Option RunId)} {table : TableRuns} {end : Option End} →
     ∥ Shown seen w log origins slots making table end ∥₁ → ∥ w ≡ v ∥₁ → ∥ IsLegal v log.events ∥₁
-built-legal seen w v {log} legal same = ∥∥₁_map₂ legal same (λ x e. (x.state, subst (λ (v : World _ _). IsHistory v log.events x.state) e x.history))
+built-legal seen w v {log} legal same = ∥∥₁_map₂ legal same (λ x e. (x.state, subst (λ (v : World _ _ _). IsHistory v log.events x.state) e x.history))
 
-pub built-told : {I A : Type 0} (w v : World I A) (events : List Event) (end : Option End) → ∥ w ≡ v ∥₁ → IsEnd w events end → IsEnd v events end
-built-told w v events None e h = λ result r. ∥∥₁_elim e (λ p q. absurd p) (λ e. h result (subst (λ (v : World _ _). ∥ IsRootOver v events result ∥₁) (sym e) r))
-built-told w v events (Some (Root result)) e h = ∥∥₁_elim e ∥∥₁_prop (λ e. subst (λ (v : World _ _). IsEnd v events (Some (Root result))) e h)
-built-told w v events (Some (Circular runs)) e h = ∥∥₁_elim e ∥∥₁_prop (λ e. subst (λ (v : World _ _). IsEnd v events (Some (Circular runs))) e h)
-built-told w v events (Some (TooDeep keys)) e h = ∥∥₁_elim e ∥∥₁_prop (λ e. subst (λ (v : World _ _). IsEnd v events (Some (TooDeep keys))) e h)
-built-told w v events (Some (TooMany instance)) e h = ∥∥₁_elim e ∥∥₁_prop (λ e. subst (λ (v : World _ _). IsEnd v events (Some (TooMany instance))) e h)
+pub built-told : {P I A : Type 0} (w v : World P I A) (events : List Event) (end : Option End) → ∥ w ≡ v ∥₁ → IsEnd w events end → IsEnd v events end
+built-told w v events None e h = λ result r. ∥∥₁_elim e (λ p q. absurd p) (λ e. h result (subst (λ (v : World _ _ _). ∥ IsRootOver v events result ∥₁) (sym e) r))
+built-told w v events (Some (Root result)) e h = ∥∥₁_elim e ∥∥₁_prop (λ e. subst (λ (v : World _ _ _). IsEnd v events (Some (Root result))) e h)
+built-told w v events (Some (Circular runs)) e h = ∥∥₁_elim e ∥∥₁_prop (λ e. subst (λ (v : World _ _ _). IsEnd v events (Some (Circular runs))) e h)
+built-told w v events (Some (TooDeep keys)) e h = ∥∥₁_elim e ∥∥₁_prop (λ e. subst (λ (v : World _ _ _). IsEnd v events (Some (TooDeep keys))) e h)
+built-told w v events (Some (TooMany instance)) e h = ∥∥₁_elim e ∥∥₁_prop (λ e. subst (λ (v : World _ _ _). IsEnd v events (Some (TooMany instance))) e h)
 built-told w v events (Some NoMemory) e h = tt

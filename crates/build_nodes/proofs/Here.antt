@@ -34,18 +34,18 @@ use Rattle.build_scheduler.specs.Shown.{Shown}
 use Rattle.build_scheduler.proofs.HistoryFacts.{one_state}
 use Rattle.build_nodes.proofs.HistoryParts.{goes-on, last-of}
 
-module _ {I A : Type 0} (w : World I A) where
+module _ {P I A : Type 0} (w : World P I A) where
   -- the state has the request with this node
-  pub record HasIt (s : State I A) (id node : ℕ) : Type 0 where
-    pub request : RequestState I A
-    pub place : Place I A
+  pub record HasIt (s : State P I A) (id node : ℕ) : Type 0 where
+    pub request : RequestState P I A
+    pub place : Place P I A
     pub there : at s.requests id ≡ Some request
     pub is : request.status ≡ assigned node place
 
-  put-it : (s t : State I A) (id node : ℕ) (q z : RequestState I A) (p : Place I A) → at s.requests id ≡ Some q → z.status ≡ assigned node p → with_request s id z ≡ t → HasIt t id node
-  put-it s t id node q z p e st h = subst (λ (u : State I A). HasIt u id node) h (record { request = z; place = p; there = at-put_same s.requests id q z e; is = st })
+  put-it : (s t : State P I A) (id node : ℕ) (q z : RequestState P I A) (p : Place P I A) → at s.requests id ≡ Some q → z.status ≡ assigned node p → with_request s id z ≡ t → HasIt t id node
+  put-it s t id node q z p e st h = subst (λ (u : State P I A). HasIt u id node) h (record { request = z; place = p; there = at-put_same s.requests id q z e; is = st })
 
-  assign-it : (s t : State I A) (id node : ℕ) (o : Origin) (j : Journal) (runs : List RunId) (u : Status I A) → at s.requests id ≡ Some (request_of o j runs u) → step_of w s (Assign id node) (request_of o j runs u) ≡ Some t → HasIt t id node
+  assign-it : (s t : State P I A) (id node : ℕ) (o : Origin) (j : Journal) (runs : List RunId) (u : Status P I A) → at s.requests id ≡ Some (request_of o j runs u) → step_of w s (Assign id node) (request_of o j runs u) ≡ Some t → HasIt t id node
   assign-it s t id node o j runs (ready p) e h =
       put-it s t id node (request_of o j runs (ready p)) (request_of o j runs (assigned node p)) p e refl (some-is (with_request s id (request_of o j runs (assigned node p))) t h)
   assign-it s t id node o j runs (assigned m p) e h = absurd (cc)
@@ -53,76 +53,76 @@ module _ {I A : Type 0} (w : World I A) where
   assign-it s t id node o j runs (calling a b c d) e h = absurd (cc)
   assign-it s t id node o j runs (done a) e h = absurd (cc)
 
-  go-it : (s t : State I A) (id node : ℕ) (o : Origin) (j : Journal) (runs : List RunId) (p : Place I A) (run : RunId) → at s.requests id ≡ Some (request_of o j runs (assigned node p)) →
+  go-it : (s t : State P I A) (id node : ℕ) (o : Origin) (j : Journal) (runs : List RunId) (p : Place P I A) (run : RunId) → at s.requests id ≡ Some (request_of o j runs (assigned node p)) →
       step_of w s (Claim id run Go) (request_of o j runs (assigned node p)) ≡ Some t → HasIt t id node
-  go-it s t id node o j runs (walking (wants r b go)) run e h =
+  go-it s t id node o j runs (walking (wants site r b go)) run e h =
       let x = and_then-some (only_if (same_run r run) r) (λ run. claimed w s id node o j runs run b go Go) t h in
       let stopped = run_on w.tools x.0 b j nothing_yet in
-      let z : RequestState I A = in_body w (assigned node) o runs x.0 go stopped in
+      let z : RequestState P I A = in_body w (assigned node) o runs x.0 go stopped in
       let y = unless-some (is_begun x.0 s.begun) (record { requests = put s.requests id z; begun = record { run = x.0; by = id } ∷ s.begun; table = s.table; tools_used = s.tools_used }) t x.2 in
-      subst (λ (u : State I A). HasIt u id node) y.1 (record {
+      subst (λ (u : State P I A). HasIt u id node) y.1 (record {
         request = z;
         place = within (record { run = x.0; so_far = stopped.so_far; go = go }) stopped.stop;
-        there = at-put_same s.requests id (request_of o j runs (assigned node (walking (wants r b go)))) z e;
+        there = at-put_same s.requests id (request_of o j runs (assigned node (walking (wants site r b go)))) z e;
         is = refl;
       })
   go-it s t id node o j runs (walking (gives reply)) run e h = absurd (cc)
   go-it s t id node o j runs (within x stop) run e h = absurd (cc)
 
-  use-it : (s t : State I A) (id node : ℕ) (o : Origin) (j : Journal) (runs : List RunId) (p : Place I A) (run : RunId) → at s.requests id ≡ Some (request_of o j runs (assigned node p)) →
+  use-it : (s t : State P I A) (id node : ℕ) (o : Origin) (j : Journal) (runs : List RunId) (p : Place P I A) (run : RunId) → at s.requests id ≡ Some (request_of o j runs (assigned node p)) →
       step_of w s (Claim id run Use) (request_of o j runs (assigned node p)) ≡ Some t → HasIt t id node
-  use-it s t id node o j runs (walking (wants r b go)) run e h =
+  use-it s t id node o j runs (walking (wants site r b go)) run e h =
       let x = and_then-some (only_if (same_run r run) r) (λ run. claimed w s id node o j runs run b go Use) t h in
       let m = and_then-some (found s.table x.0) (λ made. and_then (replay s.table x.0 j) (λ next. Some (with_request s id (goes_on w (assigned node) o runs x.0 go made next)))) t x.2 in
       let n = and_then-some (replay s.table x.0 j) (λ next. Some (with_request s id (goes_on w (assigned node) o runs x.0 go m.0 next))) t m.2 in
-      let z : RequestState I A = goes_on w (assigned node) o runs x.0 go m.0 n.0 in
-      put-it s t id node (request_of o j runs (assigned node (walking (wants r b go)))) z (walking (go m.0 n.0)) e refl (some-is (with_request s id z) t n.2)
+      let z : RequestState P I A = goes_on w (assigned node) o runs x.0 go m.0 n.0 in
+      put-it s t id node (request_of o j runs (assigned node (walking (wants site r b go)))) z (walking (go m.0 n.0)) e refl (some-is (with_request s id z) t n.2)
   use-it s t id node o j runs (walking (gives reply)) run e h = absurd (cc)
   use-it s t id node o j runs (within x stop) run e h = absurd (cc)
 
-  result-it : (s t : State I A) (id node : ℕ) (o : Origin) (j : Journal) (runs : List RunId) (p : Place I A) (run : RunId) → at s.requests id ≡ Some (request_of o j runs (assigned node p)) →
+  result-it : (s t : State P I A) (id node : ℕ) (o : Origin) (j : Journal) (runs : List RunId) (p : Place P I A) (run : RunId) → at s.requests id ≡ Some (request_of o j runs (assigned node p)) →
       step_of w s (Result id run) (request_of o j runs (assigned node p)) ≡ Some t → HasIt t id node
   result-it s t id node o j runs (within x (ends outcome)) run e h =
       let y = and_then-some (only_if (same_run x.run run) x) (λ x. finished w s id node o j runs x (recorded outcome x.so_far.segments)) t h in
       let made : Record = recorded outcome y.0.so_far.segments in
       let f : FinishedRun = record { run = y.0.run; made = made } in
-      let z : RequestState I A = goes_on w (assigned node) o runs y.0.run y.0.go made (add j (ended y.0.run made)) in
+      let z : RequestState P I A = goes_on w (assigned node) o runs y.0.run y.0.go made (add j (ended y.0.run made)) in
       let u = and_then-some (traverse (woken w (f ∷ s.table) y.0.run made) (put s.requests id z)) (λ requests. Some (record { requests = requests; begun = s.begun; table = f ∷ s.table; tools_used = record { run = y.0.run; tools = y.0.so_far.tools } ∷ s.tools_used })) t y.2 in
-      let last : State I A = record { requests = u.0; begun = s.begun; table = f ∷ s.table; tools_used = record { run = y.0.run; tools = y.0.so_far.tools } ∷ s.tools_used } in
+      let last : State P I A = record { requests = u.0; begun = s.begun; table = f ∷ s.table; tools_used = record { run = y.0.run; tools = y.0.so_far.tools } ∷ s.tools_used } in
       let k = traverse-at (woken w (f ∷ s.table) y.0.run made) (put s.requests id z) u.0 u.1 id z (at-put_same s.requests id (request_of o j runs (assigned node (within x (ends outcome)))) z e) in
-      subst (λ (v : State I A). HasIt v id node) (some-is last t u.2)
+      subst (λ (v : State P I A). HasIt v id node) (some-is last t u.2)
       (record { request = z; place = walking (y.0.go made (add j (ended y.0.run made))); there = k.1 ∙ ap Some (sym (some-is z k.0 k.2)); is = refl })
   result-it s t id node o j runs (within x (asks key more go)) run e h = absurd (cc)
   result-it s t id node o j runs (walking tree) run e h = absurd (cc)
 
   -- the state before the last event of a history, and the request of the event then
-  pub record Before (events : List Event) (event : Event) (t : State I A) : Type 0 where
-    pub state : State I A
-    pub request : RequestState I A
+  pub record Before (events : List Event) (event : Event) (t : State P I A) : Type 0 where
+    pub state : State P I A
+    pub request : RequestState P I A
     pub history : IsHistory w events state
     pub there : at state.requests (whose event) ≡ Some request
     pub goes : step_of w state event request ≡ Some t
 
-  before-last : (events : List Event) (event : Event) (t : State I A) → IsHistory w (events ++ event ∷ []) t → Before events event t
+  before-last : (events : List Event) (event : Event) (t : State P I A) → IsHistory w (events ++ event ∷ []) t → Before events event t
   before-last events event t h =
       let x = last-of w events event (start w) t h in
       let y = and_then-some (at x.0.requests (whose event)) (step_of w x.0 event) t x.2 in
       record { state = x.0; request = y.0; history = x.1; there = y.1; goes = y.2 }
 
-  has-here : (events : List Event) (t : State I A) (id node : ℕ) → IsHistory w events t → HasIt t id node → IsAssignedTo w events id node
+  has-here : (events : List Event) (t : State P I A) (id node : ℕ) → IsHistory w events t → HasIt t id node → IsAssignedTo w events id node
   has-here events t id node h x = record { state = t; request = x.request; place = x.place; history = h; there = x.there; is = x.is }
 
   -- an assigned request is with the node that has it
-  pub assigned-here : (events after : List Event) (t : State I A) (id node : ℕ) → after ≡ events ++ Assign id node ∷ [] → IsHistory w after t → IsAssignedTo w after id node
+  pub assigned-here : (events after : List Event) (t : State P I A) (id node : ℕ) → after ≡ events ++ Assign id node ∷ [] → IsHistory w after t → IsAssignedTo w after id node
   assigned-here events after t id node e h =
       let b = before-last events (Assign id node) t (subst (λ es. IsHistory w es t) e h) in
       has-here after t id node h (assign-it b.state t id node b.request.origin b.request.journal b.request.runs b.request.status b.there b.goes)
 
-  module _ (events after : List Event) (t : State I A) (id node : ℕ) (here : IsAssignedTo w events id node) where
+  module _ (events after : List Event) (t : State P I A) (id node : ℕ) (here : IsAssignedTo w events id node) where
     own-before : (event : Event) → whose event ≡ id → (b : Before events event t) → at b.state.requests id ≡ Some (request_of here.request.origin here.request.journal here.request.runs (assigned node here.place))
     own-before event is b =
         let same : here.state ≡ b.state = one_state w events here.state b.state here.history b.history in
-        ap (λ (s : State I A). at s.requests id) (sym same) ∙ (here.there ∙ ap (λ u. Some (request_of here.request.origin here.request.journal here.request.runs u)) here.is)
+        ap (λ (s : State P I A). at s.requests id) (sym same) ∙ (here.there ∙ ap (λ u. Some (request_of here.request.origin here.request.journal here.request.runs u)) here.is)
 
     stepped : (event : Event) → whose event ≡ id → (b : Before events event t) → step_of w b.state event (request_of here.request.origin here.request.journal here.request.runs (assigned node here.place)) ≡ Some t
     stepped event is b =
@@ -146,13 +146,13 @@ module _ {I A : Type 0} (w : World I A) where
         has-here after t id node h (result-it b.state t id node here.request.origin here.request.journal here.request.runs here.place run (own-before (Result id run) refl b) (stepped (Result id run) refl b))
 
   -- and through the events of others
-  pub still-here : (before more events : List Event) (id node : ℕ) (t : State I A) → IsAssignedTo w before id node → events ≡ before ++ more → AreOfOthers id more → IsHistory w events t → IsAssignedTo w events id node
+  pub still-here : (before more events : List Event) (id node : ℕ) (t : State P I A) → IsAssignedTo w before id node → events ≡ before ++ more → AreOfOthers id more → IsHistory w events t → IsAssignedTo w events id node
   still-here before more events id node t here e others h =
       let g : after_all w here.state more ≡ Some t = goes-on w before more (start w) here.state t here.history (subst (λ es. IsHistory w es t) e h) in
       record { state = t; request = here.request; place = here.place; history = h; there = stays w here.state t more id node here.request here.place here.there here.is others g; is = here.is }
 
   -- the node to which a request is assigned
-  abbrev assigned-of : Status I A → Option ℕ
+  abbrev assigned-of : Status P I A → Option ℕ
   assigned-of (assigned node p) = Some node
   assigned-of (ready p) = None
   assigned-of (waits a b c) = None
@@ -163,16 +163,16 @@ module _ {I A : Type 0} (w : World I A) where
   pub one-node : (events : List Event) (id node other : ℕ) → IsAssignedTo w events id node → IsAssignedTo w events id other → node ≡ other
   one-node events id node other x y =
       let same : x.state ≡ y.state = one_state w events x.state y.state x.history y.history in
-      let q : x.request ≡ y.request = some-is x.request y.request (sym x.there ∙ (ap (λ (s : State I A). at s.requests id) same ∙ y.there)) in
-      some-is node other (sym (ap assigned-of x.is) ∙ (ap (λ (r : RequestState I A). assigned-of r.status) q ∙ ap assigned-of y.is))
+      let q : x.request ≡ y.request = some-is x.request y.request (sym x.there ∙ (ap (λ (s : State P I A). at s.requests id) same ∙ y.there)) in
+      some-is node other (sym (ap assigned-of x.is) ∙ (ap (λ (r : RequestState P I A). assigned-of r.status) q ∙ ap assigned-of y.is))
 
-module _ {W I A : Type 0} (seen : W → Seen I A) (w : World I A) {log : Logged} {origins : List Kept} {slots : List (Slot W)} {making : List (Option RunId)} {table : TableRuns} {end : Option End} where
+module _ {W P I A : Type 0} (seen : W → Seen P I A) (w : World P I A) {log : Logged} {origins : List Kept} {slots : List (Slot W)} {making : List (Option RunId)} {table : TableRuns} {end : Option End} where
   pub assign-shown : (events : List Event) (id node : ℕ) → log.events ≡ events ++ Assign id node ∷ [] → ∥ Shown seen w log origins slots making table end ∥₁ → ∥ IsAssignedTo w log.events id node ∥₁
   assign-shown events id node e x = ∥∥₁_map x (λ x. assigned-here w events log.events x.state id node e x.history)
 
-  module _ (events : List Event) (id node : ℕ) (v : World I A) (same : w ≡ v) (here : ∥ IsAssignedTo v events id node ∥₁) (x : ∥ Shown seen w log origins slots making table end ∥₁) where
+  module _ (events : List Event) (id node : ℕ) (v : World P I A) (same : w ≡ v) (here : ∥ IsAssignedTo v events id node ∥₁) (x : ∥ Shown seen w log origins slots making table end ∥₁) where
     was : ∥ IsAssignedTo w events id node ∥₁
-    was = subst (λ (u : World I A). ∥ IsAssignedTo u events id node ∥₁) (sym same) here
+    was = subst (λ (u : World P I A). ∥ IsAssignedTo u events id node ∥₁) (sym same) here
 
     pub go-shown : (run : RunId) → log.events ≡ events ++ Claim id run Go ∷ [] → ∥ IsAssignedTo w log.events id node ∥₁
     go-shown run e = ∥∥₁_map₂ was x (λ here x. going-here w events log.events x.state id node here run e x.history)

@@ -41,7 +41,7 @@ left-retired node id by [] end e = or-left (by == node) (has_left node (mark_of 
 left-retired node id by (x ∷ xs) end e = or-right (is_retire_of node x) (has_left node (marked (xs ++ Retire id by ∷ []) end)) (left-retired node id by xs end e)
 
 -- what comes of a request that is given back
-module _ {I A : Type 0} (w : World I A) (nodes : ℕ) (events after : List Event) (id : ℕ) (before end : Option End) where
+module _ {P I A : Type 0} (w : World P I A) (nodes : ℕ) (events after : List Event) (id : ℕ) (before end : Option End) where
   pub retired-continues : (done : Bool) → before ≡ None → IsRetired w nodes events after id end done → IsPrefix (marked events before) (marked after end)
   retired-continues true none r = ahead events after (Retire id r.0.0 ∷ []) before end none r.0.2
   retired-continues false none r = none-more events after before end none r.0

@@ -16,9 +16,9 @@ use Rattle.build_nodes.specs.declared.turn.Next.{Next}
 use Rattle.build_nodes.specs.declared.turn.Next.TheVariants.{Missed, Advance, Park}
 use Rattle.build_nodes.specs.Turns.{IsAnswered, IsAsking, IsBrought, IsIdle, IsNext}
 
-module _ {W I A : Type 0} (seen : W → Seen I A) (earlier : W → Option (Position I A × ℕ)) (node : ℕ) (w v : World I A) (past now : List (Option Event)) where
+module _ {W P I A : Type 0} (seen : W → Seen P I A) (earlier : W → Option (Position P I A × ℕ)) (node : ℕ) (w v : World P I A) (past now : List (Option Event)) where
   asking-later : (a : Asking W) → w ≡ v → IsPrefix past now → IsAsking seen earlier node w past a → IsAsking seen earlier node v now a
-  asking-later a e p k = subst (λ (v : World I A). IsAsking seen earlier node v now a) e (record {
+  asking-later a e p k = subst (λ (v : World P I A). IsAsking seen earlier node v now a) e (record {
     events = k.events;
     table = k.table;
     number = k.number;
@@ -35,7 +35,7 @@ module _ {W I A : Type 0} (seen : W → Seen I A) (earlier : W → Option (Posit
   idle-later number p k = record { events = k.events; number_is = k.number_is; begins = prefix_trans _ _ _ k.begins p; active = k.active }
 
   answered-later : (a : Answered W) → w ≡ v → IsPrefix past now → IsAnswered seen earlier node w past a → IsAnswered seen earlier node v now a
-  answered-later a e p k = subst (λ (v : World I A). IsAnswered seen earlier node v now a) e (record {
+  answered-later a e p k = subst (λ (v : World P I A). IsAnswered seen earlier node v now a) e (record {
     events = k.events;
     table = k.table;
     number = k.number;
@@ -53,15 +53,15 @@ module _ {W I A : Type 0} (seen : W → Seen I A) (earlier : W → Option (Posit
   brought-later e p (Walk a) h = ∥∥₁_map₂ e h (λ e k. asking-later a e p k)
   brought-later e p (Refused a) h = ∥∥₁_map₂ e h (λ e k. answered-later a e p k)
 
-module _ {W I A : Type 0} (seen : W → Seen I A) (earlier : W → Option (Position I A × ℕ)) (node : ℕ) (w v : World I A) (past : List (Option Event)) where
+module _ {W P I A : Type 0} (seen : W → Seen P I A) (earlier : W → Option (Position P I A × ℕ)) (node : ℕ) (w v : World P I A) (past : List (Option Event)) where
   pub next-there : ∥ w ≡ v ∥₁ → (next : Option (Next W)) → IsNext seen earlier node w past next → IsNext seen earlier node v past next
   next-there e None h = h
   next-there e (Some (Missed b)) h = brought-later seen earlier node w v past past e (prefix_self past) b h
-  next-there e (Some (Advance a)) h = ∥∥₁_map₂ e h (λ e k. subst (λ (v : World I A). IsAnswered seen earlier node v past a) e k)
+  next-there e (Some (Advance a)) h = ∥∥₁_map₂ e h (λ e k. subst (λ (v : World P I A). IsAnswered seen earlier node v past a) e k)
   next-there e (Some (Park number)) h = (h.0, ∥∥₁_map h.1 (λ k. idle-later seen earlier node w v past past number (prefix_self past) k))
 
 -- what the node does next, by the core that the seat knows
-pub next-seated : {W I A X : Type 0} (seen : W → Seen I A) (earlier : W → Option (Position I A × ℕ)) (node : ℕ) (first : X) (origin : X → World I A) (world : Option X) (past now : List (Option Event)) (next : Option (Next W)) →
+pub next-seated : {W P I A X : Type 0} (seen : W → Seen P I A) (earlier : W → Option (Position P I A × ℕ)) (node : ℕ) (first : X) (origin : X → World P I A) (world : Option X) (past now : List (Option Event)) (next : Option (Next W)) →
     world ≡ Some first → now ≡ past → IsNext seen earlier node (origin first) past next → IsSomeAnd world (λ x. IsNext seen earlier node (origin x) now next)
 next-seated seen earlier node first origin world past now next e f h =
     subst (λ o. IsSomeAnd o (λ x. IsNext seen earlier node (origin x) now next)) (sym e) (subst (λ l. IsNext seen earlier node (origin first) l next) (sym f) h)

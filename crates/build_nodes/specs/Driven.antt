@@ -6,8 +6,8 @@ use Rattle.build_meaning.specs.State.{State}
 use Rattle.build_meaning.specs.History.{IsHistory}
 
 -- the events lead from the start of the world to a state
-abbrev pub IsLegal : {I A : Type 0} → World I A → List Event → Type 0
-IsLegal {I} {A} w events = (s : State I A) × IsHistory w events s
+abbrev pub IsLegal : {P I A : Type 0} → World P I A → List Event → Type 0
+IsLegal {P} {I} {A} w events = (s : State P I A) × IsHistory w events s
 
 -- more events came after these
 abbrev pub Continues : List Event → List Event → Type 0

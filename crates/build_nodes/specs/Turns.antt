@@ -33,15 +33,15 @@ number_of (Nothing number) = number
 number_of (Walk a) = a.number
 number_of (Refused a) = a.number
 
-module _ {W I A : Type 0} (seen : W → Seen I A) (earlier : W → Option (Position I A × ℕ)) where
+module _ {W P I A : Type 0} (seen : W → Seen P I A) (earlier : W → Option (Position P I A × ℕ)) where
   -- once its last answer is taken back, the walk is its request's own, and this is its next answer
-  pub record CanGoBack (w : World I A) (events : List Event) (table : Records) (id : ℕ) (walk : W) (answer : Answer) : Type 0 where
-    pub position : Position I A
+  pub record CanGoBack (w : World P I A) (events : List Event) (table : Records) (id : ℕ) (walk : W) (answer : Answer) : Type 0 where
+    pub position : Position P I A
     pub asked : ℕ
     pub stood : earlier walk ≡ Some (position, asked)
     pub out : IsOut w events table id (record { world = (seen walk).world; position = position; asked = asked; learnt = (seen walk).learnt }) answer
 
-module _ {W I A : Type 0} (seen : W → Seen I A) (earlier : W → Option (Position I A × ℕ)) (node : ℕ) (w : World I A) (past : List (Option Event)) where
+module _ {W P I A : Type 0} (seen : W → Seen P I A) (earlier : W → Option (Position P I A × ℕ)) (node : ℕ) (w : World P I A) (past : List (Option Event)) where
   -- when the history had this number, the node had not retired
   pub record IsIdle (number : ℕ) : Type 0 where
     pub events : List Event

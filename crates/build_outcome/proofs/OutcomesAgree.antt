@@ -12,7 +12,8 @@ use Rattle.build_outcome.specs.declared.outcome.Outcome.{Outcome}
 use Rattle.build_outcome.specs.Outcomes.{built, IsBuilt, IsOutcomeAt, IsOutcome}
 use Rattle.build_outcome.proofs.NoStops.{no-circles, never-deep, never-many}
 
-module _ {I A : Type 0} (w : World I A) (out : Given I RequestResult) (whole : IsWhole w out) (steady : IsSteady out.demand) (low : Bool) where
+module _ {P I A : Type 0} (w : World P I A) (out : Given P I RequestResult) (whole : IsWhole w out)
+    (steady : IsSteady out.demand) (low : Bool) where
   built-meant : (events : List Event) (result : RequestResult) (outcome : Outcome) → IsBuilt w low events result outcome → outcome ≡ built low out.value out.journal
   built-meant events result outcome x =
       let y = (agrees w out whole steady events x.state x.history).root result x.journal x.ends in
@@ -26,8 +27,12 @@ module _ {I A : Type 0} (w : World I A) (out : Given I RequestResult) (whole : I
   meant events (Some (TooMany instance)) outcome h = absurd (never-many w out whole steady events instance h.0)
   meant events (Some NoMemory) outcome h = absurd h
 
-pub outcome_is_the_meanings : {I A : Type 0} (w : World I A) (out : Given I RequestResult) → IsWhole w out → IsSteady out.demand → (low : Bool) (outcome : Outcome) → IsOutcome w low outcome → outcome ≡ built low out.value out.journal
+pub outcome_is_the_meanings : {P I A : Type 0} (w : World P I A) (out : Given P I RequestResult) →
+    IsWhole w out → IsSteady out.demand → (low : Bool) (outcome : Outcome) →
+    IsOutcome w low outcome → outcome ≡ built low out.value out.journal
 outcome_is_the_meanings w out whole steady low outcome x = meant w out whole steady low x.events x.end outcome x.is
 
-pub outcomes_agree : {I A : Type 0} (w : World I A) (out : Given I RequestResult) → IsWhole w out → IsSteady out.demand → (low : Bool) (one other : Outcome) → IsOutcome w low one → IsOutcome w low other → one ≡ other
+pub outcomes_agree : {P I A : Type 0} (w : World P I A) (out : Given P I RequestResult) →
+    IsWhole w out → IsSteady out.demand → (low : Bool) (one other : Outcome) → IsOutcome w low one →
+    IsOutcome w low other → one ≡ other
 outcomes_agree w out whole steady low one other x y = outcome_is_the_meanings w out whole steady low one x ∙ sym (outcome_is_the_meanings w out whole steady low other y)

@@ -22,14 +22,19 @@ use Rattle.build_scheduler.proofs.HistoryFacts.{some-prop, one_state}
 use Rattle.build_outcome.specs.declared.outcome.Outcome.{Outcome}
 use Rattle.build_outcome.specs.Outcomes.{built, IsOutcomeAt}
 
-over : {I A : Type 0} (w : World I A) (events : List Event) (result : RequestResult) {end : Option End} → Some (Root result) ≡ end → IsEnd w events end → ∥ IsRootOver w events result ∥₁
+over : {P I A : Type 0} (w : World P I A) (events : List Event)
+    (result : RequestResult) {end : Option End} → Some (Root result) ≡ end → IsEnd w events end →
+    ∥ IsRootOver w events result ∥₁
 over w events result e told = subst (λ o. IsEnd w events o) (sym e) told
 
-module _ {W I A : Type 0} (seen : W → Seen I A) (w : World I A) {log : Logged} {origins : List Origin} {slots : List (Slot W)} {making : List (Option RunId)} {table : TableRuns} {end : Option End} (result : RequestResult) where
+module _ {W P I A : Type 0} (seen : W → Seen P I A)
+    (w : World P I A) {log : Logged} {origins : List Origin} {slots : List (Slot W)} {making : List
+    (Option RunId)} {table : TableRuns} {end : Option End} (result : RequestResult) where
   over-replayed : Shown seen w log origins slots making table end → (x : IsRootOver w log.events result) → replay_all table.finished result.runs [] ≡ Some x.journal
   over-replayed s x =
       let same : s.state ≡ x.state = one_state w log.events s.state x.state s.history x.history in
-      ap (λ finished. replay_all finished result.runs []) (s.finished ∙ ap (λ (t : State I A). t.table) same)
+      ap (λ finished. replay_all finished result.runs [])
+      (s.finished ∙ ap (λ (t : State P I A). t.table) same)
       ∙ root_is_replayed w log.events x.state x.history result x.journal x.ends
 
   pub root-replays : ∥ Shown seen w log origins slots making table end ∥₁ → Some (Root result) ≡ end → IsEnd w log.events end → IsSome (replay_all table.finished result.runs [])

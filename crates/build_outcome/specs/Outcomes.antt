@@ -32,19 +32,21 @@ abbrev pub stopped : List ℕ → Outcome
 stopped text = record { status = 4; text = text; commit = [] }
 
 -- after these events the root request is over with this result, and this comes of it
-pub record IsBuilt {I A : Type 0} (w : World I A) (low : Bool) (events : List Event) (result : RequestResult) (outcome : Outcome) : Type 0 where
-  pub state : State I A
+pub record IsBuilt {P I A : Type 0} (w : World P I A) (low : Bool) (events : List Event)
+    (result : RequestResult) (outcome : Outcome) : Type 0 where
+  pub state : State P I A
   pub journal : Journal
   pub history : IsHistory w events state
   pub ends : EndsWith state result journal
   pub outcome_is : outcome ≡ built low result journal
 
 -- after these events the build is stopped by this end, and this text says why
-abbrev pub IsStopped : {I A : Type 0} → World I A → List Event → End → List ℕ → Outcome → Type 0
+abbrev pub IsStopped : {P I A : Type 0} → World P I A → List Event → End → List ℕ → Outcome → Type 0
 IsStopped w events end text outcome = IsStop w events end × (outcome ≡ stopped text)
 
 -- what comes of a build that ends so after these events; nothing comes of one that goes on, or that wants memory
-abbrev pub IsOutcomeAt : {I A : Type 0} → World I A → Bool → List Event → Option End → Outcome → Type 0
+abbrev pub IsOutcomeAt : {P I A : Type 0} → World P I A → Bool → List Event → Option End → Outcome →
+    Type 0
 IsOutcomeAt w low events None outcome = ⊥
 IsOutcomeAt w low events (Some (Root result)) outcome = IsBuilt w low events result outcome
 IsOutcomeAt w low events (Some (Circular runs)) outcome = IsStopped w events (Circular runs) (circular_text runs) outcome
@@ -53,9 +55,10 @@ IsOutcomeAt w low events (Some (TooMany instance)) outcome = IsStopped w events 
 IsOutcomeAt w low events (Some NoMemory) outcome = ⊥
 
 -- what may come of a build of the world: some legal history leads to it
-pub record IsOutcome {I A : Type 0} (w : World I A) (low : Bool) (outcome : Outcome) : Type 0 where
+pub record IsOutcome {P I A : Type 0} (w : World P I A) (low : Bool)
+    (outcome : Outcome) : Type 0 where
   pub events : List Event
-  pub state : State I A
+  pub state : State P I A
   pub end : Option End
   pub history : IsHistory w events state
   pub is : IsOutcomeAt w low events end outcome

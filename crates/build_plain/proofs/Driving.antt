@@ -8,7 +8,7 @@ use Rattle.build_meaning.specs.History.{retires}
 use Rattle.build_meaning.proofs.RetiredRequests.{retires-append}
 use Rattle.build_plain.specs.Driven.{TakesLeast, AssignsLeast, Drives, Continues}
 
-module _ {I A : Type 0} (w : World I A) where
+module _ {P I A : Type 0} (w : World P I A) where
   least-more : (before more others : List Event) → AssignsLeast w before more → AssignsLeast w (before ++ more) others → AssignsLeast w before (more ++ others)
   least-more before [] others h g = subst (λ es. AssignsLeast w es others) (append-nil before) g
   least-more before (event ∷ more) others h g = (h.0, least-more (before ++ event ∷ []) more others h.1 (subst (λ es. AssignsLeast w es others) (sym (append_assoc before (event ∷ []) more)) g))

@@ -23,31 +23,31 @@ first_there : {X : Type 0} (xs : List X) → 0 < length xs → (x : X) × (at xs
 first_there [] l = absurd (omega arith)
 first_there (x ∷ xs) l = (x, refl)
 
-module _ {I A : Type 0} (w : World I A) where
+module _ {P I A : Type 0} (w : World P I A) where
   -- the last event of a history is a step from the state before it
-  pub last-step : (events : List Event) (event : Event) (u s t : State I A) → after_all w u events ≡ Some s → after_all w u (events ++ event ∷ []) ≡ Some t → step w s event ≡ Some t
+  pub last-step : (events : List Event) (event : Event) (u s t : State P I A) → after_all w u events ≡ Some s → after_all w u (events ++ event ∷ []) ≡ Some t → step w s event ≡ Some t
   last-step [] event u s t h g =
       let y = and_then-some (step w u event) (λ next. after_all w next []) t g in
       let same : u ≡ s = (let e : Some u ≡ Some s = h in cc) in
       let next : y.0 ≡ t = (let e : Some y.0 ≡ Some t = y.2 in cc) in
-      subst (λ (x : State I A). step w x event ≡ Some t) same (y.1 ∙ ap Some next)
+      subst (λ (x : State P I A). step w x event ≡ Some t) same (y.1 ∙ ap Some next)
   last-step (first ∷ events) event u s t h g =
       let y = and_then-some (step w u first) (λ next. after_all w next events) s h in
       let z = and_then-some (step w u first) (λ next. after_all w next (events ++ event ∷ [])) t g in
       let same : z.0 ≡ y.0 = (let e : Some z.0 ≡ Some y.0 = sym z.1 ∙ y.1 in cc) in
-      last-step events event y.0 s t y.2 (subst (λ (x : State I A). after_all w x (events ++ event ∷ []) ≡ Some t) same z.2)
+      last-step events event y.0 s t y.2 (subst (λ (x : State P I A). after_all w x (events ++ event ∷ []) ≡ Some t) same z.2)
 
-  root-stays : (events : List Event) (s t : State I A) → 0 < length s.requests → after_all w s events ≡ Some t → 0 < length t.requests
-  root-stays [] s t l h = let same : s ≡ t = (let e : Some s ≡ Some t = h in cc) in subst (λ (x : State I A). 0 < length x.requests) same l
+  root-stays : (events : List Event) (s t : State P I A) → 0 < length s.requests → after_all w s events ≡ Some t → 0 < length t.requests
+  root-stays [] s t l h = let same : s ≡ t = (let e : Some s ≡ Some t = h in cc) in subst (λ (x : State P I A). 0 < length x.requests) same l
   root-stays (event ∷ events) s t l h =
       let y = and_then-some (step w s event) (λ next. after_all w next events) t h in
       let g = (step-moves w s y.0 event y.1).grows in
       root-stays events y.0 t (omega arith) y.2
 
-  has_node : (q : RequestState I A) (node : ℕ) (p : Place I A) → q.status ≡ assigned node p → HasNode q.status
+  has_node : (q : RequestState P I A) (node : ℕ) (p : Place P I A) → q.status ≡ assigned node p → HasNode q.status
   has_node q node p e = subst HasNode (sym e) tt
 
-  with_node : (s : State I A) (events : List Event) (n : ℕ) (q : RequestState I A) (st : Status I A) → IsHistory w events s → at s.requests n ≡ Some q → q.status ≡ st → HasNode st → IsAssigned w events n
+  with_node : (s : State P I A) (events : List Event) (n : ℕ) (q : RequestState P I A) (st : Status P I A) → IsHistory w events s → at s.requests n ≡ Some q → q.status ≡ st → HasNode st → IsAssigned w events n
   with_node s events n q (assigned node place) h e f a = record { state = s; request = q; node = node; place = place; history = h; there = e; is = f }
   with_node s events n q _ h e f a = absurd a
 
@@ -90,11 +90,11 @@ module _ {I A : Type 0} (w : World I A) where
   free-of events (Some (Root result)) none = none
   free-of events (Some _) none = tt
 
-module _ {W I A : Type 0} (seen : W → Seen I A) (w : World I A) where
+module _ {W P I A : Type 0} (seen : W → Seen P I A) (w : World P I A) where
   pub legal-of : {log : _} {origins : _} {slots : _} {making : _} {table : _} {end : _} → ∥ Shown seen w log origins slots making table end ∥₁ → ∥ IsLegal w log.events ∥₁
   legal-of shown = ∥∥₁_map shown (λ x. (x.state, x.history))
 
-  going-of : (s : State I A) (events : List Event) (id : ℕ) (q : RequestState I A) (st : Status I A) → IsHistory w events s → at s.requests id ≡ Some q → q.status ≡ st → IsGoing st → IsReady w events id ⊎ IsAssigned w events id
+  going-of : (s : State P I A) (events : List Event) (id : ℕ) (q : RequestState P I A) (st : Status P I A) → IsHistory w events s → at s.requests id ≡ Some q → q.status ≡ st → IsGoing st → IsReady w events id ⊎ IsAssigned w events id
   going-of s events id q (ready place) h e f g = inl (record { state = s; request = q; place = place; history = h; there = e; is = f })
   going-of s events id q (assigned node place) h e f g = inr (record { state = s; request = q; node = node; place = place; history = h; there = e; is = f })
   going-of s events id q _ h e f g = absurd g

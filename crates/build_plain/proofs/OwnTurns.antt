@@ -38,7 +38,7 @@ turn-prop : (asked : ℕ) (answer : Answer) (p q : IsInTurn asked answer) → p 
 turn-prop asked First p q = ℕ_set asked 0 p q
 turn-prop asked _ p q = le_prop p q
 
-module _ {I A : Type 0} (w : World I A) (events : List Event) (table : Records) (id : ℕ) (walk : Seen I A) where
+module _ {P I A : Type 0} (w : World P I A) (events : List Event) (table : Records) (id : ℕ) (walk : Seen P I A) where
   module _ (answer : Answer) (out : ∥ IsOut w events table id walk answer ∥₁) where
     pub known-of : ArePartOf walk.learnt table
     known-of = ∥∥₁_elim out (part-prop walk.learnt table) (λ o. o.learnt)
@@ -54,7 +54,7 @@ module _ {I A : Type 0} (w : World I A) (events : List Event) (table : Records) 
     room-of l = ∥∥₁_elim out (λ p q. le_prop p q) (λ o. let f : walk.asked < length events = o.few in omega arith)
 
     -- the walk after its answer is the request's own
-    pub own-of : (next : Seen I A) → next.world ≡ walk.world → answered walk.world table walk.position answer ≡ Some next.position → next.asked ≡ walk.asked + 1 → ArePartOf next.learnt table → ∥ IsOwn w events table id next ∥₁
+    pub own-of : (next : Seen P I A) → next.world ≡ walk.world → answered walk.world table walk.position answer ≡ Some next.position → next.asked ≡ walk.asked + 1 → ArePartOf next.learnt table → ∥ IsOwn w events table id next ∥₁
     own-of next same goes asked known = ∥∥₁_map out (λ o.
         let e : Some o.next ≡ Some next.position = sym o.goes ∙ (ap (λ v. answered v table walk.position answer) (sym o.world) ∙ goes) in
         let there : o.next ≡ next.position = cc in record {
@@ -68,7 +68,7 @@ module _ {I A : Type 0} (w : World I A) (events : List Event) (table : Records) 
   pub asks-of : (ask : Ask) → ∥ IsOwn w events table id walk ∥₁ → ask_of walk.position ≡ ask → ∥ Asks w events id ask ∥₁
   asks-of ask own e = ∥∥₁_map own (λ o. record { position = walk.position; stands = o.stands; asks = e })
 
-module _ {I A : Type 0} (w : World I A) (events : List Event) (id : ℕ) where
+module _ {P I A : Type 0} (w : World P I A) (events : List Event) (id : ℕ) where
   -- calls that are refused end the build
   pub refused-shown : (calls : List RequestKey) (fault : RequestFault) → IsRefused w events id calls fault → IsStop w events (end_of fault)
   refused-shown calls (TooDeep keys) h = ∥∥₁_map h (λ x. (id, calls, x))

@@ -28,14 +28,14 @@ abbrev pub left_of : {W : Type 0} → ℕ → Turn W → ℕ
 left_of count (GoesOn walk answer) = suc (2 ^ 63 - count)
 left_of count Over = 0
 
-module _ {I A : Type 0} (w : World I A) (before after : List Event) (event : Event) (legal : ∥ IsLegal w before ∥₁) (e : after ≡ before ++ event ∷ []) (id : ℕ) (mine : whose event ≡ id) (only : OnlyAssigned w before id) where
-  pub goes-on : {W : Type 0} (seen : W → Seen I A) (table : Records) (end : Option End) (walk : W) (answer : Answer) → end ≡ None → ∥ IsOut w after table id (seen walk) answer ∥₁ → IsTurn seen w after table end id (GoesOn walk answer)
+module _ {P I A : Type 0} (w : World P I A) (before after : List Event) (event : Event) (legal : ∥ IsLegal w before ∥₁) (e : after ≡ before ++ event ∷ []) (id : ℕ) (mine : whose event ≡ id) (only : OnlyAssigned w before id) where
+  pub goes-on : {W : Type 0} (seen : W → Seen P I A) (table : Records) (end : Option End) (walk : W) (answer : Answer) → end ≡ None → ∥ IsOut w after table id (seen walk) answer ∥₁ → IsTurn seen w after table end id (GoesOn walk answer)
   goes-on seen table end walk answer running out = (running, out, one-stays w before after event legal e id mine only)
 
   pub leaves-node : (end : Option End) → Leaves event → IsFree w after end
   leaves-node end leaves = free-of w after end (none-stays w before after event legal e id mine leaves only)
 
-module _ {I A : Type 0} (w v : World I A) (before after : List Event) (same : v ≡ w) (e : after ≡ before) (id : ℕ) where
+module _ {P I A : Type 0} (w v : World P I A) (before after : List Event) (same : v ≡ w) (e : after ≡ before) (id : ℕ) where
   moved : (end : End) → IsStop w before end → IsStop v after end
   moved end h = subst (λ es. IsStop v es end) (sym e) (subst (λ u. IsStop u before end) (sym same) h)
 
@@ -46,7 +46,7 @@ module _ {I A : Type 0} (w v : World I A) (before after : List Event) (same : v 
   cycle-stop run runs h = moved (Circular runs) (cycle-shown w before id run runs h)
 
 -- what becomes of it by a claim
-module _ {W I A : Type 0} (seen : W → Seen I A) (w : World I A) (before after : List Event) (table : Records) (id : ℕ) (run : RunId) (walk : W) where
+module _ {W P I A : Type 0} (seen : W → Seen P I A) (w : World P I A) (before after : List Event) (table : Records) (id : ℕ) (run : RunId) (walk : W) where
   abbrev pub Told : Claimed W → Type 0
   Told claimed = IsClaimed seen w before after table id run walk (Ok claimed)
 

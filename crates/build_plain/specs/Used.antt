@@ -15,7 +15,7 @@ use Rattle.build_plain.specs.declared.alone.Turn.{Turn}
 use Rattle.build_plain.specs.declared.alone.Turn.TheVariants.{GoesOn, Over}
 
 -- the tools that were used from one to the other are those that the history has from one to the other, in its order
-pub record Uses {I A : Type 0} (w : World I A) (before after : List Event) (from to : List (ToolUse I)) : Type 0 where
+pub record Uses {P I A : Type 0} (w : World P I A) (before after : List Event) (from to : List (ToolUse I)) : Type 0 where
   pub more : List (RunUse I)
   pub uses : uses_in w after ≡ uses_in w before ++ more
   pub tools : to ≡ from ++ tools_of more
@@ -26,14 +26,14 @@ UnlessMemory (Some NoMemory) P = Unit {0}
 UnlessMemory end P = P
 
 -- what a walk uses on its way to the next place
-abbrev pub due_to : {I A : Type 0} → Place I A → Option (Position I A) → List (ToolUse I)
+abbrev pub due_to : {P I A : Type 0} → Place P I A → Option (Position P I A) → List (ToolUse I)
 due_to place None = []
 due_to place (Some next) = used_between place next.place
 
 -- what it uses by its next answer
-abbrev pub due : {I A : Type 0} → World I A → Records → Seen I A → Answer → List (ToolUse I)
+abbrev pub due : {P I A : Type 0} → World P I A → Records → Seen P I A → Answer → List (ToolUse I)
 due w table walk answer = due_to walk.position.place (answered w table walk.position answer)
 
-abbrev pub due_in : {W I A : Type 0} → (W → Seen I A) → World I A → Records → Turn W → List (ToolUse I)
+abbrev pub due_in : {W P I A : Type 0} → (W → Seen P I A) → World P I A → Records → Turn W → List (ToolUse I)
 due_in seen w table (GoesOn walk answer) = due w table (seen walk) answer
 due_in seen w table Over = []

@@ -31,10 +31,10 @@ use Rattle.build_scheduler.proofs.ReadyRequests.{listed-of}
 use Rattle.build_scheduler.proofs.OneRequest.{owed-at, map-put, result-put, shown-put, one-more}
 use Rattle.build_scheduler.proofs.SlotsStay.{map-alike}
 
-module _ {W I A : Type 0} (seen : W → Seen I A) (w : World I A) (log after : Logged) {origins : List Origin} {slots : List (Slot W)} {making : List (Option RunId)} {table : TableRuns} {end : Option End} (id node : ℕ) (walk : W) (answer : Answer) where
+module _ {W P I A : Type 0} (seen : W → Seen P I A) (w : World P I A) (log after : Logged) {origins : List Origin} {slots : List (Slot W)} {making : List (Option RunId)} {table : TableRuns} {end : Option End} (id node : ℕ) (walk : W) (answer : Answer) where
   -- the request of a slot that is ready
   abbrev ReadyThere : Shown seen w log origins slots making table end → Type 0
-  ReadyThere x = (q : RequestState I A) × ShowsReady w x.state (length log.events) (seen walk) answer q × (at x.state.requests id ≡ Some q)
+  ReadyThere x = (q : RequestState P I A) × ShowsReady w x.state (length log.events) (seen walk) answer q × (at x.state.requests id ≡ Some q)
 
   ready-there : (x : Shown seen w log origins slots making table end) → at slots id ≡ Some (Ready walk answer) → ReadyThere x
   ready-there x e = Paired-some (ShowsSlot w x.state (length log.events) seen) slots x.state.requests id (Ready walk answer) x.each e
@@ -46,9 +46,9 @@ module _ {W I A : Type 0} (seen : W → Seen I A) (w : World I A) (log after : L
       Shown seen w after origins outs making table end
   assigned-shown e out ev room x =
       let r = ready-there x e in
-      let z : RequestState I A = placed r.0.origin r.1.position (assigned node) in
-      let t : State I A = with_request x.state id z in
-      let st : r.0.status ≡ ready r.1.position.place = ap (λ (q : RequestState I A). q.status) r.1.is in
+      let z : RequestState P I A = placed r.0.origin r.1.position (assigned node) in
+      let t : State P I A = with_request x.state id z in
+      let st : r.0.status ≡ ready r.1.position.place = ap (λ (q : RequestState P I A). q.status) r.1.is in
       subst (λ (after_slots : List (Slot W)). Shown seen w after origins after_slots making table end) (sym out) (shown-put seen w (Assign id node) id r.0 z t (Assigned node) x r.2 (assigned-step x r) refl refl refl (ap result_in st) refl ev
       (let k : owed r.0.status ≡ suc (owed_in r.1.position.place) = ap owed st in omega arith)
       (x.bodies ∙ sym (map-put making_of x.state.requests id r.0 z r.2 (sym (ap run_at st)))) refl x.begun
@@ -59,8 +59,8 @@ module _ {W I A : Type 0} (seen : W → Seen I A) (w : World I A) (log after : L
       IsOut w after.events table.finished id (seen walk) answer
   assigned-out e ev x =
       let r = ready-there x e in
-      let z : RequestState I A = placed r.0.origin r.1.position (assigned node) in
-      let t : State I A = with_request x.state id z in
+      let z : RequestState P I A = placed r.0.origin r.1.position (assigned node) in
+      let t : State P I A = with_request x.state id z in
       let g = r.1.goes in record {
         next = r.1.position;
         stands = record {
@@ -77,7 +77,7 @@ module _ {W I A : Type 0} (seen : W → Seen I A) (w : World I A) (log after : L
         few = let k : length after.events ≡ suc (length log.events) = one-more log.events after.events (Assign id node) ev in let f : (seen walk).asked ≤ length log.events = g.few in omega arith;
       }
 
-module _ {W I A : Type 0} (seen : W → Seen I A) (w : World I A) {log : Logged} {origins : List Origin} {slots : List (Slot W)} {making : List (Option RunId)} {table : TableRuns} {end : Option End} where
+module _ {W P I A : Type 0} (seen : W → Seen P I A) (w : World P I A) {log : Logged} {origins : List Origin} {slots : List (Slot W)} {making : List (Option RunId)} {table : TableRuns} {end : Option End} where
   -- a ready request is listed, and there is room for its event
   pub listed-there : {numbers : Numbered} {waiting : List Numbered} (id : ℕ) → ∥ Shown seen w log origins slots making table end ∥₁ → ∥ Indexed slots numbers waiting ∥₁ → ∥ IsReady w log.events id ∥₁ →
       (among id numbers.numbers ≡ true) × (is_ready (at slots id) ≡ true)
@@ -87,7 +87,7 @@ module _ {W I A : Type 0} (seen : W → Seen I A) (w : World I A) {log : Logged}
 
   pub room-there : (id : ℕ) → ∥ Shown seen w log origins slots making table end ∥₁ → ∥ IsReady w log.events id ∥₁ → 0 < log.room
   room-there id shown r = ∥∥₁_elim shown (λ p q. le_prop p q) (λ x. ∥∥₁_elim r (λ p q. le_prop p q) (λ q.
-      let e : at x.state.requests id ≡ Some q.request = subst (λ (s : State I A). at s.requests id ≡ Some q.request) (one_state w log.events q.state x.state q.history x.history) q.there in
+      let e : at x.state.requests id ≡ Some q.request = subst (λ (s : State P I A). at s.requests id ≡ Some q.request) (one_state w log.events q.state x.state q.history x.history) q.there in
       let a = owed-at x.state.requests id q.request e in
       let b : owed q.request.status ≡ suc (owed_in q.place) = ap owed q.is in
       let c : owed_by x.state.requests ≤ log.room = x.room in omega arith))

@@ -27,12 +27,12 @@ use Rattle.build_scheduler.proofs.SlotNumbers.{not-equal}
 none_part : (table : Records) → ArePartOf [] table
 none_part table = record { in_order = tt; shared = λ run made h. absurd (cc) }
 
-module _ {W I A : Type 0} (seen : W → Seen I A) (walk : W) (key : RequestKey) {told : World I A} {log : Logged} {origins : List Origin} {slots : List (Slot W)} {making : List (Option RunId)} {table : TableRuns} where
+module _ {W P I A : Type 0} (seen : W → Seen P I A) (walk : W) (key : RequestKey) {told : World P I A} {log : Logged} {origins : List Origin} {slots : List (Slot W)} {making : List (Option RunId)} {table : TableRuns} where
   -- the core shows the start of the world
   pub shown-start : told ≡ (seen walk).world → key ≡ (seen walk).world.root → (seen walk).position ≡ begins (seen walk).world key [] → (seen walk).asked ≡ 0 → (seen walk).learnt ≡ [] → log.events ≡ [] → log.room ≡ 2 →
       origins ≡ record { key = key; parent = None; depth = 0 } ∷ [] → slots ≡ Ready walk First ∷ [] → making ≡ None ∷ [] → table.finished ≡ [] → table.begun ≡ [] → Shown seen told log origins slots making table None
   shown-start e k p a t ev room os ss ms fin beg =
-      let key_is : key ≡ told.root = k ∙ ap (λ (v : World I A). v.root) (sym e) in
+      let key_is : key ≡ told.root = k ∙ ap (λ (v : World P I A). v.root) (sym e) in
       let there : (seen walk).position ≡ begins told told.root [] = p ∙ (ap (λ v. begins v key []) (sym e) ∙ ap (λ r. begins told r []) key_is) in
       record {
         state = start told;
@@ -57,7 +57,7 @@ module _ {W I A : Type 0} (seen : W → Seen I A) (walk : W) (key : RequestKey) 
         finished = fin;
         begun = beg;
         room = omega (arith, room);
-        ends = λ root r o. let q : new_request told None [] [] told.root ≡ root = cc in subst (λ (x : RequestState I A). IsOver x.status) (sym q) o;
+        ends = λ root r o. let q : new_request told None [] [] told.root ≡ root = cc in subst (λ (x : RequestState P I A). IsOver x.status) (sym q) o;
       }
 
 pub indexed-start : {W : Type 0} (walk : W) {slots : List (Slot W)} {ready : Numbered} {waiting : List Numbered} (empty : Numbered) → slots ≡ Ready walk First ∷ [] → waiting ≡ empty ∷ [] → empty.numbers ≡ [] →

@@ -11,7 +11,7 @@ use Rattle.build_meaning.specs.declared.event.Event.{Event}
 use Rattle.build_meaning.specs.Lists.{at, put, numbered_from}
 use Rattle.build_meaning.specs.World.{World}
 use Rattle.build_meaning.specs.Walk.{Body}
-use Rattle.build_meaning.specs.State.{Within, ready, assigned, waits, calling, done, RequestState, ToolsUsed, State, start, new_request}
+use Rattle.build_meaning.specs.State.{Within, assigned, waits, calling, done, RequestState, ToolsUsed, State, start, new_request}
 use Rattle.build_meaning.specs.Step.{whose, step, after_all}
 use Rattle.build_meaning.specs.History.{IsHistory, retires}
 use Rattle.build_meaning.proofs.ListPlaces.{at-put, at-put_else, at-front, at-map}
@@ -91,42 +91,42 @@ module _ {W : Type 0} where
         | inr else ↦ ap walk_in (same_some (at mid n) there (Ready walk answer) there_mid else.1)
       ]
 
-module _ {W I A : Type 0} (seen : W → Seen I A) (w : World I A) where
+module _ {W P I A : Type 0} (seen : W → Seen P I A) (w : World P I A) where
   -- what a slot holds of a request, by where the request stands
-  slot-ready : (s : State I A) (count : ℕ) (walk : W) (answer : Answer) (q : RequestState I A) → ShowsSlot w s count seen (Ready walk answer) q → IsReady q.status
-  slot-ready s count walk answer q v = subst (λ (z : RequestState I A). IsReady z.status) (sym v.is) tt
+  slot-ready : (s : State P I A) (count : ℕ) (walk : W) (answer : Answer) (q : RequestState P I A) → ShowsSlot w s count seen (Ready walk answer) q → IsReady q.status
+  slot-ready s count walk answer q v = subst (λ (z : RequestState P I A). IsReady z.status) (sym v.is) tt
 
-  ready-slot : (s : State I A) (count : ℕ) (slot : Slot W) (q : RequestState I A) → ShowsSlot w s count seen slot q → IsReady q.status → (walk : W) → walk_in slot ≡ Some walk → (answer : Answer) × (slot ≡ Ready walk answer)
+  ready-slot : (s : State P I A) (count : ℕ) (slot : Slot W) (q : RequestState P I A) → ShowsSlot w s count seen slot q → IsReady q.status → (walk : W) → walk_in slot ≡ Some walk → (answer : Answer) × (slot ≡ Ready walk answer)
   ready-slot s count (Ready a b) q v r walk e = (b, ap (λ x. Ready x b) (some-is a walk e))
   ready-slot s count (Assigned node) q v r walk e = absurd (subst IsReady v.is r)
   ready-slot s count (Waiting a by) q v r walk e = absurd (subst IsReady v.is r)
   ready-slot s count (Calling a) q v r walk e = absurd (subst IsReady v.is r)
   ready-slot s count Done q v r walk e = absurd (subst IsReady v.is r)
 
-  same_inside : (keys others : List RequestKey) (ids more : List ℕ) (x y : Within I A) (go then : List RequestResult → Journal → Body I A) → calling keys ids x go ≡ calling others more y then → x ≡ y
+  same_inside : (keys others : List RequestKey) (ids more : List ℕ) (x y : Within P I A) (go then : List RequestResult → Journal → Body I A) → calling keys ids x go ≡ calling others more y then → x ≡ y
   same_inside keys others ids more x y go then e = cc
 
   -- the walk of a caller stands in the body that calls
-  calling-slot : (s : State I A) (count : ℕ) (slot : Slot W) (q : RequestState I A) (keys : List RequestKey) (ids : List ℕ) (x : Within I A) (go : List RequestResult → Journal → Body I A) → ShowsSlot w s count seen slot q → q.status ≡ calling keys ids x go →
+  calling-slot : (s : State P I A) (count : ℕ) (slot : Slot W) (q : RequestState P I A) (keys : List RequestKey) (ids : List ℕ) (x : Within P I A) (go : List RequestResult → Journal → Body I A) → ShowsSlot w s count seen slot q → q.status ≡ calling keys ids x go →
       (walk : W) → walk_in slot ≡ Some walk → tools_in (seen walk).position.place ≡ x.so_far.tools
   calling-slot s count (Ready a b) q keys ids x go v e walk f = absurd (subst IsReady e (slot-ready s count a b q v))
   calling-slot s count (Assigned node) q keys ids x go v e walk f = absurd (let p : assigned node v.place ≡ calling keys ids x go = sym v.is ∙ e in cc)
   calling-slot s count (Waiting a by) q keys ids x go v e walk f = absurd (let p : waits v.run v.body v.go ≡ calling keys ids x go = sym v.is ∙ e in cc)
   calling-slot s count (Calling a) q keys ids x go v e walk f =
       let same : v.inside ≡ x = same_inside (v.key ∷ v.keys) keys (numbered_from a.first (v.key ∷ v.keys)) ids v.inside x v.go go (sym v.is ∙ e) in
-      ap (λ z. tools_in (seen z).position.place) (sym (some-is a.walk walk f)) ∙ (ap (λ p. tools_in p.place) v.stands.position ∙ ap (λ (z : Within I A). z.so_far.tools) same)
+      ap (λ z. tools_in (seen z).position.place) (sym (some-is a.walk walk f)) ∙ (ap (λ p. tools_in p.place) v.stands.position ∙ ap (λ (z : Within P I A). z.so_far.tools) same)
   calling-slot s count Done q keys ids x go v e walk f = absurd (let p : done v.result ≡ calling keys ids x go = sym v.is ∙ e in cc)
 
   -- the last event of a history is a step from the state before it
-  last-step : (events : List Event) (event : Event) (u s t : State I A) → after_all w u events ≡ Some s → after_all w u (events ++ event ∷ []) ≡ Some t → step w s event ≡ Some t
+  last-step : (events : List Event) (event : Event) (u s t : State P I A) → after_all w u events ≡ Some s → after_all w u (events ++ event ∷ []) ≡ Some t → step w s event ≡ Some t
   last-step [] event u s t h g =
       let y = and_then-some (step w u event) (λ next. after_all w next []) t g in
-      subst (λ (x : State I A). step w x event ≡ Some t) (some-is u s h) (y.1 ∙ y.2)
+      subst (λ (x : State P I A). step w x event ≡ Some t) (some-is u s h) (y.1 ∙ y.2)
   last-step (first ∷ events) event u s t h g =
       let y = and_then-some (step w u first) (λ next. after_all w next events) s h in
       let z = and_then-some (step w u first) (λ next. after_all w next (events ++ event ∷ [])) t g in
       let same : z.0 ≡ y.0 = some-is z.0 y.0 (sym z.1 ∙ y.1) in
-      last-step events event y.0 s t y.2 (subst (λ (x : State I A). after_all w x (events ++ event ∷ []) ≡ Some t) same z.2)
+      last-step events event y.0 s t y.2 (subst (λ (x : State P I A). after_all w x (events ++ event ∷ []) ≡ Some t) same z.2)
 
   module _ {log after : Logged} {origins asked : List Origin} {slots outs : List (Slot W)} {making bodies : List (Option RunId)} {table runs : TableRuns} {end told_end : Option End} (event : Event)
       (x : Shown seen w log origins slots making table end) (y : Shown seen w after asked outs bodies runs told_end) (e : after.events ≡ log.events ++ event ∷ []) where
@@ -137,7 +137,7 @@ module _ {W I A : Type 0} (seen : W → Seen I A) (w : World I A) where
     after-event kept behind id walk answer out s q b none h at_q in_b =
         let unretired : retires (log.events ++ event ∷ []) ≡ 0 = ap retires (sym e) ∙ none in
         let same_state : s ≡ y.state = one_state w after.events s y.state h y.history in
-        let here : at y.state.requests id ≡ Some q = subst (λ (z : State I A). at z.requests id ≡ Some q) same_state at_q in
+        let here : at y.state.requests id ≡ Some q = subst (λ (z : State P I A). at z.requests id ≡ Some q) same_state at_q in
         let v = paired-other (ShowsSlot w y.state (length after.events) seen) outs y.state.requests id q y.each here in
         let r : IsReady q.status = slot-ready y.state (length after.events) walk answer q (subst (λ (z : Slot W). ShowsSlot w y.state (length after.events) seen z q) (same_some (at outs id) v.0 (Ready walk answer) v.2 out) v.1) in
         let m = step-moved w x.state y.state event is_step in
@@ -146,13 +146,13 @@ module _ {W I A : Type 0} (seen : W → Seen I A) (w : World I A) where
         let told = history-told w log.events x.state x.history in
         let grown : uses_in w after.events ≡ added (uses_in w log.events) m.mine = ap (uses_in w) e ∙ event-uses w log.events event x.state y.state x.history is_step in
         elim (same_or_not id (whose event)) [
-          | inl d ↦ absurd (none-now log.events event unretired (m.unready (subst (λ (z : RequestState I A). IsReady z.status) (same_some (at y.state.requests id) q m.mine here (ap (at y.state.requests) d ∙ m.there)) r)))
+          | inl d ↦ absurd (none-now log.events event unretired (m.unready (subst (λ (z : RequestState P I A). IsReady z.status) (same_some (at y.state.requests id) q m.mine here (ap (at y.state.requests) d ∙ m.there)) r)))
           | inr d ↦
               by_other id walk answer q b (none-before log.events (event ∷ []) unretired) (kept id walk answer) d out here in_b r behind (m.others id q d here)
               ∙ sym (ap (uses_of b.run) grown ∙ kept-other x.state y.state event (uses_in w log.events) ls lt m told id q b d here in_b)
         ]
       where
-        by_other : (id : ℕ) (walk : W) (answer : Answer) (q : RequestState I A) (b : ToolsUsed I) → retires log.events ≡ 0 → ((slot : Slot W) → (id ≡ whose event → ⊥) → at outs id ≡ Some (Ready walk answer) → at slots id ≡ Some slot → walk_in slot ≡ Some walk) →
+        by_other : (id : ℕ) (walk : W) (answer : Answer) (q : RequestState P I A) (b : ToolsUsed I) → retires log.events ≡ 0 → ((slot : Slot W) → (id ≡ whose event → ⊥) → at outs id ≡ Some (Ready walk answer) → at slots id ≡ Some slot → walk_in slot ≡ Some walk) →
             (id ≡ whose event → ⊥) → at outs id ≡ Some (Ready walk answer) → at y.state.requests id ≡ Some q → body_at q.status ≡ Some b → IsReady q.status → AreBehind seen w log.events slots → Other x.state id q →
             tools_in (seen walk).position.place ≡ uses_of b.run (uses_in w log.events)
         by_other id walk answer q b none k d out here in_b r behind (inl same) =
@@ -183,8 +183,8 @@ module _ {W I A : Type 0} (seen : W → Seen I A) (w : World I A) where
   pub behind-start : {events : List Event} {slots : List (Slot W)} (walk : W) → events ≡ [] → slots ≡ Ready walk First ∷ [] → AreBehind seen w events slots
   behind-start {events} {slots} walk e f zero ready_one answer out s q b unretired h at_q in_b =
       let first : s ≡ start w = some-is s (start w) (sym (subst (λ es. IsHistory w es s) e h)) in
-      let here : at (start w).requests 0 ≡ Some q = subst (λ (z : State I A). at z.requests 0 ≡ Some q) first at_q in
-      let none : body_at q.status ≡ None = ap (λ (z : RequestState I A). body_at z.status) (sym (some-is (new_request w None [] [] w.root) q here)) in
+      let here : at (start w).requests 0 ≡ Some q = subst (λ (z : State P I A). at z.requests 0 ≡ Some q) first at_q in
+      let none : body_at q.status ≡ None = ap (λ (z : RequestState P I A). body_at z.status) (sym (some-is (new_request w None [] [] w.root) q here)) in
       none_some (body_at q.status) b in_b none
   behind-start {events} {slots} walk e f (suc id) ready_one answer out s q b unretired h at_q in_b =
       absurd (let p : None ≡ Some (Ready ready_one answer) = sym (ap (λ xs. at xs (suc id)) f) ∙ out in cc)

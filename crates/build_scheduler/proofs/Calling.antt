@@ -71,16 +71,16 @@ none-so-far (o ∷ others) [] n l e h = absurd (omega arith)
 none-so-far (o ∷ others) (r ∷ results) zero l e h = absurd (omega arith)
 none-so-far (o ∷ others) (r ∷ results) (suc n) l e h = subst (λ p. AreSoFar (p ∷ others) (r ∷ results) (suc n)) (sym (h 0 o refl)) (none-so-far others results n (omega arith) (omega arith) (λ i. h (suc i)))
 
-module _ {I A : Type 0} where
-  owed-append : (xs ys : List (RequestState I A)) → owed_by (xs ++ ys) ≡ owed_by xs + owed_by ys
+module _ {P I A : Type 0} where
+  owed-append : (xs ys : List (RequestState P I A)) → owed_by (xs ++ ys) ≡ owed_by xs + owed_by ys
   owed-append [] ys = omega arith
   owed-append (x ∷ xs) ys = let h = owed-append xs ys in omega arith
 
-  owed-new : (w : World I A) (parent : Option ℕ) (path : List RunId) (journal : Journal) (keys : List RequestKey) → owed_by (map (new_request w parent path journal) keys) ≡ 2 * length keys
+  owed-new : (w : World P I A) (parent : Option ℕ) (path : List RunId) (journal : Journal) (keys : List RequestKey) → owed_by (map (new_request w parent path journal) keys) ≡ 2 * length keys
   owed-new w parent path journal [] = omega arith
   owed-new w parent path journal (key ∷ keys) = let h = owed-new w parent path journal keys in omega arith
 
-  result-front : (xs ys : List (RequestState I A)) (n : ℕ) (q : RequestState I A) → at xs n ≡ Some q → result_at (xs ++ ys) n ≡ result_in q.status
+  result-front : (xs ys : List (RequestState P I A)) (n : ℕ) (q : RequestState P I A) → at xs n ≡ Some q → result_at (xs ++ ys) n ≡ result_in q.status
   result-front xs ys n q e = ap (λ o. and_then o (λ q. result_in q.status)) (at-front xs ys n q e)
 
 first-there : {X : Type 0} (xs : List X) (n : ℕ) (x : X) → at xs n ≡ Some x → (y : X) × (at xs 0 ≡ Some y)
@@ -91,18 +91,18 @@ part-of-part : {part whole table : _} → ArePartOf part whole → ArePartOf who
 part-of-part a b = record { in_order = a.in_order; shared = λ run made e. b.shared run made (a.shared run made e) }
 
 -- how many instances there are with some calls
-pub how-many : {W I A : Type 0} (seen : W → Seen I A) (w : World I A) {log : Logged} {origins : List Origin} {slots : List (Slot W)} {making : List (Option RunId)} {table : TableRuns} {end : Option End} (x : Shown seen w log origins slots making table end)
+pub how-many : {W P I A : Type 0} (seen : W → Seen P I A) (w : World P I A) {log : Logged} {origins : List Origin} {slots : List (Slot W)} {making : List (Option RunId)} {table : TableRuns} {end : Option End} (x : Shown seen w log origins slots making table end)
     (instances : List InstanceKey) → AreCounted instances (map instance_asked origins) → (calls : List RequestKey) → length (distinct (map (instance_of w) x.state.requests ++ map (λ (call : RequestKey). call.instance) calls)) ≡ length (with_all instances calls)
 how-many seen w {origins = origins} x instances k calls =
     let are : map instance_asked origins ≡ map (instance_of w) x.state.requests = ap (map instance_asked) x.asked ∙ map-map instance_asked origin_of (instance_of w) x.state.requests (λ q. refl) in
     ap (λ l. length (distinct (l ++ map (λ (call : RequestKey). call.instance) calls))) (sym are) ∙ counted-length (with_all instances calls) (map instance_asked origins ++ map (λ (call : RequestKey). call.instance) calls) (counted-all instances (map instance_asked origins) calls k)
 
-module _ {W I A : Type 0} (seen : W → Seen I A) (w : World I A) (log after : Logged) {origins : List Origin} {slots : List (Slot W)} {making : List (Option RunId)} {table : TableRuns} {end : Option End}
+module _ {W P I A : Type 0} (seen : W → Seen P I A) (w : World P I A) (log after : Logged) {origins : List Origin} {slots : List (Slot W)} {making : List (Option RunId)} {table : TableRuns} {end : Option End}
     (id : ℕ) (walk : W) (calls : List RequestKey) (x : Shown seen w log origins slots making table end) (c : Calls (seen walk).position.place calls) (h : There slots x.state id (seen walk).position) where
-  abbrev p : Position I A
+  abbrev p : Position P I A
   p = (seen walk).position
 
-  abbrev was_request : RequestState I A
+  abbrev was_request : RequestState P I A
   was_request = placed h.origin p (assigned h.node)
 
   was_status : was_request.status ≡ assigned h.node (within c.inside (asks c.key c.keys c.go))
@@ -111,13 +111,13 @@ module _ {W I A : Type 0} (seen : W → Seen I A) (w : World I A) (log after : L
   abbrev path : List RunId
   path = c.inside.run ∷ h.origin.path
 
-  abbrev calling_request : RequestState I A
+  abbrev calling_request : RequestState P I A
   calling_request = record { origin = h.origin; journal = p.journal; runs = p.runs; status = calling (c.key ∷ c.keys) (numbered_from (length x.state.requests) (c.key ∷ c.keys)) c.inside c.go }
 
-  abbrev new_ones : List (RequestState I A)
+  abbrev new_ones : List (RequestState P I A)
   new_ones = map (new_request w (Some id) path p.journal) (c.key ∷ c.keys)
 
-  abbrev after_state : State I A
+  abbrev after_state : State P I A
   after_state = with_children w x.state id h.origin p.journal p.runs (c.key ∷ c.keys) c.inside c.go
 
   at_calling : at x.state.requests id ≡ Some (record { origin = h.origin; journal = p.journal; runs = p.runs; status = assigned h.node (within c.inside (asks c.key c.keys c.go)) })
@@ -142,7 +142,7 @@ module _ {W I A : Type 0} (seen : W → Seen I A) (w : World I A) (log after : L
   request-step l = ap (λ o. and_then o (step_of w x.state (Request id calls))) at_calling
       ∙ (ap (λ b. only_if (b && is_within_limits w x.state path (c.key ∷ c.keys)) after_state) ((keys-exact (c.key ∷ c.keys) calls).1 c.calls_are) ∙ ap (λ b. only_if b after_state) l)
 
-  told-after : (n : ℕ) (q : RequestState I A) → at x.state.requests n ≡ Some q → result_at after_state.requests n ≡ result_at x.state.requests n
+  told-after : (n : ℕ) (q : RequestState P I A) → at x.state.requests n ≡ Some q → result_at after_state.requests n ≡ result_at x.state.requests n
   told-after n q e = elim (same_or_not n id) [
     | inl same ↦ subst (λ m. result_at after_state.requests m ≡ result_at x.state.requests m) (sym same)
         (result-front (put x.state.requests id calling_request) new_ones id calling_request (at-put_same x.state.requests id was_request calling_request h.at_state) ∙ sym (ap (λ o. and_then o (λ q. result_in q.status)) h.at_state))
@@ -150,7 +150,7 @@ module _ {W I A : Type 0} (seen : W → Seen I A) (w : World I A) (log after : L
   ]
 
   -- the calls of others have the results that they had
-  told-others : (n : ℕ) (b : RequestState I A) (keys : List RequestKey) (ids : List ℕ) (y : Within I A) (go : List RequestResult → Journal → Body I A) → at x.state.requests n ≡ Some b → b.status ≡ calling keys ids y go →
+  told-others : (n : ℕ) (b : RequestState P I A) (keys : List RequestKey) (ids : List ℕ) (y : Within P I A) (go : List RequestResult → Journal → Body I A) → at x.state.requests n ≡ Some b → b.status ≡ calling keys ids y go →
       map (result_at after_state.requests) ids ≡ map (result_at x.state.requests) ids
   told-others n b keys ids y go a st = map-alike-in _ _ ids (λ m i.
       let k = kindred w log.events x.state x.history in
@@ -252,7 +252,7 @@ module _ {W I A : Type 0} (seen : W → Seen I A) (w : World I A) (log after : L
             let e = owed-append (put x.state.requests id calling_request) new_ones in
             let f = owed-new w (Some id) path p.journal (c.key ∷ c.keys) in
             let s : owed_by x.state.requests + (2 + 2 * length calls) ≤ log.room =
-            subst (λ (t : State I A). owed_by t.requests + (2 + 2 * length calls) ≤ log.room) (one_state w log.events spare.state x.state spare.history x.history) spare.spare in
+            subst (λ (t : State P I A). owed_by t.requests + (2 + 2 * length calls) ≤ log.room) (one_state w log.events spare.state x.state spare.history x.history) spare.spare in
             omega arith;
         ends = subst (ShowsEnd after_state) (sym none) (ends-alike x.state after_state (told-root) (subst (ShowsEnd x.state) none x.ends));
       }

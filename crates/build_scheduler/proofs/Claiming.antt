@@ -55,7 +55,7 @@ not_begun table (b ∷ begun) run f r = go (same_run b.run run) refl (found tabl
     go false e None g h ih = ih (sym (ap (λ t. this_or t (request_of (unfinished table begun) run) b.by) e) ∙ h)
     go false e (Some made) g h ih = ih h
 
-module _ {W I A : Type 0} (seen : W → Seen I A) (w : World I A) (log after : Logged) {origins : List Origin} {slots : List (Slot W)} {making : List (Option RunId)} {table : TableRuns} {end : Option End}
+module _ {W P I A : Type 0} (seen : W → Seen P I A) (w : World P I A) (log after : Logged) {origins : List Origin} {slots : List (Slot W)} {making : List (Option RunId)} {table : TableRuns} {end : Option End}
     (id : ℕ) (walk : W) (run : RunId) where
   -- the request that wants the run
   pub record Claims (x : Shown seen w log origins slots making table end) : Type 0 where
@@ -73,8 +73,8 @@ module _ {W I A : Type 0} (seen : W → Seen I A) (w : World I A) (log after : L
       ∙ ap (λ t. and_then (only_if t run) (λ run. claimed w x.state id c.there.node c.there.origin (seen walk).position.journal (seen walk).position.runs run c.wanted.body c.wanted.go kind)) (same_run-refl run)
 
   -- the other requests stand as before where a run is begun
-  others-alike : (x : Shown seen w log origins slots making table end) (z : RequestState I A) (q : RequestState I A) → at x.state.requests id ≡ Some q → result_in z.status ≡ result_in q.status → found table.finished run ≡ None → request_of table.begun run ≡ None →
-      (b : RequestState I A) → Alike w x.state (record { requests = put x.state.requests id z; begun = record { run = run; by = id } ∷ x.state.begun; table = x.state.table; tools_used = x.state.tools_used }) b
+  others-alike : (x : Shown seen w log origins slots making table end) (z : RequestState P I A) (q : RequestState P I A) → at x.state.requests id ≡ Some q → result_in z.status ≡ result_in q.status → found table.finished run ≡ None → request_of table.begun run ≡ None →
+      (b : RequestState P I A) → Alike w x.state (record { requests = put x.state.requests id z; begun = record { run = run; by = id } ∷ x.state.begun; table = x.state.table; tools_used = x.state.tools_used }) b
   others-alike x z q e r f u b = record {
     begun = λ other body go by h g. go_on other by (same_run run other) refl g;
     told = λ keys ids y go h. map-alike _ _ ids (result-put x.state.requests id q z e r);
@@ -97,10 +97,10 @@ module _ {W I A : Type 0} (seen : W → Seen I A) (w : World I A) (log after : L
   abbrev begun_stopped : (x : Shown seen w log origins slots making table end) → Claims x → Stopped I A
   begun_stopped x c = run_on w.tools run c.wanted.body (seen walk).position.journal nothing_yet
 
-  abbrev begun_position : (x : Shown seen w log origins slots making table end) → Claims x → Position I A
+  abbrev begun_position : (x : Shown seen w log origins slots making table end) → Claims x → Position P I A
   begun_position x c = stopped_in (seen walk).position.runs run c.wanted.go (begun_stopped x c)
 
-  abbrev begun_state : (x : Shown seen w log origins slots making table end) → Claims x → State I A
+  abbrev begun_state : (x : Shown seen w log origins slots making table end) → Claims x → State P I A
   begun_state x c = record {
     requests = put x.state.requests id (placed c.there.origin (begun_position x c) (assigned c.there.node));
     begun = record { run = run; by = id } ∷ x.state.begun;
@@ -112,7 +112,7 @@ module _ {W I A : Type 0} (seen : W → Seen I A) (w : World I A) (log after : L
   begun-step x c f u = claim-step x c Go ∙ ap (λ t. unless t (begun_state x c))
       (not_begun x.state.table x.state.begun run (ap (λ t. found t run) (sym x.finished) ∙ f) (ap (λ t. request_of t run) (sym x.begun) ∙ u))
 
-  pub wanting_status : (x : Shown seen w log origins slots making table end) (c : Claims x) → assigned c.there.node (seen walk).position.place ≡ assigned c.there.node (walking (wants run c.wanted.body c.wanted.go))
+  pub wanting_status : (x : Shown seen w log origins slots making table end) (c : Claims x) → assigned c.there.node (seen walk).position.place ≡ assigned c.there.node (walking (wants c.wanted.site run c.wanted.body c.wanted.go))
   wanting_status x c = ap (assigned c.there.node) c.wanted.is
 
   pub begun-shown : {bodies : List (Option RunId)} {runs : TableRuns} → IsOwn w log.events table.finished id (seen walk) → ask_of (seen walk).position ≡ Want run → found table.finished run ≡ None → request_of table.begun run ≡ None →
@@ -120,9 +120,9 @@ module _ {W I A : Type 0} (seen : W → Seen I A) (w : World I A) (log after : L
       Shown seen w log origins slots making table end → Shown seen w after origins slots bodies runs end
   begun-shown {bodies} {runs} o a f u ev room bo fin beg x =
       let c = claims-of x o a in
-      let q : RequestState I A = placed c.there.origin (seen walk).position (assigned c.there.node) in
-      let z : RequestState I A = placed c.there.origin (begun_position x c) (assigned c.there.node) in
-      let t : State I A = begun_state x c in
+      let q : RequestState P I A = placed c.there.origin (seen walk).position (assigned c.there.node) in
+      let z : RequestState P I A = placed c.there.origin (begun_position x c) (assigned c.there.node) in
+      let t : State P I A = begun_state x c in
       let f_now : found x.state.table run ≡ None = ap (λ t. found t run) (sym x.finished) ∙ f in
       subst (λ (xs : List (Slot W)). Shown seen w after origins xs bodies runs end) (put-there slots id (Assigned c.there.node) c.there.at_slots)
       (shown-put seen w (Claim id run Go) id q z t (Assigned c.there.node) x c.there.at_state (begun-step x c f u) refl refl refl refl refl ev
@@ -137,8 +137,8 @@ module _ {W I A : Type 0} (seen : W → Seen I A) (w : World I A) (log after : L
       after.events ≡ log.events ++ Claim id run Go ∷ [] → {runs : Records} → runs ≡ table.finished → Shown seen w log origins slots making table end → IsOut w after.events runs id (seen walk) Goes
   begun-out o a f u ev {runs} fin x =
       let c = claims-of x o a in
-      let q : RequestState I A = placed c.there.origin (seen walk).position (assigned c.there.node) in
-      let z : RequestState I A = placed c.there.origin (begun_position x c) (assigned c.there.node) in
+      let q : RequestState P I A = placed c.there.origin (seen walk).position (assigned c.there.node) in
+      let z : RequestState P I A = placed c.there.origin (begun_position x c) (assigned c.there.node) in
       record {
         next = begun_position x c;
         stands = record {
@@ -170,10 +170,10 @@ module _ {W I A : Type 0} (seen : W → Seen I A) (w : World I A) (log after : L
       go (Some made) e h = let v = lawful w log.events x.state x.history in let y = replay-total x.state.table v.ordered run (seen walk).position.journal (made, e) in
           record { made = made; next = y.0; is_found = e; replayed = y.1 }
 
-  abbrev taken_position : (x : Shown seen w log origins slots making table end) → Claims x → Taken x → Position I A
+  abbrev taken_position : (x : Shown seen w log origins slots making table end) → Claims x → Taken x → Position P I A
   taken_position x c y = after_run (seen walk).position.runs run c.wanted.go y.made y.next
 
-  abbrev taken_state : (x : Shown seen w log origins slots making table end) → Claims x → Taken x → State I A
+  abbrev taken_state : (x : Shown seen w log origins slots making table end) → Claims x → Taken x → State P I A
   taken_state x c y = with_request x.state id (placed c.there.origin (taken_position x c y) (assigned c.there.node))
 
   taken-step : (x : Shown seen w log origins slots making table end) (c : Claims x) (y : Taken x) → step w x.state (Claim id run Use) ≡ Some (taken_state x c y)
@@ -186,8 +186,8 @@ module _ {W I A : Type 0} (seen : W → Seen I A) (w : World I A) (log after : L
   taken-shown o a f ev room x =
       let c = claims-of x o a in
       let y = taken-of x f in
-      let q : RequestState I A = placed c.there.origin (seen walk).position (assigned c.there.node) in
-      let z : RequestState I A = placed c.there.origin (taken_position x c y) (assigned c.there.node) in
+      let q : RequestState P I A = placed c.there.origin (seen walk).position (assigned c.there.node) in
+      let z : RequestState P I A = placed c.there.origin (taken_position x c y) (assigned c.there.node) in
       subst (λ (xs : List (Slot W)). Shown seen w after origins xs making table end) (put-there slots id (Assigned c.there.node) c.there.at_slots)
       (shown-put seen w (Claim id run Use) id q z (taken_state x c y) (Assigned c.there.node) x c.there.at_state (taken-step x c y) refl refl refl refl refl ev
       (let k : owed q.status ≡ 1 = ap owed (wanting_status x c) in omega arith)
@@ -200,9 +200,9 @@ module _ {W I A : Type 0} (seen : W → Seen I A) (w : World I A) (log after : L
   taken-out o a f ev x =
       let c = claims-of x o a in
       let y = taken-of x f in
-      let q : RequestState I A = placed c.there.origin (seen walk).position (assigned c.there.node) in
-      let z : RequestState I A = placed c.there.origin (taken_position x c y) (assigned c.there.node) in
-      let p : Position I A = (seen walk).position in
+      let q : RequestState P I A = placed c.there.origin (seen walk).position (assigned c.there.node) in
+      let z : RequestState P I A = placed c.there.origin (taken_position x c y) (assigned c.there.node) in
+      let p : Position P I A = (seen walk).position in
       record {
         next = taken_position x c y;
         stands = record {
@@ -221,7 +221,7 @@ module _ {W I A : Type 0} (seen : W → Seen I A) (w : World I A) (log after : L
         few = let k : length after.events ≡ suc (length log.events) = one-more log.events after.events (Claim id run Use) ev in let m : (seen walk).asked ≤ length log.events = o.few in omega arith;
       }
 
-module _ {W I A : Type 0} (seen : W → Seen I A) (w : World I A) where
+module _ {W P I A : Type 0} (seen : W → Seen P I A) (w : World P I A) where
   -- there may be more room
   pub shown-room : {log after : Logged} {origins : List Origin} {slots : List (Slot W)} {making : List (Option RunId)} {table runs : TableRuns} {end : Option End} → after.events ≡ log.events → log.room ≤ after.room →
       runs.finished ≡ table.finished → runs.begun ≡ table.begun → Shown seen w log origins slots making table end → Shown seen w after origins slots making runs end
@@ -239,7 +239,7 @@ module _ {W I A : Type 0} (seen : W → Seen I A) (w : World I A) where
   }
 
   -- a request with a node has a place in the list of bodies
-  pub placed-there : {log : Logged} {origins : List Origin} {slots : List (Slot W)} {making : List (Option RunId)} {table : TableRuns} {end : Option End} (x : Shown seen w log origins slots making table end) (id : ℕ) (p : Position I A) →
+  pub placed-there : {log : Logged} {origins : List Origin} {slots : List (Slot W)} {making : List (Option RunId)} {table : TableRuns} {end : Option End} (x : Shown seen w log origins slots making table end) (id : ℕ) (p : Position P I A) →
       IsWith w log.events id p → id < length making
   placed-there {making = making} x id p i =
       let t = there-of seen w x id p i in

@@ -37,13 +37,13 @@ use Rattle.build_scheduler.proofs.GrowingAnswers.{unfinished-beginner}
 use Rattle.build_scheduler.proofs.HistoryFacts.{lawful, kindred}
 use Rattle.build_scheduler.proofs.SlotsStay.{paired-other}
 
-module _ {I A : Type 0} where
+module _ {P I A : Type 0} where
   -- a chain as a way, and needs by kin as needs
-  pub chain-path : (s : State I A) (r t : RunId) (runs : List RunId) → IsChain s r runs t → Path (Needs s) r t
+  pub chain-path : (s : State P I A) (r t : RunId) (runs : List RunId) → IsChain s r runs t → Path (Needs s) r t
   chain-path s r t [] c = last_one c
   chain-path s r t (x ∷ runs) c = step_on c.0 (chain-path s x t runs c.1)
 
-  inside-holds : (st : Status I A) (t : RunId) → inside_of st ≡ Some t → In t (holds st)
+  inside-holds : (st : Status P I A) (t : RunId) → inside_of st ≡ Some t → In t (holds st)
   inside-holds (ready (within x stop)) t h = inl (some-is x.run t h)
   inside-holds (ready (walking y)) t h = absurd (cc)
   inside-holds (assigned node (within x stop)) t h = inl (some-is x.run t h)
@@ -52,11 +52,11 @@ module _ {I A : Type 0} where
   inside-holds (calling keys ids x go) t h = inl (some-is x.run t h)
   inside-holds (done result) t h = absurd (cc)
 
-  waits-holds : (st : Status I A) (t : RunId) → waits_of st ≡ Some t → In t (holds st)
+  waits-holds : (st : Status P I A) (t : RunId) → waits_of st ≡ Some t → In t (holds st)
   waits-holds (waits r b go) t h = inl (some-is r t h)
   waits-holds _ t h = absurd (cc)
 
-  held-cases : (st : Status I A) (t : RunId) → In t (holds st) → (inside_of st ≡ Some t) ⊎ (waits_of st ≡ Some t)
+  held-cases : (st : Status P I A) (t : RunId) → In t (holds st) → (inside_of st ≡ Some t) ⊎ (waits_of st ≡ Some t)
   held-cases (ready (within x stop)) t (inl e) = inl (ap Some e)
   held-cases (assigned node (within x stop)) t (inl e) = inl (ap Some e)
   held-cases (waits r b go) t (inl e) = inr (ap Some e)
@@ -69,7 +69,7 @@ module _ {I A : Type 0} where
   held-cases (assigned node (walking y)) t i = absurd i
   held-cases (done result) t i = absurd i
 
-  pub needs-kin : (s : State I A) (r t : RunId) → NeedOf (kins_of s.requests) r t → Needs s r t
+  pub needs-kin : (s : State P I A) (r t : RunId) → NeedOf (kins_of s.requests) r t → Needs s r t
   needs-kin s r t n =
       let q = at-kins s.requests n.caller n.kin n.at_caller in
       let c = at-kins s.requests n.child_id n.child n.at_child in
@@ -95,7 +95,7 @@ module _ {I A : Type 0} where
         ];
       })
 
-  pub kin-needs : (s : State I A) (r t : RunId) → Needs s r t → NeedOf (kins_of s.requests) r t
+  pub kin-needs : (s : State P I A) (r t : RunId) → Needs s r t → NeedOf (kins_of s.requests) r t
   kin-needs s r t h = let n = need s r t h in record {
     caller = n.caller;
     kin = kin_of n.req;
@@ -110,11 +110,11 @@ module _ {I A : Type 0} where
     holds = held-cases n.child.status t n.child_holds;
   }
 
-  waits-so : (st : Status I A) (run : RunId) → waits_of st ≡ Some run → (body : Body I A) × (go : Record → Journal → Walk I A) × (st ≡ waits run body go)
+  waits-so : (st : Status P I A) (run : RunId) → waits_of st ≡ Some run → (body : Body I A) × (go : Record → Journal → Walk P I A) × (st ≡ waits run body go)
   waits-so (waits other body go) run h = (body, go, ap (λ r. waits r body go) (some-is other run h))
   waits-so _ run h = absurd (cc)
 
-  inside-run : (st : Status I A) → inside_of st ≡ run_at st
+  inside-run : (st : Status P I A) → inside_of st ≡ run_at st
   inside-run (ready (walking y)) = refl
   inside-run (ready (within x stop)) = refl
   inside-run (assigned node (walking y)) = refl
@@ -168,7 +168,7 @@ module _ {f g : Kins} (id : ℕ) (old new : Kin) (run : RunId) (p : PutAt f g id
     ]
   ]
 
-module _ {W I A : Type 0} (seen : W → Seen I A) (w : World I A) {log : Logged} {origins : List Origin} {slots : List (Slot W)} {making : List (Option RunId)} {table : TableRuns} {end : Option End} {ready_ones : Numbered} {waiting_ones : List Numbered}
+module _ {W P I A : Type 0} (seen : W → Seen P I A) (w : World P I A) {log : Logged} {origins : List Origin} {slots : List (Slot W)} {making : List (Option RunId)} {table : TableRuns} {end : Option End} {ready_ones : Numbered} {waiting_ones : List Numbered}
     (x : Shown seen w log origins slots making table end) (y : Indexed slots ready_ones waiting_ones) where
   abbrev kin : Kins
   kin = kins_of x.state.requests
@@ -221,9 +221,9 @@ module _ {W I A : Type 0} (seen : W → Seen I A) (w : World I A) {log : Logged}
       go (Some (Calling calls)) h t = absurd (cc)
       go (Some Done) h t = absurd (cc)
 
-  slot-waits : (slot : Slot W) (q : RequestState I A) (run : RunId) (body : Body I A) (go : Record → Journal → Walk I A) → ShowsSlot w x.state (length log.events) seen slot q → q.status ≡ waits run body go →
+  slot-waits : (slot : Slot W) (q : RequestState P I A) (run : RunId) (body : Body I A) (go : Record → Journal → Walk P I A) → ShowsSlot w x.state (length log.events) seen slot q → q.status ≡ waits run body go →
       (walk : W) × (by : ℕ) × (slot ≡ Waiting walk by) × (request_of (unfinished x.state.table x.state.begun) run ≡ Some by)
-  slot-waits (Ready walk answer) q run body go h e = absurd (let a : waits run body go ≡ ready h.position.place = sym e ∙ ap (λ (q : RequestState I A). q.status) h.is in cc)
+  slot-waits (Ready walk answer) q run body go h e = absurd (let a : waits run body go ≡ ready h.position.place = sym e ∙ ap (λ (q : RequestState P I A). q.status) h.is in cc)
   slot-waits (Assigned node) q run body go h e = absurd (let a : waits run body go ≡ assigned node h.place = sym e ∙ h.is in cc)
   slot-waits (Waiting walk by) q run body go h e =
       let a : h.run ≡ run = some-is h.run run (sym (ap waits_of h.is) ∙ ap waits_of e) in
@@ -323,7 +323,7 @@ module _ {W I A : Type 0} (seen : W → Seen I A) (w : World I A) {log : Logged}
       (over n z.next z.needs (found-calling first requests overs f c b z.place z.next (omega arith) z.next_is)).caller
 
   -- a request with a node
-  module _ (id node : ℕ) (q : RequestState I A) (place : Place I A) (here : at x.state.requests id ≡ Some q) (st : q.status ≡ assigned node place) where
+  module _ (id node : ℕ) (q : RequestState P I A) (place : Place P I A) (here : at x.state.requests id ≡ Some q) (st : q.status ≡ assigned node place) where
     there : kin id ≡ Some (kin_of q)
     there = kins-at x.state.requests id q here
 
@@ -346,11 +346,11 @@ module _ {W I A : Type 0} (seen : W → Seen I A) (w : World I A) {log : Logged}
         (b.1.0, ap (λ ms. at ms n) x.bodies ∙ (map-at making_of x.state.requests n a.0 a.1 ∙ ap Some (sym (inside-run a.0.status) ∙ (ap (λ (k : Kin). k.inside) a.2 ∙ b.1.1))))
 
     -- and the state in which it waits
-    module _ (run : RunId) (body : Body I A) (go : Record → Journal → Walk I A) (by : ℕ) (begun : request_of table.begun run ≡ Some by) (open_run : found table.finished run ≡ None) where
-      abbrev then : State I A
+    module _ (run : RunId) (body : Body I A) (go : Record → Journal → Walk P I A) (by : ℕ) (begun : request_of table.begun run ≡ Some by) (open_run : found table.finished run ≡ None) where
+      abbrev then : State P I A
       then = waiting w x.state id q.origin q.journal q.runs run body go
 
-      abbrev new : RequestState I A
+      abbrev new : RequestState P I A
       new = record { origin = q.origin; journal = q.journal; runs = q.runs; status = waits run body go }
 
       changed : PutAt kin (kins_of then.requests) id (kin_of q) (kin_of new)

@@ -70,15 +70,15 @@ pub none-root : (origins : List Origin) (o : Origin) → AreRooted origins → a
 none-root [] o h e = absurd (cc)
 none-root (x ∷ origins) o h e = let q : x ≡ o = cc in ap (λ (y : Origin). y.parent) (sym q) ∙ h.0
 
-module _ {W I A : Type 0} (seen : W → Seen I A) (w : World I A) (log after : Logged) {origins : List Origin} {slots : List (Slot W)} {making : List (Option RunId)} {table : TableRuns} {end : Option End}
-    (id : ℕ) (told : RequestResult) (p : Position I A) (x : Shown seen w log origins slots making table end) (e : Gives p.place p.runs told) (h : There slots x.state id p) where
-  abbrev was_request : RequestState I A
+module _ {W P I A : Type 0} (seen : W → Seen P I A) (w : World P I A) (log after : Logged) {origins : List Origin} {slots : List (Slot W)} {making : List (Option RunId)} {table : TableRuns} {end : Option End}
+    (id : ℕ) (told : RequestResult) (p : Position P I A) (x : Shown seen w log origins slots making table end) (e : Gives p.place p.runs told) (h : There slots x.state id p) where
+  abbrev was_request : RequestState P I A
   was_request = placed h.origin p (assigned h.node)
 
-  abbrev over_request : RequestState I A
+  abbrev over_request : RequestState P I A
   over_request = record { origin = h.origin; journal = p.journal; runs = p.runs; status = done told }
 
-  abbrev over_state : State I A
+  abbrev over_state : State P I A
   over_state = with_request x.state id over_request
 
   was_status : was_request.status ≡ assigned h.node (walking (gives e.reply))
@@ -95,7 +95,7 @@ module _ {W I A : Type 0} (seen : W → Seen I A) (w : World I A) (log after : L
   over-origin = ap (λ os. at os id) x.asked ∙ map-at origin_of x.state.requests id was_request h.at_state
 
   -- no other request calls this one
-  not-called : (n : ℕ) (b : RequestState I A) (keys : List RequestKey) (ids : List ℕ) (y : Within I A) (go : List RequestResult → Journal → Body I A) → at x.state.requests n ≡ Some b → b.status ≡ calling keys ids y go →
+  not-called : (n : ℕ) (b : RequestState P I A) (keys : List RequestKey) (ids : List ℕ) (y : Within P I A) (go : List RequestResult → Journal → Body I A) → at x.state.requests n ≡ Some b → b.status ≡ calling keys ids y go →
       (h.origin.parent ≡ Some n → ⊥) → (m : ℕ) → In m ids → m ≡ id → ⊥
   not-called n b keys ids y go a st d m i same =
       let k = kindred w log.events x.state x.history in
@@ -128,7 +128,7 @@ module _ {W I A : Type 0} (seen : W → Seen I A) (w : World I A) (log after : L
 
   -- the request that is told
   pub record Caller (caller : ℕ) : Type 0 where
-    pub request : RequestState I A
+    pub request : RequestState P I A
     pub calls : Calls W
     pub place : ℕ
     pub at_state : at x.state.requests caller ≡ Some request
@@ -137,15 +137,15 @@ module _ {W I A : Type 0} (seen : W → Seen I A) (w : World I A) (log after : L
     pub id_is : id ≡ calls.first + place
     pub below : place < length (shows.key ∷ shows.keys)
 
-  calling-slot : (slot : Slot W) (q : RequestState I A) (keys : List RequestKey) (ids : List ℕ) (y : Within I A) (go : List RequestResult → Journal → Body I A) → q.status ≡ calling keys ids y go → ShowsSlot w x.state (length log.events) seen slot q →
+  calling-slot : (slot : Slot W) (q : RequestState P I A) (keys : List RequestKey) (ids : List ℕ) (y : Within P I A) (go : List RequestResult → Journal → Body I A) → q.status ≡ calling keys ids y go → ShowsSlot w x.state (length log.events) seen slot q →
       (calls : Calls W) × (slot ≡ Calling calls) × ShowsCalling w x.state (length log.events) (seen calls.walk) calls.first calls.«open» calls.results.items q
-  calling-slot (Ready walk answer) q keys ids y go st s = absurd (let a : calling keys ids y go ≡ ready s.position.place = sym st ∙ ap (λ (q : RequestState I A). q.status) s.is in cc)
+  calling-slot (Ready walk answer) q keys ids y go st s = absurd (let a : calling keys ids y go ≡ ready s.position.place = sym st ∙ ap (λ (q : RequestState P I A). q.status) s.is in cc)
   calling-slot (Assigned node) q keys ids y go st s = absurd (let a : calling keys ids y go ≡ assigned node s.place = sym st ∙ s.is in cc)
   calling-slot (Waiting walk by) q keys ids y go st s = absurd (let a : calling keys ids y go ≡ waits s.run s.body s.go = sym st ∙ s.is in cc)
   calling-slot (Calling calls) q keys ids y go st s = (calls, refl, s)
   calling-slot Over q keys ids y go st s = absurd (let a : calling keys ids y go ≡ done s.result = sym st ∙ s.is in cc)
 
-  same-ids : (keys others : List RequestKey) (ids more_ids : List ℕ) (y z : Within I A) (go then_go : List RequestResult → Journal → Body I A) → calling keys ids y go ≡ calling others more_ids z then_go → ids ≡ more_ids
+  same-ids : (keys others : List RequestKey) (ids more_ids : List ℕ) (y z : Within P I A) (go then_go : List RequestResult → Journal → Body I A) → calling keys ids y go ≡ calling others more_ids z then_go → ids ≡ more_ids
   same-ids keys others ids more_ids y z go then_go g = cc
 
   pub caller-of : (caller : ℕ) → h.origin.parent ≡ Some caller → Caller caller
@@ -175,7 +175,7 @@ module _ {W I A : Type 0} (seen : W → Seen I A) (w : World I A) (log after : L
     apart : id ≡ caller → ⊥
     apart same =
         let a : Some was_request ≡ Some c.request = sym h.at_state ∙ (ap (at x.state.requests) same ∙ c.at_state) in
-        let b : assigned h.node p.place ≡ calling (c.shows.key ∷ c.shows.keys) ids c.shows.inside c.shows.go = ap (λ (q : RequestState I A). q.status) (some-is was_request c.request a) ∙ c.shows.is in cc
+        let b : assigned h.node p.place ≡ calling (c.shows.key ∷ c.shows.keys) ids c.shows.inside c.shows.go = ap (λ (q : RequestState P I A). q.status) (some-is was_request c.request a) ∙ c.shows.is in cc
 
     not-told : result_at x.state.requests id ≡ None
     not-told = ap (λ o. and_then o (λ q. result_in q.status)) h.at_state
@@ -192,7 +192,7 @@ module _ {W I A : Type 0} (seen : W → Seen I A) (w : World I A) (log after : L
               (sym (map-numbered (result_at x.state.requests) (result_at (put x.state.requests id over_request)) (Some told) id result-other result-mine c.calls.first (c.shows.key ∷ c.shows.keys) c.place c.id_is c.below)) y.2,
         )
 
-    abbrev told_state : RequestState I A → State I A
+    abbrev told_state : RequestState P I A → State P I A
     told_state z = record { requests = put (put x.state.requests id over_request) caller z; begun = x.state.begun; table = x.state.table; tools_used = x.state.tools_used }
 
     caller_there : at (put x.state.requests id over_request) caller ≡ Some c.request
@@ -201,11 +201,11 @@ module _ {W I A : Type 0} (seen : W → Seen I A) (w : World I A) (log after : L
     caller_none : result_in c.request.status ≡ None
     caller_none = ap result_in c.shows.is
 
-    result-told : (z : RequestState I A) → result_in z.status ≡ None → (n : ℕ) → result_at (told_state z).requests n ≡ result_at (put x.state.requests id over_request) n
+    result-told : (z : RequestState P I A) → result_in z.status ≡ None → (n : ℕ) → result_at (told_state z).requests n ≡ result_at (put x.state.requests id over_request) n
     result-told z r n = result-put (put x.state.requests id over_request) caller c.request z caller_there (r ∙ sym caller_none) n
 
     -- the core shows the state in which the caller is told
-    pub told-shown : {outs : List (Slot W)} (z : RequestState I A) (slot : Slot W) → step w x.state (Done id) ≡ Some (told_state z) → end ≡ None → after.events ≡ log.events ++ Done id ∷ [] → log.room ≡ after.room + 1 →
+    pub told-shown : {outs : List (Slot W)} (z : RequestState P I A) (slot : Slot W) → step w x.state (Done id) ≡ Some (told_state z) → end ≡ None → after.events ≡ log.events ++ Done id ∷ [] → log.room ≡ after.room + 1 →
         outs ≡ put (put slots id Over) caller slot → z.origin ≡ c.request.origin → making_of z ≡ making_of c.request → result_in z.status ≡ None → owed z.status ≤ owed c.request.status →
         ShowsSlot w (told_state z) (length after.events) seen slot z → Shown seen w after origins outs making table end
     told-shown {outs} z slot st none ev room os o mk r ow s = record {
@@ -238,14 +238,14 @@ module _ {W I A : Type 0} (seen : W → Seen I A) (w : World I A) (log after : L
     same_result : (n : ℕ) → and_then (at (put x.state.requests id over_request) n) (λ q. steps.result_in w q.status) ≡ result_at (put x.state.requests id over_request) n
     same_result n = go (at (put x.state.requests id over_request) n)
       where
-        in_status : (st : Status I A) → steps.result_in w st ≡ result_in st
+        in_status : (st : Status P I A) → steps.result_in w st ≡ result_in st
         in_status (ready place) = refl
         in_status (assigned node place) = refl
         in_status (waits run b go) = refl
         in_status (calling keys js y go) = refl
         in_status (done result) = refl
 
-        go : (o : Option (RequestState I A)) → and_then o (λ q. steps.result_in w q.status) ≡ and_then o (λ q. result_in q.status)
+        go : (o : Option (RequestState P I A)) → and_then o (λ q. steps.result_in w q.status) ≡ and_then o (λ q. result_in q.status)
         go None = refl
         go (Some q) = in_status q.status
 
@@ -266,7 +266,7 @@ module _ {W I A : Type 0} (seen : W → Seen I A) (w : World I A) (log after : L
     abbrev all_results : List RequestResult
     all_results = put c.calls.results.items c.place told
 
-    abbrev resumed_position : Journal → Position I A
+    abbrev resumed_position : Journal → Position P I A
     resumed_position next = stopped_in c.request.runs c.shows.inside.run c.shows.inside.go
         (run_on w.tools c.shows.inside.run (c.shows.go all_results next) next (with_calls c.shows.inside.so_far (c.shows.key ∷ c.shows.keys) all_results))
 
@@ -334,7 +334,7 @@ module _ {W I A : Type 0} (seen : W → Seen I A) (w : World I A) (log after : L
             let m : y.0 ≡ 0 = (let u : c.calls.«open» ≡ suc y.0 = y.1 in let v : c.calls.«open» ≡ 1 = t.1 in omega arith) in
             let all : AreSoFar (map (result_at (put x.state.requests id over_request)) ids) all_results 0 = subst (AreSoFar (map (result_at (put x.state.requests id over_request)) ids) all_results) m y.2 in
             let r = replayed all in
-            let position : Position I A = resumed_position r.0 in
+            let position : Position P I A = resumed_position r.0 in
             told-shown (placed c.request.origin position ready) (Ready walk answer)
             (resumed_step all ∙ ap (λ o. and_then o (λ next. Some (told_state (placed c.request.origin (resumed_position next) ready)))) r.1) none ev room os refl (sym (ap run_at c.shows.is)) refl
             (let u : owed c.request.status ≡ 3 = ap owed c.shows.is in omega arith) (record {
@@ -365,10 +365,10 @@ zero-prop : (n : ℕ) → IsProp (n ≡ 0)
 zero-prop n = hlevel props
 
 -- of a core that shows a state
-module _ {W I A : Type 0} (seen : W → Seen I A) (w : World I A) {log : Logged} {origins : List Origin} {slots : List (Slot W)} {making : List (Option RunId)} {table : TableRuns} {end : Option End} (id : ℕ) (told : RequestResult) where
+module _ {W P I A : Type 0} (seen : W → Seen P I A) (w : World P I A) {log : Logged} {origins : List Origin} {slots : List (Slot W)} {making : List (Option RunId)} {table : TableRuns} {end : Option End} (id : ℕ) (told : RequestResult) where
   -- the request that is over, its reply and its caller
   pub record Over_now (x : Shown seen w log origins slots making table end) (parent : Option ℕ) : Type 0 where
-    pub position : Position I A
+    pub position : Position P I A
     pub gives_so : Gives position.place position.runs told
     pub there : There slots x.state id position
     pub parent_is : there.origin.parent ≡ parent

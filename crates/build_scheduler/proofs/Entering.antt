@@ -43,10 +43,10 @@ absent-beyond {W} slots ready waiting first e indexed n l = ∥∥₁_elim index
     beyond (y ∷ xs) zero l = absurd (omega arith)
     beyond (y ∷ xs) (suc j) l = beyond xs j (omega arith)
 
-pub spare-room : {I A : Type 0} (w : World I A) (log : Logged) (more : ℕ) → ∥ HasSpare w log (2 + more) ∥₁ → 0 < log.room
+pub spare-room : {P I A : Type 0} (w : World P I A) (log : Logged) (more : ℕ) → ∥ HasSpare w log (2 + more) ∥₁ → 0 < log.room
 spare-room w log more h = ∥∥₁_elim h (λ p q. le_prop p q) (λ s. let l : owed_by s.state.requests + (2 + more) ≤ log.room = s.spare in omega arith)
 
-module _ {W I A : Type 0} (seen : W → Seen I A) {origins : List Origin} (id : ℕ) (walk : W) (calls : List RequestKey) (children : Children W) (n : AreNew seen (seen walk) id calls origins children) where
+module _ {W P I A : Type 0} (seen : W → Seen P I A) {origins : List Origin} (id : ℕ) (walk : W) (calls : List RequestKey) (children : Children W) (n : AreNew seen (seen walk) id calls origins children) where
   pub children-many : length children.slots.items ≡ length calls
   children-many = Paired-length (IsChildSlot seen (seen walk)) children.slots.items calls n.slots
 
@@ -59,7 +59,7 @@ module _ {W I A : Type 0} (seen : W → Seen I A) {origins : List Origin} (id : 
   pub entered-nested : {origins_now : List Origin} → origins_now ≡ origins ++ children.origins.items → AreNested origins → AreNested origins_now
   entered-nested os v = subst AreNested (sym (os ∙ ap (λ l. origins ++ l) n.origins)) (nested-append origins id n.depth calls n.has_depth n.not_deep v)
 
-module _ {W I A : Type 0} (seen : W → Seen I A) (w : World I A) {log : Logged} {origins : List Origin} {slots : List (Slot W)} {making : List (Option RunId)} {table : TableRuns} {end : Option End} (id : ℕ) (walk : W) where
+module _ {W P I A : Type 0} (seen : W → Seen P I A) (w : World P I A) {log : Logged} {origins : List Origin} {slots : List (Slot W)} {making : List (Option RunId)} {table : TableRuns} {end : Option End} (id : ℕ) (walk : W) where
   pub slot-there : ∥ Shown seen w log origins slots making table end ∥₁ → ∥ IsOwn w log.events table.finished id (seen walk) ∥₁ → id < length slots
   slot-there shown own = ∥∥₁_elim shown (λ p q. le_prop p q) (λ x. ∥∥₁_elim own (λ p q. le_prop p q) (λ o. at-less slots id _ (there-of seen w x id (seen walk).position o.stands).at_slots))
 

@@ -65,42 +65,42 @@ paired-traverse S T g f (x ∷ xs) (y ∷ ys) zs h e m =
 paired-traverse S T g f [] (y ∷ ys) zs h e m = absurd h
 paired-traverse S T g f (x ∷ xs) [] zs h e m = absurd h
 
-module _ {I A : Type 0} (w : World I A) (table : Records) (f : FinishedRun) where
+module _ {P I A : Type 0} (w : World P I A) (table : Records) (f : FinishedRun) where
   -- what a woken request keeps
-  pub record Kept (q z : RequestState I A) : Type 0 where
+  pub record Kept (q z : RequestState P I A) : Type 0 where
     pub origin : z.origin ≡ q.origin
     pub run : run_at z.status ≡ run_at q.status
     pub told : result_in z.status ≡ result_in q.status
     pub owes : owed z.status ≡ owed q.status
 
-  kept-if : (t : Bool) (q z : RequestState I A) (run : RunId) (b : Body I A) (go : Record → Journal → Walk I A) → q.status ≡ waits run b go → woken_if w t table q f.made run go ≡ Some z → Kept q z
+  kept-if : (t : Bool) (q z : RequestState P I A) (run : RunId) (b : Body I A) (go : Record → Journal → Walk P I A) → q.status ≡ waits run b go → woken_if w t table q f.made run go ≡ Some z → Kept q z
   kept-if false q z run b go st e = let p : q ≡ z = cc in record {
-    origin = ap (λ (a : RequestState I A). a.origin) (sym p);
-    run = ap (λ (a : RequestState I A). run_at a.status) (sym p);
-    told = ap (λ (a : RequestState I A). result_in a.status) (sym p);
-    owes = ap (λ (a : RequestState I A). owed a.status) (sym p);
+    origin = ap (λ (a : RequestState P I A). a.origin) (sym p);
+    run = ap (λ (a : RequestState P I A). run_at a.status) (sym p);
+    told = ap (λ (a : RequestState P I A). result_in a.status) (sym p);
+    owes = ap (λ (a : RequestState P I A). owed a.status) (sym p);
   }
   kept-if true q z run b go st e =
       let y = and_then-some (replay table run q.journal) (λ next. Some (goes_on w ready q.origin q.runs run go f.made next)) z e in
       let p : goes_on w ready q.origin q.runs run go f.made y.0 ≡ z = some-is _ z y.2 in record {
-        origin = ap (λ (a : RequestState I A). a.origin) (sym p);
-        run = ap (λ (a : RequestState I A). run_at a.status) (sym p) ∙ sym (ap run_at st);
-        told = ap (λ (a : RequestState I A). result_in a.status) (sym p) ∙ sym (ap result_in st);
-        owes = ap (λ (a : RequestState I A). owed a.status) (sym p) ∙ sym (ap owed st);
+        origin = ap (λ (a : RequestState P I A). a.origin) (sym p);
+        run = ap (λ (a : RequestState P I A). run_at a.status) (sym p) ∙ sym (ap run_at st);
+        told = ap (λ (a : RequestState P I A). result_in a.status) (sym p) ∙ sym (ap result_in st);
+        owes = ap (λ (a : RequestState P I A). owed a.status) (sym p) ∙ sym (ap owed st);
       }
 
-  kept-same : (q z : RequestState I A) → q ≡ z → Kept q z
+  kept-same : (q z : RequestState P I A) → q ≡ z → Kept q z
   kept-same q z p = record {
-    origin = ap (λ (a : RequestState I A). a.origin) (sym p);
-    run = ap (λ (a : RequestState I A). run_at a.status) (sym p);
-    told = ap (λ (a : RequestState I A). result_in a.status) (sym p);
-    owes = ap (λ (a : RequestState I A). owed a.status) (sym p);
+    origin = ap (λ (a : RequestState P I A). a.origin) (sym p);
+    run = ap (λ (a : RequestState P I A). run_at a.status) (sym p);
+    told = ap (λ (a : RequestState P I A). result_in a.status) (sym p);
+    owes = ap (λ (a : RequestState P I A). owed a.status) (sym p);
   }
 
-  pub kept-woken : (q z : RequestState I A) → woken w table f.run f.made q ≡ Some z → Kept q z
+  pub kept-woken : (q z : RequestState P I A) → woken w table f.run f.made q ≡ Some z → Kept q z
   kept-woken q z e = go q.status refl e
     where
-      go : (st : Status I A) → q.status ≡ st → woken_at w table f.run f.made q st ≡ Some z → Kept q z
+      go : (st : Status P I A) → q.status ≡ st → woken_at w table f.run f.made q st ≡ Some z → Kept q z
       go (waits run b g) st e = kept-if (same_run run f.run) q z run b g st e
       go (ready place) st e = kept-same q z (some-is q z e)
       go (assigned node place) st e = kept-same q z (some-is q z e)
@@ -108,7 +108,7 @@ module _ {I A : Type 0} (w : World I A) (table : Records) (f : FinishedRun) wher
       go (done result) st e = kept-same q z (some-is q z e)
 
   -- the events that woken requests owe, and their results
-  pub owed-woken : (xs ys : List (RequestState I A)) → traverse (woken w table f.run f.made) xs ≡ Some ys → owed_by ys ≡ owed_by xs
+  pub owed-woken : (xs ys : List (RequestState P I A)) → traverse (woken w table f.run f.made) xs ≡ Some ys → owed_by ys ≡ owed_by xs
   owed-woken [] ys e = let p : [] ≡ ys = cc in ap owed_by (sym p)
   owed-woken (x ∷ xs) ys e =
       let u = traverse-some (woken w table f.run f.made) x xs ys e in
@@ -116,23 +116,23 @@ module _ {I A : Type 0} (w : World I A) (table : Records) (f : FinishedRun) wher
       let b : owed u.0.status ≡ owed x.status = (kept-woken x u.0 u.2).owes in
       let c = owed-woken xs u.1 u.3 in omega arith
 
-  pub told-woken : (xs ys : List (RequestState I A)) → traverse (woken w table f.run f.made) xs ≡ Some ys → (n : ℕ) → result_at ys n ≡ result_at xs n
+  pub told-woken : (xs ys : List (RequestState P I A)) → traverse (woken w table f.run f.made) xs ≡ Some ys → (n : ℕ) → result_at ys n ≡ result_at xs n
   told-woken [] ys e n = let p : [] ≡ ys = cc in ap (λ zs. result_at zs n) (sym p)
   told-woken (x ∷ xs) ys e n = let u = traverse-some (woken w table f.run f.made) x xs ys e in ap (λ zs. result_at zs n) u.4 ∙ go n u.0 u.1 (kept-woken x u.0 u.2).told (told-woken xs u.1 u.3)
     where
-      go : (n : ℕ) (y : RequestState I A) (zs : List (RequestState I A)) → result_in y.status ≡ result_in x.status → ((m : ℕ) → result_at zs m ≡ result_at xs m) → result_at (y ∷ zs) n ≡ result_at (x ∷ xs) n
+      go : (n : ℕ) (y : RequestState P I A) (zs : List (RequestState P I A)) → result_in y.status ≡ result_in x.status → ((m : ℕ) → result_at zs m ≡ result_at xs m) → result_at (y ∷ zs) n ≡ result_at (x ∷ xs) n
       go zero y zs t ih = t
       go (suc n) y zs t ih = ih n
 
   -- a request that does not wait is as it was
-  pub unwoken : (q z : RequestState I A) (st : Status I A) → q.status ≡ st → woken_at w table f.run f.made q st ≡ Some q → woken w table f.run f.made q ≡ Some z → q ≡ z
+  pub unwoken : (q z : RequestState P I A) (st : Status P I A) → q.status ≡ st → woken_at w table f.run f.made q st ≡ Some q → woken w table f.run f.made q ≡ Some z → q ≡ z
   unwoken q z st e s h = some-is q z (sym s ∙ (sym (ap (woken_at w table f.run f.made q) e) ∙ h))
 
-waits-same : {I A : Type 0} (r s : RunId) (b c : Body I A) (g h : Record → Journal → Walk I A) → waits r b g ≡ waits s c h → r ≡ s
+waits-same : {P I A : Type 0} (r s : RunId) (b c : Body I A) (g h : Record → Journal → Walk P I A) → waits r b g ≡ waits s c h → r ≡ s
 waits-same r s b c g h e = cc
 
-module _ {W I A : Type 0} (seen : W → Seen I A) (w : World I A) (log after : Logged) {origins : List Origin} {slots : List (Slot W)} {making : List (Option RunId)} {table : TableRuns} {end : Option End}
-    (id : ℕ) (run : RunId) (made : Record) (p : Position I A) (x : Shown seen w log origins slots making table end) where
+module _ {W P I A : Type 0} (seen : W → Seen P I A) (w : World P I A) (log after : Logged) {origins : List Origin} {slots : List (Slot W)} {making : List (Option RunId)} {table : TableRuns} {end : Option End}
+    (id : ℕ) (run : RunId) (made : Record) (p : Position P I A) (x : Shown seen w log origins slots making table end) where
   module _ (e : Ends p.place run made) (h : There slots x.state id p) where
     abbrev finished_run : FinishedRun
     finished_run = record { run = e.inside.run; made = recorded e.outcome e.inside.so_far.segments }
@@ -140,16 +140,16 @@ module _ {W I A : Type 0} (seen : W → Seen I A) (w : World I A) (log after : L
     abbrev records_after : Records
     records_after = finished_run ∷ x.state.table
 
-    abbrev next_position : Position I A
+    abbrev next_position : Position P I A
     next_position = after_run p.runs e.inside.run e.inside.go finished_run.made (add p.journal (ended e.inside.run finished_run.made))
 
-    abbrev next_request : RequestState I A
+    abbrev next_request : RequestState P I A
     next_request = placed h.origin next_position (assigned h.node)
 
-    abbrev was_request : RequestState I A
+    abbrev was_request : RequestState P I A
     was_request = placed h.origin p (assigned h.node)
 
-    abbrev state_after : List (RequestState I A) → State I A
+    abbrev state_after : List (RequestState P I A) → State P I A
     state_after requests = record {
       requests = requests;
       begun = x.state.begun;
@@ -157,7 +157,7 @@ module _ {W I A : Type 0} (seen : W → Seen I A) (w : World I A) (log after : L
       tools_used = record { run = e.inside.run; tools = e.inside.so_far.tools } ∷ x.state.tools_used;
     }
 
-    abbrev wakes : List (RequestState I A) → Type 0
+    abbrev wakes : List (RequestState P I A) → Type 0
     wakes requests = traverse (woken w records_after e.inside.run finished_run.made) (put x.state.requests id next_request) ≡ Some requests
 
     was_status : was_request.status ≡ assigned h.node (within e.inside (ends e.outcome))
@@ -173,13 +173,13 @@ module _ {W I A : Type 0} (seen : W → Seen I A) (w : World I A) (log after : L
     result-possible : IsPossible w x.state (Result id e.inside.run)
     result-possible = elim (goes w log.events x.state x.history id h.node was_request (within e.inside (ends e.outcome)) h.at_state was_status) [ inl g ↦ g | inr g ↦ absurd g ]
 
-    pub woken-requests : (requests : List (RequestState I A)) × wakes requests
+    pub woken-requests : (requests : List (RequestState P I A)) × wakes requests
     woken-requests =
         let g = result-possible in
         let y = and_then-some (traverse (woken w records_after e.inside.run finished_run.made) (put x.state.requests id next_request)) (λ requests. Some (state_after requests)) g.0 (sym result-step ∙ g.1) in
         (y.0, y.1)
 
-    pub stepped : (requests : List (RequestState I A)) → wakes requests → step w x.state (Result id e.inside.run) ≡ Some (state_after requests)
+    pub stepped : (requests : List (RequestState P I A)) → wakes requests → step w x.state (Result id e.inside.run) ≡ Some (state_after requests)
     stepped requests k = result-step ∙ ap (λ o. and_then o (λ requests. Some (state_after requests))) k
 
     -- the run is open, and the request has begun it
@@ -199,21 +199,21 @@ module _ {W I A : Type 0} (seen : W → Seen I A) (w : World I A) (log after : L
         let kin : y.1 ≡ kin_of was_request = same_some (kins_of x.state.requests id) y.1 (kin_of was_request) (subst (λ m. kins_of x.state.requests m ≡ Some y.1) same y.2) (kins-at x.state.requests id was_request h.at_state) in
         some-is other e.inside.run (sym y.3 ∙ (ap (λ (a : Kin). a.inside) kin ∙ ap inside_of was_status))
 
-    later : (requests : List (RequestState I A)) (count : ℕ) → length log.events ≤ count → Later w x.state (state_after requests) (length log.events) count
+    later : (requests : List (RequestState P I A)) (count : ℕ) → length log.events ≤ count → Later w x.state (state_after requests) (length log.events) count
     later requests count l = record {
       has = λ r m g. found-grows x.state.table finished_run open_run.0 r m g;
       goes = λ a b answer g. answered-more w x.state.table finished_run open_run.0 a b answer g;
       counts = l;
     }
 
-    told-after : (requests : List (RequestState I A)) → wakes requests → (n : ℕ) → result_at requests n ≡ result_at x.state.requests n
+    told-after : (requests : List (RequestState P I A)) → wakes requests → (n : ℕ) → result_at requests n ≡ result_at x.state.requests n
     told-after requests k n = told-woken w records_after finished_run (put x.state.requests id next_request) requests k n ∙ result-put x.state.requests id was_request next_request h.at_state refl n
 
     -- a slot after the run is finished
-    slot-woken : (requests : List (RequestState I A)) → wakes requests → (count : ℕ) → length log.events ≤ count → (n : ℕ) (slot : Slot W) (q z : RequestState I A) → at (put x.state.requests id next_request) n ≡ Some q →
+    slot-woken : (requests : List (RequestState P I A)) → wakes requests → (count : ℕ) → length log.events ≤ count → (n : ℕ) (slot : Slot W) (q z : RequestState P I A) → at (put x.state.requests id next_request) n ≡ Some q →
         ShowsSlot w x.state (length log.events) seen slot q → woken w records_after e.inside.run finished_run.made q ≡ Some z → ShowsSlot w (state_after requests) count seen (woken_by id slot) z
     slot-woken requests k count l n (Ready walk answer) q z a s g =
-        let st : q.status ≡ ready s.position.place = ap (λ (b : RequestState I A). b.status) s.is in
+        let st : q.status ≡ ready s.position.place = ap (λ (b : RequestState P I A). b.status) s.is in
         let same : q ≡ z = unwoken w records_after finished_run q z (ready s.position.place) st refl g in
         subst (λ b. ShowsSlot w (state_after requests) count seen (Ready walk answer) b) same (slot-later w seen x.state (state_after requests) (length log.events) count (later requests count l) (Ready walk answer) q (record {
           begun = λ r b go by h i. absurd (let c : ready s.position.place ≡ waits r b go = sym st ∙ h in cc);
@@ -235,12 +235,12 @@ module _ {W I A : Type 0} (seen : W → Seen I A) (w : World I A) (log after : L
       where
         there : at x.state.requests n ≡ Some q
         there = elim (at-put x.state.requests id next_request n q a) [
-          | inl c ↦ absurd (let d : assigned h.node next_position.place ≡ waits s.run s.body s.go = ap (λ (b : RequestState I A). b.status) c.1 ∙ s.is in cc)
+          | inl c ↦ absurd (let d : assigned h.node next_position.place ≡ waits s.run s.body s.go = ap (λ (b : RequestState P I A). b.status) c.1 ∙ s.is in cc)
           | inr c ↦ c.1
         ]
 
         open_there : (is_begun s.run x.state.begun ≡ true) × (found x.state.table s.run ≡ None)
-        open_there = subst (λ (st : Status I A). LawfulStatus x.state.begun x.state.table n q.journal st) s.is ((lawful w log.events x.state x.history).each n q there).status
+        open_there = subst (λ (st : Status P I A). LawfulStatus x.state.begun x.state.table n q.journal st) s.is ((lawful w log.events x.state x.history).each n q there).status
 
         woken_now : woken_if w (same_run s.run e.inside.run) records_after q finished_run.made s.run s.go ≡ Some z
         woken_now = sym (ap (woken_at w records_after e.inside.run finished_run.made q) s.is) ∙ g
@@ -249,7 +249,7 @@ module _ {W I A : Type 0} (seen : W → Seen I A) (w : World I A) (log after : L
         is_ready_now same =
             let y = and_then-some (replay records_after s.run q.journal) (λ next. Some (goes_on w ready q.origin q.runs s.run s.go finished_run.made next)) z
             (sym (ap (λ t. woken_if w t records_after q finished_run.made s.run s.go) (same_run-eq s.run e.inside.run same)) ∙ woken_now) in
-            let position : Position I A = after_run q.runs s.run s.go finished_run.made y.0 in
+            let position : Position P I A = after_run q.runs s.run s.go finished_run.made y.0 in
             let f : found records_after s.run ≡ Some finished_run.made = ap (found records_after) same ∙ found-newest x.state.table finished_run in
             record {
               position = position;
@@ -262,7 +262,7 @@ module _ {W I A : Type 0} (seen : W → Seen I A) (w : World I A) (log after : L
                 turn = s.stands.asked;
                 few = let c : (seen walk).asked ≤ length log.events = s.stands.few in omega arith;
               };
-              is = subst (λ (b : RequestState I A). b ≡ placed b.origin position ready) (some-is _ z y.2) refl;
+              is = subst (λ (b : RequestState P I A). b ≡ placed b.origin position ready) (some-is _ z y.2) refl;
             }
 
         other_run : (by ≡ id → ⊥) → (r : RunId) → s.run ≡ r → r ≡ e.inside.run → ⊥
@@ -285,7 +285,7 @@ module _ {W I A : Type 0} (seen : W → Seen I A) (w : World I A) (log after : L
         go false b = is_waiting_now (λ same. clash (by == id) (eq-eqb by id same) b)
 
     -- the core shows the state after the run is finished
-    finished-shown : (requests : List (RequestState I A)) → wakes requests → {outs : List (Slot W)} {bodies : List (Option RunId)} {runs : TableRuns} → end ≡ None → after.events ≡ log.events ++ Result id e.inside.run ∷ [] → log.room ≡ after.room + 1 →
+    finished-shown : (requests : List (RequestState P I A)) → wakes requests → {outs : List (Slot W)} {bodies : List (Option RunId)} {runs : TableRuns} → end ≡ None → after.events ≡ log.events ++ Result id e.inside.run ∷ [] → log.room ≡ after.room + 1 →
         outs ≡ map (woken_by id) slots → bodies ≡ put making id None → runs.finished ≡ finished_run ∷ table.finished → runs.begun ≡ without e.inside.run table.begun → Shown seen w after origins outs bodies runs end
     finished-shown requests k {outs} {bodies} {runs} none ev room os bs fin beg = record {
       state = state_after requests;
@@ -312,12 +312,12 @@ module _ {W I A : Type 0} (seen : W → Seen I A) (w : World I A) (log after : L
       ends = subst (ShowsEnd (state_after requests)) (sym none) (ends-alike x.state (state_after requests) (told-after requests k 0) (subst (ShowsEnd x.state) none x.ends));
     }
 
-    finished-there : (requests : List (RequestState I A)) → wakes requests → at requests id ≡ Some next_request
+    finished-there : (requests : List (RequestState P I A)) → wakes requests → at requests id ≡ Some next_request
     finished-there requests k =
         let y = traverse-at (woken w records_after e.inside.run finished_run.made) (put x.state.requests id next_request) requests k id next_request (at-put_same x.state.requests id was_request next_request h.at_state) in
         y.1 ∙ sym y.2
 
-    finished-with : (requests : List (RequestState I A)) → wakes requests → after.events ≡ log.events ++ Result id e.inside.run ∷ [] → IsWith w after.events id next_position
+    finished-with : (requests : List (RequestState P I A)) → wakes requests → after.events ≡ log.events ++ Result id e.inside.run ∷ [] → IsWith w after.events id next_position
     finished-with requests k ev = record {
       state = state_after requests;
       origin = h.origin;
@@ -341,12 +341,12 @@ module _ {W I A : Type 0} (seen : W → Seen I A) (w : World I A) (log after : L
         }
 
 -- the run of a request whose body has ended
-module _ {W I A : Type 0} (seen : W → Seen I A) (w : World I A) (log after : Logged) {origins : List Origin} {slots : List (Slot W)} {making : List (Option RunId)} {table : TableRuns} {end : Option End} (id : ℕ) (run : RunId) (made : Record) where
+module _ {W P I A : Type 0} (seen : W → Seen P I A) (w : World P I A) (log after : Logged) {origins : List Origin} {slots : List (Slot W)} {making : List (Option RunId)} {table : TableRuns} {end : Option End} (id : ℕ) (run : RunId) (made : Record) where
   pub finish-shown : {outs : List (Slot W)} {bodies : List (Option RunId)} {runs : TableRuns} → Asks w log.events id (Finished run made) → end ≡ None → after.events ≡ log.events ++ Result id run ∷ [] → log.room ≡ after.room + 1 →
       outs ≡ map (woken_by id) slots → bodies ≡ put making id None → runs.finished ≡ record { run = run; made = made } ∷ table.finished → runs.begun ≡ without run table.begun → Shown seen w log origins slots making table end →
       Shown seen w after origins outs bodies runs end
   finish-shown a none ev room os bs fin beg x =
-      let p : Position I A = a.position in
+      let p : Position P I A = a.position in
       let e = ends-of p.runs p.place run made a.asks in
       let h = there-of seen w x id p a.stands in
       let y = woken-requests seen w log after id run made p x e h in
@@ -357,7 +357,7 @@ module _ {W I A : Type 0} (seen : W → Seen I A) (w : World I A) (log after : L
   pub finish-out : (walk : W) → IsOwn w log.events table.finished id (seen walk) → ask_of (seen walk).position ≡ Finished run made → after.events ≡ log.events ++ Result id run ∷ [] → {runs : Records} →
       runs ≡ record { run = run; made = made } ∷ table.finished → Shown seen w log origins slots making table end → IsOut w after.events runs id (seen walk) Use
   finish-out walk o a ev fin x =
-      let p : Position I A = (seen walk).position in
+      let p : Position P I A = (seen walk).position in
       let e = ends-of p.runs p.place run made a in
       let h = there-of seen w x id p o.stands in
       finished-out seen w log after id run made p x e h walk refl o (ev ∙ ap (λ r. log.events ++ Result id r ∷ []) (sym e.run_is))
@@ -366,7 +366,7 @@ module _ {W I A : Type 0} (seen : W → Seen I A) (w : World I A) (log after : L
   -- before the run is finished: it is begun, the request is in its body, and there is room for the event
   pub finish-begun : Asks w log.events id (Finished run made) → Shown seen w log origins slots making table end → request_of table.begun run ≡ Some id
   finish-begun a x =
-      let p : Position I A = a.position in
+      let p : Position P I A = a.position in
       let e = ends-of p.runs p.place run made a.asks in
       let h = there-of seen w x id p a.stands in
       let y = open_run seen w log after id run made p x e h in
@@ -374,7 +374,7 @@ module _ {W I A : Type 0} (seen : W → Seen I A) (w : World I A) (log after : L
 
   pub finish-room : Asks w log.events id (Finished run made) → Shown seen w log origins slots making table end → 0 < log.room
   finish-room a x =
-      let p : Position I A = a.position in
+      let p : Position P I A = a.position in
       let e = ends-of p.runs p.place run made a.asks in
       let h = there-of seen w x id p a.stands in
       let b = owed-at x.state.requests id _ h.at_state in
@@ -383,7 +383,7 @@ module _ {W I A : Type 0} (seen : W → Seen I A) (w : World I A) (log after : L
 
   pub finish-making : Asks w log.events id (Finished run made) → Shown seen w log origins slots making table end → at making id ≡ Some (Some run)
   finish-making a x =
-      let p : Position I A = a.position in
+      let p : Position P I A = a.position in
       let e = ends-of p.runs p.place run made a.asks in
       let h = there-of seen w x id p a.stands in
       ap (λ ms. at ms id) x.bodies ∙ (map-at making_of x.state.requests id _ h.at_state ∙ ap Some (ap run_in e.is ∙ ap Some e.run_is))
@@ -397,7 +397,7 @@ run-prop : (r s : RunId) → IsProp (r ≡ s)
 run-prop r s = hlevel props
 
 -- the same of a core that shows a state
-module _ {W I A : Type 0} (seen : W → Seen I A) (w : World I A) {log : Logged} {origins : List Origin} {slots : List (Slot W)} {making : List (Option RunId)} {table : TableRuns} {end : Option End} (id : ℕ) (run : RunId) (made : Record)
+module _ {W P I A : Type 0} (seen : W → Seen P I A) (w : World P I A) {log : Logged} {origins : List Origin} {slots : List (Slot W)} {making : List (Option RunId)} {table : TableRuns} {end : Option End} (id : ℕ) (run : RunId) (made : Record)
     (shown : ∥ Shown seen w log origins slots making table end ∥₁) (asked : ∥ Asks w log.events id (Finished run made) ∥₁) where
   pub finishes-begun : IsSome (request_of table.begun run)
   finishes-begun = ∥∥₁_elim shown (some-prop _) (λ x. ∥∥₁_elim asked (some-prop _) (λ a. ap is_some (finish-begun seen w log log id run made a x)))

@@ -52,16 +52,16 @@ replays-more one two f (replays_run r ∷ effects) j k e =
 replay_all-more : (table : Records) (f : FinishedRun) → found table f.run ≡ None → (runs : List RunId) (j k : Journal) → replay_all table runs j ≡ Some k → replay_all (f ∷ table) runs j ≡ Some k
 replay_all-more table f n runs j k e = replays-more (replay table) (replay (f ∷ table)) (replay-more table f n) (map replays_run runs) j k e
 
-module _ {I A : Type 0} (w : World I A) (table : Records) (f : FinishedRun) where
-  answered_at-more : found table f.run ≡ None → (journal : Journal) (runs : List RunId) (place : Place I A) (answer : Answer) (next : Position I A) → answered_at w table journal runs place answer ≡ Some next →
+module _ {P I A : Type 0} (w : World P I A) (table : Records) (f : FinishedRun) where
+  answered_at-more : found table f.run ≡ None → (journal : Journal) (runs : List RunId) (place : Place P I A) (answer : Answer) (next : Position P I A) → answered_at w table journal runs place answer ≡ Some next →
       answered_at w (f ∷ table) journal runs place answer ≡ Some next
   answered_at-more n journal runs place First next e = e
   answered_at-more n journal runs (walking (gives reply)) Go next e = e
-  answered_at-more n journal runs (walking (wants run b go)) Go next e = e
+  answered_at-more n journal runs (walking (wants site run b go)) Go next e = e
   answered_at-more n journal runs (within x (ends outcome)) Go next e = e
   answered_at-more n journal runs (within x (asks key keys go)) Go next e = e
   answered_at-more n journal runs (walking (gives reply)) Use next e = e
-  answered_at-more n journal runs (walking (wants run b go)) Use next e =
+  answered_at-more n journal runs (walking (wants site run b go)) Use next e =
       let y = and_then-some (found table run) (λ made. and_then (replay table run journal) (λ next. Some (after_run runs run go made next))) next e in
       let z = and_then-some (replay table run journal) (λ next. Some (after_run runs run go y.0 next)) next y.2 in
       ap (λ o. and_then o (λ made. and_then (replay (f ∷ table) run journal) (λ next. Some (after_run runs run go made next)))) (found-grows table f n run y.0 y.1)
@@ -69,16 +69,16 @@ module _ {I A : Type 0} (w : World I A) (table : Records) (f : FinishedRun) wher
   answered_at-more n journal runs (within x (ends outcome)) Use next e = e
   answered_at-more n journal runs (within x (asks key keys go)) Use next e = e
   answered_at-more n journal runs (walking (gives reply)) (Results results) next e = e
-  answered_at-more n journal runs (walking (wants run b go)) (Results results) next e = e
+  answered_at-more n journal runs (walking (wants site run b go)) (Results results) next e = e
   answered_at-more n journal runs (within x (ends outcome)) (Results results) next e = e
   answered_at-more n journal runs (within x (asks key keys go)) (Results results) next e =
-      let after : List RequestResult → Journal → Option (Position I A) = λ results next. Some (stopped_in runs x.run x.go (run_on w.tools x.run (go results next) next (with_calls x.so_far (key ∷ keys) results))) in
+      let after : List RequestResult → Journal → Option (Position P I A) = λ results next. Some (stopped_in runs x.run x.go (run_on w.tools x.run (go results next) next (with_calls x.so_far (key ∷ keys) results))) in
       let y = and_then-some (only_if (length results == length (key ∷ keys)) results) (λ results. and_then (replay_all table (runs_of results) journal) (after results)) next e in
       let z = and_then-some (replay_all table (runs_of y.0) journal) (after y.0) next y.2 in
       ap (λ o. and_then o (λ results. and_then (replay_all (f ∷ table) (runs_of results) journal) (after results))) y.1
       ∙ (ap (λ o. and_then o (after y.0)) (replay_all-more table f n (runs_of y.0) journal z.0 z.1) ∙ z.2)
 
-  pub answered-more : found table f.run ≡ None → (p next : Position I A) (answer : Answer) → answered w table p answer ≡ Some next → answered w (f ∷ table) p answer ≡ Some next
+  pub answered-more : found table f.run ≡ None → (p next : Position P I A) (answer : Answer) → answered w table p answer ≡ Some next → answered w (f ∷ table) p answer ≡ Some next
   answered-more n p next answer e = answered_at-more n p.journal p.runs p.place answer next e
 
 flip : (r s : RunId) → same_run r s ≡ same_run s r

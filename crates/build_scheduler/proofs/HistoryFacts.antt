@@ -44,18 +44,18 @@ pub ordered-in_order : (table : Records) → IsOnce table → IsOrdered table �
 ordered-in_order [] o h = tt
 ordered-in_order (f ∷ table) o h = (o.0, (λ run i. found-some table run (h.0 run i)), ordered-in_order table o.1 h.1)
 
-module _ {I A : Type 0} (w : World I A) where
-  pub one_state : (events : List Event) (s t : State I A) → IsHistory w events s → IsHistory w events t → s ≡ t
+module _ {P I A : Type 0} (w : World P I A) where
+  pub one_state : (events : List Event) (s t : State P I A) → IsHistory w events s → IsHistory w events t → s ≡ t
   one_state events s t h g = some-is s t (sym h ∙ g)
 
-  pub lawful : (events : List Event) (s : State I A) → IsHistory w events s → Lawful s
+  pub lawful : (events : List Event) (s : State P I A) → IsHistory w events s → Lawful s
   lawful events s h = all-lawful w events (start w) s (start-lawful w) h
 
-  pub kindred : (events : List Event) (s : State I A) → IsHistory w events s → Kindred s
+  pub kindred : (events : List Event) (s : State P I A) → IsHistory w events s → Kindred s
   kindred events s h = all-kindred w events (start w) s (start-lawful w) (start-kindred w) h
 
-  pub more : (events : List Event) (event : Event) (s t : State I A) → IsHistory w events s → step w s event ≡ Some t → IsHistory w (events ++ event ∷ []) t
+  pub more : (events : List Event) (event : Event) (s t : State P I A) → IsHistory w events s → step w s event ≡ Some t → IsHistory w (events ++ event ∷ []) t
   more events event s t h e = after-more w events event (start w) s t h e
 
-  pub table_in_order : (events : List Event) (s : State I A) → IsHistory w events s → AreInOrder s.table
+  pub table_in_order : (events : List Event) (s : State P I A) → IsHistory w events s → AreInOrder s.table
   table_in_order events s h = let v = lawful events s h in ordered-in_order s.table v.once v.ordered

@@ -100,7 +100,7 @@ leads-depth origins v id o (key ∷ keys) next e h =
         ]
 
 -- the keys of the requests
-pub keys-up : {I A : Type 0} (requests : List (RequestState I A)) (origins : List Origin) → origins ≡ map origin_of requests → (from : Option ℕ) (up : List RequestKey) → LeadsUp origins from up None → AreKeysUp requests from up
+pub keys-up : {P I A : Type 0} (requests : List (RequestState P I A)) (origins : List Origin) → origins ≡ map origin_of requests → (from : Option ℕ) (up : List RequestKey) → LeadsUp origins from up None → AreKeysUp requests from up
 keys-up requests origins e None [] h = tt
 keys-up requests origins e (Some id) [] h = absurd (cc)
 keys-up requests origins e None (key ∷ keys) h = absurd h

@@ -37,7 +37,7 @@ not-below a b l = elim (tells (nat_le a b)) [ inl t ↦ absurd (let m : a ≤ b 
 not-less : (a b : ℕ) → b ≤ a → nat_lt a b ≡ false
 not-less a b l = elim (tells (nat_lt a b)) [ inl t ↦ absurd (let m : a < b = ltb-true a b t in omega arith) | inr f ↦ f ]
 
-module _ {W I A : Type 0} (seen : W → Seen I A) (caller : Seen I A) where
+module _ {W P I A : Type 0} (seen : W → Seen P I A) (caller : Seen P I A) where
   child-ready : (children : List (Slot W)) (calls : List RequestKey) → Paired (IsChildSlot seen caller) children calls → (i : ℕ) (slot : Slot W) → at children i ≡ Some slot → (is_ready (Some slot) ≡ true) × ((by : ℕ) → waits_for by (Some slot) ≡ false)
   child-ready [] calls h i slot e = absurd (cc)
   child-ready (s ∷ children) [] h i slot e = absurd h

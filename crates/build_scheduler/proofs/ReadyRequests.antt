@@ -16,9 +16,9 @@ use Rattle.build_scheduler.specs.Slots.{ShowsSlot}
 use Rattle.build_scheduler.proofs.HistoryFacts.{one_state}
 use Rattle.build_scheduler.proofs.SlotsStay.{paired-other}
 
-module _ {W I A : Type 0} (seen : W → Seen I A) (w : World I A) where
+module _ {W P I A : Type 0} (seen : W → Seen P I A) (w : World P I A) where
   -- a slot of a ready request is ready
-  pub slot-ready : (s : State I A) (count : ℕ) (slot : Slot W) (q : RequestState I A) (place : Place I A) → ShowsSlot w s count seen slot q → q.status ≡ ready place → is_ready (Some slot) ≡ true
+  pub slot-ready : (s : State P I A) (count : ℕ) (slot : Slot W) (q : RequestState P I A) (place : Place P I A) → ShowsSlot w s count seen slot q → q.status ≡ ready place → is_ready (Some slot) ≡ true
   slot-ready s count (Ready walk answer) q place h e = refl
   slot-ready s count (Assigned node) q place h e = absurd (let a : ready place ≡ assigned node h.place = sym e ∙ h.is in cc)
   slot-ready s count (Waiting walk by) q place h e = absurd (let a : ready place ≡ waits h.run h.body h.go = sym e ∙ h.is in cc)
@@ -27,7 +27,7 @@ module _ {W I A : Type 0} (seen : W → Seen I A) (w : World I A) where
 
   pub listed-of : {log : _} {origins : _} {slots : List (Slot W)} {making : _} {table : _} {end : _} (id : ℕ) → Shown seen w log origins slots making table end → IsReady w log.events id → is_ready (at slots id) ≡ true
   listed-of {log} {origins} {slots} id x r =
-      let e : at x.state.requests id ≡ Some r.request = subst (λ (s : State I A). at s.requests id ≡ Some r.request) (one_state w log.events r.state x.state r.history x.history) r.there in
+      let e : at x.state.requests id ≡ Some r.request = subst (λ (s : State P I A). at s.requests id ≡ Some r.request) (one_state w log.events r.state x.state r.history x.history) r.there in
       let y = paired-other (ShowsSlot w x.state (length log.events) seen) slots x.state.requests id r.request x.each e in
       ap is_ready y.2 ∙ slot-ready x.state (length log.events) y.0 r.request r.place y.1 r.is
 
@@ -42,7 +42,7 @@ module _ {W I A : Type 0} (seen : W → Seen I A) (w : World I A) where
       go (Some Done) e h = absurd (cc)
       go (Some (Ready walk answer)) e h =
           let y = Paired-some (ShowsSlot w x.state (length log.events) seen) slots x.state.requests id (Ready walk answer) x.each e in
-          record { state = x.state; request = y.0; place = y.1.position.place; history = x.history; there = y.2; is = ap (λ (q : RequestState I A). q.status) y.1.is }
+          record { state = x.state; request = y.0; place = y.1.position.place; history = x.history; there = y.2; is = ap (λ (q : RequestState P I A). q.status) y.1.is }
 
   -- the least of the listed requests is the least that is ready
   pub least-ready : {log : _} {origins : _} {slots : List (Slot W)} {making : _} {table : _} {end : _} (numbers : Numbered) {waiting : _} (o : Option ℕ) → ∥ Shown seen w log origins slots making table end ∥₁ →

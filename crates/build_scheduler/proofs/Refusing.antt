@@ -33,16 +33,16 @@ use Rattle.build_scheduler.proofs.HistoryFacts.{one_state}
 use Rattle.build_scheduler.proofs.Nesting.{keys-up, root-reached}
 use Rattle.build_scheduler.proofs.OwnWalks.{calls-of}
 
-refused-prop : {I A : Type 0} (w : World I A) (events : List Event) (id : ℕ) (calls : List RequestKey) (fault : RequestFault) → IsProp (IsRefused w events id calls fault)
+refused-prop : {P I A : Type 0} (w : World P I A) (events : List Event) (id : ℕ) (calls : List RequestKey) (fault : RequestFault) → IsProp (IsRefused w events id calls fault)
 refused-prop w events id calls (TooDeep keys) = ∥∥₁_prop
 refused-prop w events id calls (TooMany instance) = ∥∥₁_prop
 refused-prop w events id calls Memory = λ p q. refl
 
-module _ {W I A : Type 0} (seen : W → Seen I A) (w : World I A) {log : Logged} {origins : List Origin} {slots : List (Slot W)} {making : List (Option RunId)} {table : TableRuns} {end : Option End} (id : ℕ) (walk : W) (calls : List RequestKey) where
+module _ {W P I A : Type 0} (seen : W → Seen P I A) (w : World P I A) {log : Logged} {origins : List Origin} {slots : List (Slot W)} {making : List (Option RunId)} {table : TableRuns} {end : Option End} (id : ℕ) (walk : W) (calls : List RequestKey) where
   same-origin : (x : Shown seen w log origins slots making table end) (o : IsOwn w log.events table.finished id (seen walk)) → at origins id ≡ Some (origin_of (placed o.stands.origin (seen walk).position (assigned o.stands.node)))
   same-origin x o =
       let q = placed o.stands.origin (seen walk).position (assigned o.stands.node) in
-      let e : at x.state.requests id ≡ Some q = subst (λ (s : State I A). at s.requests id ≡ Some q) (one_state w log.events o.stands.state x.state o.stands.history x.history) o.stands.there in
+      let e : at x.state.requests id ≡ Some q = subst (λ (s : State P I A). at s.requests id ≡ Some q) (one_state w log.events o.stands.state x.state o.stands.history x.history) o.stands.there in
       ap (λ os. at os id) x.asked ∙ map-at origin_of x.state.requests id q e
 
   too-deep : (x : Shown seen w log origins slots making table end) → IsOwn w log.events table.finished id (seen walk) → ask_of (seen walk).position ≡ Call calls → AreNested origins → (depth : ℕ) → HasDepth (at origins id) depth → deepest ≤ suc depth →
@@ -67,7 +67,7 @@ module _ {W I A : Type 0} (seen : W → Seen I A) (w : World I A) {log : Logged}
         up = k.up;
         first = c.key;
         behind = c.keys;
-        above = subst (λ (s : State I A). AreKeysUp s.requests (Some id) k.up) one (keys-up x.state.requests origins x.asked (Some id) k.up (subst (LeadsUp origins (Some id) k.up) r.0 k.above));
+        above = subst (λ (s : State P I A). AreKeysUp s.requests (Some id) k.up) one (keys-up x.state.requests origins x.asked (Some id) k.up (subst (LeadsUp origins (Some id) k.up) r.0 k.above));
         calls_are = sym c.calls_are;
         keys_are = keys_are;
         many = omega arith;
@@ -103,8 +103,8 @@ module _ {W I A : Type 0} (seen : W → Seen I A) (w : World I A) {log : Logged}
         behind = h.behind;
         calls_are = h.calls_are;
         instance_is = h.instance_is;
-        not_before = subst (λ (s : State I A). instances_with w s h.before ≤ most_instances) one (subst (λ n. n ≤ most_instances) (sym (how-many seen w x instances k h.before)) h.not_before);
-        too_many = subst (λ (s : State I A). most_instances < instances_with w s (h.before ++ h.call ∷ [])) one (subst (λ n. most_instances < n) (sym (how-many seen w x instances k (h.before ++ h.call ∷ []))) h.too_many);
+        not_before = subst (λ (s : State P I A). instances_with w s h.before ≤ most_instances) one (subst (λ n. n ≤ most_instances) (sym (how-many seen w x instances k h.before)) h.not_before);
+        too_many = subst (λ (s : State P I A). most_instances < instances_with w s (h.before ++ h.call ∷ [])) one (subst (λ n. most_instances < n) (sym (how-many seen w x instances k (h.before ++ h.call ∷ []))) h.too_many);
       }
 
   -- calls with which there would be too many instances

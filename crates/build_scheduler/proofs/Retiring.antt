@@ -55,7 +55,7 @@ unlisted-there {slots = slots} {numbers = numbers} id node e indexed =
           let b : unready slots ≤ numbers.room = y.room in omega arith),
     ))
 
-module _ {W I A : Type 0} (seen : W → Seen I A) (w : World I A) {log : Logged}
+module _ {W P I A : Type 0} (seen : W → Seen P I A) (w : World P I A) {log : Logged}
     {origins : List Origin} {slots : List (Slot W)} {making : List (Option RunId)}
     {table : TableRuns} {end : Option End} (id : ℕ) (walk : W) (answer : Answer) where
   -- the slot of a request whose walk is out
@@ -102,9 +102,9 @@ module _ {W I A : Type 0} (seen : W → Seen I A) (w : World I A) {log : Logged}
         Shown seen w after origins outs making table end
     retired-shown {after} ev room out x o =
         let h = there-of seen w x id o.next o.stands in
-        let q : RequestState I A = placed h.origin o.next (assigned h.node) in
-        let z : RequestState I A = placed h.origin o.next ready in
-        let t : State I A = with_request x.state id z in
+        let q : RequestState P I A = placed h.origin o.next (assigned h.node) in
+        let z : RequestState P I A = placed h.origin o.next ready in
+        let t : State P I A = with_request x.state id z in
         let count : length after.events ≡ suc (length log.events) =
         one-more log.events after.events (Retire id node) ev in
         subst (λ (xs : List (Slot W)). Shown seen w after origins xs making table end) (sym out)

@@ -20,7 +20,7 @@ use Rattle.build_scheduler.specs.Requests.{HasSpare}
 use Rattle.build_scheduler.specs.Shown.{Shown, Indexed, HaveNumbers, AreRooted, unready, numbers_of}
 use Rattle.build_scheduler.specs.Slots.{owed_by, ShowsSlot}
 
-module _ {W I A : Type 0} (seen : W → Seen I A) (w : World I A) {log after : Logged} {origins os : List Origin} {slots ss : List (Slot W)} {making ms : List (Option RunId)} {table : TableRuns} {end : Option End} (ev : after.events ≡ log.events) where
+module _ {W P I A : Type 0} (seen : W → Seen P I A) (w : World P I A) {log after : Logged} {origins os : List Origin} {slots ss : List (Slot W)} {making ms : List (Option RunId)} {table : TableRuns} {end : Option End} (ev : after.events ≡ log.events) where
   pub room-shown : log.room ≤ after.room → os ≡ origins → ss ≡ slots → ms ≡ making → Shown seen w log origins slots making table end → Shown seen w after os ss ms table end
   room-shown room o s m x = record {
     state = x.state;
@@ -36,11 +36,11 @@ module _ {W I A : Type 0} (seen : W → Seen I A) (w : World I A) {log after : L
     ends = x.ends;
   }
 
-pub room-stops : {I A : Type 0} (w : World I A) {events es : List Event} (end : Option End) → es ≡ events → ∥ ShowsStop w events end ∥₁ → ∥ ShowsStop w es end ∥₁
+pub room-stops : {P I A : Type 0} (w : World P I A) {events es : List Event} (end : Option End) → es ≡ events → ∥ ShowsStop w events end ∥₁ → ∥ ShowsStop w es end ∥₁
 room-stops w end ev h = subst (λ es. ∥ ShowsStop w es end ∥₁) (sym ev) h
 
 -- so many events more than are owed
-pub spare-of : {W I A : Type 0} (seen : W → Seen I A) (w : World I A) {log after : Logged} {origins : List Origin} {slots : List (Slot W)} {making : List (Option RunId)} {table : TableRuns} {end : Option End} → after.events ≡ log.events → (count more : ℕ) →
+pub spare-of : {W P I A : Type 0} (seen : W → Seen P I A) (w : World P I A) {log after : Logged} {origins : List Origin} {slots : List (Slot W)} {making : List (Option RunId)} {table : TableRuns} {end : Option End} → after.events ≡ log.events → (count more : ℕ) →
     after.room ≡ log.room + more → more ≡ 2 + 2 * count → Shown seen w log origins slots making table end → HasSpare w after (2 + 2 * count)
 spare-of seen w {log} ev count more room m x = record {
   state = x.state;

@@ -47,24 +47,24 @@ pub map-alike : {X Y : Type 0} (f g : X → Y) (xs : List X) → ((x : X) → f 
 map-alike f g [] h = refl
 map-alike f g (x ∷ xs) h = ap (λ y. y ∷ map f xs) (h x) ∙ ap (λ ys. g x ∷ ys) (map-alike f g xs h)
 
-module _ {I A : Type 0} (w : World I A) where
+module _ {P I A : Type 0} (w : World P I A) where
   -- a later state: its table has the records of the earlier one, and answers by them take a walk where they did
-  pub record Later (s t : State I A) (count after : ℕ) : Type 0 where
+  pub record Later (s t : State P I A) (count after : ℕ) : Type 0 where
     pub has : (run : RunId) (made : Record) → found s.table run ≡ Some made → found t.table run ≡ Some made
-    pub goes : (p next : Position I A) (answer : Answer) → answered w s.table p answer ≡ Some next → answered w t.table p answer ≡ Some next
+    pub goes : (p next : Position P I A) (answer : Answer) → answered w s.table p answer ≡ Some next → answered w t.table p answer ≡ Some next
     pub counts : count ≤ after
 
   -- a request for which nothing else has changed: the run that it waits for is begun by the same request, and its calls have the same results
-  pub record Alike (s t : State I A) (q : RequestState I A) : Type 0 where
-    pub begun : (run : RunId) (body : Body I A) (go : Record → Journal → Walk I A) (by : ℕ) → q.status ≡ waits run body go →
+  pub record Alike (s t : State P I A) (q : RequestState P I A) : Type 0 where
+    pub begun : (run : RunId) (body : Body I A) (go : Record → Journal → Walk P I A) (by : ℕ) → q.status ≡ waits run body go →
         request_of (unfinished s.table s.begun) run ≡ Some by → request_of (unfinished t.table t.begun) run ≡ Some by
-    pub told : (keys : List RequestKey) (ids : List ℕ) (x : Within I A) (go : List RequestResult → Journal → Body I A) → q.status ≡ calling keys ids x go →
+    pub told : (keys : List RequestKey) (ids : List ℕ) (x : Within P I A) (go : List RequestResult → Journal → Body I A) → q.status ≡ calling keys ids x go →
         map (result_at t.requests) ids ≡ map (result_at s.requests) ids
 
-  pub part-later : (s t : State I A) (count after : ℕ) → Later s t count after → (part : _) → ArePartOf part s.table → ArePartOf part t.table
+  pub part-later : (s t : State P I A) (count after : ℕ) → Later s t count after → (part : _) → ArePartOf part s.table → ArePartOf part t.table
   part-later s t count after l part h = record { in_order = h.in_order; shared = λ run made e. l.has run made (h.shared run made e) }
 
-  stands-later : (s t : State I A) (count after : ℕ) → Later s t count after → (walk : Seen I A) (p : Position I A) → Stands w s count walk p → Stands w t after walk p
+  stands-later : (s t : State P I A) (count after : ℕ) → Later s t count after → (walk : Seen P I A) (p : Position P I A) → Stands w s count walk p → Stands w t after walk p
   stands-later s t count after l walk p h = record {
     world = h.world;
     learnt = part-later s t count after l walk.learnt h.learnt;
@@ -73,7 +73,7 @@ module _ {I A : Type 0} (w : World I A) where
     few = let a : walk.asked ≤ count = h.few in let b : count ≤ after = l.counts in omega arith;
   }
 
-  goes-later : (s t : State I A) (count after : ℕ) → Later s t count after → (walk : Seen I A) (answer : Answer) (p : Position I A) → Goes w s count walk answer p → Goes w t after walk answer p
+  goes-later : (s t : State P I A) (count after : ℕ) → Later s t count after → (walk : Seen P I A) (answer : Answer) (p : Position P I A) → Goes w s count walk answer p → Goes w t after walk answer p
   goes-later s t count after l walk answer p h = record {
     world = h.world;
     learnt = part-later s t count after l walk.learnt h.learnt;
@@ -82,12 +82,13 @@ module _ {I A : Type 0} (w : World I A) where
     few = let a : walk.asked ≤ count = h.few in let b : count ≤ after = l.counts in omega arith;
   }
 
-  pub slot-later : {W : Type 0} (seen : W → Seen I A) (s t : State I A) (count after : ℕ) → Later s t count after → (slot : Slot W) (q : RequestState I A) → Alike s t q →
+  pub slot-later : {W : Type 0} (seen : W → Seen P I A) (s t : State P I A) (count after : ℕ) → Later s t count after → (slot : Slot W) (q : RequestState P I A) → Alike s t q →
       ShowsSlot w s count seen slot q → ShowsSlot w t after seen slot q
   slot-later seen s t count after l (Ready walk answer) q a h = record { position = h.position; goes = goes-later s t count after l (seen walk) answer h.position h.goes; is = h.is }
   slot-later seen s t count after l (Assigned node) q a h = record { place = h.place; is = h.is }
   slot-later seen s t count after l (Waiting walk by) q a h = record {
     run = h.run;
+    site = h.site;
     body = h.body;
     go = h.go;
     is = h.is;

@@ -18,7 +18,7 @@ use Rattle.build_scheduler.specs.Own.{Seen}
 use Rattle.build_scheduler.specs.Shown.{Shown, ShowsEnd}
 use Rattle.build_scheduler.proofs.HistoryFacts.{one_state}
 
-module _ {I A : Type 0} (w : World I A) (events : List Event) where
+module _ {P I A : Type 0} (w : World P I A) (events : List Event) where
   pub none-stops : {end : Option End} → end ≡ None → ShowsStop w events end
   none-stops e = subst (ShowsStop w events) (sym e) tt
 
@@ -29,14 +29,14 @@ module _ {I A : Type 0} (w : World I A) (events : List Event) where
   shows-stop (TooMany instance) h = h
   shows-stop NoMemory h = tt
 
-  stop-ends : (s : State I A) (end : End) → IsStop w events end → ShowsEnd s (Some end)
+  stop-ends : (s : State P I A) (end : End) → IsStop w events end → ShowsEnd s (Some end)
   stop-ends s (Root result) h = absurd h
   stop-ends s (Circular runs) h = tt
   stop-ends s (TooDeep keys) h = tt
   stop-ends s (TooMany instance) h = tt
   stop-ends s NoMemory h = tt
 
-module _ {W I A : Type 0} (seen : W → Seen I A) (w : World I A) {log : Logged} {origins : List Origin} {slots : List (Slot W)} {making : List (Option RunId)} {table : TableRuns} where
+module _ {W P I A : Type 0} (seen : W → Seen P I A) (w : World P I A) {log : Logged} {origins : List Origin} {slots : List (Slot W)} {making : List (Option RunId)} {table : TableRuns} where
   -- the core shows the same state after it is stopped
   pub stopped-shown : {end : Option End} (told : End) → IsStop w log.events told → Shown seen w log origins slots making table end → Shown seen w log origins slots making table (Some told)
   stopped-shown told h x = record {
@@ -56,7 +56,7 @@ module _ {W I A : Type 0} (seen : W → Seen I A) (w : World I A) {log : Logged}
   pub end-told : (end : Option End) → ∥ Shown seen w log origins slots making table end ∥₁ → ∥ ShowsStop w log.events end ∥₁ → IsEnd w log.events end
   end-told None shown h = λ result r. ∥∥₁_elim shown (λ p q. absurd p) (λ x. ∥∥₁_elim r (λ p q. absurd p) (λ r.
       let one = one_state w log.events r.state x.state r.history x.history in
-      x.ends r.ends.root (subst (λ (s : State I A). at s.requests 0 ≡ Some r.ends.root) one r.ends.there) (subst IsOver (sym r.ends.over) tt)))
+      x.ends r.ends.root (subst (λ (s : State P I A). at s.requests 0 ≡ Some r.ends.root) one r.ends.there) (subst IsOver (sym r.ends.over) tt)))
   end-told (Some (Root result)) shown h = ∥∥₁_map shown (λ x. record {
     state = x.state;
     journal = x.ends.0.journal;

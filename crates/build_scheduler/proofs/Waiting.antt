@@ -53,7 +53,7 @@ use Rattle.build_scheduler.proofs.OwnWalks.{there-of}
 use Rattle.build_scheduler.proofs.SlotNumbers.{not-equal, at-cases, unready-put, at-get, put-set}
 use Rattle.build_scheduler.proofs.SlotsStay.{map-alike}
 
-module _ {W I A : Type 0} (seen : W → Seen I A) (w : World I A) {log : Logged} {origins : List Origin} {slots : List (Slot W)} {making : List (Option RunId)} {table : TableRuns} {end : Option End} {ready_ones : Numbered} {waiting_ones : List Numbered}
+module _ {W P I A : Type 0} (seen : W → Seen P I A) (w : World P I A) {log : Logged} {origins : List Origin} {slots : List (Slot W)} {making : List (Option RunId)} {table : TableRuns} {end : Option End} {ready_ones : Numbered} {waiting_ones : List Numbered}
     (x : Shown seen w log origins slots making table end) (y : Indexed slots ready_ones waiting_ones) (id : ℕ) (run : RunId) (by : ℕ) (begun : request_of table.begun run ≡ Some by) (open_run : found table.finished run ≡ None) where
   finished_not : found x.state.table run ≡ None
   finished_not = ap (λ t. found t run) (sym x.finished) ∙ open_run
@@ -62,44 +62,45 @@ module _ {W I A : Type 0} (seen : W → Seen I A) (w : World I A) {log : Logged}
   pub circle-none : TellsDependent origins waiting_ones id by None → (runs : List RunId) → ClosesCycle w log.events id run runs → ⊥
   circle-none n runs c =
       let one : c.state ≡ x.state = one_state w log.events c.state x.state c.history x.history in
-      apart-open seen w x y id c.node c.request (walking (wants run c.body c.go))
-      (subst (λ (s : State I A). at s.requests id ≡ Some c.request) one c.there) c.wants_so run c.body c.go by begun open_run n.0 n.1 n.2 c.between
-      (subst (λ (s : State I A). IsChain (waiting w s id c.request.origin c.request.journal c.request.runs run c.body c.go) run c.between run) one c.closes)
+      apart-open seen w x y id c.node c.request (walking (wants c.site run c.body c.go))
+      (subst (λ (s : State P I A). at s.requests id ≡ Some c.request) one c.there) c.wants_so run c.body c.go by begun open_run n.0 n.1 n.2 c.between
+      (subst (λ (s : State P I A). IsChain (waiting w s id c.request.origin c.request.journal c.request.runs run c.body c.go) run c.between run) one c.closes)
 
   pub would-none : TellsDependent origins waiting_ones id by None → WouldClose w log.events id run → ⊥
   would-none n c =
       let one : c.state ≡ x.state = one_state w log.events c.state x.state c.history x.history in
       apart-open seen w x y id c.node c.request c.place
-      (subst (λ (s : State I A). at s.requests id ≡ Some c.request) one c.there) c.with_node run c.body c.go by begun open_run n.0 n.1 n.2 c.between
-      (subst (λ (s : State I A). IsChain (waiting w s id c.request.origin c.request.journal c.request.runs run c.body c.go) run c.between run) one c.closes)
+      (subst (λ (s : State P I A). at s.requests id ≡ Some c.request) one c.there) c.with_node run c.body c.go by begun open_run n.0 n.1 n.2 c.between
+      (subst (λ (s : State P I A). IsChain (waiting w s id c.request.origin c.request.journal c.request.runs run c.body c.go) run c.between run) one c.closes)
 
   pub circle-some : (walk : W) → IsOwn w log.events table.finished id (seen walk) → ask_of (seen walk).position ≡ Want run → (way : Dependent) → TellsDependent origins waiting_ones id by (Some way) → (runs : List RunId) →
       IsCycleOver way.dependents.requests.keys way.dependents.needs.items making way.place run runs → ClosesCycle w log.events id run runs
   circle-some walk o a way n runs r =
       let c = claims-of seen w log log id walk run x o a in
-      let q : RequestState I A = placed c.there.origin (seen walk).position (assigned c.there.node) in
-      let st : q.status ≡ assigned c.there.node (walking (wants run c.wanted.body c.wanted.go)) = ap (assigned c.there.node) c.wanted.is in
+      let q : RequestState P I A = placed c.there.origin (seen walk).position (assigned c.there.node) in
+      let st : q.status ≡ assigned c.there.node (walking (wants c.wanted.site run c.wanted.body c.wanted.go)) = ap (assigned c.there.node) c.wanted.is in
       record {
         state = x.state;
         request = q;
         node = c.there.node;
+        site = c.wanted.site;
         body = c.wanted.body;
         go = c.wanted.go;
         between = r.0;
         history = x.history;
         there = c.there.at_state;
         wants_so = st;
-        begun = beginner-begun x.state.begun run by (begun-by seen w x y id c.there.node q (walking (wants run c.wanted.body c.wanted.go)) c.there.at_state st run c.wanted.body c.wanted.go by begun open_run);
+        begun = beginner-begun x.state.begun run by (begun-by seen w x y id c.there.node q (walking (wants c.wanted.site run c.wanted.body c.wanted.go)) c.there.at_state st run c.wanted.body c.wanted.go by begun open_run);
         unfinished = finished_not;
         runs_so = r.1;
-        closes = found-closes seen w x y id c.there.node q (walking (wants run c.wanted.body c.wanted.go)) c.there.at_state st run c.wanted.body c.wanted.go by begun open_run
+        closes = found-closes seen w x y id c.there.node q (walking (wants c.wanted.site run c.wanted.body c.wanted.go)) c.there.at_state st run c.wanted.body c.wanted.go by begun open_run
             n.0 way.dependents.requests.keys way.dependents.needs.items n.2 n.1 way.place n.3 r.0 r.2;
       }
 
   -- a request with a node, as the claims of any run see it
   module _ (v : IsAssigned w log.events id) where
     here : at x.state.requests id ≡ Some v.request
-    here = subst (λ (s : State I A). at s.requests id ≡ Some v.request) (one_state w log.events v.state x.state v.history x.history) v.there
+    here = subst (λ (s : State P I A). at s.requests id ≡ Some v.request) (one_state w log.events v.state x.state v.history x.history) v.there
 
     pub ways-making : (first : ℕ) (requests over : List ℕ) → AreFound origins waiting_ones first requests over → caller_at origins id ≡ Some first → (i n : ℕ) → at requests i ≡ Some n → (r : RunId) × (at making n ≡ Some (Some r))
     ways-making first requests over f p i n e = found-making seen w x y id v.node v.request v.place here v.is first requests over f p i n e
@@ -115,7 +116,7 @@ module _ {W I A : Type 0} (seen : W → Seen I A) (w : World I A) {log : Logged}
         (made.0 ∷ more.0, (z.place, z.next, z.over_is, omega arith, z.next_is, made.1, more.1))
 
     -- how some request goes on, to say how this one would
-    goes-on : (first : ℕ) → caller_at origins id ≡ Some first → (b : Body I A) × (Record → Journal → Walk I A)
+    goes-on : (first : ℕ) → caller_at origins id ≡ Some first → (b : Body I A) × (Record → Journal → Walk P I A)
     goes-on first p =
         let a = first-calls seen w x y id v.node v.request v.place here v.is first p in
         let q = at-kins x.state.requests first a.of_it a.there in
@@ -153,7 +154,7 @@ bounded-prop : (waiting : List Numbered) (count : ℕ) → IsProp (AreBounded wa
 bounded-prop waiting count = hlevel props
 
 -- a request whose walk is out is with a node
-pub own-assigned : {W I A : Type 0} (seen : W → Seen I A) (w : World I A) {events : List Event} {records : Records} (id : ℕ) (walk : W) → IsOwn w events records id (seen walk) → IsAssigned w events id
+pub own-assigned : {W P I A : Type 0} (seen : W → Seen P I A) (w : World P I A) {events : List Event} {records : Records} (id : ℕ) (walk : W) → IsOwn w events records id (seen walk) → IsAssigned w events id
 own-assigned seen w id walk o = record {
   state = o.stands.state;
   request = placed o.stands.origin (seen walk).position (assigned o.stands.node);
@@ -171,7 +172,7 @@ callers-there origins nested id caller e = ∥∥₁_elim nested (λ p q. le_pro
     let z : IsNested origins y.0.depth (Some caller) = subst (IsNested origins y.0.depth) y.2 (v id y.0 y.1).1 in
     at-less origins caller z.0 z.1)
 
-module _ {W I A : Type 0} (seen : W → Seen I A) (w : World I A) {log : Logged} {origins : List Origin} {slots : List (Slot W)} {making : List (Option RunId)} {table : TableRuns} {end : Option End} where
+module _ {W P I A : Type 0} (seen : W → Seen P I A) (w : World P I A) {log : Logged} {origins : List Origin} {slots : List (Slot W)} {making : List (Option RunId)} {table : TableRuns} {end : Option End} where
   slots-origins : Shown seen w log origins slots making table end → length slots ≡ length origins
   slots-origins x =
       let a : length slots ≡ length x.state.requests = Paired-length (ShowsSlot w x.state (length log.events) seen) slots x.state.requests x.each in
@@ -180,22 +181,22 @@ module _ {W I A : Type 0} (seen : W → Seen I A) (w : World I A) {log : Logged}
   -- a request with a node has an origin
   pub assigned-there : (id : ℕ) → ∥ Shown seen w log origins slots making table end ∥₁ → ∥ IsAssigned w log.events id ∥₁ → id < length origins
   assigned-there id shown v = ∥∥₁_elim shown (λ p q. le_prop p q) (λ x. ∥∥₁_elim v (λ p q. le_prop p q) (λ v.
-      let e = subst (λ (s : State I A). at s.requests id ≡ Some v.request) (one_state w log.events v.state x.state v.history x.history) v.there in
+      let e = subst (λ (s : State P I A). at s.requests id ≡ Some v.request) (one_state w log.events v.state x.state v.history x.history) v.there in
       let l : id < length x.state.requests = at-less x.state.requests id v.request e in
       let b : length origins ≡ length x.state.requests = ap length x.asked ∙ length-map x.state.requests origin_of in omega arith))
 
   -- a run that nobody has begun, or that is finished, closes none
   pub absent-open : (id : ℕ) (run : RunId) → ∥ Shown seen w log origins slots making table end ∥₁ → found table.finished run ≡ None → request_of table.begun run ≡ None → ∥ WouldClose w log.events id run ∥₁ → ⊥
   absent-open id run shown f u c = ∥∥₁_elim shown (λ p q. absurd p) (λ x. ∥∥₁_elim c (λ p q. absurd p) (λ c.
-      clash (is_begun run x.state.begun) (subst (λ (s : State I A). is_begun run s.begun ≡ true) (one_state w log.events c.state x.state c.history x.history) c.begun)
+      clash (is_begun run x.state.begun) (subst (λ (s : State P I A). is_begun run s.begun ≡ true) (one_state w log.events c.state x.state c.history x.history) c.begun)
       (not_begun x.state.table x.state.begun run (ap (λ t. found t run) (sym x.finished) ∙ f) (ap (λ t. request_of t run) (sym x.begun) ∙ u))))
 
   pub finished-open : (id : ℕ) (run : RunId) (made : Record) → ∥ Shown seen w log origins slots making table end ∥₁ → found table.finished run ≡ Some made → ∥ WouldClose w log.events id run ∥₁ → ⊥
   finished-open id run made shown f c = ∥∥₁_elim shown (λ p q. absurd p) (λ x. ∥∥₁_elim c (λ p q. absurd p) (λ c.
-      let n : found x.state.table run ≡ None = subst (λ (s : State I A). found s.table run ≡ None) (one_state w log.events c.state x.state c.history x.history) c.unfinished in
+      let n : found x.state.table run ≡ None = subst (λ (s : State P I A). found s.table run ≡ None) (one_state w log.events c.state x.state c.history x.history) c.unfinished in
       let a : Some made ≡ None = sym f ∙ (ap (λ t. found t run) x.finished ∙ n) in cc))
 
-module _ {W I A : Type 0} (seen : W → Seen I A) (w : World I A) {log : Logged} {origins : List Origin} {slots : List (Slot W)} {making : List (Option RunId)} {table : TableRuns} {end : Option End} {ready_ones : Numbered} {waiting_ones : List Numbered} where
+module _ {W P I A : Type 0} (seen : W → Seen P I A) (w : World P I A) {log : Logged} {origins : List Origin} {slots : List (Slot W)} {making : List (Option RunId)} {table : TableRuns} {end : Option End} {ready_ones : Numbered} {waiting_ones : List Numbered} where
   -- all that wait are there
   pub waiting-bounded : ∥ Shown seen w log origins slots making table end ∥₁ → ∥ Indexed slots ready_ones waiting_ones ∥₁ → AreBounded waiting_ones (length origins)
   waiting-bounded shown indexed = ∥∥₁_elim shown (bounded-prop waiting_ones (length origins)) (λ x. ∥∥₁_elim indexed (bounded-prop waiting_ones (length origins)) (λ y. record {
@@ -259,22 +260,23 @@ module _ {W I A : Type 0} (seen : W → Seen I A) (w : World I A) {log : Logged}
       let m = ways-making seen w x y id run by b f v n.0 way.dependents.requests.keys way.dependents.needs.items n.2 n.1 i.0 request i.1 in
       subst IsMaking (sym m.1) tt)))
 
-module _ {W I A : Type 0} (seen : W → Seen I A) (w : World I A) (log after : Logged) {origins : List Origin} {slots : List (Slot W)} {making : List (Option RunId)} {table : TableRuns} {end : Option End} (id : ℕ) (walk : W) (run : RunId) (by : ℕ) where
+module _ {W P I A : Type 0} (seen : W → Seen P I A) (w : World P I A) (log after : Logged) {origins : List Origin} {slots : List (Slot W)} {making : List (Option RunId)} {table : TableRuns} {end : Option End} (id : ℕ) (walk : W) (run : RunId) (by : ℕ) where
   -- the state in which it waits
-  abbrev put_state : (x : Shown seen w log origins slots making table end) → Claims seen w log log id walk run x → State I A
+  abbrev put_state : (x : Shown seen w log origins slots making table end) → Claims seen w log log id walk run x → State P I A
   put_state x c = waiting w x.state id c.there.origin (seen walk).position.journal (seen walk).position.runs run c.wanted.body c.wanted.go
 
   no-cycle : (x : Shown seen w log origins slots making table end) (c : Claims seen w log log id walk run x) → found x.state.table run ≡ None → is_begun run x.state.begun ≡ true → IsClosingCycle w log.events id run None → is_in_cycle (put_state x c) run ≡ false
   no-cycle x c f b n = elim (tells (is_in_cycle (put_state x c) run)) [
     | inr t ↦ t
     | inl t ↦
-        let q : RequestState I A = placed c.there.origin (seen walk).position (assigned c.there.node) in
-        let st : q.status ≡ assigned c.there.node (walking (wants run c.wanted.body c.wanted.go)) = ap (assigned c.there.node) c.wanted.is in
-        let shows = (cycles_are_shown w log.events x.state x.history id c.there.node q run c.wanted.body c.wanted.go c.there.at_state st b f).0 t in
+        let q : RequestState P I A = placed c.there.origin (seen walk).position (assigned c.there.node) in
+        let st : q.status ≡ assigned c.there.node (walking (wants c.wanted.site run c.wanted.body c.wanted.go)) = ap (assigned c.there.node) c.wanted.is in
+        let shows = (cycles_are_shown w log.events x.state x.history id c.there.node q c.wanted.site run c.wanted.body c.wanted.go c.there.at_state st b f).0 t in
         absurd (n (run ∷ shows.0 ++ run ∷ []) ∣ record {
           state = x.state;
           request = q;
           node = c.there.node;
+          site = c.wanted.site;
           body = c.wanted.body;
           go = c.wanted.go;
           between = shows.0;
@@ -298,8 +300,8 @@ module _ {W I A : Type 0} (seen : W → Seen I A) (w : World I A) (log after : L
       after.events ≡ log.events ++ Claim id run Wait ∷ [] → log.room + 2 ≡ after.room + 1 → outs ≡ put slots id (Waiting walk by) → Shown seen w log origins slots making table end → Shown seen w after origins outs making table end
   waited-shown o a f u n ev room out x =
       let c = claims-of seen w log log id walk run x o a in
-      let q : RequestState I A = placed c.there.origin (seen walk).position (assigned c.there.node) in
-      let z : RequestState I A = record { origin = c.there.origin; journal = (seen walk).position.journal; runs = (seen walk).position.runs; status = waits run c.wanted.body c.wanted.go } in
+      let q : RequestState P I A = placed c.there.origin (seen walk).position (assigned c.there.node) in
+      let z : RequestState P I A = record { origin = c.there.origin; journal = (seen walk).position.journal; runs = (seen walk).position.runs; status = waits run c.wanted.body c.wanted.go } in
       let f_now : found x.state.table run ≡ None = ap (λ t. found t run) (sym x.finished) ∙ f in
       let u_now : request_of (unfinished x.state.table x.state.begun) run ≡ Some by = ap (λ t. request_of t run) (sym x.begun) ∙ u in
       let b : is_begun run x.state.begun ≡ true = beginner-begun x.state.begun run by (sym (unfinished-beginner x.state.table x.state.begun run f_now) ∙ u_now) in
@@ -310,6 +312,7 @@ module _ {W I A : Type 0} (seen : W → Seen I A) (w : World I A) (log after : L
       (λ n b d e. record { begun = λ other body go by h g. g; told = λ keys ids y go h. map-alike _ _ ids (result-put x.state.requests id q z c.there.at_state refl) })
       (record {
         run = run;
+        site = c.wanted.site;
         body = c.wanted.body;
         go = c.wanted.go;
         is = refl;

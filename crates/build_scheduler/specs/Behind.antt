@@ -15,13 +15,13 @@ use Rattle.build_scheduler.specs.Position.{tools_in}
 
 -- where no node has retired and the request is in a body after these events, a walk at this place
 -- has used what the history has of the body; a walk that was given back uses tools again
-abbrev pub IsBehind : {I A : Type 0} → World I A → List Event → ℕ → Place I A → Type 0
-IsBehind {I} {A} w events id place =
-    (s : State I A) (q : RequestState I A) (x : ToolsUsed I) → retires events ≡ 0 → IsHistory w events s → at s.requests id ≡ Some q → body_at q.status ≡ Some x →
+abbrev pub IsBehind : {P I A : Type 0} → World P I A → List Event → ℕ → Place P I A → Type 0
+IsBehind {P} {I} {A} w events id place =
+    (s : State P I A) (q : RequestState P I A) (x : ToolsUsed I) → retires events ≡ 0 → IsHistory w events s → at s.requests id ≡ Some q → body_at q.status ≡ Some x →
     tools_in place ≡ uses_of x.run (uses_in w events)
 
 -- each walk that is ready
-abbrev pub AreBehind : {W I A : Type 0} → (W → Seen I A) → World I A → List Event → List (Slot W) → Type 0
+abbrev pub AreBehind : {W P I A : Type 0} → (W → Seen P I A) → World P I A → List Event → List (Slot W) → Type 0
 AreBehind {W} seen w events slots =
     (id : ℕ) (walk : W) (answer : Answer) → at slots id ≡ Some (Ready walk answer) → IsBehind w events id (seen walk).position.place
 

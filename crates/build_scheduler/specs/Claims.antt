@@ -21,13 +21,13 @@ use Rattle.build_scheduler.specs.Own.{Seen, IsOut}
 
 -- the request with a node would close a cycle if it waited for the run: the run is begun and not finished, and would need itself, over some others or
 -- over none
-pub record WouldClose {I A : Type 0} (w : World I A) (events : List Event) (id : ℕ) (run : RunId) : Type 0 where
-  pub state : State I A
-  pub request : RequestState I A
+pub record WouldClose {P I A : Type 0} (w : World P I A) (events : List Event) (id : ℕ) (run : RunId) : Type 0 where
+  pub state : State P I A
+  pub request : RequestState P I A
   pub node : ℕ
-  pub place : Place I A
+  pub place : Place P I A
   pub body : Body I A
-  pub go : Record → Journal → Walk I A
+  pub go : Record → Journal → Walk P I A
   pub between : List RunId
   pub history : IsHistory w events state
   pub there : at state.requests id ≡ Some request
@@ -38,28 +38,29 @@ pub record WouldClose {I A : Type 0} (w : World I A) (events : List Event) (id :
 
 -- the request with a node wants a run that is begun and not finished, and these runs are the cycle that its wait would close: from the run over
 -- others, if any, back to the run, where each needs the next
-pub record ClosesCycle {I A : Type 0} (w : World I A) (events : List Event) (id : ℕ) (run : RunId) (runs : List RunId) : Type 0 where
-  pub state : State I A
-  pub request : RequestState I A
+pub record ClosesCycle {P I A : Type 0} (w : World P I A) (events : List Event) (id : ℕ) (run : RunId) (runs : List RunId) : Type 0 where
+  pub state : State P I A
+  pub request : RequestState P I A
   pub node : ℕ
+  pub site : P
   pub body : Body I A
-  pub go : Record → Journal → Walk I A
+  pub go : Record → Journal → Walk P I A
   pub between : List RunId
   pub history : IsHistory w events state
   pub there : at state.requests id ≡ Some request
-  pub wants_so : request.status ≡ assigned node (walking (wants run body go))
+  pub wants_so : request.status ≡ assigned node (walking (wants site run body go))
   pub begun : is_begun run state.begun ≡ true
   pub unfinished : found state.table run ≡ None
   pub runs_so : runs ≡ run ∷ between ++ run ∷ []
   pub closes : IsChain (waiting w state id request.origin request.journal request.runs run body go) run between run
 
 -- the cycle that the request would close, or it would close none
-abbrev pub IsClosingCycle : {I A : Type 0} → World I A → List Event → ℕ → RunId → Option (List RunId) → Type 0
+abbrev pub IsClosingCycle : {P I A : Type 0} → World P I A → List Event → ℕ → RunId → Option (List RunId) → Type 0
 IsClosingCycle w events id run None = (runs : List RunId) → ∥ ClosesCycle w events id run runs ∥₁ → ⊥
 IsClosingCycle w events id run (Some runs) = ∥ ClosesCycle w events id run runs ∥₁
 
 -- the events after a claim, and what is said of the walk that is handed back
-abbrev pub IsClaimed : {W I A : Type 0} → (W → Seen I A) → World I A → List Event → List Event → Records → ℕ → RunId → W → Result (Claimed W) W → Type 0
+abbrev pub IsClaimed : {W P I A : Type 0} → (W → Seen P I A) → World P I A → List Event → List Event → Records → ℕ → RunId → W → Result (Claimed W) W → Type 0
 IsClaimed seen w events after table id run walk (Ok (Begins back)) = (after ≡ events ++ Claim id run Go ∷ []) × (back ≡ walk) × ∥ IsOut w after table id (seen back) Goes ∥₁
 IsClaimed seen w events after table id run walk (Ok (Takes back)) = (after ≡ events ++ Claim id run Use ∷ []) × (back ≡ walk) × ∥ IsOut w after table id (seen back) Uses ∥₁
 IsClaimed seen w events after table id run walk (Ok Waits) = after ≡ events ++ Claim id run Wait ∷ []

@@ -12,7 +12,7 @@ use Rattle.build_scheduler.specs.Children.{HasDepth, IsChildSlot, child_origin, 
 use Rattle.build_scheduler.specs.Own.{Seen}
 
 -- the children of these calls, which are not nested too deep
-pub record AreNew {W I A : Type 0} (seen : W → Seen I A) (caller : Seen I A) (id : ℕ) (calls : List RequestKey) (requests : List Origin) (children : Children W) : Type 0 where
+pub record AreNew {W P I A : Type 0} (seen : W → Seen P I A) (caller : Seen P I A) (id : ℕ) (calls : List RequestKey) (requests : List Origin) (children : Children W) : Type 0 where
   pub depth : ℕ
   pub has_depth : HasDepth (at requests id) depth
   pub not_deep : suc depth < deepest

@@ -12,35 +12,35 @@ use Rattle.build_scheduler.specs.Position.{Position, ask_of, answered, IsInTurn}
 use Rattle.build_scheduler.specs.Learnt.{ArePartOf}
 
 -- what contracts see of a walk
-pub record Seen (I A : Type 0) : Type 0 where
-  pub world : World I A
-  pub position : Position I A
+pub record Seen (P I A : Type 0) : Type 0 where
+  pub world : World P I A
+  pub position : Position P I A
   pub asked : ℕ
   pub learnt : Records
 
-abbrev pub seen_by : {W I A : Type 0} → (W → World I A) → (W → Position I A) → (W → ℕ) → (W → Records) → W → Seen I A
+abbrev pub seen_by : {W P I A : Type 0} → (W → World P I A) → (W → Position P I A) → (W → ℕ) → (W → Records) → W → Seen P I A
 seen_by world position asked learnt walk = record { world = world walk; position = position walk; asked = asked walk; learnt = learnt walk }
 
 -- a request that stands at a position
-abbrev pub placed : {I A : Type 0} → Origin → Position I A → (Place I A → Status I A) → RequestState I A
+abbrev pub placed : {P I A : Type 0} → Origin → Position P I A → (Place P I A → Status P I A) → RequestState P I A
 placed origin p status = record { origin = origin; journal = p.journal; runs = p.runs; status = status p.place }
 
 -- after these events the request is with a node, and stands there
-pub record IsWith {I A : Type 0} (w : World I A) (events : List Event) (id : ℕ) (p : Position I A) : Type 0 where
-  pub state : State I A
+pub record IsWith {P I A : Type 0} (w : World P I A) (events : List Event) (id : ℕ) (p : Position P I A) : Type 0 where
+  pub state : State P I A
   pub origin : Origin
   pub node : ℕ
   pub history : IsHistory w events state
   pub there : at state.requests id ≡ Some (placed origin p (assigned node))
 
 -- the request is with a node, and asks this
-pub record Asks {I A : Type 0} (w : World I A) (events : List Event) (id : ℕ) (ask : Ask) : Type 0 where
-  pub position : Position I A
+pub record Asks {P I A : Type 0} (w : World P I A) (events : List Event) (id : ℕ) (ask : Ask) : Type 0 where
+  pub position : Position P I A
   pub stands : IsWith w events id position
   pub asks : ask_of position ≡ ask
 
 -- the walk is the request's own: it stands where the request does, and has asked what it asks there
-pub record IsOwn {I A : Type 0} (w : World I A) (events : List Event) (table : Records) (id : ℕ) (walk : Seen I A) : Type 0 where
+pub record IsOwn {P I A : Type 0} (w : World P I A) (events : List Event) (table : Records) (id : ℕ) (walk : Seen P I A) : Type 0 where
   pub stands : IsWith w events id walk.position
   pub world : walk.world ≡ w
   pub learnt : ArePartOf walk.learnt table
@@ -48,8 +48,8 @@ pub record IsOwn {I A : Type 0} (w : World I A) (events : List Event) (table : R
   pub few : walk.asked ≤ length events
 
 -- the walk is the request's own, and this is its next answer: it takes the walk to where the request stands
-pub record IsOut {I A : Type 0} (w : World I A) (events : List Event) (table : Records) (id : ℕ) (walk : Seen I A) (answer : Answer) : Type 0 where
-  pub next : Position I A
+pub record IsOut {P I A : Type 0} (w : World P I A) (events : List Event) (table : Records) (id : ℕ) (walk : Seen P I A) (answer : Answer) : Type 0 where
+  pub next : Position P I A
   pub stands : IsWith w events id next
   pub world : walk.world ≡ w
   pub learnt : ArePartOf walk.learnt table

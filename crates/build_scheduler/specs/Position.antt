@@ -20,37 +20,37 @@ use Rattle.build_scheduler.specs.declared.walker.Answer.{Answer}
 use Rattle.build_scheduler.specs.declared.walker.Answer.TheVariants.{First, Go, Use, Results}
 
 -- the journal of a request, the runs that it has made or used, and where it stands between or in its runs
-pub record Position (I A : Type 0) : Type 0 where
+pub record Position (P I A : Type 0) : Type 0 where
   pub journal : Journal
   pub runs : List RunId
-  pub place : Place I A
+  pub place : Place P I A
 
 -- what it asks there
-abbrev pub ask_at : {I A : Type 0} → List RunId → Place I A → Ask
+abbrev pub ask_at : {P I A : Type 0} → List RunId → Place P I A → Ask
 ask_at runs (walking (gives reply)) = Done (result_of reply runs)
-ask_at runs (walking (wants run b go)) = Want run
+ask_at runs (walking (wants site run b go)) = Want run
 ask_at runs (within x (ends outcome)) = Finished x.run (recorded outcome x.so_far.segments)
 ask_at runs (within x (asks key keys go)) = Call (key ∷ keys)
 
-abbrev pub ask_of : {I A : Type 0} → Position I A → Ask
+abbrev pub ask_of : {P I A : Type 0} → Position P I A → Ask
 ask_of p = ask_at p.runs p.place
 
 -- where a body has stopped
-abbrev pub stopped_in : {I A : Type 0} → List RunId → RunId → (Record → Journal → Walk I A) → Stopped I A → Position I A
+abbrev pub stopped_in : {P I A : Type 0} → List RunId → RunId → (Record → Journal → Walk P I A) → Stopped I A → Position P I A
 stopped_in runs run go x =
     record { journal = x.journal; runs = runs; place = within (record { run = run; so_far = x.so_far; go = go }) x.stop }
 
 -- where the request goes on by the record of a run
-abbrev pub after_run : {I A : Type 0} → List RunId → RunId → (Record → Journal → Walk I A) → Record → Journal → Position I A
+abbrev pub after_run : {P I A : Type 0} → List RunId → RunId → (Record → Journal → Walk P I A) → Record → Journal → Position P I A
 after_run runs run go made journal = record { journal = journal; runs = runs ++ run ∷ []; place = walking (go made journal) }
 
 -- where an answer takes a request, by a table of records: the body of a run goes on until it stops; a record is replayed; the results of
 -- calls, one for each, have their runs replayed in call order
-module _ {I A : Type 0} (w : World I A) (table : Records) where
-  abbrev pub answered_at : Journal → List RunId → Place I A → Answer → Option (Position I A)
+module _ {P I A : Type 0} (w : World P I A) (table : Records) where
+  abbrev pub answered_at : Journal → List RunId → Place P I A → Answer → Option (Position P I A)
   answered_at journal runs place First = Some (record { journal = journal; runs = runs; place = place })
-  answered_at journal runs (walking (wants run b go)) Go = Some (stopped_in runs run go (run_on w.tools run b journal nothing_yet))
-  answered_at journal runs (walking (wants run b go)) Use =
+  answered_at journal runs (walking (wants site run b go)) Go = Some (stopped_in runs run go (run_on w.tools run b journal nothing_yet))
+  answered_at journal runs (walking (wants site run b go)) Use =
       and_then (found table run) (λ made. and_then (replay table run journal) (λ next. Some (after_run runs run go made next)))
   answered_at journal runs (within x (ends outcome)) Use =
       let made : Record = recorded outcome x.so_far.segments in Some (after_run runs x.run x.go made (add journal (ended x.run made)))
@@ -60,7 +60,7 @@ module _ {I A : Type 0} (w : World I A) (table : Records) where
       Some (stopped_in runs x.run x.go (run_on w.tools x.run (go results next) next (with_calls x.so_far (key ∷ keys) results)))))
   answered_at journal runs place answer = None
 
-  abbrev pub answered : Position I A → Answer → Option (Position I A)
+  abbrev pub answered : Position P I A → Answer → Option (Position P I A)
   answered p answer = answered_at p.journal p.runs p.place answer
 
 -- the first answer comes before anything is asked, and every other one after an ask
@@ -69,7 +69,7 @@ IsInTurn asked First = asked ≡ 0
 IsInTurn asked answer = 0 < asked
 
 -- where a new request stands, which begins with its caller's journal
-abbrev pub begins : {I A : Type 0} → World I A → RequestKey → Journal → Position I A
+abbrev pub begins : {P I A : Type 0} → World P I A → RequestKey → Journal → Position P I A
 begins w key journal = record { journal = journal; runs = []; place = walking (w.walks key journal) }
 
 -- the request asks for calls, and this is one of them
@@ -78,10 +78,10 @@ IsCall key (Call keys) = In key keys
 IsCall key ask = ⊥
 
 -- the tools that the body which a request is in has used
-abbrev pub tools_in : {I A : Type 0} → Place I A → List (ToolUse I)
+abbrev pub tools_in : {P I A : Type 0} → Place P I A → List (ToolUse I)
 tools_in (walking walk) = []
 tools_in (within x stop) = x.so_far.tools
 
 -- the tools that were used on the way from one place to the next
-abbrev pub used_between : {I A : Type 0} → Place I A → Place I A → List (ToolUse I)
+abbrev pub used_between : {P I A : Type 0} → Place P I A → Place P I A → List (ToolUse I)
 used_between before after = drop (length (tools_in before)) (tools_in after)

@@ -19,7 +19,7 @@ IsLogged log after id node true =
 IsLogged log after id node false =
     (after.events ≡ log.events) × (after.room ≡ log.room) × (suc (retires log.events) ≡ log.nodes)
 
-module _ {I A : Type 0} (w : World I A) (nodes : ℕ) (events after : List Event) where
+module _ {P I A : Type 0} (w : World P I A) (nodes : ℕ) (events after : List Event) where
   -- the node that has the request gives it back, and the build goes on; or no other node is
   -- active, and the build ends for want of memory
   abbrev pub IsRetired : ℕ → Option End → Bool → Type 0

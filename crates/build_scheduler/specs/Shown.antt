@@ -20,10 +20,10 @@ use Rattle.build_scheduler.specs.Own.{Seen}
 use Rattle.build_scheduler.specs.Slots.{origin_of, making_of, owed_by, unfinished, ShowsSlot}
 
 -- no end is told before the root is over, and its end is that it is over
-abbrev pub ShowsEnd : {I A : Type 0} → State I A → Option End → Type 0
-ShowsEnd {I} {A} s None = (root : RequestState I A) → at s.requests 0 ≡ Some root → IsOver root.status → ⊥
-ShowsEnd {I} {A} s (Some (Root result)) = (root : RequestState I A) × (at s.requests 0 ≡ Some root) × (root.status ≡ done result)
-ShowsEnd {I} {A} s (Some end) = Unit {0}
+abbrev pub ShowsEnd : {P I A : Type 0} → State P I A → Option End → Type 0
+ShowsEnd {P} {I} {A} s None = (root : RequestState P I A) → at s.requests 0 ≡ Some root → IsOver root.status → ⊥
+ShowsEnd {P} {I} {A} s (Some (Root result)) = (root : RequestState P I A) × (at s.requests 0 ≡ Some root) × (root.status ≡ done result)
+ShowsEnd {P} {I} {A} s (Some end) = Unit {0}
 
 -- every request but the root is called by another
 abbrev pub AreCalled : List Origin → Type 0
@@ -43,9 +43,9 @@ abbrev pub AreNested : List Origin → Type 0
 AreNested origins = (id : ℕ) (origin : Origin) → at origins id ≡ Some origin → (origin.depth < deepest) × IsNested origins origin.depth origin.parent
 
 -- the events are a legal history, and the core shows the state after them
-pub record Shown {W I A : Type 0} (seen : W → Seen I A) (w : World I A) (log : Logged) (origins : List Origin) (slots : List (Slot W)) (making : List (Option RunId))
+pub record Shown {W P I A : Type 0} (seen : W → Seen P I A) (w : World P I A) (log : Logged) (origins : List Origin) (slots : List (Slot W)) (making : List (Option RunId))
     (table : TableRuns) (end : Option End) : Type 0 where
-  pub state : State I A
+  pub state : State P I A
   pub history : IsHistory w log.events state
   pub asked : origins ≡ map origin_of state.requests
   pub rooted : AreRooted origins

@@ -57,6 +57,9 @@ pub trait Walker: Sized + Drop {
     /// What tells the world, apart from any walk.
     type Origin: Drop;
 
+    /// What tells where a run is made: its target, and the scope.
+    ghost Site: { Type 0 };
+
     /// What a tool is given.
     ghost Input: { Type 0 };
 
@@ -64,13 +67,13 @@ pub trait Walker: Sized + Drop {
     ghost Output: { Type 0 };
 
     /// The world that an origin tells.
-    ghost world_of: { Self.Origin → World Self.Input Self.Output };
+    ghost world_of: { Self.Origin → World Self.Site Self.Input Self.Output };
 
     /// The world that the walk is of.
-    ghost world: { Self → World Self.Input Self.Output };
+    ghost world: { Self → World Self.Site Self.Input Self.Output };
 
     /// Where it stands: what it asks there waits for its answer.
-    ghost position: { Self → Position Self.Input Self.Output };
+    ghost position: { Self → Position Self.Site Self.Input Self.Output };
 
     /// How often it has asked.
     ghost asked: { Self → ℕ };
@@ -80,7 +83,7 @@ pub trait Walker: Sized + Drop {
 
     /// Where it stood before its last `advance`, and how often it had asked; None where it was not advanced since it was made or
     /// put back.
-    ghost earlier: { Self → Option (Position Self.Input Self.Output × ℕ) };
+    ghost earlier: { Self → Option (Position Self.Site Self.Input Self.Output × ℕ) };
 
     /// The tools that were used at a place, in order.
     ghost used: { Self.Place → List (ToolUse Self.Input) };

@@ -242,8 +242,9 @@ popped-none [] e = refl
 popped-none (x ∷ old) e = absurd (cc)
 
 -- a journal where a request stands
-pub good-at : {I A : Type 0} (table : Records) → AreInOrder table → (callers : List (Waiting I A)) →
-    HaveReplayed table callers → (j : Journal) (runs : List RunId) (place : Place I A) →
+pub good-at : {P I A : Type 0} (table : Records) → AreInOrder table →
+    (callers : List (Waiting P I A)) →
+    HaveReplayed table callers → (j : Journal) (runs : List RunId) (place : Place P I A) →
     HasReplayedAt table (start_of callers) j runs place → IsGood table j
 good-at table o callers above j runs (walking x) h = good-more table o (map replays_run runs)
     (start_of callers) j (start-good table o callers above) h
@@ -252,10 +253,10 @@ good-at table o callers above j runs (within x stop) h =
     (good-more table o (map replays_run runs) (start_of callers) h.0 (start-good table o callers
     above) h.1.before) h.1.done
 
-module _ {W I A : Type 0} (seen : W → Seen I A) (w : World I A) where
+module _ {W P I A : Type 0} (seen : W → Seen P I A) (w : World P I A) where
   -- what doesn't change where a walk has asked once more, and where a table is larger
   pub each-later : (table : Records) (before now : ℕ) (xs : List (Caller W))
-      (ys : List (Waiting I A)) → before ≤ now → Paired (IsCalling seen w table before) xs ys →
+      (ys : List (Waiting P I A)) → before ≤ now → Paired (IsCalling seen w table before) xs ys →
       Paired (IsCalling seen w table now) xs ys
   each-later table before now xs ys l =
       Paired-mono (IsCalling seen w table before) (IsCalling seen w table now) (λ x y h. record {
@@ -273,7 +274,7 @@ module _ {W I A : Type 0} (seen : W → Seen I A) (w : World I A) where
       }) xs ys
 
   pub each-newer : (table larger : Records) (count : ℕ) (xs : List (Caller W))
-      (ys : List (Waiting I A)) → Newer table larger →
+      (ys : List (Waiting P I A)) → Newer table larger →
       Paired (IsCalling seen w table count) xs ys → Paired (IsCalling seen w larger count) xs ys
   each-newer table larger count xs ys n =
       Paired-mono (IsCalling seen w table count) (IsCalling seen w larger count) (λ x y h. record {
@@ -296,7 +297,7 @@ module _ {W I A : Type 0} (seen : W → Seen I A) (w : World I A) where
     pub callers : next.callers.items ≡ check.callers.items
     pub asks : next.asks ≡ check.asks
 
-  pub each-same : (check next : Check W) (table : Records) (ys : List (Waiting I A)) →
+  pub each-same : (check next : Check W) (table : Records) (ys : List (Waiting P I A)) →
       IsSame check next → Paired (IsCalling seen w table check.asks)
       (last_first check.callers.items) ys → Paired (IsCalling seen w table next.asks)
       (last_first next.callers.items) ys
@@ -306,7 +307,7 @@ module _ {W I A : Type 0} (seen : W → Seen I A) (w : World I A) where
       h)
 
   -- a walk has asked once more
-  pub held-asked : (check next : Check W) (p : Position I A) → next.findings ≡ check.findings →
+  pub held-asked : (check next : Check W) (p : Position P I A) → next.findings ≡ check.findings →
       next.path.items ≡ check.path.items → next.callers.items ≡ check.callers.items →
       next.asks ≡ check.asks + 1 → IsHeld seen w check p → IsHeld seen w next p
   held-asked check next p f path callers n h = record {
@@ -329,14 +330,14 @@ module _ {W I A : Type 0} (seen : W → Seen I A) (w : World I A) where
   }
 
   -- where a request stands, by its place
-  pub held-at : (check : Check W) (p : Position I A) (place : Place I A) → p.place ≡ place →
+  pub held-at : (check : Check W) (p : Position P I A) (place : Place P I A) → p.place ≡ place →
       IsHeld seen w check p → IsHeld seen w check (record {
         journal = p.journal;
         runs = p.runs;
         place = place;
       })
   held-at check p place e h =
-      subst (λ (x : Place I A). IsHeld seen w check (record {
+      subst (λ (x : Place P I A). IsHeld seen w check (record {
         journal = p.journal;
         runs = p.runs;
         place = x;
@@ -349,13 +350,13 @@ module _ {W I A : Type 0} (seen : W → Seen I A) (w : World I A) where
       has (end_of run) (seen walk).position.journal ≡ true → IsTurn seen w check (GoesOn walk Use)
   want-uses check walk run held asking asked there =
       let table = check.findings.records.finished in
-      let p : Position I A = (seen walk).position in
+      let p : Position P I A = (seen walk).position in
       let want = wants-of p.runs p.place run asked in
-      let h = held-at check p (walking (wants run want.body want.go)) want.is held in
+      let h = held-at check p (walking (wants want.site run want.body want.go)) want.is held in
       let good = good-at table h.in_order h.callers h.above p.journal p.runs
-      (walking (wants run want.body want.go)) h.here in
+      (walking (wants want.site run want.body want.go)) h.here in
       let known = ended-used table p.journal run good there in
-      let next : Position I A = after_run p.runs run want.go known.0 p.journal in (
+      let next : Position P I A = after_run p.runs run want.go known.0 p.journal in (
         next,
         record {
           before = h.before;
@@ -369,13 +370,14 @@ module _ {W I A : Type 0} (seen : W → Seen I A) (w : World I A) where
           here = replayed-run table p.runs run (start_of h.callers) p.journal p.journal h.here
               known.3;
           verdict = h.verdict ∙ ap (verdict_after h.before) (rest-used w (depth_below h.callers)
-              (path_of h.callers) run want.body want.go p.journal p.runs (after_call w h.callers)
+              (path_of h.callers) want.site run want.body want.go p.journal p.runs
+              (after_call w h.callers)
               known.0 known.1);
         },
         record {
           world = asking.world;
           learnt = asking.learnt;
-          goes = ap (λ (x : Place I A). answered_at w table p.journal p.runs x Use) want.is
+          goes = ap (λ (x : Place P I A). answered_at w table p.journal p.runs x Use) want.is
               ∙ (ap (λ o. and_then o (λ made. and_then (replay table run p.journal) (λ after.
               Some (after_run p.runs run want.go made after)))) known.2
               ∙ ap (λ o. and_then o (λ after. Some (after_run p.runs run want.go known.0 after)))
@@ -386,28 +388,30 @@ module _ {W I A : Type 0} (seen : W → Seen I A) (w : World I A) where
       )
 
   -- a run that is wanted and has not ended
-  pub record Unended (check : Check W) (p : Position I A) (run : RunId) : Type 0 where
+  pub record Unended (check : Check W) (p : Position P I A) (run : RunId) : Type 0 where
+    pub site : P
     pub body : Body I A
-    pub go : Record → Journal → Walk I A
-    pub is : p.place ≡ walking (wants run body go)
+    pub go : Record → Journal → Walk P I A
+    pub is : p.place ≡ walking (wants site run body go)
     pub held : IsHeld seen w check (record {
       journal = p.journal;
       runs = p.runs;
-      place = walking (wants run body go);
+      place = walking (wants site run body go);
     })
 
-  pub unended-of : (check : Check W) (p : Position I A) (run : RunId) → IsHeld seen w check p →
+  pub unended-of : (check : Check W) (p : Position P I A) (run : RunId) → IsHeld seen w check p →
       ask_of p ≡ Want run → Unended check p run
   unended-of check p run held asked =
       let want = wants-of p.runs p.place run asked in
       record {
+        site = want.site;
         body = want.body;
         go = want.go;
         is = want.is;
-        held = held-at check p (walking (wants run want.body want.go)) want.is held;
+        held = held-at check p (walking (wants want.site run want.body want.go)) want.is held;
       }
 
-  pub want-circles : (check : Check W) (p : Position I A) (run : RunId) → IsHeld seen w check p →
+  pub want-circles : (check : Check W) (p : Position P I A) (run : RunId) → IsHeld seen w check p →
       ask_of p ≡ Want run → has (end_of run) p.journal ≡ false →
       list_any (λ x. same_run x run) check.path.items ≡ true → Circular run ≡ verdict_of w
   want-circles check p run held asked gone among =
@@ -417,11 +421,11 @@ module _ {W I A : Type 0} (seen : W → Seen I A) (w : World I A) where
       ∙ (sym (any-in run check.path.items) ∙ among) in
       sym (h.verdict
       ∙ (ap (verdict_after h.before) (rest-circular w (depth_below h.callers) (path_of h.callers)
-      run u.body u.go p.journal p.runs (after_call w h.callers) (none-had p.journal run gone)
+      u.site run u.body u.go p.journal p.runs (after_call w h.callers) (none-had p.journal run gone)
       inside)
       ∙ verdict-said h.before (is_circular run) [] (Circular run) refl))
 
-  made-rest : (check : Check W) (p : Position I A) (run : RunId) (u : Unended check p run) →
+  made-rest : (check : Check W) (p : Position P I A) (run : RunId) (u : Unended check p run) →
       has (end_of run) p.journal ≡ false → list_any (λ x. same_run x run) check.path.items ≡ false →
       verdict_of w ≡ verdict_after u.held.before (body_begins run ∷ rest_of_body w
       (depth_below u.held.callers) (path_of u.held.callers) run u.body p.journal nothing_yet
@@ -431,10 +435,10 @@ module _ {W I A : Type 0} (seen : W → Seen I A) (w : World I A) where
       let outside : is_in run (path_of h.callers) ≡ false = ap (is_in run) (sym h.path)
       ∙ (sym (any-in run check.path.items) ∙ among) in
       h.verdict ∙ ap (verdict_after h.before) (rest-made w (depth_below h.callers)
-      (path_of h.callers) run u.body u.go p.journal p.runs (after_call w h.callers)
+      (path_of h.callers) u.site run u.body u.go p.journal p.runs (after_call w h.callers)
       (none-had p.journal run gone) outside)
 
-  pub want-said : (check : Check W) (p : Position I A) (run : RunId) (verdict : Verdict)
+  pub want-said : (check : Check W) (p : Position P I A) (run : RunId) (verdict : Verdict)
       (f : Findings) → IsHeld seen w check p → ask_of p ≡ Want run → has (end_of run) p.journal
       ≡ false → list_any (λ x. same_run x run) check.path.items ≡ false →
       ((before : List DemandEvent) → Shows check.findings before →
@@ -460,12 +464,12 @@ module _ {W I A : Type 0} (seen : W → Seen I A) (w : World I A) where
       let table = check.findings.records.finished in
       let larger = next.findings.records.finished in
       let e : larger ≡ table = ap (λ r. r.finished) same_records in
-      let p : Position I A = (seen walk).position in
+      let p : Position P I A = (seen walk).position in
       let u = unended-of check p run held asked in
       let h = u.held in
       let t = tells h.before h.shows in
       let stop : Stopped I A = run_on w.tools run u.body p.journal nothing_yet in
-      let to : Position I A = stopped_in p.runs run u.go stop in (
+      let to : Position P I A = stopped_in p.runs run u.go stop in (
         to,
         record {
           before = h.before ++ body_begins run ∷ [];
@@ -498,15 +502,16 @@ module _ {W I A : Type 0} (seen : W → Seen I A) (w : World I A) where
         record {
           world = asking.world;
           learnt = subst (ArePartOf (seen walk).learnt) (sym e) asking.learnt;
-          goes = ap (λ (x : Place I A). answered_at w larger p.journal p.runs x Go) u.is;
+          goes = ap (λ (x : Place P I A). answered_at w larger p.journal p.runs x Go) u.is;
           turn = asking.asked;
           few = subst (λ n. (seen walk).asked ≤ n) (sym same.asks) asking.few;
         },
       )
 
   -- the body of a run has come to its end
-  pub record Ended (check : Check W) (p : Position I A) (run : RunId) (made : Record) : Type 0 where
-    pub inside : Within I A
+  pub record Ended (check : Check W) (p : Position P I A) (run : RunId)
+      (made : Record) : Type 0 where
+    pub inside : Within P I A
     pub outcome : Outcome
     pub is : p.place ≡ within inside (ends outcome)
     pub run_is : inside.run ≡ run
@@ -517,7 +522,7 @@ module _ {W I A : Type 0} (seen : W → Seen I A) (w : World I A) where
       place = within inside (ends outcome);
     })
 
-  pub ended-of : (check : Check W) (p : Position I A) (run : RunId) (made : Record) →
+  pub ended-of : (check : Check W) (p : Position P I A) (run : RunId) (made : Record) →
       IsHeld seen w check p → ask_of p ≡ Finished run made → Ended check p run made
   ended-of check p run made held asked =
       let e = ends-of p.runs p.place run made asked in
@@ -532,7 +537,7 @@ module _ {W I A : Type 0} (seen : W → Seen I A) (w : World I A) where
       }
 
   -- in the terms of its place
-  tells-at : (check : Check W) (p : Position I A) (run : RunId) (made : Record)
+  tells-at : (check : Check W) (p : Position P I A) (run : RunId) (made : Record)
       (x : Ended check p run made) (f : Findings) (said : Option Verdict) →
       Tells x.held.before (body_ends run made) f said →
       Tells x.held.before (body_ends x.inside.run (recorded x.outcome x.inside.so_far.segments)) f
@@ -541,7 +546,7 @@ module _ {W I A : Type 0} (seen : W → Seen I A) (w : World I A) where
       subst (λ m. Tells x.held.before (body_ends x.inside.run m) f said) (sym x.made_is)
       (subst (λ r. Tells x.held.before (body_ends r made) f said) (sym x.run_is) t)
 
-  pub finish-said : (check : Check W) (p : Position I A) (run : RunId) (made : Record)
+  pub finish-said : (check : Check W) (p : Position P I A) (run : RunId) (made : Record)
       (verdict : Verdict) (f : Findings) → IsHeld seen w check p → ask_of p ≡ Finished run made →
       ((before : List DemandEvent) → Shows check.findings before → Tells before (body_ends run made)
       f (Some verdict)) → verdict ≡ verdict_of w
@@ -563,7 +568,7 @@ module _ {W I A : Type 0} (seen : W → Seen I A) (w : World I A) where
     pub in_order : AreInOrder larger
 
   -- the runs that a body's record calls for are finished
-  body-runs : (check : Check W) (p : Position I A) (run : RunId) (made : Record)
+  body-runs : (check : Check W) (p : Position P I A) (run : RunId) (made : Record)
       (x : Ended check p run made) → (r : RunId) →
       In (replays_run r) (effects_of x.inside.run (recorded x.outcome x.inside.so_far.segments)) →
       IsSome (found check.findings.records.finished r)
@@ -620,7 +625,7 @@ module _ {W I A : Type 0} (seen : W → Seen I A) (w : World I A) where
   finish-goes check next walk run made held asking asked tells grows same path =
       let table = check.findings.records.finished in
       let larger = next.findings.records.finished in
-      let p : Position I A = (seen walk).position in
+      let p : Position P I A = (seen walk).position in
       let x = ended-of check p run made held asked in
       let h = x.held in
       let r : RunId = x.inside.run in
@@ -638,7 +643,7 @@ module _ {W I A : Type 0} (seen : W → Seen I A) (w : World I A) where
       let good_begun = good-more table h.in_order (map replays_run p.runs) start begun good
       body.before in
       let after : Journal = add p.journal (ended r m) in
-      let to : Position I A = after_run p.runs r x.inside.go m after in
+      let to : Position P I A = after_run p.runs r x.inside.go m after in
       let body_there = body-replayed larger f.in_order r m begun p.journal f.there body.fresh
       (replayed-newer table larger h.in_order f.newer (effects_of r m) begun p.journal
       good_begun body.done) in (
@@ -663,15 +668,15 @@ module _ {W I A : Type 0} (seen : W → Seen I A) (w : World I A) where
         record {
           world = asking.world;
           learnt = part-newer (seen walk).learnt table larger f.newer asking.learnt;
-          goes = ap (λ (y : Place I A). answered_at w larger p.journal p.runs y Use) x.is;
+          goes = ap (λ (y : Place P I A). answered_at w larger p.journal p.runs y Use) x.is;
           turn = asking.asked;
           few = subst (λ n. (seen walk).asked ≤ n) (sym same.asks) asking.few;
         },
       )
 
   -- a body calls requests
-  pub record Called (check : Check W) (p : Position I A) (calls : List RequestKey) : Type 0 where
-    pub mine : Waiting I A
+  pub record Called (check : Check W) (p : Position P I A) (calls : List RequestKey) : Type 0 where
+    pub mine : Waiting P I A
     pub stands : p ≡ waits_at mine
     pub calls_are : calls ≡ mine.key ∷ mine.keys
     pub left : mine.left ≡ mine.key ∷ mine.keys
@@ -681,7 +686,7 @@ module _ {W I A : Type 0} (seen : W → Seen I A) (w : World I A) where
     pub here : HasReplayedCalls check.findings.records.finished mine
     pub verdict : verdict_of w ≡ verdict_after held.before (rest_from w held.callers mine)
 
-  pub called-of : (check : Check W) (p : Position I A) (keys : List RequestKey) →
+  pub called-of : (check : Check W) (p : Position P I A) (keys : List RequestKey) →
       IsHeld seen w check p → ask_of p ≡ Call keys → Called check p keys
   called-of check p keys held asked =
       let c = calls-of p.runs p.place keys asked in
@@ -689,7 +694,7 @@ module _ {W I A : Type 0} (seen : W → Seen I A) (w : World I A) where
       let h = held-at check p (within c.inside stop) c.is held in
       let start : Journal = start_of h.callers in
       let begun : Journal = h.here.0 in
-      let mine : Waiting I A = record {
+      let mine : Waiting P I A = record {
         start = start;
         begun = begun;
         journal = p.journal;
@@ -703,7 +708,7 @@ module _ {W I A : Type 0} (seen : W → Seen I A) (w : World I A) where
         left = c.key ∷ c.keys;
       } in record {
         mine = mine;
-        stands = ap (λ (x : Place I A). record { journal = p.journal; runs = p.runs; place = x })
+        stands = ap (λ (x : Place P I A). record { journal = p.journal; runs = p.runs; place = x })
             c.is;
         calls_are = sym c.calls_are;
         left = refl;
@@ -715,20 +720,20 @@ module _ {W I A : Type 0} (seen : W → Seen I A) (w : World I A) where
             p.journal p.runs c.inside c.key c.keys c.go);
       }
 
-  pub some-called : (check : Check W) (p : Position I A) (keys : List RequestKey) →
+  pub some-called : (check : Check W) (p : Position P I A) (keys : List RequestKey) →
       IsHeld seen w check p → ask_of p ≡ Call keys → 0 < length keys
   some-called check p keys held asked =
       let c = calls-of p.runs p.place keys asked in
       let e : suc (length c.keys) ≡ length keys = ap length c.calls_are in omega arith
 
-  callers-count : (check : Check W) (p : Position I A) (h : IsHeld seen w check p) →
+  callers-count : (check : Check W) (p : Position P I A) (h : IsHeld seen w check p) →
       length check.callers.items ≡ length h.callers
   callers-count check p h = sym (last-length check.callers.items)
       ∙ Paired-length (IsCalling seen w check.findings.records.finished check.asks)
       (last_first check.callers.items) h.callers h.each
 
   -- they are nested too deep
-  pub call-too-deep : (check : Check W) (p : Position I A) (keys : List RequestKey)
+  pub call-too-deep : (check : Check W) (p : Position P I A) (keys : List RequestKey)
       (verdict : Verdict) → IsHeld seen w check p → ask_of p ≡ Call keys →
       deepest ≤ length check.callers.items + 1 →
       ((key : RequestKey) (more : List RequestKey) → keys ≡ key ∷ more →
@@ -782,7 +787,7 @@ module _ {W I A : Type 0} (seen : W → Seen I A) (w : World I A) where
       }
 
   -- a request is over: the root
-  pub record IsOver (check : Check W) (p : Position I A) (result : RequestResult) : Type 0 where
+  pub record IsOver (check : Check W) (p : Position P I A) (result : RequestResult) : Type 0 where
     pub held : IsHeld seen w check p
     pub here : HasReplayed check.findings.records.finished (map replays_run result.runs)
         (start_of held.callers) p.journal
@@ -790,7 +795,7 @@ module _ {W I A : Type 0} (seen : W → Seen I A) (w : World I A) where
     pub verdict : verdict_of w ≡ verdict_after held.before (after_call w held.callers result
         p.journal)
 
-  pub over-of : (check : Check W) (p : Position I A) (result : RequestResult) →
+  pub over-of : (check : Check W) (p : Position P I A) (result : RequestResult) →
       IsHeld seen w check p → ask_of p ≡ Done result → IsOver check p result
   over-of check p result held asked =
       let g = gives-of p.runs p.place result asked in
@@ -798,12 +803,12 @@ module _ {W I A : Type 0} (seen : W → Seen I A) (w : World I A) where
         journal = p.journal;
         runs = p.runs;
         place = walking (gives g.reply);
-      } = ap (λ (x : Place I A). record {
+      } = ap (λ (x : Place P I A). record {
         journal = p.journal;
         runs = p.runs;
         place = x;
       }) g.is in
-      subst (λ (q : Position I A). IsOver check q result) (sym back) (
+      subst (λ (q : Position P I A). IsOver check q result) (sym back) (
       let h = held-at check p (walking (gives g.reply)) g.is held in record {
         held = h;
         here = subst (λ (r : RequestResult). HasReplayed check.findings.records.finished
@@ -813,7 +818,7 @@ module _ {W I A : Type 0} (seen : W → Seen I A) (w : World I A) where
             ∙ ap (λ r. verdict_after h.before (after_call w h.callers r p.journal)) g.told_is;
       })
 
-  pub root-over : (check : Check W) (p : Position I A) (result : RequestResult) →
+  pub root-over : (check : Check W) (p : Position P I A) (result : RequestResult) →
       IsHeld seen w check p → ask_of p ≡ Done result → length check.callers.items ≡ 0 →
       Steady check.findings.bodies ≡ verdict_of w
   root-over check p result held asked none =
@@ -822,14 +827,14 @@ module _ {W I A : Type 0} (seen : W → Seen I A) (w : World I A) where
       let n : length h.callers ≡ 0 = sym (callers-count check p h) ∙ none in
       go h.callers n h.before h.shows x.verdict
     where
-      go : (callers : List (Waiting I A)) → length callers ≡ 0 → (before : List DemandEvent) →
+      go : (callers : List (Waiting P I A)) → length callers ≡ 0 → (before : List DemandEvent) →
           Shows check.findings before → verdict_of w ≡ verdict_after before
           (after_call w callers result p.journal) → Steady check.findings.bodies ≡ verdict_of w
       go [] n before shows v = ap Steady shows.bodies ∙ sym v
       go (c ∷ callers) n before shows v = absurd (cc)
 
   -- or one that was called: its caller has the result
-  pub called-over : (check next : Check W) (caller told_caller : Caller W) (p : Position I A)
+  pub called-over : (check next : Check W) (caller told_caller : Caller W) (p : Position P I A)
       (result : RequestResult) → IsHeld seen w check p → ask_of p ≡ Done result →
       last_first check.callers.items ≡ caller ∷ last_first next.callers.items →
       next.findings ≡ check.findings → next.path.items ≡ check.path.items →
@@ -846,7 +851,7 @@ module _ {W I A : Type 0} (seen : W → Seen I A) (w : World I A) where
       subst (λ xs. Paired (IsCalling seen w table check.asks) xs h.callers) callers h.each in
       go h.callers pairs h.above x.here h.nested x.path h.before x.verdict h.shows h.in_order
     where
-      go : (all : List (Waiting I A)) → Paired (IsCalling seen w check.findings.records.finished
+      go : (all : List (Waiting P I A)) → Paired (IsCalling seen w check.findings.records.finished
           check.asks) (caller ∷ last_first next.callers.items) all →
           HaveReplayed check.findings.records.finished all →
           HasReplayed check.findings.records.finished (map replays_run result.runs) (start_of all)
@@ -857,7 +862,7 @@ module _ {W I A : Type 0} (seen : W → Seen I A) (w : World I A) where
       go [] pairs above here nested paths before v shows o = absurd pairs
       go (c ∷ callers) pairs above here nested paths before v shows o =
           let table = check.findings.records.finished in
-          let mine : Waiting I A = told c result p.journal in
+          let mine : Waiting P I A = told c result p.journal in
           let good = caller-good table o c (subst (IsGood table) (sym above.1)
           (start-good table o callers above.2)) above.0 in
           let count : length mine.results ≡ suc (length c.results) = let k =
@@ -906,7 +911,7 @@ module _ {W I A : Type 0} (seen : W → Seen I A) (w : World I A) where
       IsTurn seen w check (GoesOn caller.walk (Results caller.results.items))
   next-resumes check caller h all_told =
       let table = check.findings.records.finished in
-      let m : Waiting I A = h.mine in
+      let m : Waiting P I A = h.mine in
       let keys : List RequestKey = m.key ∷ m.keys in
       let told_all : length m.results ≡ length keys = sym (ap length h.calls.results)
       ∙ (all_told ∙ ap length h.calls.calls) in
@@ -915,7 +920,7 @@ module _ {W I A : Type 0} (seen : W → Seen I A) (w : World I A) where
       let so_far : SoFar I = with_calls m.inside.so_far keys m.results in
       let stop : Stopped I A = run_on w.tools m.inside.run (m.go_on m.results m.merged) m.merged
       so_far in
-      let to : Position I A = stopped_in m.runs m.inside.run m.inside.go stop in
+      let to : Position P I A = stopped_in m.runs m.inside.run m.inside.go stop in
       let done = calls-replayed table m.inside.run m.inside.so_far keys m.results m.begun m.journal
       m.merged (sym told_all) h.here.inside.done h.here.called in (
         to,
@@ -950,7 +955,7 @@ module _ {W I A : Type 0} (seen : W → Seen I A) (w : World I A) where
         record {
           world = h.calls.asking.world;
           learnt = h.calls.asking.learnt;
-          goes = ap (λ (q : Position I A). answered w table q (Results caller.results.items))
+          goes = ap (λ (q : Position P I A). answered w table q (Results caller.results.items))
               h.calls.stands
               ∙ (ap (λ rs. answered w table (waits_at m) (Results rs)) h.calls.results
               ∙ (ap (λ b. and_then (only_if b m.results) (λ rs.
@@ -974,7 +979,7 @@ module _ {W I A : Type 0} (seen : W → Seen I A) (w : World I A) where
       (with_left h.mine (drop (suc (length h.mine.results)) (h.mine.key ∷ h.mine.keys))
       ∷ h.callers) (begins w key h.mine.journal))
   next-reached check caller h key l e =
-      let m : Waiting I A = h.mine in
+      let m : Waiting P I A = h.mine in
       let keys : List RequestKey = m.key ∷ m.keys in
       let told_so : length caller.results.items ≡ length m.results = ap length h.calls.results in
       let within_keys : length m.results < length keys = let k : length caller.calls ≡ length keys =
@@ -1021,11 +1026,11 @@ module _ {W I A : Type 0} (seen : W → Seen I A) (w : World I A) where
       let table = check.findings.records.finished in
       let larger = next.findings.records.finished in
       let same : larger ≡ table = ap (λ r. r.finished) same_records in
-      let m : Waiting I A = h.mine in
+      let m : Waiting P I A = h.mine in
       let keys : List RequestKey = m.key ∷ m.keys in
-      let mine : Waiting I A = with_left m (drop (suc (length m.results)) keys) in
+      let mine : Waiting P I A = with_left m (drop (suc (length m.results)) keys) in
       let t = tells h.before h.shows in
-      let to : Position I A = begins w key m.journal in
+      let to : Position P I A = begins w key m.journal in
       let few : suc (length m.results) ≤ suc (length m.keys) =
       let k : length caller.calls ≡ suc (length m.keys) = ap length h.calls.calls in
       let n : length caller.results.items ≡ length m.results = ap length h.calls.results in
@@ -1077,8 +1082,8 @@ module _ {W I A : Type 0} (seen : W → Seen I A) (w : World I A) where
             in_order = learnt.in_order;
             shared = λ r made f. h.calls.asking.learnt.shared r made (learnt.shared r made f);
           });
-          goes = ap (λ (q : Position I A). answered w larger q First) (position
-              ∙ ap (λ (q : Position I A). begins w key q.journal) h.calls.stands);
+          goes = ap (λ (q : Position P I A). answered w larger q First) (position
+              ∙ ap (λ (q : Position P I A). begins w key q.journal) h.calls.stands);
           turn = asked;
           few = omega (arith, asked);
         },
@@ -1112,7 +1117,7 @@ module _ {W I A : Type 0} (seen : W → Seen I A) (w : World I A) where
       IsTurn seen w next (GoesOn walk First)
   start-goes check next walk shows tells records path callers asks_are world position asked learnt =
       let t = tells [] shows in
-      let to : Position I A = begins w w.root [] in
+      let to : Position P I A = begins w w.root [] in
       let table = next.findings.records.finished in (
         to,
         record {
@@ -1137,7 +1142,7 @@ module _ {W I A : Type 0} (seen : W → Seen I A) (w : World I A) where
             shared = λ r m f. absurd (let e : None ≡ Some m = sym (ap (λ x. found x r) learnt)
                 ∙ f in cc);
           };
-          goes = ap (λ (q : Position I A). answered w table q First) position;
+          goes = ap (λ (q : Position P I A). answered w table q First) position;
           turn = asked;
           few = omega (arith, asked);
         },
@@ -1192,7 +1197,7 @@ module _ {W I A : Type 0} (seen : W → Seen I A) (w : World I A) where
   ready-own check caller ready =
       subst (λ v. IsReady seen v check caller) (sym ready.calls.asking.world) ready
 
-  pub held-own : (check : Check W) (walk gone : W) (answer : Answer) (p : Position I A) →
+  pub held-own : (check : Check W) (walk gone : W) (answer : Answer) (p : Position P I A) →
       IsTurn seen w check (GoesOn walk answer) → (seen gone).world ≡ (seen walk).world →
       (next : Check W) → IsHeld seen w next p → IsHeld seen (seen gone).world next p
   held-own check walk gone answer p turn same next h =
@@ -1212,7 +1217,7 @@ module _ {W I A : Type 0} (seen : W → Seen I A) (w : World I A) where
       IsReady seen w check caller → i < length caller.calls → key ≡ get_or caller.calls i key →
       IsCall key (ask_of (seen caller.walk).position)
   next-calls check caller key i h l e =
-      subst (λ (q : Position I A). IsCall key (ask_of q)) (sym h.calls.stands)
+      subst (λ (q : Position P I A). IsCall key (ask_of q)) (sym h.calls.stands)
       (subst (λ ks. In key ks) h.calls.calls (subst (λ k. In k caller.calls) (sym e)
       (in-get caller.calls i key l)))
 

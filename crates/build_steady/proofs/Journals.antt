@@ -262,7 +262,7 @@ run-replayed table tools r (uses name input go) j k so_far h =
 run-replayed table tools r (calls key keys go) j k so_far h = h
 
 -- the journal of a caller, and that with which a request begins
-pub caller-good : {I A : Type 0} (table : Records) → AreInOrder table → (c : Waiting I A) →
+pub caller-good : {P I A : Type 0} (table : Records) → AreInOrder table → (c : Waiting P I A) →
     IsGood table c.start → HasReplayedCalls table c → IsGood table c.begun × IsGood table c.journal
     × IsGood table c.merged
 caller-good table o c g h =
@@ -271,15 +271,17 @@ caller-good table o c g h =
     c.journal a h.inside.done in
     (a, b, good-more table o (map replays_run (runs_of c.results)) c.journal c.merged b h.called)
 
-pub start-good : {I A : Type 0} (table : Records) → AreInOrder table →
-    (callers : List (Waiting I A)) → HaveReplayed table callers → IsGood table (start_of callers)
+pub start-good : {P I A : Type 0} (table : Records) → AreInOrder table →
+    (callers : List (Waiting P I A)) → HaveReplayed table callers → IsGood table (start_of callers)
 start-good table o [] h = good-nothing table
 start-good table o (c ∷ callers) h =
     (caller-good table o c (subst (IsGood table) (sym h.1) (start-good table o callers h.2)) h.0).1
 
 -- callers, by a larger table
-pub caller-newer : {I A : Type 0} (table larger : Records) → AreInOrder table → Newer table larger →
-    (c : Waiting I A) → IsGood table c.start → HasReplayedCalls table c → HasReplayedCalls larger c
+pub caller-newer : {P I A : Type 0} (table larger : Records) → AreInOrder table →
+    Newer table larger →
+    (c : Waiting P I A) → IsGood table c.start → HasReplayedCalls table c →
+    HasReplayedCalls larger c
 caller-newer table larger o n c g h =
     let good = caller-good table o c g h in record {
       inside = record {
@@ -293,8 +295,8 @@ caller-newer table larger o n c g h =
           c.merged good.1 h.called;
     }
 
-pub callers-newer : {I A : Type 0} (table larger : Records) → AreInOrder table →
-    Newer table larger → (callers : List (Waiting I A)) → HaveReplayed table callers →
+pub callers-newer : {P I A : Type 0} (table larger : Records) → AreInOrder table →
+    Newer table larger → (callers : List (Waiting P I A)) → HaveReplayed table callers →
     HaveReplayed larger callers
 callers-newer table larger o n [] h = tt
 callers-newer table larger o n (c ∷ callers) h = (

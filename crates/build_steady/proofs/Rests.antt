@@ -60,6 +60,7 @@ use Rattle.build_meaning.specs.Meaning.{
   Demanded,
   requested,
   together,
+  joined,
   built,
   Given,
   after,
@@ -108,51 +109,57 @@ use Rattle.build_steady.specs.Waiting.{
 }
 
 -- what comes after two things that follow each other
-pub then-followed : {I S T : Type 0} (first : Option (Given I S)) (next : S → Journal →
-    Option (Given I T)) (k : T → Journal → List DemandEvent) →
+pub then-followed : {P I S T : Type 0} (first : Option (Given P I S)) (next : S → Journal →
+    Option (Given P I T)) (k : T → Journal → List DemandEvent) →
     then_comes (followed first next) k ≡ then_comes first (λ x j. then_comes (next x j) k)
 then-followed None next k = refl
-then-followed {I} {S} {T} (Some x) next k = go (next x.value x.journal)
+then-followed {P} {I} {S} {T} (Some x) next k = go (next x.value x.journal)
   where
-    go : (o : Option (Given I T)) → then_comes (and_then o (λ y. Some (after x.demand y))) k
+    go : (o : Option (Given P I T)) → then_comes (and_then o (λ y. Some (after x.demand y))) k
         ≡ then_comes o k
     go None = refl
     go (Some y) = refl
 
-pub then-containing : {I T : Type 0} (e : Demanded I) (o : Option (Given I T)) (k : T → Journal →
+pub then-containing : {P I T : Type 0} (e : Demanded P I) (o : Option (Given P I T))
+    (k : T → Journal →
     List DemandEvent) → then_comes (containing e o) k ≡ then_comes o k
 then-containing e None k = refl
 then-containing e (Some x) k = refl
 
-pub then-joined : {I T : Type 0} (o : Option (Given I T)) (f g : T → Journal → List DemandEvent) →
+pub then-joined : {P I T : Type 0} (o : Option (Given P I T))
+    (f g : T → Journal → List DemandEvent) →
     then_comes o f ++ then_comes o g ≡ then_comes o (λ x j. f x j ++ g x j)
 then-joined None f g = refl
 then-joined (Some x) f g = refl
 
-pub then-alike : {I T : Type 0} (o : Option (Given I T)) (f g : T → Journal → List DemandEvent) →
+pub then-alike : {P I T : Type 0} (o : Option (Given P I T))
+    (f g : T → Journal → List DemandEvent) →
     ((x : T) (j : Journal) → f x j ≡ g x j) → then_comes o f ≡ then_comes o g
 then-alike None f g h = refl
 then-alike (Some x) f g h = h x.value x.journal
 
-pub then-nothing : {I T : Type 0} (o : Option (Given I T)) → then_comes o (λ x j. []) ≡ []
+pub then-nothing : {P I T : Type 0} (o : Option (Given P I T)) → then_comes o (λ x j. []) ≡ []
 then-nothing None = refl
 then-nothing (Some x) = refl
 
 -- events, and then two parts that each wait for the same thing
-joined : {I T : Type 0} (es : List DemandEvent) (o : Option (Given I T)) (f g : T → Journal →
+both-waited : {P I T : Type 0} (es : List DemandEvent) (o : Option (Given P I T))
+    (f g : T → Journal →
     List DemandEvent) → (es ++ then_comes o f) ++ then_comes o g ≡ es ++ then_comes o (λ x j. f x j
     ++ g x j)
-joined es o f g =
+both-waited es o f g =
     append_assoc es (then_comes o f) (then_comes o g) ∙ ap (λ l. es ++ l) (then-joined o f g)
 
-module _ {I A : Type 0} (w : World I A) where
+module _ {P I A : Type 0} (w : World P I A) where
   -- a run that has ended in the journal
-  pub rest-used : (depth : ℕ) (path : List RunId) (run : RunId) (b : Body I A) (go : Record →
-      Journal → Walk I A) (j : Journal) (runs : List RunId) (next : Next) (m : Record) →
+  pub rest-used : (depth : ℕ) (path : List RunId) (site : P) (run : RunId) (b : Body I A)
+      (go : Record → Journal → Walk P I A) (j : Journal) (runs : List RunId) (next : Next)
+      (m : Record) →
       record_of j run ≡ Some m →
-      rest_of_walk w depth path (wants run b go) j runs next ≡ rest_of_walk w depth path (go m j) j
+      rest_of_walk w depth path (wants site run b go) j runs next ≡ rest_of_walk w depth path
+      (go m j) j
       (runs ++ run ∷ []) next
-  rest-used depth path run b go j runs next m e =
+  rest-used depth path site run b go j runs next m e =
       ap (λ (o : Option Record).
       order_of_run o (is_in run path) (order_of_body w (order_of_request w depth (run ∷ path))
       (request w depth (run ∷ path)) run b j nothing_yet)
@@ -160,70 +167,73 @@ module _ {I A : Type 0} (w : World I A) where
       (λ made then_j. order_of_walk w (order_of_request w depth) (request w depth) path
       (go made then_j) then_j) j
       ++ then_comes (wanted w o (is_in run path) (body w (request w depth (run ∷ path)) run b j
-      nothing_yet) run j (λ x then_j. walk w (request w depth) path (go x then_j) then_j (runs
+      nothing_yet) site run j (λ x then_j. walk w (request w depth) path (go x then_j) then_j (runs
       ++ run ∷ []))) next) e
 
   -- a run that is wanted in its own body
-  pub rest-circular : (depth : ℕ) (path : List RunId) (run : RunId) (b : Body I A) (go : Record →
-      Journal → Walk I A) (j : Journal) (runs : List RunId) (next : Next) → record_of j run ≡ None →
+  pub rest-circular : (depth : ℕ) (path : List RunId) (site : P) (run : RunId) (b : Body I A)
+      (go : Record → Journal → Walk P I A) (j : Journal) (runs : List RunId) (next : Next) →
+      record_of j run ≡ None →
       is_in run path ≡ true →
-      rest_of_walk w depth path (wants run b go) j runs next ≡ is_circular run ∷ []
-  rest-circular depth path run b go j runs next e t =
+      rest_of_walk w depth path (wants site run b go) j runs next ≡ is_circular run ∷ []
+  rest-circular depth path site run b go j runs next e t =
       let inner : List DemandEvent = order_of_body w (order_of_request w depth (run ∷ path))
       (request w depth (run ∷ path)) run b j nothing_yet in
-      let x : Option (Given I (Record × List (ToolUse I))) =
+      let x : Option (Given P I (Record × List (ToolUse I))) =
       body w (request w depth (run ∷ path)) run b j nothing_yet in
       ap (λ (o : Option Record).
       order_of_run o (is_in run path) inner x run (λ made then_j.
       order_of_walk w (order_of_request w depth) (request w depth) path (go made then_j) then_j)
       j
-      ++ then_comes (wanted w o (is_in run path) x run j (λ y then_j. walk w (request w depth) path
+      ++ then_comes (wanted w o (is_in run path) x site run j
+      (λ y then_j. walk w (request w depth) path
       (go y then_j) then_j (runs ++ run ∷ []))) next) e
       ∙ ap (λ (p : Bool).
       order_of_run None p inner x run (λ made then_j. order_of_walk w (order_of_request w depth)
       (request w depth) path (go made then_j) then_j) j
-      ++ then_comes (wanted w None p x run j (λ y then_j. walk w (request w depth) path
+      ++ then_comes (wanted w None p x site run j (λ y then_j. walk w (request w depth) path
       (go y then_j) then_j (runs ++ run ∷ []))) next) t
 
   -- any other run is made
-  pub rest-made : (depth : ℕ) (path : List RunId) (run : RunId) (b : Body I A) (go : Record →
-      Journal → Walk I A) (j : Journal) (runs : List RunId) (next : Next) → record_of j run ≡ None →
+  pub rest-made : (depth : ℕ) (path : List RunId) (site : P) (run : RunId) (b : Body I A)
+      (go : Record → Journal → Walk P I A) (j : Journal) (runs : List RunId) (next : Next) →
+      record_of j run ≡ None →
       is_in run path ≡ false →
-      rest_of_walk w depth path (wants run b go) j runs next ≡ body_begins run ∷ rest_of_body w
+      rest_of_walk w depth path (wants site run b go) j runs next ≡ body_begins run ∷ rest_of_body w
       depth path run b j nothing_yet go runs next
-  rest-made depth path run b go j runs next e t =
+  rest-made depth path site run b go j runs next e t =
       let inner : List DemandEvent = order_of_body w (order_of_request w depth (run ∷ path))
       (request w depth (run ∷ path)) run b j nothing_yet in
-      let x : Option (Given I (Record × List (ToolUse I))) =
+      let x : Option (Given P I (Record × List (ToolUse I))) =
       body w (request w depth (run ∷ path)) run b j nothing_yet in
       let ends : Record × List (ToolUse I) → Journal → List DemandEvent = λ m left.
       body_ends run m.0 ∷ order_of_walk w (order_of_request w depth) (request w depth) path
       (go m.0 (add left (ended run m.0))) (add left (ended run m.0)) in
-      let on : Record → Journal → Option (Given I RequestResult) = λ y then_j.
+      let on : Record → Journal → Option (Given P I RequestResult) = λ y then_j.
       walk w (request w depth) path (go y then_j) then_j (runs ++ run ∷ []) in
       ap (λ (o : Option Record).
       order_of_run o (is_in run path) inner x run (λ made then_j.
       order_of_walk w (order_of_request w depth) (request w depth) path (go made then_j) then_j)
       j
-      ++ then_comes (wanted w o (is_in run path) x run j on) next) e
+      ++ then_comes (wanted w o (is_in run path) x site run j on) next) e
       ∙ (ap (λ (p : Bool).
       order_of_run None p inner x run (λ made then_j. order_of_walk w (order_of_request w depth)
       (request w depth) path (go made then_j) then_j) j
-      ++ then_comes (wanted w None p x run j on) next) t
+      ++ then_comes (wanted w None p x site run j on) next) t
       ∙ (ap (λ l. body_begins run ∷ ((inner ++ then_comes x ends) ++ l)) (then-followed x
-      (made_then w run on) next)
+      (made_then w site run j on) next)
       ∙ ap (λ l. body_begins run ∷ l)
-      (joined inner x ends (λ m left. then_comes (made_then w run on m left) next)
+      (both-waited inner x ends (λ m left. then_comes (made_then w site run j on m left) next)
       ∙ ap (λ l. inner ++ l) (then-alike x (λ m left. ends m left
-      ++ then_comes (made_then w run on m left) next)
+      ++ then_comes (made_then w site run j on m left) next)
       (λ m left. body_ends run m.0 ∷ rest_of_walk w depth path (go m.0 (add left (ended run m.0)))
       (add left (ended run m.0)) (runs ++ run ∷ []) next)
-      (λ m left. ap (λ l. ends m left ++ l) (then-containing (built run m.0 m.1)
+      (λ m left. ap (λ l. ends m left ++ l) (then-containing (built site run j m.0 m.1)
       (on m.0 (add left (ended run m.0))) next))))))
 
   -- a body goes on until it stops
   pub rest-stops : (depth : ℕ) (path : List RunId) (run : RunId) (b : Body I A) (j : Journal)
-      (so_far : SoFar I) (go : Record → Journal → Walk I A) (runs : List RunId) (next : Next) →
+      (so_far : SoFar I) (go : Record → Journal → Walk P I A) (runs : List RunId) (next : Next) →
       rest_of_body w depth path run b j so_far go runs next
       ≡ rest_of_body w depth path run (body_of (run_on w.tools run b j so_far).stop)
       (run_on w.tools run b j so_far).journal (run_on w.tools run b j so_far).so_far go runs
@@ -239,19 +249,19 @@ module _ {I A : Type 0} (w : World I A) where
   -- the calls of a body, and then what it does with their results
   pub rest-calls : (depth : ℕ) (path : List RunId) (run : RunId) (key : RequestKey)
       (keys : List RequestKey) (on : List RequestResult → Journal → Body I A) (j : Journal)
-      (so_far : SoFar I) (go : Record → Journal → Walk I A) (runs : List RunId) (next : Next) →
+      (so_far : SoFar I) (go : Record → Journal → Walk P I A) (runs : List RunId) (next : Next) →
       rest_of_body w depth path run (calls key keys on) j so_far go runs next
       ≡ rest_of_calls w depth (run ∷ path) j j (key ∷ keys) (λ results after. rest_of_body w depth
       path run (on results after) after (with_calls so_far (key ∷ keys) results) go runs next)
   rest-calls depth path run key keys on j so_far go runs next =
       let first : List DemandEvent = order_of_calls (order_of_request w depth (run ∷ path)) (request
       w depth (run ∷ path)) j (key ∷ keys) in
-      let x : Option (Given I (List RequestResult)) = at_once w (request w depth (run ∷ path)) j j
+      let x : Option (Given P I (List RequestResult)) = at_once w (request w depth (run ∷ path)) j j
       (key ∷ keys) in
       let inner : List RequestResult → Journal → List DemandEvent = λ results after.
       order_of_body w (order_of_request w depth (run ∷ path)) (request w depth (run ∷ path)) run
       (on results after) after (with_calls so_far (key ∷ keys) results) in
-      let rest : List RequestResult → Journal → Option (Given I (Record × List (ToolUse I))) =
+      let rest : List RequestResult → Journal → Option (Given P I (Record × List (ToolUse I))) =
       λ results after.
       body w (request w depth (run ∷ path)) run (on results after) after
       (with_calls so_far (key ∷ keys) results) in
@@ -262,7 +272,7 @@ module _ {I A : Type 0} (w : World I A) where
       (then-followed (containing (together (key ∷ keys)) x) rest ends
       ∙ then-containing (together (key ∷ keys)) x (λ results after.
       then_comes (rest results after) ends))
-      ∙ joined first x inner (λ results after. then_comes (rest results after) ends)
+      ∙ both-waited first x inner (λ results after. then_comes (rest results after) ends)
 
   -- the next of some calls, and then the others
   pub rest-next : (depth : ℕ) (path : List RunId) (j merged : Journal) (key : RequestKey)
@@ -274,12 +284,14 @@ module _ {I A : Type 0} (w : World I A) where
       next (result ∷ results) last))
   rest-next depth path j merged key keys next =
       let first : List DemandEvent = order_of_request w depth path j key in
-      let x : Option (Given I RequestResult) = request w depth path j key in
+      let x : Option (Given P I RequestResult) = request w depth path j key in
       let inner : RequestResult → Journal → List DemandEvent = λ result left.
       order_of_calls (order_of_request w depth path) (request w depth path) j keys in
-      let all : RequestResult → Journal → Option (Given I (List RequestResult)) = λ result left.
+      let those : RequestResult → Journal → Option (Given P I (List RequestResult)) = λ result left.
       at_once w (request w depth path) j (merge merged left) keys in
-      let rest : RequestResult → Journal → Option (Given I (List RequestResult)) = λ result left.
+      let all : RequestResult → Journal → Option (Given P I (List RequestResult)) = λ result left.
+      containing (joined j merged left) (those result left) in
+      let rest : RequestResult → Journal → Option (Given P I (List RequestResult)) = λ result left.
       followed (all result left) (λ results last. Some (record {
         value = result ∷ results;
         journal =
@@ -287,14 +299,15 @@ module _ {I A : Type 0} (w : World I A) where
         demand = [];
       })) in
       ap (λ l. (first ++ then_comes x inner) ++ l) (then-followed x rest next)
-      ∙ (joined first x inner (λ result left. then_comes (rest result left) next)
+      ∙ (both-waited first x inner (λ result left. then_comes (rest result left) next)
       ∙ ap (λ l. first ++ l) (then-alike x (λ result left. inner result left
       ++ then_comes (rest result left) next)
       (λ result left. rest_of_calls w depth path j (merge merged left) keys (λ results last.
       next (result ∷ results) last))
       (λ result left. ap (λ l. inner result left ++ l) (then-followed (all result left)
       (λ results last. Some (record { value = result ∷ results; journal = last; demand = [] }))
-      next))))
+      next ∙ then-containing (joined j merged left) (those result left) (λ results last.
+      next (result ∷ results) last)))))
 
   -- a request that is not nested too deep
   pub rest-reached : (depth : ℕ) (path : List RunId) (j : Journal) (key : RequestKey)
@@ -316,7 +329,7 @@ module _ {I A : Type 0} (w : World I A) where
       ++ l) (then-alike (at_once w (request w depth path) j merged keys) next other h)
 
   -- a caller reaches its next call
-  pub caller-reaches : (callers : List (Waiting I A)) (c : Waiting I A) (key : RequestKey)
+  pub caller-reaches : (callers : List (Waiting P I A)) (c : Waiting P I A) (key : RequestKey)
       (keys : List RequestKey) (deep : ℕ) → depth_below callers ≡ suc deep →
       rest_from w callers (with_left c (key ∷ keys))
       ≡ is_reached key.instance ∷ rest_of_walk w deep (path_of (with_left c keys ∷ callers))
@@ -345,8 +358,8 @@ module _ {I A : Type 0} (w : World I A) where
       (after_call w (with_left c keys ∷ callers))))
 
   -- a body that has stopped at calls
-  pub caller-begins : (callers : List (Waiting I A)) (start begun j : Journal) (runs : List RunId)
-      (x : Within I A) (key : RequestKey) (keys : List RequestKey) (on : List RequestResult →
+  pub caller-begins : (callers : List (Waiting P I A)) (start begun j : Journal) (runs : List RunId)
+      (x : Within P I A) (key : RequestKey) (keys : List RequestKey) (on : List RequestResult →
       Journal → Body I A) →
       rest_of_body w (depth_below callers) (path_of callers) x.run (calls key keys on) j x.so_far
       x.go runs (after_call w callers)
@@ -368,14 +381,14 @@ module _ {I A : Type 0} (w : World I A) where
       (path_of callers) x.run key keys on j x.so_far x.go runs (after_call w callers)
 
   -- a caller whose calls are over
-  pub caller-resumes : (callers : List (Waiting I A)) (c : Waiting I A) →
+  pub caller-resumes : (callers : List (Waiting P I A)) (c : Waiting P I A) →
       rest_from w callers (with_left c []) ≡ rest_by w (depth_below callers) (path_of callers)
       (after_call w callers) c c.results c.merged
   caller-resumes callers c = ap (λ rs. rest_by w (depth_below callers) (path_of callers)
       (after_call w callers) c rs c.merged) (append-nil c.results)
 
   -- calls that are nested too deep
-  pub caller-too-deep : (callers : List (Waiting I A)) (c : Waiting I A) (key : RequestKey)
+  pub caller-too-deep : (callers : List (Waiting P I A)) (c : Waiting P I A) (key : RequestKey)
       (keys : List RequestKey) → depth_below callers ≡ zero →
       rest_from w callers (with_left c (key ∷ keys)) ≡ is_too_deep key.instance ∷ []
   caller-too-deep callers c key keys e =

@@ -42,9 +42,9 @@ use Rattle.result_cache.specs.Same.{same_run}
 use Rattle.result_cache.specs.SameRecords.{same_record}
 use Rattle.result_cache.proofs.RunTests.{same_run-refl, same_run-true}
 use Rattle.build_meaning.specs.World.{World}
-use Rattle.build_meaning.specs.SoFar.{ToolUse}
-use Rattle.build_meaning.specs.Meaning.{Demanded, built, Given, meaning, most_instances}
+use Rattle.build_meaning.specs.Meaning.{Given, meaning, most_instances}
 use Rattle.build_meaning.specs.Demand.{instances, distinct, built_runs, IsWhole, IsSteady}
+use Rattle.build_meaning.specs.Sound.{IsMade}
 use Rattle.build_meaning.proofs.MeaningDerived.{in-left, in-right}
 use Rattle.build_meaning.proofs.NeedsOfRuns.{in-append}
 use Rattle.build_scheduler.specs.Instances.{AreCounted, with_instance}
@@ -352,16 +352,16 @@ calm-quiet before (e ∷ es) c =
           is = tt;
         }))
 
-module _ {I A : Type 0} (w : World I A) where
-  pub steady-told : (n : ℕ) → verdict_of w ≡ Steady n → (out : Given I RequestResult)
+module _ {P I A : Type 0} (w : World P I A) where
+  pub steady-told : (n : ℕ) → verdict_of w ≡ Steady n → (out : Given P I RequestResult)
       × IsWhole w out × IsSteady out.demand × (length (built_runs out.demand) ≡ n)
       × (n ≤ most_bodies)
   unfolding verdict_of
   steady-told n h = go (meaning w) refl (told-world w) (quiet-of [] (order_of_demand w) n h)
     where
-      go : (o : Option (Given I RequestResult)) → meaning w ≡ o → Told o (order_of_demand w) →
+      go : (o : Option (Given P I RequestResult)) → meaning w ≡ o → Told o (order_of_demand w) →
           Quiet [] (order_of_demand w) × (bodies_begun (order_of_demand w) ≡ n) →
-          (out : Given I RequestResult) × IsWhole w out × IsSteady out.demand
+          (out : Given P I RequestResult) × IsWhole w out × IsSteady out.demand
           × (length (built_runs out.demand) ≡ n) × (n ≤ most_bodies)
       go None e t q = absurd (quiet-ends [] (order_of_demand w) q.0 t)
       go (Some out) e t q =
@@ -372,23 +372,22 @@ module _ {I A : Type 0} (w : World I A) where
           quiet-few [] es q.0 (omega arith) in
           let bodies : bodies_begun es ≤ most_bodies = quiet-bodies [] es q.0 (omega arith) in
           let agree = quiet-agree [] es q.0 (λ r m i. absurd i) in
-          let among : (r : RunId) (m : Record) (tools : List (ToolUse I)) →
-          In (built r m tools) out.demand → In (body_ends r m) es =
-          λ r m tools i. in-unbegun (body_ends r m) es (subst (In (body_ends r m)) (sym t.0)
-          (built-demanded r m tools out.demand i)) in (
+          let among : (r : RunId) (m : Record) → IsMade out.demand r m → In (body_ends r m) es =
+          λ r m i. in-unbegun (body_ends r m) es (subst (In (body_ends r m)) (sym t.0)
+          (built-demanded r m out.demand i)) in (
             out,
             record {
               means = e;
               few = subst (λ xs. length (distinct xs) ≤ most_instances) asked few;
             },
-            (λ run first second tools others i j. let k : Some first ≡ Some second =
-                sym (agree run first (among run first tools i))
-                ∙ agree run second (among run second others j) in cc),
+            (λ run first second i j. let k : Some first ≡ Some second =
+                sym (agree run first (among run first i))
+                ∙ agree run second (among run second j) in cc),
             sym t.1 ∙ q.1,
             subst (λ k. k ≤ most_bodies) q.1 bodies,
           )
 
-  pub steady-so : (out : Given I RequestResult) → IsWhole w out → IsSteady out.demand →
+  pub steady-so : (out : Given P I RequestResult) → IsWhole w out → IsSteady out.demand →
       length (built_runs out.demand) ≤ most_bodies →
       verdict_of w ≡ Steady (length (built_runs out.demand))
   unfolding verdict_of
@@ -408,6 +407,6 @@ module _ {I A : Type 0} (w : World I A) where
             (unbegun-in (body_ends r m) es tt i)) in
             let b = demanded-built r n out.demand (subst (In (body_ends r n)) t.0
             (unbegun-in (body_ends r n) es tt j)) in
-            steady r m n a.0 b.0 a.1 b.1;
+            steady r m n a b;
       } in
       of-quiet [] es (calm-quiet [] es calm) ∙ ap Steady count

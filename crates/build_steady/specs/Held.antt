@@ -35,16 +35,17 @@ last_first [] = []
 last_first (x ∷ xs) = last_first xs ++ x ∷ []
 
 -- a walk that stands where it asks, and has asked at most so often
-pub record IsAsking {I A : Type 0} (w : World I A) (table : Records) (asks : ℕ)
-    (walk : Seen I A) : Type 0 where
+pub record IsAsking {P I A : Type 0} (w : World P I A) (table : Records) (asks : ℕ)
+    (walk : Seen P I A) : Type 0 where
   pub world : walk.world ≡ w
   pub learnt : ArePartOf walk.learnt table
   pub asked : 0 < walk.asked
   pub few : walk.asked ≤ asks
 
 -- a walk and its next answer, which takes it there
-pub record IsAnswered {I A : Type 0} (w : World I A) (table : Records) (asks : ℕ) (walk : Seen I A)
-    (answer : Answer) (next : Position I A) : Type 0 where
+pub record IsAnswered {P I A : Type 0} (w : World P I A) (table : Records) (asks : ℕ)
+    (walk : Seen P I A)
+    (answer : Answer) (next : Position P I A) : Type 0 where
   pub world : walk.world ≡ w
   pub learnt : ArePartOf walk.learnt table
   pub goes : answered w table walk.position answer ≡ Some next
@@ -52,8 +53,8 @@ pub record IsAnswered {I A : Type 0} (w : World I A) (table : Records) (asks : �
   pub few : walk.asked ≤ asks
 
 -- what is held of a caller, of whose calls so many have begun
-pub record IsCaller {W I A : Type 0} (seen : W → Seen I A) (w : World I A) (table : Records)
-    (asks : ℕ) (begun : ℕ) (caller : Caller W) (c : Waiting I A) : Type 0 where
+pub record IsCaller {W P I A : Type 0} (seen : W → Seen P I A) (w : World P I A) (table : Records)
+    (asks : ℕ) (begun : ℕ) (caller : Caller W) (c : Waiting P I A) : Type 0 where
   pub asking : IsAsking w table asks (seen caller.walk)
   pub stands : (seen caller.walk).position ≡ waits_at c
   pub calls : caller.calls ≡ c.key ∷ c.keys
@@ -62,16 +63,17 @@ pub record IsCaller {W I A : Type 0} (seen : W → Seen I A) (w : World I A) (ta
   pub few : begun ≤ suc (length c.keys)
 
 -- a caller one of whose calls is under way
-abbrev pub IsCalling : {W I A : Type 0} → (W → Seen I A) → World I A → Records → ℕ → Caller W →
-    Waiting I A → Type 0
+abbrev pub IsCalling : {W P I A : Type 0} → (W → Seen P I A) → World P I A → Records → ℕ →
+    Caller W →
+    Waiting P I A → Type 0
 IsCalling seen w table asks caller c = IsCaller seen w table asks (suc (length c.results)) caller c
 
 -- the callers and the runs in whose bodies they are, the events so far, and the verdict by what is
 -- to come where a request stands
-pub record IsHeld {W I A : Type 0} (seen : W → Seen I A) (w : World I A) (check : Check W)
-    (p : Position I A) : Type 0 where
+pub record IsHeld {W P I A : Type 0} (seen : W → Seen P I A) (w : World P I A) (check : Check W)
+    (p : Position P I A) : Type 0 where
   pub before : List DemandEvent
-  pub callers : List (Waiting I A)
+  pub callers : List (Waiting P I A)
   pub shows : Shows check.findings before
   pub in_order : AreInOrder check.findings.records.finished
   pub each : Paired (IsCalling seen w check.findings.records.finished check.asks)
@@ -84,11 +86,11 @@ pub record IsHeld {W I A : Type 0} (seen : W → Seen I A) (w : World I A) (chec
   pub verdict : verdict_of w ≡ verdict_after before (rest_below w callers p)
 
 -- so it is with a caller that has no call under way
-pub record IsReady {W I A : Type 0} (seen : W → Seen I A) (w : World I A) (check : Check W)
+pub record IsReady {W P I A : Type 0} (seen : W → Seen P I A) (w : World P I A) (check : Check W)
     (caller : Caller W) : Type 0 where
   pub before : List DemandEvent
-  pub callers : List (Waiting I A)
-  pub mine : Waiting I A
+  pub callers : List (Waiting P I A)
+  pub mine : Waiting P I A
   pub shows : Shows check.findings before
   pub in_order : AreInOrder check.findings.records.finished
   pub each : Paired (IsCalling seen w check.findings.records.finished check.asks)
@@ -103,8 +105,9 @@ pub record IsReady {W I A : Type 0} (seen : W → Seen I A) (w : World I A) (che
   pub verdict : verdict_of w ≡ verdict_after before (rest_from w callers mine)
 
 -- a walk goes on with its answer, or this is the verdict
-abbrev pub IsTurn : {W I A : Type 0} → (W → Seen I A) → World I A → Check W → Turn W → Type 0
-IsTurn {W} {I} {A} seen w check (GoesOn walk answer) =
-    (next : Position I A) × IsHeld seen w check next × IsAnswered w check.findings.records.finished
+abbrev pub IsTurn : {W P I A : Type 0} → (W → Seen P I A) → World P I A → Check W → Turn W → Type 0
+IsTurn {W} {P} {I} {A} seen w check (GoesOn walk answer) =
+    (next : Position P I A) × IsHeld seen w check next
+    × IsAnswered w check.findings.records.finished
     check.asks (seen walk) answer next
-IsTurn {W} {I} {A} seen w check (Over verdict) = verdict ≡ verdict_of w
+IsTurn {W} {P} {I} {A} seen w check (Over verdict) = verdict ≡ verdict_of w

@@ -39,15 +39,15 @@ pub data DemandEvent : Type 0 where
   is_circular : RunId → DemandEvent
 
 -- what comes after something, where it gives something
-abbrev pub then_comes : {I T : Type 0} → Option (Given I T) → (T → Journal → List DemandEvent) →
+abbrev pub then_comes : {P I T : Type 0} → Option (Given P I T) → (T → Journal → List DemandEvent) →
     List DemandEvent
 then_comes None next = []
 then_comes (Some x) next = next x.value x.journal
 
 -- of calls made at once: what comes of each, in call order, up to one that gives nothing. (MSBuild
 -- task, BuildInParallel)
-abbrev pub order_of_calls : {I : Type 0} → (Journal → RequestKey → List DemandEvent) →
-    (Journal → RequestKey → Option (Given I RequestResult)) → Journal → List RequestKey →
+abbrev pub order_of_calls : {P I : Type 0} → (Journal → RequestKey → List DemandEvent) →
+    (Journal → RequestKey → Option (Given P I RequestResult)) → Journal → List RequestKey →
     List DemandEvent
 order_of_calls order ask journal [] = []
 order_of_calls order ask journal (key ∷ keys) = order journal key ++ then_comes (ask journal key)
@@ -55,8 +55,8 @@ order_of_calls order ask journal (key ∷ keys) = order journal key ++ then_come
 
 -- of a run that is wanted, by its record in the journal and by whether it is wanted in its own
 -- body: inner is what comes in its body, x what the body gives, and next what comes after it
-abbrev pub order_of_run : {I : Type 0} → Option Record → Bool → List DemandEvent →
-    Option (Given I (Record × List (ToolUse I))) → RunId → (Record → Journal → List DemandEvent) →
+abbrev pub order_of_run : {P I : Type 0} → Option Record → Bool → List DemandEvent →
+    Option (Given P I (Record × List (ToolUse I))) → RunId → (Record → Journal → List DemandEvent) →
     Journal → List DemandEvent
 order_of_run (Some made) in_path inner x run next journal = next made journal
 order_of_run None true inner x run next journal = is_circular run ∷ []
@@ -64,10 +64,10 @@ order_of_run None false inner x run next journal =
     body_begins run ∷ (inner ++ then_comes x (λ m left. body_ends run m.0 ∷ next m.0
     (add left (ended run m.0))))
 
-module _ {I A : Type 0} (w : World I A) where
+module _ {P I A : Type 0} (w : World P I A) where
   -- of the body of a run, which has done so far
   abbrev pub order_of_body : (Journal → RequestKey → List DemandEvent) → (Journal → RequestKey →
-      Option (Given I RequestResult)) → RunId → Body I A → Journal → SoFar I → List DemandEvent
+      Option (Given P I RequestResult)) → RunId → Body I A → Journal → SoFar I → List DemandEvent
   order_of_body order ask run (makes outcome) journal so_far = []
   order_of_body order ask run (does act go) journal so_far =
       let next : Journal = add journal (acted run (length so_far.segments) act) in
@@ -83,13 +83,15 @@ module _ {I A : Type 0} (w : World I A) where
   -- of a request from here on, where path are the runs in whose bodies it was called, the last one
   -- first
   abbrev pub order_of_walk : (List RunId → Journal → RequestKey → List DemandEvent) →
-      (List RunId → Journal → RequestKey → Option (Given I RequestResult)) → List RunId → Walk I A →
+      (List RunId → Journal → RequestKey → Option (Given P I RequestResult)) → List RunId →
+      Walk P I A →
       Journal → List DemandEvent
   order_of_walk order ask path (gives reply) journal = []
-  order_of_walk order ask path (wants run b go) journal =
+  order_of_walk order ask path (wants site run b go) journal =
       let inner : List DemandEvent = order_of_body (order (run ∷ path)) (ask (run ∷ path)) run b
       journal nothing_yet in
-      let x : Option (Given I (Record × List (ToolUse I))) = body w (ask (run ∷ path)) run b journal
+      let x : Option (Given P I (Record × List (ToolUse I))) =
+      body w (ask (run ∷ path)) run b journal
       nothing_yet in
       order_of_run (record_of journal run) (is_in run path) inner x run (λ made next.
       order_of_walk order ask path (go made next) next) journal

@@ -112,5 +112,5 @@ verdict_after before (event ∷ events) =
     first_said (said_by before event) (verdict_after (before ++ event ∷ []) events)
 
 -- the verdict of a world
-unfoldable pub verdict_of : {I A : Type 0} → World I A → Verdict
+unfoldable pub verdict_of : {P I A : Type 0} → World P I A → Verdict
 verdict_of w = verdict_after [] (order_of_demand w)

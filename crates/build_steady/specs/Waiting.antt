@@ -29,12 +29,12 @@ use Rattle.build_steady.specs.Order.{
 -- a request whose body makes calls: its journal as it began, as the body began, and as the calls
 -- are made; the runs before; the body that it is in; the calls, and how the body goes on by their
 -- results; the results so far, the journal with what those calls have left, and the calls to come
-pub record Waiting (I A : Type 0) : Type 0 where
+pub record Waiting (P I A : Type 0) : Type 0 where
   pub start : Journal
   pub begun : Journal
   pub journal : Journal
   pub runs : List RunId
-  pub inside : Within I A
+  pub inside : Within P I A
   pub key : RequestKey
   pub keys : List RequestKey
   pub go_on : List RequestResult → Journal → Body I A
@@ -43,7 +43,7 @@ pub record Waiting (I A : Type 0) : Type 0 where
   pub left : List RequestKey
 
 -- with the result of one more call, and with what it has left
-abbrev pub told : {I A : Type 0} → Waiting I A → RequestResult → Journal → Waiting I A
+abbrev pub told : {P I A : Type 0} → Waiting P I A → RequestResult → Journal → Waiting P I A
 told c result left = record {
   start = c.start;
   begun = c.begun;
@@ -59,7 +59,7 @@ told c result left = record {
 }
 
 -- with these calls to come
-abbrev pub with_left : {I A : Type 0} → Waiting I A → List RequestKey → Waiting I A
+abbrev pub with_left : {P I A : Type 0} → Waiting P I A → List RequestKey → Waiting P I A
 with_left c left = record {
   start = c.start;
   begun = c.begun;
@@ -75,7 +75,7 @@ with_left c left = record {
 }
 
 -- where it stands
-abbrev pub waits_at : {I A : Type 0} → Waiting I A → Position I A
+abbrev pub waits_at : {P I A : Type 0} → Waiting P I A → Position P I A
 waits_at c = record {
   journal = c.journal;
   runs = c.runs;
@@ -84,14 +84,14 @@ waits_at c = record {
 
 -- below these callers, the innermost first: the runs in whose bodies a request is called, how many
 -- may be nested below it, and the journal with which it begins
-abbrev pub path_of : {I A : Type 0} → List (Waiting I A) → List RunId
+abbrev pub path_of : {P I A : Type 0} → List (Waiting P I A) → List RunId
 path_of [] = []
 path_of (c ∷ callers) = c.inside.run ∷ path_of callers
 
-abbrev pub depth_below : {I A : Type 0} → List (Waiting I A) → ℕ
+abbrev pub depth_below : {P I A : Type 0} → List (Waiting P I A) → ℕ
 depth_below callers = deepest - suc (length callers)
 
-abbrev pub start_of : {I A : Type 0} → List (Waiting I A) → Journal
+abbrev pub start_of : {P I A : Type 0} → List (Waiting P I A) → Journal
 start_of [] = []
 start_of (c ∷ callers) = c.journal
 
@@ -99,9 +99,9 @@ start_of (c ∷ callers) = c.journal
 abbrev pub Next : Type 0
 Next = RequestResult → Journal → List DemandEvent
 
-module _ {I A : Type 0} (w : World I A) where
+module _ {P I A : Type 0} (w : World P I A) where
   -- what is to come of a request from here on, and then what comes after it
-  abbrev pub rest_of_walk : ℕ → List RunId → Walk I A → Journal → List RunId → Next →
+  abbrev pub rest_of_walk : ℕ → List RunId → Walk P I A → Journal → List RunId → Next →
       List DemandEvent
   rest_of_walk depth path x journal runs next =
       order_of_walk w (order_of_request w depth) (request w depth) path x journal
@@ -109,7 +109,7 @@ module _ {I A : Type 0} (w : World I A) where
 
   -- what is to come of a body, then its end, and then what is to come of its request
   abbrev pub rest_of_body : ℕ → List RunId → RunId → Body I A → Journal → SoFar I →
-      (Record → Journal → Walk I A) → List RunId → Next → List DemandEvent
+      (Record → Journal → Walk P I A) → List RunId → Next → List DemandEvent
   rest_of_body depth path run b journal so_far go runs next =
       order_of_body w (order_of_request w depth (run ∷ path)) (request w depth (run ∷ path)) run b
       journal so_far
@@ -125,7 +125,7 @@ module _ {I A : Type 0} (w : World I A) where
       ++ then_comes (at_once w (request w depth path) journal merged keys) next
 
   -- what is to come where a request stands
-  abbrev pub rest_of_place : ℕ → List RunId → Journal → List RunId → Place I A → Next →
+  abbrev pub rest_of_place : ℕ → List RunId → Journal → List RunId → Place P I A → Next →
       List DemandEvent
   rest_of_place depth path journal runs (walking x) next =
       rest_of_walk depth path x journal runs next
@@ -133,31 +133,31 @@ module _ {I A : Type 0} (w : World I A) where
       rest_of_body depth path x.run (body_of stop) journal x.so_far x.go runs next
 
   -- what is to come of the body of a caller once it has the results of its calls
-  abbrev pub rest_by : ℕ → List RunId → Next → Waiting I A → List RequestResult → Journal →
+  abbrev pub rest_by : ℕ → List RunId → Next → Waiting P I A → List RequestResult → Journal →
       List DemandEvent
   rest_by depth path next c results after =
       rest_of_body depth path c.inside.run (c.go_on results after) after (with_calls c.inside.so_far
       (c.key ∷ c.keys) results) c.inside.go c.runs next
 
   -- what is to come of a caller's calls, and then of its body
-  abbrev pub rest_of_caller : ℕ → List RunId → Next → Waiting I A → List DemandEvent
+  abbrev pub rest_of_caller : ℕ → List RunId → Next → Waiting P I A → List DemandEvent
   rest_of_caller depth path next c =
       rest_of_calls depth (c.inside.run ∷ path) c.journal c.merged c.left (λ more after.
       rest_by depth path next c (c.results ++ more) after)
 
   -- what comes after a request that is called by the first of these
-  abbrev pub after_call : List (Waiting I A) → Next
+  abbrev pub after_call : List (Waiting P I A) → Next
   after_call [] result left = []
   after_call (c ∷ callers) result left = rest_of_caller (depth_below callers) (path_of callers)
       (λ told_result after. after_call callers told_result after) (told c result left)
 
   -- all that is to come where a request stands below some callers
-  abbrev pub rest_below : List (Waiting I A) → Position I A → List DemandEvent
+  abbrev pub rest_below : List (Waiting P I A) → Position P I A → List DemandEvent
   rest_below callers p = rest_of_place (depth_below callers) (path_of callers) p.journal p.runs
       p.place (after_call callers)
 
   -- all that is to come of a caller below others, and then of these
-  abbrev pub rest_from : List (Waiting I A) → Waiting I A → List DemandEvent
+  abbrev pub rest_from : List (Waiting P I A) → Waiting P I A → List DemandEvent
   rest_from callers c =
       rest_of_caller (depth_below callers) (path_of callers) (after_call callers) c
 
@@ -175,7 +175,8 @@ pub record IsInBody {I : Type 0} (table : Records) (start begun journal : Journa
 
 -- where a request stands its journal is got from the one that it began with by replaying its runs,
 -- and in a body by what the body has done
-abbrev pub HasReplayedAt : {I A : Type 0} → Records → Journal → Journal → List RunId → Place I A →
+abbrev pub HasReplayedAt : {P I A : Type 0} → Records → Journal → Journal → List RunId →
+    Place P I A →
     Type 0
 HasReplayedAt table start journal runs (walking x) =
     HasReplayed table (map replays_run runs) start journal
@@ -183,12 +184,12 @@ HasReplayedAt table start journal runs (within x stop) =
     (begun : Journal) × IsInBody table start begun journal runs x.run x.so_far
 
 -- so it is with a caller, and what its calls have left is got by replaying their runs
-pub record HasReplayedCalls {I A : Type 0} (table : Records) (c : Waiting I A) : Type 0 where
+pub record HasReplayedCalls {P I A : Type 0} (table : Records) (c : Waiting P I A) : Type 0 where
   pub inside : IsInBody table c.start c.begun c.journal c.runs c.inside.run c.inside.so_far
   pub called : HasReplayed table (map replays_run (runs_of c.results)) c.journal c.merged
 
 -- and so with callers that call each other, the first by the second and so on
-abbrev pub HaveReplayed : {I A : Type 0} → Records → List (Waiting I A) → Type 0
+abbrev pub HaveReplayed : {P I A : Type 0} → Records → List (Waiting P I A) → Type 0
 HaveReplayed table [] = Unit {0}
 HaveReplayed table (c ∷ callers) =
     HasReplayedCalls table c × (c.start ≡ start_of callers) × HaveReplayed table callers

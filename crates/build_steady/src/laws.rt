@@ -11,11 +11,11 @@ ghost use Rattle.build_steady.specs.declared.verdict.Verdict.TheVariants.{Steady
 
 /// A world is said to be steady exactly where it is whole and steady, and its meaning makes so many
 /// bodies, no more than a check makes. (MSBuild task; Building projects in parallel.)
-pub fn steady_is_whole_and_steady<I, A>()
-    ensures yes { (w : World I A) (n : ℕ) → verdict_of w ≡ Steady n →
-        (out : Given I RequestResult) × IsWhole w out × IsSteady out.demand
+pub fn steady_is_whole_and_steady<P, I, A>()
+    ensures yes { (w : World P I A) (n : ℕ) → verdict_of w ≡ Steady n →
+        (out : Given P I RequestResult) × IsWhole w out × IsSteady out.demand
         × (length (built_runs out.demand) ≡ n) × (n ≤ most_bodies) }
-    ensures told { (w : World I A) (out : Given I RequestResult) → IsWhole w out →
+    ensures told { (w : World P I A) (out : Given P I RequestResult) → IsWhole w out →
         IsSteady out.demand → length (built_runs out.demand) ≤ most_bodies →
         verdict_of w ≡ Steady (length (built_runs out.demand)) }
 {}

@@ -39,16 +39,15 @@ use Rattle.result_cache.specs.Same.{same_run, same_instance}
 use Rattle.result_cache.proofs.RunTests.{tells}
 use Rattle.build_meaning.specs.Sound.{IsMade}
 use Rattle.build_incremental.specs.Alone.{last_bytes}
-use Rattle.build_incremental.specs.Demand.{Occurrence, IsAmong}
 use Rattle.build_incremental.specs.Joins.{Anyhow}
 use Rattle.msb_files.specs.FinalTree.{commit_list}
 use Rattle.task_trait.specs.declared.tools.ToolAnswer.{ToolAnswer}
 use Rattle.task_trait.specs.declared.tools.ToolInput.{ToolInput}
 use Rattle.target_body.specs.States.{State}
-use Rattle.request_machine.specs.Walk.{Site}
 use Rattle.build_declared.specs.Declared.{SucceedsWith}
 use Rattle.build_declared.specs.Fresh.{Pairing, pairs_of}
 use Rattle.build_declared.specs.NoOlder.{OutputIsNoOlder, PieceIsNoOlder, NoOlderAt}
+use Rattle.build_declared.specs.Occurrences.{Occurrence, Occurs}
 use Rattle.build_declared.specs.Pieces.{Piece}
 use Rattle.build_declared.specs.Repeated.{
   IsAgain,
@@ -60,7 +59,7 @@ use Rattle.build_declared.specs.Repeated.{
 }
 use Rattle.build_declared.specs.UpToDate.{IsUpToDate}
 use Rattle.build_declared.specs.Written.{since}
-use Rattle.declared_witness.proofs.Computed.{clean-whole, steady}
+use Rattle.declared_witness.proofs.Computed.{clean-whole, steady, the-body}
 use Rattle.declared_witness.proofs.Declared.{all_acts, acts-so}
 use Rattle.declared_witness.proofs.Derivations.{clean-each}
 use Rattle.declared_witness.proofs.Pieces.{
@@ -148,13 +147,12 @@ done = (files_left, second-written, refl)
 -- ---- the clean build over it
 
 module _ (tools : List ℕ → ToolInput → ToolAnswer) where
-  abbrev again : Occurrence Site
+  abbrev again : Occurrence
   again = body_of clean_record
 
-  made-so : (o : Occurrence Site) → In o (again ∷ []) → IsMade clean_given.demand o.run o.made
-  made-so o (inl e) = subst (λ (z : Occurrence Site). IsMade clean_given.demand z.run z.made) e
-      ([], inr (inl refl))
-  made-so o (inr i) = absurd i
+  made-so : (o : Occurrence) → Occurs clean_given.demand o →
+      IsMade clean_given.demand o.run o.made
+  made-so o there = (o.site, o.from, there)
 
   abbrev whole_left : State
   whole_left = state_in (whole (codes "two") 10 tools)
@@ -191,32 +189,25 @@ module _ (tools : List ℕ → ToolInput → ToolAnswer) where
       (subst (λ (qs : List Piece). Agains (piece ∷ []) qs)
       (sym (pieces-so (codes "old") 7 tools)) (is-again, tt))
 
-  abbrev Same : Occurrence Site → Occurrence Site → Type 0
+  abbrev Same : Occurrence → Occurrence → Type 0
   Same o earlier = HasSame tools files files_left o earlier
 
-  same-so : (o : Occurrence Site) → In o (again ∷ []) → (earlier : Occurrence Site) →
-      In earlier (again ∷ []) → Same o earlier
-  same-so o (inl e) earlier (inl g) =
-      subst (λ (z : Occurrence Site). Same z earlier) e
-      (subst (λ (z : Occurrence Site). Same again z) g agains)
-  same-so o (inl e) earlier (inr i) = absurd i
-  same-so o (inr i) earlier j = absurd i
+  same-so : (o : Occurrence) → Occurs clean_given.demand o → (earlier : Occurrence) →
+      Occurs clean_given.demand earlier → Same o earlier
+  same-so o there earlier before =
+      subst (λ (z : Occurrence). Same z earlier) (the-body clean_record clean_journal o there)
+      (subst (λ (z : Occurrence). Same again z)
+      (the-body clean_record clean_journal earlier before) agains)
 
   pub repeats : IsRepeatedBuild tools (build Incremental) tree_left clean_given clean_given
   repeats = record {
-    demand = again ∷ [];
-    bodies = clean-each tools (IsAmong (again ∷ [])) Anyhow (codes "old") 7 (inl refl);
-    later = again ∷ [];
-    later_bodies = clean-each tools (IsAmong (again ∷ [])) Anyhow (codes "two") 10 (inl refl);
-    repeated = record {
-      whole = clean-whole tools (codes "two") 10;
-      steady = steady clean_record clean_journal;
-      made = λ o i some. made-so o i;
-      same = λ o i some earlier j r. same-so o i earlier j;
-      none_lost = λ o i some. made-so o i;
-      free = none-free tools files_left Clean clean_record
-          (placed-pieces (codes "two") 10 tools clean_record);
-    };
+    whole = clean-whole tools (codes "two") 10;
+    steady = steady clean_record clean_journal;
+    made = λ o i some. made-so o i;
+    same = λ o i some earlier j r. same-so o i earlier j;
+    none_lost = λ o i some. made-so o i;
+    free = none-free tools files_left Clean clean_record clean_journal
+        (placed-pieces (codes "two") 10 tools clean_record);
   }
 
   -- ---- no output is older than its input
@@ -290,8 +281,6 @@ module _ (tools : List ℕ → ToolInput → ToolAnswer) where
     no_older = clean-each tools (λ site id journal made.
         NoOlderAt tools files_left site.target site.scope id journal) Anyhow
         (codes "two") 10 at-run;
-    demand = again ∷ [];
-    bodies = clean-each tools (IsAmong (again ∷ [])) Anyhow (codes "two") 10 (inl refl);
-    keep_off = none-free tools files_left Clean clean_record
+    keep_off = none-free tools files_left Clean clean_record clean_journal
         (placed-pieces (codes "two") 10 tools clean_record);
   }

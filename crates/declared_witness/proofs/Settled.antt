@@ -32,24 +32,21 @@ use Rattle.msb_expression.specs.Machine.{run as read_on}
 use Rattle.file_store.specs.declared.tree.File.{File}
 use Rattle.result_cache.specs.declared.record.Record.{Record}
 use Rattle.result_cache.specs.declared.run.RunId.{RunId}
-use Rattle.result_cache.specs.Journal.{acted}
+use Rattle.result_cache.specs.Journal.{Journal, acted}
 use Rattle.result_cache.specs.Lists.{In}
 use Rattle.result_cache.specs.Same.{same_run, same_instance}
 use Rattle.std.specs.Str.{chars}
-use Rattle.build_incremental.specs.Demand.{Occurrence, IsAmong}
-use Rattle.build_incremental.specs.Joins.{Anyhow}
 use Rattle.msb_files.specs.Views as views
 use Rattle.task_trait.specs.declared.tools.ToolAnswer.{ToolAnswer}
 use Rattle.task_trait.specs.declared.tools.ToolInput.{ToolInput}
 use Rattle.target_body.specs.Pieces.{choice_of}
 use Rattle.target_body.specs.States.{Run, State, Stopped, run_at}
-use Rattle.request_machine.specs.Walk.{Site}
 use Rattle.build_declared.specs.Ends.{End}
+use Rattle.build_declared.specs.Occurrences.{Occurrence, Occurs}
 use Rattle.build_declared.specs.Pieces.{Piece, end_of_piece}
 use Rattle.build_declared.specs.Repeated.{IsSettledBuild}
 use Rattle.build_declared.specs.Settled.{pieces_at, FreeRunsKeepOff, Succeeds, Stood}
-use Rattle.declared_witness.proofs.Computed.{part-whole, steady}
-use Rattle.declared_witness.proofs.Derivations.{part-each}
+use Rattle.declared_witness.proofs.Computed.{part-whole, steady, the-body}
 use Rattle.declared_witness.proofs.Facts.{differ}
 use Rattle.declared_witness.proofs.Pieces.{lists, piece, state_in, acts_in, settled-pieces}
 use Rattle.declared_witness.specs.ThreeCopies.{
@@ -60,28 +57,29 @@ use Rattle.declared_witness.specs.ThreeCopies.{
   second_act,
   part_record,
   part_journal,
+  given,
   part_given,
   body_of,
 }
 
 module _ (tools : List ℕ → ToolInput → ToolAnswer) where
-  abbrev body : Occurrence Site
+  abbrev body : Occurrence
   body = body_of part_record
 
-  abbrev pieces : Occurrence Site → List Piece
+  abbrev pieces : Occurrence → List Piece
   pieces o = pieces_at tools files Incremental o
 
   -- what is said of the one body and of its one piece is said of each
-  of-bodies : (P : Occurrence Site → Piece → Type 0) → P body piece →
-      (o : Occurrence Site) → In o (body ∷ []) → (p : Piece) → In p (pieces o) → P o p
-  of-bodies P h o (inl e) =
-      subst (λ (z : Occurrence Site). (p : Piece) → In p (pieces z) → P z p) e
+  of-bodies : (P : Occurrence → Piece → Type 0) → P body piece →
+      (o : Occurrence) → Occurs part_given.demand o → (p : Piece) → In p (pieces o) → P o p
+  of-bodies P h o there =
+      subst (λ (z : Occurrence). (p : Piece) → In p (pieces z) → P z p)
+      (the-body part_record part_journal o there)
       (λ p i. one p (subst (λ (ps : List Piece). In p ps) (settled-pieces tools) i))
     where
       one : (p : Piece) → In p (piece ∷ []) → P body p
       one p (inl g) = subst (P body) g h
       one p (inr k) = absurd k
-  of-bodies P h o (inr i) = absurd i
 
   -- ---- settled
 
@@ -92,8 +90,8 @@ module _ (tools : List ℕ → ToolInput → ToolAnswer) where
   decided = end_of_piece tools run the_run piece
       (choice_of Incremental the_run piece.lists piece.from)
 
-  abbrev SucceedsSo : Occurrence Site → Piece → List Act → Type 0
-  SucceedsSo o p acts = Succeeds tools files Incremental o.place.target o p acts
+  abbrev SucceedsSo : Occurrence → Piece → List Act → Type 0
+  SucceedsSo o p acts = Succeeds tools files Incremental o.site.target o p acts
 
   second-copied : SucceedsSo body piece (second_act ∷ [])
   unfolding same_run same_instance read_on fold_case folding value_in rows chars
@@ -127,10 +125,10 @@ module _ (tools : List ℕ → ToolInput → ToolAnswer) where
   not-input (inr (inr (inl e))) = differ (codes "3.c") (act_path second_act) refl e
   not-input (inr (inr (inr i))) = absurd i
 
-  abbrev StoodSo : Occurrence Site → Piece → RunId → ℕ → Type 0
-  StoodSo o p id number = Stood tools files Incremental (body ∷ []) o p id number
+  abbrev StoodSo : Occurrence → Piece → RunId → ℕ → Type 0
+  StoodSo o p id number = Stood tools files Incremental part_given.demand o p id number
 
-  abbrev StoodInputs : Occurrence Site → Piece → Type 0
+  abbrev StoodInputs : Occurrence → Piece → Type 0
   StoodInputs o p = (id : RunId) (number : ℕ) (act : Act) → In (acted id number act) part_journal →
       In (act_path act) p.lists.inputs → StoodSo o p id number
 
@@ -138,7 +136,7 @@ module _ (tools : List ℕ → ToolInput → ToolAnswer) where
   stood id number act i j = absurd (not-input
       (subst (λ (z : Act). In (act_path z) lists.inputs) (sym (one-act id number act i).2) j))
 
-  abbrev OwnOutputs : Occurrence Site → Piece → Type 0
+  abbrev OwnOutputs : Occurrence → Piece → Type 0
   OwnOutputs o p = (acts : List Act) → SucceedsSo o p acts →
       (id : RunId) (number : ℕ) (act : Act) → In (acted id number act) part_journal →
       In (act_path act) p.lists.outputs → StoodSo o p id number
@@ -157,24 +155,22 @@ module _ (tools : List ℕ → ToolInput → ToolAnswer) where
       below n m e g = omega arith
 
   -- runs without a piece: there is none
-  pub none-free : (tree : List File) (mode : Mode) (made : Record) →
+  pub none-free : (tree : List File) (mode : Mode) (made : Record) (journal : Journal) →
       pieces_at tools tree mode (body_of made) ≡ piece ∷ [] →
-      FreeRunsKeepOff tools tree mode (body_of made ∷ [])
-  none-free tree mode made so o other (inl e) j none p q act w of =
+      FreeRunsKeepOff tools tree mode (given made journal).demand
+  none-free tree mode made journal so o other there j none p q act w of =
       let g : piece ∷ [] ≡ [] = sym so
-      ∙ (ap (λ (z : Occurrence Site). pieces_at tools tree mode z) e ∙ none) in
+      ∙ (ap (λ (z : Occurrence). pieces_at tools tree mode z) (the-body made journal o there)
+      ∙ none) in
       absurd (some g)
     where
       some : ◌≡◌ {A = List Piece} (piece ∷ []) [] → ⊥
       some h = cc
-  none-free tree mode made so o other (inr i) j none p q act w of = absurd i
 
   pub settles : IsSettledBuild tools (build Incremental) part_given
   settles = record {
     whole = part-whole tools;
     steady = steady part_record part_journal;
-    demand = body ∷ [];
-    bodies = part-each tools (IsAmong (body ∷ [])) Anyhow (inl refl);
     settled = record {
       succeeds = of-bodies (λ o p. (acts : List Act) × SucceedsSo o p acts)
           (second_act ∷ [], second-copied);
@@ -182,6 +178,6 @@ module _ (tools : List ℕ → ToolInput → ToolAnswer) where
           IsSome (views.content (record { files = files; journal = p.from.journal }) input)) exist;
       inputs_stood = of-bodies StoodInputs stood;
       outputs_own = of-bodies OwnOutputs own;
-      free = none-free files Incremental part_record (settled-pieces tools);
+      free = none-free files Incremental part_record part_journal (settled-pieces tools);
     };
   }

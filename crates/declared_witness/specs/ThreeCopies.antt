@@ -36,13 +36,13 @@ use Rattle.result_cache.specs.declared.request.RequestResult.{RequestResult}
 use Rattle.result_cache.specs.declared.run.RunId.{RunId}
 use Rattle.result_cache.specs.Journal.{Journal, acted, ended}
 use Rattle.build_meaning.specs.Meaning.{Given, requested, built}
-use Rattle.build_incremental.specs.Demand.{Occurrence}
-use Rattle.build_incremental.specs.Placed.{PlacedWorld}
+use Rattle.build_meaning.specs.World.{World}
 use Rattle.task_trait.specs.declared.tools.ToolAnswer.{ToolAnswer}
 use Rattle.task_trait.specs.declared.tools.ToolInput.{ToolInput}
 use Rattle.request_machine.specs.Walk.{Site}
 use Rattle.request_machine.specs.Worlds.{instances_of}
 use Rattle.build_declared.specs.Builds.{world_by}
+use Rattle.build_declared.specs.Occurrences.{Occurrence}
 
 -- ---- the project, as it is evaluated
 
@@ -169,7 +169,7 @@ build mode = record {
 
 -- the world of a build over some files
 abbrev pub world : (List ℕ → ToolInput → ToolAnswer) → List File → Mode →
-    PlacedWorld Site ToolInput ToolAnswer
+    World Site ToolInput ToolAnswer
 world tools tree mode = world_by tools tree root (instances_of tree) mode
 
 -- ---- what a build comes to
@@ -224,19 +224,19 @@ result = record {
   error = None;
 }
 
-abbrev pub given : Record → Journal → Given ToolInput RequestResult
+abbrev pub given : Record → Journal → Given Site ToolInput RequestResult
 given made journal = record {
   value = result;
   journal = journal;
-  demand = requested root ∷ built run made [] ∷ [];
+  demand = requested root ∷ built site run [] made [] ∷ [];
 }
 
-abbrev pub clean_given : Given ToolInput RequestResult
+abbrev pub clean_given : Given Site ToolInput RequestResult
 clean_given = given clean_record clean_journal
 
-abbrev pub part_given : Given ToolInput RequestResult
+abbrev pub part_given : Given Site ToolInput RequestResult
 part_given = given part_record part_journal
 
 -- the one body that a build contains
-abbrev pub body_of : Record → Occurrence Site
-body_of made = record { place = site; run = run; from = []; made = made }
+abbrev pub body_of : Record → Occurrence
+body_of made = record { site = site; run = run; from = []; made = made }

@@ -31,17 +31,20 @@ pub drop-front : {X : Type 0} (xs ys : List X) → drop (length xs) (xs ++ ys) �
 drop-front [] ys = refl
 drop-front (x ∷ xs) ys = drop-front xs ys
 
-module _ {I A : Type 0} (w : World I A) where
+module _ {P I A : Type 0} (w : World P I A) where
   -- what comes behind some of the events goes on from the state after these
-  goes-on : (xs ys : List Event) (s t u : State I A) → after_all w s xs ≡ Some t → after_all w s (xs ++ ys) ≡ Some u → after_all w t ys ≡ Some u
-  goes-on [] ys s t u h g = subst (λ (v : State I A). after_all w v ys ≡ Some u) (some-is s t h) g
+  goes-on : (xs ys : List Event) (s t u : State P I A) → after_all w s xs ≡ Some t →
+      after_all w s (xs ++ ys) ≡ Some u → after_all w t ys ≡ Some u
+  goes-on [] ys s t u h g = subst (λ (v : State P I A). after_all w v ys ≡ Some u) (some-is s t h) g
   goes-on (event ∷ xs) ys s t u h g =
       let y = and_then-some (step w s event) (λ next. after_all w next xs) t h in
       let z = and_then-some (step w s event) (λ next. after_all w next (xs ++ ys)) u g in
       let same : z.0 ≡ y.0 = some-is z.0 y.0 (sym z.1 ∙ y.1) in
-      goes-on xs ys y.0 t u y.2 (subst (λ (v : State I A). after_all w v (xs ++ ys) ≡ Some u) same z.2)
+      goes-on xs ys y.0 t u y.2 (subst (λ (v : State P I A). after_all w v (xs ++ ys) ≡ Some u) same
+      z.2)
 
-  own-still : (before more events : List Event) (old table : Records) (id : ℕ) (walk : Seen I A) (s : State I A) (o : IsOwn w before old id walk) → o.stands.state.table ≡ old →
+  own-still : (before more events : List Event) (old table : Records) (id : ℕ) (walk : Seen P I A)
+      (s : State P I A) (o : IsOwn w before old id walk) → o.stands.state.table ≡ old →
       events ≡ before ++ more → AreOfOthers id more → IsHistory w events s → table ≡ s.table → IsOwn w events table id walk
   own-still before more events old table id walk s o was e others h is =
       let g : after_all w o.stands.state more ≡ Some s = goes-on before more (start w) o.stands.state s o.stands.history (subst (λ es. IsHistory w es s) e h) in
@@ -64,14 +67,20 @@ module _ {I A : Type 0} (w : World I A) where
         few = let a = o.few in let b = ap length e in let c = length-append before more in omega arith;
       }
 
-module _ {I A : Type 0} (w : World I A) {W : Type 0} {seen : W → Seen I A} {log : Logged} {origins : List Origin} {slots : List (Slot W)} {making : List (Option RunId)} {table : TableRuns} {end : Option End} where
-  asking-still : Shown seen w log origins slots making table end → (id number : ℕ) (walk : Seen I A) → WasOwn w log.events id number walk → AreOfOthers id (drop number log.events) → IsOwn w log.events table.finished id walk
+module _ {P I A : Type 0} (w : World P I A) {W : Type 0} {seen : W → Seen P I A} {log : Logged}
+    {origins : List Origin} {slots : List (Slot W)} {making : List
+    (Option RunId)} {table : TableRuns} {end : Option End} where
+  asking-still : Shown seen w log origins slots making table end →
+      (id number : ℕ) (walk : Seen P I A) → WasOwn w log.events id number walk →
+      AreOfOthers id (drop number log.events) → IsOwn w log.events table.finished id walk
   asking-still x id number walk k others =
       let behind : drop number log.events ≡ k.more = ap (λ n. drop n log.events) k.number_is ∙ (ap (drop (length k.before)) k.continues ∙ drop-front k.before k.more) in
       own-still w k.before k.more log.events k.table table.finished id walk x.state k.own k.table_is k.continues (subst (AreOfOthers id) behind others) x.history x.finished
 
   -- the walk is its request's own now
-  asking-now : Shown seen w log origins slots making table end → (id number : ℕ) (walk : Seen I A) → number ≡ length log.events → IsOwn w log.events table.finished id walk → WasOwn w log.events id number walk
+  asking-now : Shown seen w log origins slots making table end →
+      (id number : ℕ) (walk : Seen P I A) → number ≡ length log.events →
+      IsOwn w log.events table.finished id walk → WasOwn w log.events id number walk
   asking-now x id number walk is o = record {
     before = log.events;
     more = [];
@@ -79,10 +88,13 @@ module _ {I A : Type 0} (w : World I A) {W : Type 0} {seen : W → Seen I A} {lo
     number_is = is;
     continues = sym (append-nil log.events);
     own = o;
-    table_is = ap (λ (s : State I A). s.table) (one_state w log.events o.stands.state x.state o.stands.history x.history) ∙ sym x.finished;
+    table_is =
+        ap (λ (s : State P I A). s.table)
+        (one_state w log.events o.stands.state x.state o.stands.history x.history) ∙ sym x.finished;
   }
 
-  module _ (legal : ∥ Shown seen w log origins slots making table end ∥₁) (id number : ℕ) (walk : Seen I A) (ask : Ask) where
+  module _ (legal : ∥ Shown seen w log origins slots making table end ∥₁) (id number : ℕ)
+      (walk : Seen P I A) (ask : Ask) where
     pub still-own : IsAsking w log.events id number walk ask → AreOfOthers id (drop number log.events) → ∥ IsOwn w log.events table.finished id walk ∥₁
     still-own asking others = ∥∥₁_map₂ legal asking.1 (λ x k. asking-still x id number walk k others)
 
@@ -90,7 +102,9 @@ module _ {I A : Type 0} (w : World I A) {W : Type 0} {seen : W → Seen I A} {lo
     asks-now is asks own = (sym asks, ∥∥₁_map₂ legal own (λ x o. asking-now x id number walk is o))
 
 -- a request still asks after more events, in the same world
-pub asks-on : {I A : Type 0} (w v : World I A) (events after : List Event) (id number : ℕ) (walk : Seen I A) (ask : Ask) → v ≡ w → Continues events after → IsAsking w events id number walk ask → IsAsking v after id number walk ask
+pub asks-on : {P I A : Type 0} (w v : World P I A) (events after : List Event) (id number : ℕ)
+    (walk : Seen P I A) (ask : Ask) → v ≡ w → Continues events after →
+    IsAsking w events id number walk ask → IsAsking v after id number walk ask
 asks-on w v events after id number walk ask same (more, e) (asks, own) = (
   asks,
   subst (λ u. ∥ WasOwn u after id number walk ∥₁) (sym same) (∥∥₁_map own (λ k. record {

@@ -8,7 +8,8 @@ use Rattle.build_scheduler.specs.Position.{ask_of}
 use Rattle.build_scheduler.specs.declared.walker.Ask.{Ask}
 
 -- when there were so many events, the walk was its request's own
-pub record WasOwn {I A : Type 0} (w : World I A) (events : List Event) (id number : ℕ) (walk : Seen I A) : Type 0 where
+pub record WasOwn {P I A : Type 0} (w : World P I A) (events : List Event) (id number : ℕ)
+    (walk : Seen P I A) : Type 0 where
   pub before : List Event
   pub more : List Event
   pub table : Records
@@ -18,5 +19,6 @@ pub record WasOwn {I A : Type 0} (w : World I A) (events : List Event) (id numbe
   pub table_is : own.stands.state.table ≡ table
 
 -- and it asks this
-abbrev pub IsAsking : {I A : Type 0} → World I A → List Event → ℕ → ℕ → Seen I A → Ask → Type 0
+abbrev pub IsAsking : {P I A : Type 0} → World P I A → List Event → ℕ → ℕ → Seen P I A → Ask →
+    Type 0
 IsAsking w events id number walk ask = (ask_of walk.position ≡ ask) × ∥ WasOwn w events id number walk ∥₁

@@ -31,6 +31,8 @@ impl<W: Walker> Walker for Refusing<W> {
 
     type Origin = W::Origin;
 
+    ghost Site = { W.Site };
+
     ghost Input = { W.Input };
 
     ghost Output = { W.Output };

@@ -37,6 +37,7 @@ use Rattle.build_world.specs.declared.fault.EvalFault.{EvalFault}
 use Rattle.result_cache.specs.declared.record.Record.{Record}
 use Rattle.result_cache.specs.declared.request.RequestResult.{RequestResult}
 use Rattle.result_cache.specs.declared.run.RunId.{RunId}
+use Rattle.result_cache.specs.Journal.{Journal}
 use Rattle.result_cache.specs.Lists.{In}
 use Rattle.result_cache.specs.Same.{same_run, same_instance}
 use Rattle.build_meaning.specs.Meaning.{
@@ -57,7 +58,7 @@ use Rattle.build_report.specs.Shown.{shown_text}
 use Rattle.build_outcome.specs.Outcomes.{built as comes_of}
 use Rattle.task_trait.specs.declared.tools.ToolAnswer.{ToolAnswer}
 use Rattle.task_trait.specs.declared.tools.ToolInput.{ToolInput}
-use Rattle.request_machine.specs.Walk.{walks}
+use Rattle.request_machine.specs.Walk.{Site}
 use Rattle.request_machine.specs.Worlds.{world_of, request_by, instance_by}
 use Rattle.msb_words.specs.Given.{taken_all}
 use Rattle.msb_words.specs.Options.{options_in}
@@ -85,9 +86,9 @@ use Rattle.message_witness.specs.OneMessage.{
 
 module _ (tools : List ℕ → ToolInput → ToolAnswer) (stamp : ℕ) where
   -- the walk of the root request, by what its project is evaluated to
-  abbrev walk_by : Result Instance EvalFault → Walk ToolInput ToolAnswer
+  abbrev walk_by : Result Instance EvalFault → Walk Site ToolInput ToolAnswer
   walk_by result =
-      request_by walks (build stamp).tree.files (build stamp).mode root [] (instance_by result)
+      request_by (build stamp).tree.files (build stamp).mode root [] (instance_by result)
 
   -- it is that of the project as it is evaluated
   walk-so : (world_of tools (build stamp)).walks root []
@@ -95,7 +96,7 @@ module _ (tools : List ℕ → ToolInput → ToolAnswer) (stamp : ℕ) where
   walk-so = ap walk_by (evaluates stamp)
 
   -- what the root request gives by its walk
-  abbrev given_by : Walk ToolInput ToolAnswer → Option (Given ToolInput RequestResult)
+  abbrev given_by : Walk Site ToolInput ToolAnswer → Option (Given Site ToolInput RequestResult)
   given_by root_walk = containing (requested root)
       (walk (world_of tools (build stamp)) (request (world_of tools (build stamp)) 127) []
       root_walk [] [])
@@ -121,15 +122,16 @@ pub whole : (tools : List ℕ → ToolInput → ToolAnswer) (stamp : ℕ) →
 whole tools stamp = record { means = means tools stamp; few = few }
 
 -- the one run has one record
-made-so : (id : RunId) (other : Record) (used : List (ToolUse ToolInput)) →
-    In (built id other used) given.demand → made ≡ other
-made-so id other used (inl e) = absurd (cc)
-made-so id other used (inr (inl e)) = let p : made ≡ other = cc in p
-made-so id other used (inr (inr i)) = absurd i
+made-so : (p : Site) (id : RunId) (from : Journal) (other : Record)
+    (used : List (ToolUse ToolInput)) → In (built p id from other used) given.demand →
+    made ≡ other
+made-so p id from other used (inl e) = absurd (cc)
+made-so p id from other used (inr (inl e)) = let same : made ≡ other = cc in same
+made-so p id from other used (inr (inr i)) = absurd i
 
 pub steady : IsSteady given.demand
-steady id first second used others i j =
-    sym (made-so id first used i) ∙ made-so id second others j
+steady id first second i j =
+    sym (made-so i.0 id i.1 first i.2.0 i.2.1) ∙ made-so j.0 id j.1 second j.2.0 j.2.1
 
 -- ---- what is printed
 

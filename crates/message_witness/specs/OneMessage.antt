@@ -1,5 +1,5 @@
 -- A worked project: one target with one Message. (MSBuild project file schema; Message task)
-use Rattle.std.specs.Prelude.{ℕ, false, true, List, [], ◌∷◌, ◌++◌, None, codes, refl}
+use Rattle.std.specs.Prelude.{ℕ, false, true, List, [], ◌∷◌, ◌++◌, None, Some, codes, refl}
 use Rattle.msb_values.specs.declared.mode.Mode.TheVariants.{Incremental}
 use Rattle.msb_values.specs.declared.note.Note.TheVariants.{Message}
 use Rattle.msb_values.specs.declared.scope.Scope.{Scope}
@@ -18,6 +18,7 @@ use Rattle.build_meaning.specs.Meaning.{Given, requested, built}
 use Rattle.build_report.specs.Line.{line}
 use Rattle.build_outcome.specs.declared.outcome.Outcome.{Outcome}
 use Rattle.task_trait.specs.declared.tools.ToolInput.{ToolInput}
+use Rattle.request_machine.specs.Walk.{Site}
 
 -- ---- the project's file, the one file that there is
 
@@ -108,11 +109,15 @@ root_result = record {
   error = None;
 }
 
-abbrev pub given : Given ToolInput RequestResult
+-- where the run is made
+abbrev pub site : Site
+site = record { target = Some target; scope = scope }
+
+abbrev pub given : Given Site ToolInput RequestResult
 given = record {
   value = root_result;
   journal = journal;
-  demand = requested root ∷ built run made [] ∷ [];
+  demand = requested root ∷ built site run [] made [] ∷ [];
 }
 
 -- ---- what is printed

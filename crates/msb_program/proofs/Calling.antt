@@ -38,9 +38,10 @@ use Rattle.msb_outcomes.specs.declared.work.Work.TheVariants.{Build}
 use Rattle.msb_program.proofs.Meant.{same_work, same_options}
 use Rattle.msb_outcomes.proofs.Working.{build_is_asked}
 
-module _ {I A : Type 0} (w : World I A) (low : Bool) where
+module _ {P I A : Type 0} (w : World P I A) (low : Bool) where
   -- of a whole and steady world they are the meaning's
-  module _ (out : Given I RequestResult) (whole : IsWhole w out) (steady : IsSteady out.demand) where
+  module _ (out : Given P I RequestResult) (whole : IsWhole w out)
+      (steady : IsSteady out.demand) where
     pub are_meant : (events : List Event) (end : Option End) (outcome : Outcome) → IsOutcomeAt w low events end outcome → AreMeant out (uses_in w events)
     are_meant events None outcome h = absurd h
     are_meant events (Some (Root result)) outcome h = tools_are_used_as_meant w out whole steady events h.state h.history result h.journal h.ends

@@ -28,6 +28,7 @@ use Rattle.build_report.specs.Shown.{shown_text}
 use Rattle.build_outcome.specs.Outcomes.{built, status_of}
 use Rattle.build_outcome.specs.declared.outcome.Outcome.{Outcome}
 use Rattle.task_trait.specs.declared.tools.ToolInput.{ToolInput}
+use Rattle.request_machine.specs.Walk.{Site}
 use Rattle.request_machine.specs.Worlds.{world_of}
 use Rattle.build_declared.specs.Clean.{GivesClean}
 use Rattle.build_declared.proofs.CleanWorlds.{build-is-clean}
@@ -56,9 +57,10 @@ unchanged journal (Some files) = λ path. inl refl
 
 module _ (tools : Answering) (words : List (List ℕ)) (l : Loading) (s : Saving) (p : Printing)
     (status : ℕ) (answers : Answers tools words l s p status) (same : s.before ≡ l.told)
-    (clean : Given ToolInput RequestResult) (means : MeansClean tools words l.told clean) where
+    (clean : Given Site ToolInput RequestResult) (means : MeansClean tools words l.told clean) where
   -- by what the build means, which gives what the clean build gives
-  module _ (out : Given ToolInput RequestResult) (whole : IsWhole (world_of tools means.given) out)
+  module _ (out : Given Site ToolInput RequestResult)
+      (whole : IsWhole (world_of tools means.given) out)
       (gives : GivesClean means.given.tree.files out clean) where
     abbrev meant : Outcome
     meant = built means.build.options.low out.value out.journal

@@ -60,6 +60,7 @@ use Rattle.msb_files.proofs.Committed.{final}
 use Rattle.task_trait.specs.declared.tools.ToolInput.{ToolInput}
 use Rattle.build_declared.specs.Clean.{GivesClean}
 use Rattle.build_declared.specs.Written.{bytes_in}
+use Rattle.request_machine.specs.Walk.{Site}
 use Rattle.msb_program.specs.Clean.{IsOldOrFinal}
 
 -- ---- what holds of each of a list
@@ -249,7 +250,7 @@ module _ (files : List File) (journal : Journal) where
 
 -- ---- of a build that gives what the clean build gives
 
-module _ (files : List File) (out clean : Given ToolInput RequestResult)
+module _ (files : List File) (out clean : Given Site ToolInput RequestResult)
     (gives : GivesClean files out clean) where
   -- its whole list leaves what the clean build leaves
   pub whole_is_clean : (after : List File) → HasContents (commit_list out.journal) files after →

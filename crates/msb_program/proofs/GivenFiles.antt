@@ -31,6 +31,7 @@ use Rattle.build_meaning.specs.Demand.{IsSteady, IsWhole}
 use Rattle.build_meaning.specs.Meaning.{Given}
 use Rattle.build_outcome.specs.Outcomes.{built}
 use Rattle.build_outcome.specs.declared.outcome.Outcome.{Outcome}
+use Rattle.request_machine.specs.Walk.{Site}
 use Rattle.request_machine.specs.Worlds.{world_of}
 use Rattle.msb_words.specs.declared.options.Options.{Options}
 use Rattle.msb_words.specs.declared.options.Action.{Action}
@@ -92,7 +93,8 @@ given_told words told given build =
 
 -- the outcome that its meaning tells
 abbrev pub means_of : (tools : Answering) (words : List (List ℕ)) (told : Option (List File))
-    (given : World) (build : IsAskedOf words told given) (out : Given ToolInput RequestResult) →
+    (given : World) (build : IsAskedOf words told given)
+    (out : Given Site ToolInput RequestResult) →
     IsWhole (world_of tools given) out → IsSteady out.demand →
     Means tools words told (built build.options.low out.value out.journal)
 means_of tools words told given build out whole steady = record {

@@ -35,6 +35,7 @@ use Rattle.build_outcome.specs.Outcomes.{built}
 use Rattle.build_outcome.specs.declared.outcome.Outcome.{Outcome}
 use Rattle.build_engine.specs.Statuses.{IsCompletion}
 use Rattle.task_trait.specs.declared.tools.ToolInput.{ToolInput}
+use Rattle.request_machine.specs.Walk.{Site}
 use Rattle.request_machine.specs.Worlds.{world_of}
 use Rattle.build_declared.specs.Clean.{GivesClean}
 use Rattle.build_declared.specs.UpToDate.{SkipsEach}
@@ -92,13 +93,14 @@ no_use u (x ∷ xs) (inr there) none = by (same_run x.run u.run) none (no_use u 
     by false none rest = rest none
 
 -- where each piece is skipped, no use that is meant is in a run of a target with Inputs and Outputs
-uses_of_others : (tools : Answering) (given : World) (out : Given ToolInput RequestResult) →
+uses_of_others : (tools : Answering) (given : World) (out : Given Site ToolInput RequestResult) →
     SkipsEach tools given out → (uses : List (RunUse ToolInput)) → AreMeant out uses →
     AreUsesOfOthers given.tree.files uses
 uses_of_others tools given out skips uses meant = λ u there target has takes.
     let made = meant.each u there in
-    no_use u uses there (skips.uses_none u.run made.0 (uses_of u.run uses)
-    (meant.once u.run made.0 made.1 made.2) target has takes).1
+    let body = meant.once u.run made.0 made.1 in
+    no_use u uses there (skips.uses_none body.0 u.run body.1 made.0 (uses_of u.run uses) body.2
+    target has takes).1
 
 -- ---- the answers
 
@@ -106,7 +108,7 @@ module _ (tools : Answering) (words : List (List ℕ)) (l : Loading) (s : Saving
     (status : ℕ) (answers : Answers tools words l s p status) where
   -- what is said of the outcome that a build means
   answers_of : (given : World) (build : IsAskedOf words l.told given)
-      (out : Given ToolInput RequestResult) → IsWhole (world_of tools given) out →
+      (out : Given Site ToolInput RequestResult) → IsWhole (world_of tools given) out →
       IsSteady out.demand →
       AnswersMeant words l s p (built build.options.low out.value out.journal) status
   answers_of given build out whole steady =
@@ -120,7 +122,7 @@ module _ (tools : Answering) (words : List (List ℕ)) (l : Loading) (s : Saving
   saved_of meant answers (inr (inl one_is)) = (answers.done (inr one_is)).1.0
   saved_of meant answers (inr (inr six_is)) = (answers.sink six_is).saved
 
-  module _ (same : s.before ≡ l.told) (left : Tree) (again : Given ToolInput RequestResult)
+  module _ (same : s.before ≡ l.told) (left : Tree) (again : Given Site ToolInput RequestResult)
       (means : MeansRepeated tools words l.told left again) where
     -- the list was done that the build means
     done : s.after ≡ Some left.files → HasSaved status →
@@ -145,15 +147,13 @@ module _ (tools : Answering) (words : List (List ℕ)) (l : Loading) (s : Saving
       up_to_date = record {
         no_older = stays-no-older tools means.given left means.clean means.out again
             means.trusted means.settled (done left_is saved) means.repeated;
-        demand = means.repeated.later;
-        bodies = means.repeated.later_bodies;
-        keep_off = means.repeated.repeated.free;
+        keep_off = means.repeated.free;
       };
     }
 
-  module _ (clean : Given ToolInput RequestResult)
+  module _ (clean : Given Site ToolInput RequestResult)
       (means : MeansUpToDate tools words l.told clean) where
-    skips_so : (out : Given ToolInput RequestResult) →
+    skips_so : (out : Given Site ToolInput RequestResult) →
         IsWhole (world_of tools means.means.given) out →
         GivesClean means.means.given.tree.files out clean →
         SkipsEach tools means.means.given out → IsCompletion status →
@@ -168,7 +168,7 @@ module _ (tools : Answering) (words : List (List ℕ)) (l : Loading) (s : Saving
           (means.means.steady out whole.means)).done done).1.1,
     )
 
-    idles_so : (out : Given ToolInput RequestResult) →
+    idles_so : (out : Given Site ToolInput RequestResult) →
         IsWhole (world_of tools means.means.given) out →
         SkipsEach tools means.means.given out → IsCompletion status →
         EndsIdle tools means.means.given means.means.build.options.low s p
@@ -210,9 +210,9 @@ module _ (tools : Answering) (words : List (List ℕ)) (l : Loading) (s : Saving
 -- ---- the calls of tools
 
 module _ (tools : Answering) (words : List (List ℕ)) (told : Option (List File))
-    (clean : Given ToolInput RequestResult) (means : MeansUpToDate tools words told clean)
+    (clean : Given Site ToolInput RequestResult) (means : MeansUpToDate tools words told clean)
     (before after : Called) where
-  others_of : (out : Given ToolInput RequestResult) →
+  others_of : (out : Given Site ToolInput RequestResult) →
       IsWhole (world_of tools means.means.given) out → AreMeantCalls out before after →
       SkipsEach tools means.means.given out →
       AreCallsOfOthers tools means.means.given before after

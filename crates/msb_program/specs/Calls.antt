@@ -8,6 +8,7 @@ use Rattle.build_engine.specs.OnNodes.{IsOutcomeOn}
 use Rattle.build_engine.specs.UsedFor.{IsUsedFor}
 use Rattle.build_outcome.specs.declared.outcome.Outcome.{Outcome}
 use Rattle.build_world.specs.declared.world.World.{World}
+use Rattle.request_machine.specs.Walk.{Site}
 use Rattle.request_machine.specs.Worlds.{world_of}
 use Rattle.msb_outcomes.specs.Calls.{Called, as_uses}
 use Rattle.msb_outcomes.specs.Outcomes.{Answering}
@@ -19,7 +20,8 @@ use Rattle.msb_program.specs.declared.top.Prepared.TheVariants.{Ended, Trial, Re
 
 -- the calls from one list to the other are those of one body of each run of the meaning; where no calls are made at once, of its only one, so that
 -- each tool is called as often as there
-pub record AreMeantCalls (out : Given ToolInput RequestResult) (before after : Called) : Type 0 where
+pub record AreMeantCalls (out : Given Site ToolInput RequestResult)
+    (before after : Called) : Type 0 where
   pub uses : List (RunUse ToolInput)
   pub calls : as_uses after ≡ as_uses before ++ tools_of uses
   pub meant : AreMeant out uses

@@ -13,6 +13,7 @@ use Rattle.build_meaning.specs.Demand.{IsSteady}
 use Rattle.build_report.specs.Shown.{shown_text}
 use Rattle.build_outcome.specs.Outcomes.{status_of}
 use Rattle.task_trait.specs.declared.tools.ToolInput.{ToolInput}
+use Rattle.request_machine.specs.Walk.{Site}
 use Rattle.request_machine.specs.Worlds.{world_of}
 use Rattle.build_declared.specs.Clean.{IsTrustworthy}
 use Rattle.build_declared.specs.Written.{bytes_in}
@@ -24,11 +25,11 @@ use Rattle.msb_program.specs.Meanings.{IsAskedOf}
 -- The words ask for a build of the files that the store tells. The clean build of what it is given
 -- comes to this, and is declared and fresh; and the build that is asked for is steady.
 pub record MeansClean (tools : Answering) (words : List (List ℕ)) (told : Option (List File))
-    (clean : Given ToolInput RequestResult) : Type 0 where
+    (clean : Given Site ToolInput RequestResult) : Type 0 where
   pub given : World
   pub build : IsAskedOf words told given
   pub trusted : IsTrustworthy tools given clean
-  pub steady : (out : Given ToolInput RequestResult) →
+  pub steady : (out : Given Site ToolInput RequestResult) →
       meaning (world_of tools given) ≡ Some out → IsSteady out.demand
 
 -- each path has what a build with this journal leaves there
@@ -52,7 +53,7 @@ PrintedOf p root = (journal : Journal) × (low : Bool) × PrintedAll p (shown_te
 -- What each status then says: how the build ends, what it returns, and what it leaves at each path
 -- is what the clean build comes to.
 pub record AnswersClean (l : Loading) (s : Saving) (p : Printing)
-    (clean : Given ToolInput RequestResult) (status : ℕ) : Type 0 where
+    (clean : Given Site ToolInput RequestResult) (status : ℕ) : Type 0 where
   pub known : (status ≡ 0) ⊎ (status ≡ 1) ⊎ (status ≡ 5) ⊎ (status ≡ 6) ⊎ (status ≡ 7)
   pub done : (status ≡ 0) ⊎ (status ≡ 1) →
       (status ≡ status_of clean.value.ok)

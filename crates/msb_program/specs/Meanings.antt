@@ -13,6 +13,7 @@ use Rattle.build_meaning.specs.Meaning.{Given}
 use Rattle.build_world.specs.declared.world.World.{World}
 use Rattle.build_outcome.specs.Outcomes.{built}
 use Rattle.build_outcome.specs.declared.outcome.Outcome.{Outcome}
+use Rattle.request_machine.specs.Walk.{Site}
 use Rattle.request_machine.specs.Worlds.{world_of}
 use Rattle.msb_words.specs.Options.{options_in}
 use Rattle.msb_words.specs.declared.options.Options.{Options}
@@ -34,7 +35,7 @@ pub record IsAskedOf (words : List (List ℕ)) (told : Option (List File)) (give
 pub record Means (tools : Answering) (words : List (List ℕ)) (told : Option (List File)) (meant : Outcome) : Type 0 where
   pub given : World
   pub build : IsAskedOf words told given
-  pub out : Given ToolInput RequestResult
+  pub out : Given Site ToolInput RequestResult
   pub whole : IsWhole (world_of tools given) out
   pub steady : IsSteady out.demand
   pub is : meant ≡ built build.options.low out.value out.journal

@@ -18,6 +18,7 @@ use Rattle.build_report.specs.Shown.{shown_text}
 use Rattle.build_outcome.specs.Outcomes.{IsOutcome, IsOutcomeAt}
 use Rattle.build_outcome.specs.declared.outcome.Outcome.{Outcome}
 use Rattle.task_trait.specs.declared.tools.ToolInput.{ToolInput}
+use Rattle.request_machine.specs.Walk.{Site}
 use Rattle.request_machine.specs.Worlds.{world_of}
 use Rattle.build_declared.specs.Clean.{IsTrustworthy}
 use Rattle.build_declared.specs.Fresh.{IsFresh}
@@ -37,19 +38,19 @@ use Rattle.msb_program.specs.Meanings.{IsAskedOf}
 -- The words ask for a build of the files that the store tells, which may be trusted to skip and is
 -- settled; and over the tree that is left the clean build is repeated, and comes to this.
 pub record MeansRepeated (tools : Answering) (words : List (List ℕ)) (told : Option (List File))
-    (left : Tree) (again : Given ToolInput RequestResult) : Type 0 where
+    (left : Tree) (again : Given Site ToolInput RequestResult) : Type 0 where
   pub given : World
   pub build : IsAskedOf words told given
-  pub clean : Given ToolInput RequestResult
+  pub clean : Given Site ToolInput RequestResult
   pub trusted : IsTrustworthy tools given clean
-  pub out : Given ToolInput RequestResult
+  pub out : Given Site ToolInput RequestResult
   pub settled : IsSettledBuild tools given out
   pub repeated : IsRepeatedBuild tools given left clean again
 
 -- over the tree that is left the clean build is fresh, no output of a piece is older than the inputs
 -- that it is paired with, and runs without a piece keep off: so it is up to date there
 pub record StaysFresh (tools : Answering) (given : World) (left : Tree)
-    (again : Given ToolInput RequestResult) : Type 0 where
+    (again : Given Site ToolInput RequestResult) : Type 0 where
   pub fresh : IsFresh tools left.files (clean_over tools given left) again.value again.journal
   pub no_older : IsNoOlder tools left.files (clean_over tools given left) again.value again.journal
   pub up_to_date : IsUpToDate tools (over left given) again
@@ -63,7 +64,7 @@ HasSaved status = (status ≡ 0) ⊎ (status ≡ 1) ⊎ (status ≡ 6)
 -- The words ask for a build that skips what is up to date, and that may be trusted to; and in the
 -- files that the store tells each output of a piece is no older than its inputs.
 pub record MeansUpToDate (tools : Answering) (words : List (List ℕ)) (told : Option (List File))
-    (clean : Given ToolInput RequestResult) : Type 0 where
+    (clean : Given Site ToolInput RequestResult) : Type 0 where
   pub means : MeansClean tools words told clean
   pub mode : means.given.mode ≡ Incremental
   pub up_to_date : IsUpToDate tools means.given clean
@@ -100,7 +101,7 @@ pub record EndsIdle (tools : Answering) (given : World) (low : Bool) (s : Saving
 -- and Outputs
 pub record AreCallsOfOthers (tools : Answering) (given : World) (before after : Called) : Type 0
   where
-    pub out : Given ToolInput RequestResult
+    pub out : Given Site ToolInput RequestResult
     pub means : meaning (world_of tools given) ≡ Some out
     pub calls : AreMeantCalls out before after
     pub others : AreUsesOfOthers given.tree.files calls.uses

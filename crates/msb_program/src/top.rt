@@ -20,6 +20,7 @@ ghost use Rattle.msb_program.specs.NextBuilds.{AreCallsOfOthers, EndsIdle, HasSa
 ghost use Rattle.msb_program.specs.Prepared.{IsLeft, IsPrepared};
 ghost use Rattle.msb_program.specs.Meanings.{AnswersMeant, IsAskedOf, Means};
 ghost use Rattle.build_outcome.specs.declared.outcome.Outcome.{Outcome as TheOutcome};
+ghost use Rattle.request_machine.specs.Walk.{Site};
 
 use build_outcome::Outcome;
 use file_store::{CommitFault, LoadFault, Sink, SinkError, Store, Tree, commit, load};
@@ -65,7 +66,7 @@ pub fn run<R: Threads + Wait + Sync, S: Store, K: Sink, T: Tools + Sync>(
 ) -> u8
     ensures answer { Answers T.answer (map string_bytes words.now) (loading (S.tree store.old) (S.fault_count store.old) (S.fault_count store.new) (S.failures store.old) (S.failures store.new)) (saving (S.tree store.old) (S.tree store.new)) (printing (K.fault_count sink.old) (K.fault_count sink.new) (K.told sink.old) (K.told sink.new)) result }
     ensures meaning { (meant : TheOutcome) → Means T.answer (map string_bytes words.now) (S.tree store.old) meant → AnswersMeant (map string_bytes words.now) (loading (S.tree store.old) (S.fault_count store.old) (S.fault_count store.new) (S.failures store.old) (S.failures store.new)) (saving (S.tree store.old) (S.tree store.new)) (printing (K.fault_count sink.old) (K.fault_count sink.new) (K.told sink.old) (K.told sink.new)) meant result }
-    ensures clean { (clean : Given ToolInput RequestResult) →
+    ensures clean { (clean : Given Site ToolInput RequestResult) →
         MeansClean T.answer (map string_bytes words.now) (S.tree store.old) clean →
         AnswersClean
         (loading (S.tree store.old) (S.fault_count store.old) (S.fault_count store.new)
@@ -74,18 +75,18 @@ pub fn run<R: Threads + Wait + Sync, S: Store, K: Sink, T: Tools + Sync>(
         (printing (K.fault_count sink.old) (K.fault_count sink.new) (K.told sink.old)
         (K.told sink.new))
         clean result }
-    ensures stays { (left : TheTree) (again : Given ToolInput RequestResult)
+    ensures stays { (left : TheTree) (again : Given Site ToolInput RequestResult)
         (m : MeansRepeated T.answer (map string_bytes words.now) (S.tree store.old) left again) →
         S.tree store.new ≡ Some left.files → HasSaved result →
         StaysFresh T.answer m.given left again }
-    ensures skips { (clean : Given ToolInput RequestResult)
+    ensures skips { (clean : Given Site ToolInput RequestResult)
         (m : MeansUpToDate T.answer (map string_bytes words.now) (S.tree store.old) clean) →
         IsCompletion result →
         PrintedSkips T.answer m.means.given.tree.files
         (printing (K.fault_count sink.old) (K.fault_count sink.new) (K.told sink.old)
         (K.told sink.new))
         clean.value }
-    ensures idle { (clean : Given ToolInput RequestResult)
+    ensures idle { (clean : Given Site ToolInput RequestResult)
         (m : MeansUpToDate T.answer (map string_bytes words.now) (S.tree store.old) clean) →
         IsCompletion result →
         EndsIdle T.answer m.means.given m.means.build.options.low
@@ -128,7 +129,7 @@ pub fn run_alone<S: Store, K: Sink, T: CountedTools>(
 ) -> u8
     ensures answer { Answers T.answer (map string_bytes words.now) (loading (S.tree store.old) (S.fault_count store.old) (S.fault_count store.new) (S.failures store.old) (S.failures store.new)) (saving (S.tree store.old) (S.tree store.new)) (printing (K.fault_count sink.old) (K.fault_count sink.new) (K.told sink.old) (K.told sink.new)) result }
     ensures meaning { (meant : TheOutcome) → Means T.answer (map string_bytes words.now) (S.tree store.old) meant → AnswersMeant (map string_bytes words.now) (loading (S.tree store.old) (S.fault_count store.old) (S.fault_count store.new) (S.failures store.old) (S.failures store.new)) (saving (S.tree store.old) (S.tree store.new)) (printing (K.fault_count sink.old) (K.fault_count sink.new) (K.told sink.old) (K.told sink.new)) meant result }
-    ensures clean { (clean : Given ToolInput RequestResult) →
+    ensures clean { (clean : Given Site ToolInput RequestResult) →
         MeansClean T.answer (map string_bytes words.now) (S.tree store.old) clean →
         AnswersClean
         (loading (S.tree store.old) (S.fault_count store.old) (S.fault_count store.new)
@@ -137,11 +138,11 @@ pub fn run_alone<S: Store, K: Sink, T: CountedTools>(
         (printing (K.fault_count sink.old) (K.fault_count sink.new) (K.told sink.old)
         (K.told sink.new))
         clean result }
-    ensures stays { (left : TheTree) (again : Given ToolInput RequestResult)
+    ensures stays { (left : TheTree) (again : Given Site ToolInput RequestResult)
         (m : MeansRepeated T.answer (map string_bytes words.now) (S.tree store.old) left again) →
         S.tree store.new ≡ Some left.files → HasSaved result →
         StaysFresh T.answer m.given left again }
-    ensures skips { (clean : Given ToolInput RequestResult)
+    ensures skips { (clean : Given Site ToolInput RequestResult)
         (m : MeansUpToDate T.answer (map string_bytes words.now) (S.tree store.old) clean) →
         IsCompletion result →
         PrintedSkips T.answer m.means.given.tree.files
@@ -168,7 +169,7 @@ pub fn run_alone<S: Store, K: Sink, T: CountedTools>(
         (K.told sink.new))
         result }
     ensures begun { BeginsWith (T.calls tools.old) (T.calls tools.new) }
-    ensures idle { (clean : Given ToolInput RequestResult)
+    ensures idle { (clean : Given Site ToolInput RequestResult)
         (m : MeansUpToDate T.answer (map string_bytes words.now) (S.tree store.old) clean) →
         IsCompletion result →
         ∥ AreCallsOfOthers T.answer m.means.given (T.calls tools.old) (T.calls tools.new) ∥₁ }

@@ -24,12 +24,12 @@ use Rattle.request_machine.specs.declared.turn.Stand.TheVariants.{Wants, Over}
 use Rattle.request_machine.specs.declared.turn.Turn.{Turn}
 use Rattle.request_machine.specs.declared.turn.Turn.TheVariants.{Answer, Stop}
 use Rattle.request_machine.specs.Requests.{Project, holds_of, depends_of, target_at}
-use Rattle.request_machine.specs.Walk.{walk, or_failed, faulted, reply_of}
+use Rattle.request_machine.specs.Walk.{Site, walk, or_failed, faulted, reply_of}
 use Rattle.request_machine.specs.Turns.{answer_turn, turn_of}
 use Rattle.request_machine.specs.Stands.{Bodies, StandsNext}
 
 abbrev W : Type 0
-W = Walk ToolInput ToolAnswer
+W = Walk Site ToolInput ToolAnswer
 
 -- the order is answered where the project has an answer
 answer_given : {X : Type 0} (r : Result X EvalFault) (f : X → OrderAnswer) (answer : OrderAnswer) → answer_turn (map_ok f r) ≡ Answer answer → (x : X) × (r ≡ Ok x) × (f x ≡ answer)
@@ -69,12 +69,16 @@ module _ (p : Project) (key : RequestKey) (s : Standing) (journal : Journal) whe
   answer_step (asks (condition name) go) ask order answer is e =
       let given = answer_given (holds_of p s.scope journal (target_at p name)) Truth answer (turn_at ask (Condition name) order.failed (Answer answer) is.0 e) in (
         ap (λ a. fits (asked_by a) answer) is.0 ∙ ap (fits (asked_by (Condition name))) (sym given.2),
-        λ bodies. ap (λ r. or_failed gives r (λ holds. goes bodies (go (Truth holds)))) given.1 ∙ ap (λ a. goes bodies (go a)) given.2 ∙ ap (λ next. goes bodies (next answer)) (sym is.1),
+        λ bodies. ap (λ r. or_failed r (λ holds. goes bodies (go (Truth holds)))) given.1
+            ∙ ap (λ a. goes bodies (go a)) given.2
+            ∙ ap (λ next. goes bodies (next answer)) (sym is.1),
       )
   answer_step (asks (depends name) go) ask order answer is e =
       let given = answer_given (depends_of p s.scope (target_at p name)) Names answer (turn_at ask (Depends name) order.failed (Answer answer) is.0 e) in (
         ap (λ a. fits (asked_by a) answer) is.0 ∙ ap (fits (asked_by (Depends name))) (sym given.2),
-        λ bodies. ap (λ r. or_failed gives r (λ names. goes bodies (go (Names names)))) given.1 ∙ ap (λ a. goes bodies (go a)) given.2 ∙ ap (λ next. goes bodies (next answer)) (sym is.1),
+        λ bodies. ap (λ r. or_failed r (λ names. goes bodies (go (Names names)))) given.1
+            ∙ ap (λ a. goes bodies (go a)) given.2
+            ∙ ap (λ next. goes bodies (next answer)) (sym is.1),
       )
   answer_step (asks (body name) go) ask order answer is e =
       let none : Stop (Wants name) ≡ Answer answer = turn_at ask (AskBody name) order.failed (Answer answer) is.0 e in cc
@@ -96,10 +100,12 @@ module _ (p : Project) (key : RequestKey) (s : Standing) (journal : Journal) whe
   stop_step (ends end) ask order stand is asked e = end_stands end order order.failed stand is.1 (turn_at ask (told end) order.failed (Stop stand) is.0 e)
   stop_step (asks (condition name) go) ask order stand is asked e =
       let given = stop_given (holds_of p s.scope journal (target_at p name)) Truth stand (turn_at ask (Condition name) order.failed (Stop stand) is.0 e) in
-      subst (Next (asks (condition name) go) order) given.2 (λ bodies. ap (λ r. or_failed gives r (λ holds. goes bodies (go (Truth holds)))) given.1)
+      subst (Next (asks (condition name) go) order) given.2
+      (λ bodies. ap (λ r. or_failed r (λ holds. goes bodies (go (Truth holds)))) given.1)
   stop_step (asks (depends name) go) ask order stand is asked e =
       let given = stop_given (depends_of p s.scope (target_at p name)) Names stand (turn_at ask (Depends name) order.failed (Stop stand) is.0 e) in
-      subst (Next (asks (depends name) go) order) given.2 (λ bodies. ap (λ r. or_failed gives r (λ names. goes bodies (go (Names names)))) given.1)
+      subst (Next (asks (depends name) go) order) given.2
+      (λ bodies. ap (λ r. or_failed r (λ names. goes bodies (go (Names names)))) given.1)
   stop_step (asks (body name) go) ask order stand is asked e =
       subst (Next (asks (body name) go) order) (same_stop (Wants name) stand (turn_at ask (AskBody name) order.failed (Stop stand) is.0 e)) (
         asked ∙ ap asked_by is.0,

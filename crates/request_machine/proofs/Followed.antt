@@ -11,7 +11,6 @@ use Rattle.build_world.specs.declared.fault.EvalFault.{EvalFault}
 use Rattle.result_cache.specs.Journal.{Journal}
 use Rattle.result_cache.specs.declared.record.Record.{Record}
 use Rattle.result_cache.specs.declared.request.RequestKey.{RequestKey}
-use Rattle.build_meaning.specs.Walk.{gives}
 use Rattle.request_machine.specs.Requests.{Project, on_error, target_at}
 use Rattle.request_machine.specs.Stands.{Bodies, StandsNext}
 use Rattle.request_machine.specs.Walk.{walk, after_run, after_target, answer_of, or_failed, faulted}
@@ -36,7 +35,8 @@ run_fits p false s journal name turn is = subst FitsBody (sym is) (failed_fits (
 
 module _ (p : Project) (key : RequestKey) (s : Standing) (journal : Journal) (order now : Progress) (stand : Stand) where
   goes_by : (r : Result OrderAnswer EvalFault) → FollowsTurn p key s journal order (answer_turn r) stand now → (bodies : Bodies) →
-      or_failed gives r (λ answer. walk p key bodies (left order answer) s journal) ≡ left_by p key bodies s now journal stand
+      or_failed r (λ answer. walk p key bodies (left order answer) s journal)
+      ≡ left_by p key bodies s now journal stand
   goes_by (Ok answer) follows bodies = next_left p key s journal (left order answer) stand now follows bodies
   goes_by (Err fault) follows bodies = ap (left_by p key bodies s now journal) (sym follows)
 
@@ -45,7 +45,8 @@ module _ (p : Project) (key : RequestKey) (s : Standing) (journal : Journal) (or
   ready_by (Err fault) follows = subst (λ x. IsReady x now) (sym follows) tt
 
   pub run_goes : (r : Result OrderAnswer EvalFault) (turn : Turn) → turn ≡ answer_turn r → FollowsTurn p key s journal order turn stand now → (bodies : Bodies) →
-      or_failed gives r (λ answer. walk p key bodies (left order answer) s journal) ≡ left_by p key bodies s now journal stand
+      or_failed r (λ answer. walk p key bodies (left order answer) s journal)
+      ≡ left_by p key bodies s now journal stand
   run_goes r turn is follows bodies = goes_by r (subst (λ t. FollowsTurn p key s journal order t stand now) is follows) bodies
 
   pub run_ready : (r : Result OrderAnswer EvalFault) (turn : Turn) → turn ≡ answer_turn r → FollowsTurn p key s journal order turn stand now → IsReady stand now

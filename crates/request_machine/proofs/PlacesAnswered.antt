@@ -36,7 +36,7 @@ use Rattle.request_machine.specs.Following.{Follows}
 use Rattle.request_machine.specs.Making.{GoesOnFrom, IsWaiting, Steps, ask_in}
 use Rattle.request_machine.specs.Positions.{Halt, halt_at, halt_by, halt_of, in_body, place_at, place_of, position_of, uses_in}
 use Rattle.request_machine.specs.Requests.{Project}
-use Rattle.request_machine.specs.Walk.{after_target, run_of, walk}
+use Rattle.request_machine.specs.Walk.{Site, after_target, run_of, walk}
 use Rattle.request_machine.specs.Worlds.{bodies_of, body_if, project_of, walk_of, world_of}
 use Rattle.request_machine.specs.declared.following.Follow.{Follow}
 use Rattle.request_machine.specs.declared.making.Step.{Step}
@@ -51,14 +51,16 @@ use Rattle.request_machine.specs.declared.visit.Visit.{Visit}
 use Rattle.request_machine.proofs.Stopping.{drop_front}
 
 abbrev P : Type 0
-P = Place ToolInput ToolAnswer
+P = Place Site ToolInput ToolAnswer
 
 drop_none : {X : Type 0} (n : ℕ) (xs : List X) → xs ≡ [] → drop n xs ≡ []
 drop_none zero xs none = none
 drop_none (suc n) xs none = ap (drop (suc n)) none
 
 -- what is asked where a body has stopped
-ask_there : (runs : List RunId) (run : RunId) (s : SoFar ToolInput) (go : Record → Journal → Walk ToolInput ToolAnswer) (stop : Stop ToolInput ToolAnswer) → ask_in run s stop ≡ ask_at runs (within (record { run = run; so_far = s; go = go }) stop)
+ask_there : (runs : List RunId) (run : RunId) (s : SoFar ToolInput)
+    (go : Record → Journal → Walk Site ToolInput ToolAnswer) (stop : Stop ToolInput ToolAnswer) →
+    ask_in run s stop ≡ ask_at runs (within (record { run = run; so_far = s; go = go }) stop)
 ask_there runs run s go (ends outcome) = refl
 ask_there runs run s go (asks key keys next) = refl
 
@@ -68,7 +70,7 @@ ask_left p key w s journal runs (Wants name) order = refl
 ask_left p key w s journal runs (IsOver reply) order = refl
 
 module _ {T : Type 0} (answer : List ℕ → ToolInput → ToolAnswer) (calls : T → List (List ℕ × ToolInput)) (w : Given) (key : RequestKey) (v : Visit T) (own : v.run.instance ≡ key.instance) (table : Records) where
-  abbrev W : World ToolInput ToolAnswer
+  abbrev W : World Site ToolInput ToolAnswer
   W = world_of answer w
 
   abbrev p : Project
@@ -77,8 +79,9 @@ module _ {T : Type 0} (answer : List ℕ → ToolInput → ToolAnswer) (calls : 
   abbrev its_target : Option UsedTarget
   its_target = target_named (seen_instance v.instance).targets v.run.target
 
-  abbrev after : Record → Journal → Walk ToolInput ToolAnswer
-  after = after_target gives p (λ answer. walk p key (bodies_of w p) (left v.order answer)) v.standing v.run.target
+  abbrev after : Record → Journal → Walk Site ToolInput ToolAnswer
+  after = after_target p (λ answer. walk p key (bodies_of w p) (left v.order answer)) v.standing
+      v.run.target
 
   abbrev inside : SoFar ToolInput → Stop ToolInput ToolAnswer → P
   inside s stop = within (record { run = v.run; so_far = s; go = after }) stop
@@ -187,7 +190,7 @@ module _ {T : Type 0} (answer : List ℕ → ToolInput → ToolAnswer) (calls : 
 -- ---- what a request holds where an answer takes it on
 
 module _ {T : Type 0} (answer : List ℕ → ToolInput → ToolAnswer) (calls : T → List (List ℕ × ToolInput)) (w : Given) (key : RequestKey) (table : Records) (journal : Journal) (runs : List RunId) where
-  abbrev V : World ToolInput ToolAnswer
+  abbrev V : World Site ToolInput ToolAnswer
   V = world_of answer w
 
   abbrev halt_in : Visit T → At T → Option Halt
@@ -210,12 +213,14 @@ module _ {T : Type 0} (answer : List ℕ → ToolInput → ToolAnswer) (calls : 
   go_fits (Over reply) begun is = cc
 
   -- a request that takes results has waited for them, and they can be replayed
-  some_first : (o : Option Journal) (f : Journal → Option (Position ToolInput ToolAnswer)) → IsSome (and_then o f) → IsSome o
+  some_first : (o : Option Journal) (f : Journal → Option (Position Site ToolInput ToolAnswer)) →
+      IsSome (and_then o f) → IsSome o
   some_first None f is = is
   some_first (Some j) f is = refl
 
   module _ (results : List RequestResult) where
-    counted : (b : Bool) (f : List RequestResult → Option (Position ToolInput ToolAnswer)) → IsSome (and_then (only_if b results) f) → (b ≡ true) × IsSome (f results)
+    counted : (b : Bool) (f : List RequestResult → Option (Position Site ToolInput ToolAnswer)) →
+        IsSome (and_then (only_if b results) f) → (b ≡ true) × IsSome (f results)
     counted true f is = (refl, is)
     counted false f is = cc
 
@@ -231,9 +236,10 @@ module _ {T : Type 0} (answer : List ℕ → ToolInput → ToolAnswer) (calls : 
     results_at v (Called body log) is = results_fit v (halt_in v (Called body log)) is
     results_at v (Made made log) is = results_fit v (halt_in v (Made made log)) is
 
-    no_results : (walk : Walk ToolInput ToolAnswer) → IsSome (answered_at V table journal runs (walking walk) (Results results)) → ⊥
+    no_results : (walk : Walk Site ToolInput ToolAnswer) →
+        IsSome (answered_at V table journal runs (walking walk) (Results results)) → ⊥
     no_results (gives reply) is = cc
-    no_results (wants run b go) is = cc
+    no_results (wants site run b go) is = cc
 
     pub results_wait : (stage : Stage T) → IsSome (answered V table (position_of calls w key journal runs stage) (Results results)) → WaitsFor calls w results stage × IsSome (replay_all table (runs_of results) journal)
     results_wait Begins is = absurd (no_results (walk_of w key journal) is)
@@ -241,7 +247,9 @@ module _ {T : Type 0} (answer : List ℕ → ToolInput → ToolAnswer) (calls : 
     results_wait (Over reply) is = cc
 
   -- a request that uses a record has it
-  found_first : (o : Option Record) (p : Option Journal) (f : Record → Journal → Option (Position ToolInput ToolAnswer)) → IsSome (and_then o (λ m. and_then p (f m))) → IsSome o × IsSome p
+  found_first : (o : Option Record) (p : Option Journal)
+      (f : Record → Journal → Option (Position Site ToolInput ToolAnswer)) →
+      IsSome (and_then o (λ m. and_then p (f m))) → IsSome o × IsSome p
   found_first None p f is = cc
   found_first (Some m) None f is = cc
   found_first (Some m) (Some j) f is = (refl, refl)
@@ -271,7 +279,7 @@ module _ {T : Type 0} (answer : List ℕ → ToolInput → ToolAnswer) (calls : 
 
   first_stays : (place : P) → answered_at V table journal runs place First ≡ Some (record { journal = journal; runs = runs; place = place })
   first_stays (walking (gives reply)) = refl
-  first_stays (walking (wants run b go)) = refl
+  first_stays (walking (wants site run b go)) = refl
   first_stays (within x (ends outcome)) = refl
   first_stays (within x (asks k ks go)) = refl
 

@@ -21,7 +21,7 @@ use Rattle.build_meaning.specs.State.{walking}
 use Rattle.build_meaning.specs.Walk.{Walk, Reply, gives}
 use Rattle.request_machine.specs.Requests.{Project, unevaluated}
 use Rattle.request_machine.specs.Stands.{Bodies, StandsNext}
-use Rattle.request_machine.specs.Walk.{walk, walks}
+use Rattle.request_machine.specs.Walk.{Site, walk}
 use Rattle.request_machine.specs.Worlds.{bodies_of, instance_by, instance_if, project_of, request_by, walk_of}
 use Rattle.request_machine.specs.Positions.{place_at, place_of}
 use Rattle.request_machine.specs.Begun.{IsReady, StandsAt, StandsBy, instance_in, is_fresh, is_wanted, left_by}
@@ -34,7 +34,7 @@ use Rattle.request_machine.specs.declared.visit.At.TheVariants.{Wanted}
 use Rattle.request_machine.specs.declared.visit.Visit.{Visit}
 
 abbrev W : Type 0
-W = Walk ToolInput ToolAnswer
+W = Walk Site ToolInput ToolAnswer
 
 -- a request that is over
 pub over_stands : {T : Type 0} (w : Given) (key : RequestKey) (journal : Journal) (reply : Reply) (tree : W) (stage : Stage T) → stage ≡ Over reply → tree ≡ gives reply → StandsAt w key journal tree stage
@@ -44,7 +44,7 @@ pub tree_stands : {T : Type 0} (w : Given) (key : RequestKey) (journal : Journal
 tree_stands w key journal tree other stage same stands = record { fresh = stands.fresh; own = stands.own; stands = λ calls. stands.stands calls ∙ ap walking same }
 
 abbrev walk_by : Given → RequestKey → Journal → Result Instance Reply → W
-walk_by w key journal = request_by walks w.tree.files w.mode key journal
+walk_by w key journal = request_by w.tree.files w.mode key journal
 
 abbrev walk_if : Given → RequestKey → Journal → Option File → W
 walk_if w key journal file = walk_by w key journal (instance_if w.tree.files key file)

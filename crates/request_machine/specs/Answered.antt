@@ -19,6 +19,7 @@ use Rattle.target_body.specs.Standings.{target_named}
 use Rattle.request_machine.specs.Begun.{is_wanted}
 use Rattle.request_machine.specs.Making.{IsWaiting}
 use Rattle.request_machine.specs.Positions.{halt_at}
+use Rattle.request_machine.specs.Walk.{Site}
 use Rattle.request_machine.specs.declared.stage.Stage.{Stage}
 use Rattle.request_machine.specs.declared.stage.Stage.TheVariants.{Begins, Visits, Over}
 use Rattle.request_machine.specs.declared.visit.At.{At}
@@ -59,6 +60,8 @@ IsRecord table run before after (Called body log) made = Unit {0}
 IsRecord table run before after (Made own log) made = (made ≡ own) × (after ≡ add before (ended run own))
 
 -- an answer takes a request from one position to the next, where it asks this
-pub record GoesOn (w : World ToolInput ToolAnswer) (table : Records) (before after : Position ToolInput ToolAnswer) (answer : Answer) (ask : Ask) : Type 0 where
+pub record GoesOn (w : World Site ToolInput ToolAnswer) (table : Records)
+    (before after : Position Site ToolInput ToolAnswer) (answer : Answer) (ask : Ask)
+    : Type 0 where
   pub goes_on : answered w table before answer ≡ Some after
   pub asks : ask ≡ ask_of after

@@ -16,7 +16,7 @@ use Rattle.build_meaning.specs.State.{walking}
 use Rattle.build_meaning.specs.Walk.{Walk, gives}
 use Rattle.request_machine.specs.Requests.{Project}
 use Rattle.request_machine.specs.Stands.{Bodies}
-use Rattle.request_machine.specs.Walk.{walk}
+use Rattle.request_machine.specs.Walk.{Site, walk}
 use Rattle.request_machine.specs.Worlds.{bodies_of, project_of}
 use Rattle.request_machine.specs.Positions.{place_of}
 use Rattle.request_machine.specs.declared.standing.Standing.{Standing}
@@ -51,7 +51,8 @@ instance_in key (Visits v) = v.run.instance
 instance_in key (Over reply) = key
 
 -- what is left of the request
-abbrev pub left_by : Project → RequestKey → Bodies → Standing → Progress → Journal → Stand → Walk ToolInput ToolAnswer
+abbrev pub left_by : Project → RequestKey → Bodies → Standing → Progress → Journal → Stand →
+    Walk Site ToolInput ToolAnswer
 left_by p key bodies standing order journal (Wants name) = walk p key bodies (asks_of (body_of name) (left order)) standing journal
 left_by p key bodies standing order journal (IsOver reply) = gives reply
 
@@ -61,7 +62,8 @@ IsReady (Wants name) order = order.asked ≡ ForBody
 IsReady (IsOver reply) order = Unit {0}
 
 -- the stage of a request of which this is left
-pub record StandsAt {T : Type 0} (w : Given) (key : RequestKey) (journal : Journal) (tree : Walk ToolInput ToolAnswer) (stage : Stage T) : Type 0 where
+pub record StandsAt {T : Type 0} (w : Given) (key : RequestKey) (journal : Journal)
+    (tree : Walk Site ToolInput ToolAnswer) (stage : Stage T) : Type 0 where
   pub fresh : is_fresh stage ≡ true
   pub own : instance_in key.instance stage ≡ key.instance
   pub stands : (calls : T → List (List ℕ × ToolInput)) → place_of calls w key journal stage ≡ walking tree

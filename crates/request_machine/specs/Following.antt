@@ -7,7 +7,6 @@ use Rattle.target_order.specs.declared.visits.Asked.TheVariants.{Body as ForBody
 use Rattle.result_cache.specs.Journal.{Journal}
 use Rattle.result_cache.specs.declared.record.Record.{Record}
 use Rattle.result_cache.specs.declared.request.RequestKey.{RequestKey}
-use Rattle.build_meaning.specs.Walk.{gives}
 use Rattle.request_machine.specs.Requests.{Project}
 use Rattle.request_machine.specs.Stands.{Bodies, StandsNext}
 use Rattle.request_machine.specs.Walk.{walk, after_run, after_target}
@@ -31,4 +30,6 @@ FollowsTurn p key s journal order (Stop stopped) stand now = stand ≡ stopped
 -- what follows is what the definition says of the run of this target
 pub record Follows (p : Project) (key : RequestKey) (s : Standing) (journal : Journal) (order : Progress) (name : List ℕ) (made : Record) (f : Follow) : Type 0 where
   pub ready : IsReady f.stand f.order
-  pub goes : (bodies : Bodies) → after_target gives p (λ answer. walk p key bodies (left order answer)) s name made journal ≡ left_by p key bodies f.standing f.order journal f.stand
+  pub goes : (bodies : Bodies) →
+      after_target p (λ answer. walk p key bodies (left order answer)) s name made journal
+      ≡ left_by p key bodies f.standing f.order journal f.stand

@@ -29,7 +29,7 @@ use Rattle.request_machine.specs.Positions.{place_by, position_of}
 use Rattle.request_machine.specs.Requests.{failed}
 use Rattle.request_machine.specs.Runs.{run_in}
 use Rattle.request_machine.specs.Visited.{Visited, seen_stage}
-use Rattle.request_machine.specs.Walk.{run_of}
+use Rattle.request_machine.specs.Walk.{Site, run_of}
 use Rattle.request_machine.specs.declared.former.Before.{Before}
 use Rattle.request_machine.specs.declared.former.Former.{Former}
 use Rattle.request_machine.specs.declared.former.Former.TheVariants.{Begins, Body, Visit}
@@ -94,12 +94,12 @@ pub record IsBefore {T : Type 0} (r : Request T) (b : Before T) : Type 0 where
 
 module _ {T : Type 0} (calls : T → List (List ℕ × ToolInput)) where
   abbrev pub place_seen : Given → RequestKey → Journal → Option (Visited T) →
-      Place ToolInput ToolAnswer
+      Place Site ToolInput ToolAnswer
   place_seen w key journal None = walking (gives (failed None))
   place_seen w key journal (Some v) = place_by calls w key v journal v.at
 
   -- where a request stood, by what its last answer has replaced
-  abbrev pub position_before : Request T → Former T → Position ToolInput ToolAnswer
+  abbrev pub position_before : Request T → Former T → Position Site ToolInput ToolAnswer
   position_before r Begins = position_of calls r.world.now r.key r.journal r.runs IsAtStart
   position_before r (Body at journal) = record {
     journal = journal;

@@ -20,7 +20,7 @@ use Rattle.build_scheduler.specs.Position.{Position}
 use Rattle.target_body.specs.declared.body.Body.{Body}
 use Rattle.target_body.specs.Standings.{Standing, begins, waits, over, standing_in, tool_use}
 use Rattle.request_machine.specs.Requests.{Project, target_at, failed}
-use Rattle.request_machine.specs.Walk.{walk, after_target}
+use Rattle.request_machine.specs.Walk.{Site, walk, after_target}
 use Rattle.request_machine.specs.Worlds.{bodies_of, project_of, walk_of}
 use Rattle.request_machine.specs.Visited.{Visited, seen_visit}
 use Rattle.request_machine.specs.declared.log.Log.{Log}
@@ -73,27 +73,33 @@ module _ {T : Type 0} (calls : T → List (List ℕ × ToolInput)) (w : Given) w
   project_by key v = project_of w key v.instance
 
   -- in the body of a run
-  abbrev pub in_body_by : RequestKey → Visited T → Option Halt → Place ToolInput ToolAnswer
+  abbrev pub in_body_by : RequestKey → Visited T → Option Halt → Place Site ToolInput ToolAnswer
   in_body_by key v None = walking (gives (failed None))
   in_body_by key v (Some halt) =
       let p : Project = project_by key v in
-      within (record { run = v.run; so_far = halt.0; go = after_target gives p (λ answer. walk p key (bodies_of w p) (left v.order answer)) v.standing v.run.target }) halt.1
+      within (record {
+        run = v.run;
+        so_far = halt.0;
+        go = after_target p (λ answer. walk p key (bodies_of w p) (left v.order answer)) v.standing
+            v.run.target;
+      }) halt.1
 
-  abbrev pub place_by : RequestKey → Visited T → Journal → At T → Place ToolInput ToolAnswer
+  abbrev pub place_by : RequestKey → Visited T → Journal → At T → Place Site ToolInput ToolAnswer
   place_by key v journal Wanted = let p : Project = project_by key v in walking (walk p key (bodies_of w p) (asks_of (body_of v.run.target) (left v.order)) v.standing journal)
   place_by key v journal at = in_body_by key v (halt_at v.run (target_at (project_by key v) v.run.target) at)
 
   -- by the code's visit
-  abbrev pub in_body : RequestKey → Visit T → Option Halt → Place ToolInput ToolAnswer
+  abbrev pub in_body : RequestKey → Visit T → Option Halt → Place Site ToolInput ToolAnswer
   in_body key v halt = in_body_by key (seen_visit v) halt
 
-  abbrev pub place_at : RequestKey → Visit T → Journal → At T → Place ToolInput ToolAnswer
+  abbrev pub place_at : RequestKey → Visit T → Journal → At T → Place Site ToolInput ToolAnswer
   place_at key v journal at = place_by key (seen_visit v) journal at
 
-  abbrev pub place_of : RequestKey → Journal → Stage T → Place ToolInput ToolAnswer
+  abbrev pub place_of : RequestKey → Journal → Stage T → Place Site ToolInput ToolAnswer
   place_of key journal Begins = walking (walk_of w key journal)
   place_of key journal (Visits v) = place_at key v journal v.at
   place_of key journal (Over reply) = walking (gives reply)
 
-  abbrev pub position_of : RequestKey → Journal → List RunId → Stage T → Position ToolInput ToolAnswer
+  abbrev pub position_of : RequestKey → Journal → List RunId → Stage T →
+      Position Site ToolInput ToolAnswer
   position_of key journal runs stage = record { journal = journal; runs = runs; place = place_of key journal stage }

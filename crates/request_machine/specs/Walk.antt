@@ -40,10 +40,10 @@ unknown_text name = codes "unknown target " ++ name
 abbrev pub faulted : EvalFault → Reply
 faulted fault = failed (Some (fault_text fault))
 
--- a fault is replied, where a request that is over is told so
-abbrev pub or_failed : {T X : Type 0} → (Reply → T) → Result X EvalFault → (X → T) → T
-or_failed over (Ok x) next = next x
-or_failed over (Err fault) next = over (faulted fault)
+-- a fault is replied
+abbrev pub or_failed : {P I A X : Type 0} → Result X EvalFault → (X → Walk P I A) → Walk P I A
+or_failed (Ok x) next = next x
+or_failed (Err fault) next = gives (faulted fault)
 
 -- how the order has ended
 abbrev pub reply_of : Project → RequestKey → End → Standing → Reply
@@ -58,65 +58,45 @@ answer_of p true s journal name = Ok Ran
 answer_of p false s journal name = map_ok Failed (on_error p s.scope journal (target_at p name))
 
 -- what follows a run, by its record and the journal then, where the order goes on so
-abbrev pub after_target : {T : Type 0} → (Reply → T) → Project →
-    (OrderAnswer → Standing → Journal → T) → Standing → List ℕ → Record → Journal → T
-after_target over p next s name made journal =
+abbrev pub after_target : {P I A : Type 0} → Project →
+    (OrderAnswer → Standing → Journal → Walk P I A) → Standing → List ℕ → Record → Journal →
+    Walk P I A
+after_target p next s name made journal =
     let after : Standing = after_run s name made in
-    or_failed over (answer_of p made.ok after journal name) (λ answer. next answer after journal)
+    or_failed (answer_of p made.ok after journal name) (λ answer. next answer after journal)
 
 -- at the beginning nothing has run
 abbrev pub nothing_ran : Project → Standing
 nothing_ran p = record { scope = p.instance.scope; returned = [] }
 
--- ---- the tree of a request
+-- ---- the walk of a request
 
 -- where a run is made: the target of that name, if the project has it, and the scope
 pub record Site : Type 0 where
   pub target : Option UsedTarget
   pub scope : Scope
 
--- how a request is told as a T: what it is where it is over, and where it wants a run, which is
--- made at this site by this body, and by whose record and the journal then it goes on
-pub record Trees (I A T : Type 0) : Type 0 where
-  pub over : Reply → T
-  pub wanted : Site → RunId → Body I A → (Record → Journal → T) → T
-
-module _ {I A T : Type 0} (t : Trees I A T) (p : Project) (key : RequestKey)
+module _ {I A : Type 0} (p : Project) (key : RequestKey)
     (body_of : List ℕ → Scope → Journal → Body I A) where
   -- what the order asks is answered in the scope and by the files of that moment; a body is a run
   -- that is wanted
-  abbrev pub request_tree : Asking Question OrderAnswer End → Standing → Journal → T
-  request_tree (ends end) s journal = t.over (reply_of p key end s)
-  request_tree (asks (condition name) go) s journal =
-      or_failed t.over (holds_of p s.scope journal (target_at p name))
-      (λ holds. request_tree (go (Truth holds)) s journal)
-  request_tree (asks (depends name) go) s journal =
-      or_failed t.over (depends_of p s.scope (target_at p name))
-      (λ names. request_tree (go (Names names)) s journal)
-  request_tree (asks (body name) go) s journal =
-      t.wanted (record { target = target_at p name; scope = s.scope }) (run_of p.key name)
-      (body_of name s.scope journal)
-      (after_target t.over p (λ answer. request_tree (go answer)) s name)
+  abbrev pub walk : Asking Question OrderAnswer End → Standing → Journal → Walk Site I A
+  walk (ends end) s journal = gives (reply_of p key end s)
+  walk (asks (condition name) go) s journal =
+      or_failed (holds_of p s.scope journal (target_at p name))
+      (λ holds. walk (go (Truth holds)) s journal)
+  walk (asks (depends name) go) s journal =
+      or_failed (depends_of p s.scope (target_at p name))
+      (λ names. walk (go (Names names)) s journal)
+  walk (asks (body name) go) s journal =
+      wants (record { target = target_at p name; scope = s.scope }) (run_of p.key name)
+      (body_of name s.scope journal) (after_target p (λ answer. walk (go answer)) s name)
 
-  abbrev pub request_unless : (no_targets : Bool) → Journal → T
-  request_unless true journal = t.over (failed (Some (codes "no targets")))
-  request_unless false journal =
-      request_tree (order p.instance.rows (all_targets p.instance key)) (nothing_ran p) journal
+  abbrev pub walk_unless : (no_targets : Bool) → Journal → Walk Site I A
+  walk_unless true journal = gives (failed (Some (codes "no targets")))
+  walk_unless false journal =
+      walk (order p.instance.rows (all_targets p.instance key)) (nothing_ran p) journal
 
   -- a request of a project that was evaluated
-  abbrev pub request_in : Journal → T
-  request_in journal = request_unless (has_no_targets p.instance key) journal
-
--- ---- as a walk
-
--- a walk doesn't tell where its runs are made
-abbrev pub walks : {I A : Type 0} → Trees I A (Walk I A)
-walks = record { over = gives; wanted = λ site run body go. wants run body go }
-
-module _ {I A : Type 0} (p : Project) (key : RequestKey)
-    (body_of : List ℕ → Scope → Journal → Body I A) where
-  abbrev pub walk : Asking Question OrderAnswer End → Standing → Journal → Walk I A
-  walk = request_tree walks p key body_of
-
-  abbrev pub walk_in : Journal → Walk I A
-  walk_in = request_in walks p key body_of
+  abbrev pub walk_in : Journal → Walk Site I A
+  walk_in journal = walk_unless (has_no_targets p.instance key) journal

@@ -8,27 +8,30 @@ use Rattle.build_scheduler.specs.Position.{Position}
 use Rattle.target_body.specs.Standings.{tool_use}
 use Rattle.request_machine.specs.Former.{position_before}
 use Rattle.request_machine.specs.Positions.{position_of}
+use Rattle.request_machine.specs.Walk.{Site}
 use Rattle.request_machine.specs.Worlds.{world_of}
 use Rattle.request_machine.specs.declared.request.Request.{Request}
 use Rattle.request_machine.specs.declared.walk.Walk.{Walk}
 
 module _ {T : Type 0} (calls : T → List (List ℕ × ToolInput)) where
   -- where a request stands
-  abbrev pub request_position : Request T → Position ToolInput ToolAnswer
+  abbrev pub request_position : Request T → Position Site ToolInput ToolAnswer
   request_position r = position_of calls r.world.now r.key r.journal r.runs r.stage
 
   -- where a walk stands
-  abbrev pub walk_position : Walk T → Position ToolInput ToolAnswer
+  abbrev pub walk_position : Walk T → Position Site ToolInput ToolAnswer
   walk_position w = request_position w.request
 
   -- where a walk stood before its last answer, and how often it had asked then
-  abbrev pub earlier_position : Walk T → Option (Position ToolInput ToolAnswer × ℕ)
-  earlier_position w = option_map (λ b. (position_before calls w.request b.former, b.asked)) w.before
+  abbrev pub earlier_position : Walk T → Option (Position Site ToolInput ToolAnswer × ℕ)
+  earlier_position w =
+      option_map (λ b. (position_before calls w.request b.former, b.asked)) w.before
 
   -- how tools were used
   abbrev pub tools_used : T → List (ToolUse ToolInput)
   tools_used tools = map tool_use (calls tools)
 
 -- the world of a walk, by what its tools answer
-abbrev pub walk_world : {T : Type 0} → (List ℕ → ToolInput → ToolAnswer) → Walk T → World ToolInput ToolAnswer
+abbrev pub walk_world : {T : Type 0} → (List ℕ → ToolInput → ToolAnswer) → Walk T →
+    World Site ToolInput ToolAnswer
 walk_world answer w = world_of answer w.request.world.now

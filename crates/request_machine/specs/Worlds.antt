@@ -15,13 +15,13 @@ use Rattle.result_cache.specs.declared.request.RequestKey.{RequestKey}
 use Rattle.result_cache.specs.declared.run.RunId.{RunId}
 use Rattle.task_trait.specs.declared.tools.ToolAnswer.{ToolAnswer}
 use Rattle.task_trait.specs.declared.tools.ToolInput.{ToolInput}
-use Rattle.build_meaning.specs.Walk.{Walk, Body, makes, Outcome, Reply}
+use Rattle.build_meaning.specs.Walk.{Walk, gives, Body, makes, Outcome, Reply}
 use Rattle.build_meaning.specs.World.{World}
 use Rattle.target_body.specs.Bodies.{body}
 use Rattle.target_body.specs.States.{run_at}
 use Rattle.request_machine.specs.Requests.{Project, target_at, unevaluated}
 use Rattle.request_machine.specs.Stands.{Bodies}
-use Rattle.request_machine.specs.Walk.{Trees, run_of, request_in, walks}
+use Rattle.request_machine.specs.Walk.{Site, run_of, walk_in}
 
 -- nothing is made of a target that the project has not; the order asks for none
 abbrev pub nothing_made : Outcome
@@ -61,16 +61,16 @@ abbrev pub instances_of : List File → RequestKey → Result Instance Reply
 instances_of files key = instance_if files key (file_at key.instance.path files)
 
 -- a request, by what its project evaluates to
-abbrev pub request_by : {T : Type 0} → Trees ToolInput ToolAnswer T → List File → Mode →
-    RequestKey → Journal → Result Instance Reply → T
-request_by t files mode key journal (Ok instance) =
+abbrev pub request_by : List File → Mode → RequestKey → Journal → Result Instance Reply →
+    Walk Site ToolInput ToolAnswer
+request_by files mode key journal (Ok instance) =
     let p : Project = record { files = files; key = key.instance; instance = instance } in
-    request_in t p key (bodies_at files mode p) journal
-request_by t files mode key journal (Err reply) = t.over reply
+    walk_in p key (bodies_at files mode p) journal
+request_by files mode key journal (Err reply) = gives reply
 
-abbrev pub walk_of : Given → RequestKey → Journal → Walk ToolInput ToolAnswer
+abbrev pub walk_of : Given → RequestKey → Journal → Walk Site ToolInput ToolAnswer
 walk_of w key journal =
-    request_by walks w.tree.files w.mode key journal (instances_of w.tree.files key)
+    request_by w.tree.files w.mode key journal (instances_of w.tree.files key)
 
 -- the default targets of the root are asked for where none is named
 abbrev pub is_some_named : List (List ℕ) → Bool
@@ -80,5 +80,6 @@ is_some_named (name ∷ names) = true
 abbrev pub root_of : Given → RequestKey
 root_of w = record { instance = record { path = w.root; globals = w.globals }; targets = w.targets; named = is_some_named w.targets }
 
-abbrev pub world_of : (List ℕ → ToolInput → ToolAnswer) → Given → World ToolInput ToolAnswer
+abbrev pub world_of : (List ℕ → ToolInput → ToolAnswer) → Given →
+    World Site ToolInput ToolAnswer
 world_of tools w = record { root = root_of w; tools = tools; walks = walk_of w }

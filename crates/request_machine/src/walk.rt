@@ -92,6 +92,7 @@ impl<'a, T: CountedTools> Walk<'a, T> {
 
 impl<'a, T: CountedTools> Walker for Walk<'a, T> {
     ghost use Rattle.std.specs.Prelude.{◌≡◌};
+    ghost use Rattle.request_machine.specs.Walk.{Site};
     ghost use Rattle.request_machine.specs.WalkPosition.{earlier_position, tools_used, walk_position, walk_world};
     ghost use Rattle.request_machine.specs.Worlds.{world_of};
     ghost use Rattle.task_trait.specs.declared.tools.ToolAnswer.{ToolAnswer};
@@ -101,6 +102,8 @@ impl<'a, T: CountedTools> Walker for Walk<'a, T> {
     type Place = T;
 
     type Origin = WorldRef<'a>;
+
+    ghost Site = { Site };
 
     ghost Input = { ToolInput };
 

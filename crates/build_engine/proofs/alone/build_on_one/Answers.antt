@@ -16,7 +16,8 @@ build_alone-requires g c =
 pub returns-clause-outcome : goal.returns-clause-outcome
 returns-clause-outcome g c =
     let core = c.build_alone.new.core in
-    subst (λ (w : World g.W.Walker.Input g.W.Walker.Output). IfOk c.of.result (λ o. ∥ IsOutcome w c.args.low o ∥₁)) (c.build_alone.ensures.world ∙ c.in_ok-core.ensures.world)
+    subst (λ (w : World g.W.Walker.Site g.W.Walker.Input g.W.Walker.Output). IfOk c.of.result
+    (λ o. ∥ IsOutcome w c.args.low o ∥₁)) (c.build_alone.ensures.world ∙ c.in_ok-core.ensures.world)
     (outcomes_are (g.W.Walker.world_of core.world) c.args.low core.history.events core.end c.of.result c.build_alone.ensures.legal c.of.ensures.outcome)
 
 pub returns-clause-status : goal.returns-clause-status
@@ -30,10 +31,13 @@ returns-clause-used g c =
     let from = m.used c.args.place.now in
     let to = m.used c.build_alone.new.place in
     let same = c.build_alone.ensures.world in
-    subst (λ (w : World m.Input m.Output). IfOk c.of.result (λ o. ∥ IsUsedFor w c.args.low o from to ∥₁)) c.in_ok-core.ensures.world
+    subst (λ (w : World m.Site m.Input m.Output). IfOk c.of.result
+    (λ o. ∥ IsUsedFor w c.args.low o from to ∥₁)) c.in_ok-core.ensures.world
     (all_used_for (m.world_of first.world) c.args.low first.history.events core.history.events core.end c.of.result from to c.in_ok-core.ensures.history
-    (subst (λ (w : World m.Input m.Output). ∥ IsLegal w core.history.events ∥₁) same c.build_alone.ensures.legal) c.build_alone.ensures.least c.build_alone.ensures.uses
-    (subst (λ (w : World m.Input m.Output). IfOk c.of.result (λ o. ∥ IsOutcomeAt w c.args.low core.history.events core.end o ∥₁)) same c.of.ensures.outcome))
+    (subst (λ (w : World m.Site m.Input m.Output). ∥ IsLegal w core.history.events ∥₁) same
+    c.build_alone.ensures.legal) c.build_alone.ensures.least c.build_alone.ensures.uses
+    (subst (λ (w : World m.Site m.Input m.Output). IfOk c.of.result
+    (λ o. ∥ IsOutcomeAt w c.args.low core.history.events core.end o ∥₁)) same c.of.ensures.outcome))
 
 pub returns-clause-front : goal.returns-clause-front
 returns-clause-front g c = c.build_alone.ensures.front

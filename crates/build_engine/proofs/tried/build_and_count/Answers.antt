@@ -17,7 +17,7 @@ returns-clause-tried g c =
     let m = g.W.Walker in
     let core = c.build_alone.new.core in
     let first = c.in_ok-core.core in
-    subst (λ (w : World m.Input m.Output). IfOk c.tried_in.result (λ t. ∥ IsTried w t ∥₁))
+    subst (λ (w : World m.Site m.Input m.Output). IfOk c.tried_in.result (λ t. ∥ IsTried w t ∥₁))
     (c.build_alone.ensures.world ∙ c.in_ok-core.ensures.world)
     (tried_are (m.world_of core.world) core.history.events core.end c.tried_in.result
     c.build_alone.ensures.legal

@@ -21,7 +21,7 @@ learn-requires-clause-fits g c =
     let m = g.W.Walker in
     let walk = c.args.held.walk in
     subst (λ (t : TableRuns). IsSome (answered (m.world walk) t.finished (m.position walk) c.args.held.answer)) (sym c.table.ensures.table)
-    (∥∥₁_elim c.requires.out (some-prop _) (λ o. ap is_some (subst (λ (v : World m.Input m.Output). answered v c.args.core.now.table.finished (m.position walk) c.args.held.answer ≡ Some o.next) (sym o.world) o.goes)))
+    (∥∥₁_elim c.requires.out (some-prop _) (λ o. ap is_some (subst (λ (v : World m.Site m.Input m.Output). answered v c.args.core.now.table.finished (m.position walk) c.args.held.answer ≡ Some o.next) (sym o.world) o.goes)))
 
 pub retire-requires-clause-out : goal.retire-requires-clause-out
 retire-requires-clause-out g c =

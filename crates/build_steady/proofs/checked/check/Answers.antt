@@ -3,6 +3,7 @@ use Rattle.task_trait.specs.declared.tools.ToolAnswer.{ToolAnswer}
 use Rattle.task_trait.specs.declared.tools.ToolInput.{ToolInput}
 use Rattle.build_meaning.specs.World.{World}
 use Rattle.build_scheduler.specs.Position.{begins}
+use Rattle.request_machine.specs.Walk.{Site}
 use Rattle.build_steady.specs.Verdicts.{verdict_of}
 use Rattle.build_steady.proofs.Begun.{calls_begin}
 use Rattle.build_steady.proofs.checked.check.Goals as goal
@@ -10,17 +11,17 @@ use Rattle.build_steady.proofs.checked.check.Goals as goal
 pub check_walk-requires-clause-root : goal.check_walk-requires-clause-root
 check_walk-requires-clause-root g c =
     ap (λ k. k.instance) c.in_ok-key.ensures
-    ∙ sym (ap (λ (w : World ToolInput ToolAnswer). w.root.instance) c.in_ok-walk.ensures.world)
+    ∙ sym (ap (λ (w : World Site ToolInput ToolAnswer). w.root.instance) c.in_ok-walk.ensures.world)
 
 pub check_walk-requires-clause-begins : goal.check_walk-requires-clause-begins
 check_walk-requires-clause-begins g c =
     c.in_ok-walk.ensures.begins
-    ∙ sym (ap (λ (w : World ToolInput ToolAnswer). begins w w.root [])
+    ∙ sym (ap (λ (w : World Site ToolInput ToolAnswer). begins w w.root [])
     c.in_ok-walk.ensures.world)
 
 pub returns-clause-verdict : goal.returns-clause-verdict
 returns-clause-verdict g c =
-    subst (λ (w : World ToolInput ToolAnswer).
+    subst (λ (w : World Site ToolInput ToolAnswer).
     IfOk c.check_walk.result (λ verdict. verdict ≡ verdict_of w)) c.in_ok-walk.ensures.world
     c.check_walk.ensures.verdict
 

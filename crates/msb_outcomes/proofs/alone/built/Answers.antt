@@ -2,6 +2,7 @@ use Rattle.std.proofs.Common.{IfOk, subst}
 use Rattle.task_trait.specs.declared.tools.ToolAnswer.{ToolAnswer}
 use Rattle.task_trait.specs.declared.tools.ToolInput.{ToolInput}
 use Rattle.build_meaning.specs.World.{World}
+use Rattle.request_machine.specs.Walk.{Site}
 use Rattle.request_machine.specs.Worlds.{root_of, world_of}
 use Rattle.build_engine.specs.UsedFor.{IsUsedFor}
 use Rattle.msb_outcomes.specs.Calls.{as_uses}
@@ -18,7 +19,9 @@ build_on_one-requires-clause-begins g c =
 pub returns-clause-used : goal.returns-clause-used
 returns-clause-used g c =
     let calls = g.T.CountedTools.calls in
-    subst (λ (w : World ToolInput ToolAnswer). IfOk c.build_on_one.result (λ o. ∥ IsUsedFor w c.args.low o (as_uses (calls c.args.tools.now)) (as_uses (calls c.build_on_one.new.place)) ∥₁))
+    subst (λ (w : World Site ToolInput ToolAnswer). IfOk c.build_on_one.result
+    (λ o. ∥ IsUsedFor w c.args.low o (as_uses (calls c.args.tools.now))
+    (as_uses (calls c.build_on_one.new.place)) ∥₁))
     c.in_ok-walk.ensures.world c.build_on_one.ensures.used
 
 pub returns-clause-begun : goal.returns-clause-begun

@@ -6,7 +6,7 @@ use Rattle.target_order.specs.Visit.{order}
 use Rattle.target_order.specs.declared.asks.OrderAnswer.TheVariants.{First}
 use Rattle.request_machine.specs.Begun.{StandsAt, StandsBy, left_by}
 use Rattle.request_machine.specs.Requests.{all_targets}
-use Rattle.request_machine.specs.Walk.{nothing_ran, request_unless, walk, walk_in, walks}
+use Rattle.request_machine.specs.Walk.{nothing_ran, walk, walk_in, walk_unless}
 use Rattle.request_machine.specs.Worlds.{bodies_of, project_of}
 use Rattle.request_machine.specs.declared.standing.Standing.{Standing}
 use Rattle.request_machine.proofs.Starting.{next_left, tree_stands}
@@ -24,7 +24,8 @@ returns g c =
     let now = c.go_on.new.order in
     let stand = c.in_ok-stand.stand in
     let begins : walk_in p key bodies journal ≡ walk p key bodies (order p.instance.rows (all_targets p.instance key)) (nothing_ran p) journal =
-    ap (λ b. request_unless walks p key bodies b journal) (sym c.has_no_targets.ensures ∙ c.if-has_no_targets.false) in
+    ap (λ b. walk_unless p key bodies b journal)
+    (sym c.has_no_targets.ensures ∙ c.if-has_no_targets.false) in
     let order_is : tree ≡ order p.instance.rows (all_targets p.instance key) = c.in_ok-order.ensures.order ∙ ap (order p.instance.rows) c.in_ok-targets.ensures in
     let same : left_by p key bodies s now journal stand ≡ walk_in p key bodies journal =
     sym (next_left p key s journal tree stand now c.in_ok-stand.ensures bodies)

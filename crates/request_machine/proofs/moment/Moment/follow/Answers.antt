@@ -1,6 +1,5 @@
 use Rattle.std.proofs.Common.{◌≡◌, sym, ap, ◌∙◌}
 use Rattle.target_order.specs.Left.{left}
-use Rattle.build_meaning.specs.Walk.{gives}
 use Rattle.request_machine.specs.Seen.{seen_project}
 use Rattle.request_machine.specs.Stands.{Bodies}
 use Rattle.request_machine.specs.Walk.{answer_of, or_failed, walk}
@@ -31,7 +30,10 @@ returns c =
     record {
       ready = run_ready p key s journal copy now stand (answer_of p ok s journal name) turn c.in_ok-turn.ensures c.in_ok-stand.ensures;
       goes = λ (bodies : Bodies).
-          ap (λ x. or_failed gives (answer_of p ok x journal name) (λ answer. walk p key bodies (left c.args.order.now answer) x journal)) (sym c.in_ok-standing.ensures)
-          ∙ (ap (λ o. or_failed gives (answer_of p ok s journal name) (λ answer. walk p key bodies (left o answer) s journal)) (sym c.in_ok-order.ensures)
+          ap (λ x. or_failed (answer_of p ok x journal name)
+          (λ answer. walk p key bodies (left c.args.order.now answer) x journal))
+          (sym c.in_ok-standing.ensures)
+          ∙ (ap (λ o. or_failed (answer_of p ok s journal name)
+          (λ answer. walk p key bodies (left o answer) s journal)) (sym c.in_ok-order.ensures)
           ∙ run_goes p key s journal copy now stand (answer_of p ok s journal name) turn c.in_ok-turn.ensures c.in_ok-stand.ensures bodies);
     }

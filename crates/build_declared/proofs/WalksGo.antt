@@ -37,9 +37,8 @@ use Rattle.result_cache.specs.Journal.{Journal}
 use Rattle.result_cache.specs.declared.run.RunId.{RunId}
 use Rattle.result_cache.specs.declared.record.Record.{Record}
 use Rattle.result_cache.specs.declared.request.RequestKey.{RequestKey}
-use Rattle.build_meaning.specs.Walk.{Body}
+use Rattle.build_meaning.specs.Walk.{Walk, Body}
 use Rattle.build_incremental.specs.Alike.{AlikeRecords, AlikeJournals}
-use Rattle.build_incremental.specs.Placed.{Placed, replies}
 use Rattle.build_incremental.specs.SideBySide.{HasNotActed, AlikeRuns, AlikeWalks}
 use Rattle.task_trait.specs.declared.tools.ToolAnswer.{ToolAnswer}
 use Rattle.task_trait.specs.declared.tools.ToolInput.{ToolInput}
@@ -55,8 +54,7 @@ use Rattle.request_machine.specs.Requests.{
   errors_at,
   on_error,
 }
-use Rattle.request_machine.specs.Walk.{run_of, answer_of, after_run, Site, or_failed, request_tree}
-use Rattle.build_declared.specs.Builds.{places}
+use Rattle.request_machine.specs.Walk.{run_of, answer_of, after_run, Site, or_failed, walk}
 use Rattle.build_declared.specs.Written.{bytes_in}
 use Rattle.build_declared.proofs.Looks.{looks-same}
 
@@ -77,7 +75,7 @@ module _ (p : Project) (key : RequestKey) (W : List ℕ → Type 0) (Q' Q : Site
   abbrev Alike : Journal → Journal → Type 0
   Alike j k = AlikeJournals (bytes_in p.files) W j k
 
-  abbrev Goes : Placed Site ToolInput ToolAnswer → Placed Site ToolInput ToolAnswer → Journal →
+  abbrev Goes : Walk Site ToolInput ToolAnswer → Walk Site ToolInput ToolAnswer → Journal →
       Journal → Type 0
   Goes x y j k = AlikeWalks (bytes_in p.files) W Q' Q tools x y j k
 
@@ -111,13 +109,13 @@ module _ (p : Project) (key : RequestKey) (W : List ℕ → Type 0) (Q' Q : Site
   answer-same false s j k a name = ap (map_ok Failed)
       (on-error-same s.scope j k a (target_at p name))
 
-  or-goes : {X : Type 0} (x y : Result X EvalFault) (go to : X → Placed Site ToolInput ToolAnswer)
+  or-goes : {X : Type 0} (x y : Result X EvalFault) (go to : X → Walk Site ToolInput ToolAnswer)
       (j k : Journal) → x ≡ y → ((z : X) → Goes (go z) (to z) j k) →
-      Goes (or_failed replies x go) (or_failed replies y to) j k
+      Goes (or_failed x go) (or_failed y to) j k
   or-goes x y go to j k e f =
-      subst (λ z. Goes (or_failed replies x go) (or_failed replies z to) j k) e (same x)
+      subst (λ z. Goes (or_failed x go) (or_failed z to) j k) e (same x)
     where
-      same : (z : Result _ EvalFault) → Goes (or_failed replies z go) (or_failed replies z to) j k
+      same : (z : Result _ EvalFault) → Goes (or_failed z go) (or_failed z to) j k
       same (Ok z) = f z
       same (Err fault) = refl
 
@@ -136,32 +134,32 @@ module _ (p : Project) (key : RequestKey) (W : List ℕ → Type 0) (Q' Q : Site
       }) r.items
 
   pub walks-go : (tree : Asking Question OrderAnswer End) (s : Standing) (j k : Journal) →
-      Alike j k → Goes (request_tree places p key first tree s j)
-      (request_tree places p key second tree s k) j k
+      Alike j k → Goes (walk p key first tree s j)
+      (walk p key second tree s k) j k
   walks-go (ends end) s j k a = refl
   walks-go (asks (condition name) go) s j k a =
       or-goes (holds_of p s.scope j (target_at p name)) (holds_of p s.scope k (target_at p name))
-      (λ holds. request_tree places p key first (go (Truth holds)) s j)
-      (λ holds. request_tree places p key second (go (Truth holds)) s k) j k
+      (λ holds. walk p key first (go (Truth holds)) s j)
+      (λ holds. walk p key second (go (Truth holds)) s k) j k
       (holds-same s.scope j k a (target_at p name)) (λ holds. walks-go (go (Truth holds)) s j k a)
   walks-go (asks (depends name) go) s j k a =
       or-goes (depends_of p s.scope (target_at p name)) (depends_of p s.scope (target_at p name))
-      (λ names. request_tree places p key first (go (Names names)) s j)
-      (λ names. request_tree places p key second (go (Names names)) s k) j k
+      (λ names. walk p key first (go (Names names)) s j)
+      (λ names. walk p key second (go (Names names)) s k) j k
       refl (λ names. walks-go (go (Names names)) s j k a)
   walks-go (asks (body name) go) s j k a = (
     refl,
     runs name s.scope j k a,
     λ m n i l r b.
         let then : Standing = after_run s name n in
-        subst (λ z. Goes (or_failed replies (answer_of p m.ok z i name)
-        (λ answer. request_tree places p key first (go answer) z i))
-        (or_failed replies (answer_of p n.ok then l name)
-        (λ answer. request_tree places p key second (go answer) then l)) i l)
+        subst (λ z. Goes (or_failed (answer_of p m.ok z i name)
+        (λ answer. walk p key first (go answer) z i))
+        (or_failed (answer_of p n.ok then l name)
+        (λ answer. walk p key second (go answer) then l)) i l)
         (sym (standing-same s name m n r))
         (or-goes (answer_of p m.ok then i name) (answer_of p n.ok then l name)
-        (λ answer. request_tree places p key first (go answer) then i)
-        (λ answer. request_tree places p key second (go answer) then l) i l
+        (λ answer. walk p key first (go answer) then i)
+        (λ answer. walk p key second (go answer) then l) i l
         (answer-same m.ok then i l b name ∙ ap (λ ok. answer_of p ok then l name) r.ok)
         (λ answer. walks-go (go answer) then i l b)),
   )

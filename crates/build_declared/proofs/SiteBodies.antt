@@ -1,4 +1,4 @@
--- Each run that a request of a build wants has the body of its target, in the scope of its place.
+-- Each run that a request of a build wants has the body of its target, in the scope of its site.
 use Rattle.std.proofs.Common.{ℕ, Bool, true, false, List, refl}
 use Rattle.std.specs.Prelude.{Result, Ok, Err}
 use Rattle.msb_laws.specs.Asking.{Asking, gives as ends, asks}
@@ -13,8 +13,7 @@ use Rattle.build_world.specs.declared.fault.EvalFault.{EvalFault}
 use Rattle.result_cache.specs.declared.run.RunId.{RunId}
 use Rattle.result_cache.specs.declared.request.RequestKey.{RequestKey}
 use Rattle.result_cache.specs.Journal.{Journal}
-use Rattle.build_meaning.specs.Walk.{Body, Reply}
-use Rattle.build_incremental.specs.Placed.{Placed, replies}
+use Rattle.build_meaning.specs.Walk.{Walk, Body, Reply}
 use Rattle.build_incremental.proofs.BodyFacts.{HasBody}
 use Rattle.build_incremental.proofs.Demands.{Tells}
 use Rattle.task_trait.specs.declared.tools.ToolAnswer.{ToolAnswer}
@@ -35,11 +34,11 @@ use Rattle.request_machine.specs.Walk.{
   nothing_ran,
   Site,
   or_failed,
-  request_tree,
-  request_unless,
+  walk,
+  walk_unless,
 }
 use Rattle.request_machine.specs.Worlds.{body_at, bodies_at, request_by}
-use Rattle.build_declared.specs.Builds.{places, world_by}
+use Rattle.build_declared.specs.Builds.{world_by}
 
 -- what is said of each body that a request wants
 module _ (B : Site → RunId → Journal → Body ToolInput ToolAnswer → Type 0) (p : Project)
@@ -47,44 +46,44 @@ module _ (B : Site → RunId → Journal → Body ToolInput ToolAnswer → Type 
     (each : (name : List ℕ) (scope : Scope) (j : Journal) →
     B (record { target = target_at p name; scope = scope }) (run_of p.key name) j
     (bodies name scope j)) where
-  or-tells : {X : Type 0} (x : Result X EvalFault) (next : X → Placed Site ToolInput ToolAnswer)
-      (j : Journal) → ((z : X) → Tells B (next z) j) → Tells B (or_failed replies x next) j
+  or-tells : {X : Type 0} (x : Result X EvalFault) (next : X → Walk Site ToolInput ToolAnswer)
+      (j : Journal) → ((z : X) → Tells B (next z) j) → Tells B (or_failed x next) j
   or-tells (Ok z) next j h = h z
   or-tells (Err fault) next j h = tt
 
-  pub placed-tells : (tree : Asking Question OrderAnswer End) (s : Standing) (j : Journal) →
-      Tells B (request_tree places p key bodies tree s j) j
-  placed-tells (ends end) s j = tt
-  placed-tells (asks (condition name) go) s j =
+  pub walk-tells : (tree : Asking Question OrderAnswer End) (s : Standing) (j : Journal) →
+      Tells B (walk p key bodies tree s j) j
+  walk-tells (ends end) s j = tt
+  walk-tells (asks (condition name) go) s j =
       or-tells (holds_of p s.scope j (target_at p name))
-      (λ holds. request_tree places p key bodies (go (Truth holds)) s j) j
-      (λ holds. placed-tells (go (Truth holds)) s j)
-  placed-tells (asks (depends name) go) s j =
+      (λ holds. walk p key bodies (go (Truth holds)) s j) j
+      (λ holds. walk-tells (go (Truth holds)) s j)
+  walk-tells (asks (depends name) go) s j =
       or-tells (depends_of p s.scope (target_at p name))
-      (λ names. request_tree places p key bodies (go (Names names)) s j) j
-      (λ names. placed-tells (go (Names names)) s j)
-  placed-tells (asks (body name) go) s j = (
+      (λ names. walk p key bodies (go (Names names)) s j) j
+      (λ names. walk-tells (go (Names names)) s j)
+  walk-tells (asks (body name) go) s j = (
     each name s.scope j,
     λ made then.
         let after : Standing = after_run s name made in
         or-tells (answer_of p made.ok after then name)
-        (λ answer. request_tree places p key bodies (go answer) after then) then
-        (λ answer. placed-tells (go answer) after then),
+        (λ answer. walk p key bodies (go answer) after then) then
+        (λ answer. walk-tells (go answer) after then),
   )
 
 module _ (files : List File) (mode : Mode) where
-  -- the body of a run at its place
+  -- the body of a run at its site
   abbrev pub bodies_of : Site → RunId → Journal → Body ToolInput ToolAnswer
   bodies_of site id journal = body_at files mode id site.target site.scope journal
 
   unless-tells : (b : Bool) (p : Project) (key : RequestKey) (j : Journal) →
-      Tells (HasBody bodies_of) (request_unless places p key (bodies_at files mode p) b j) j
+      Tells (HasBody bodies_of) (walk_unless p key (bodies_at files mode p) b j) j
   unless-tells true p key j = tt
-  unless-tells false p key j = placed-tells (HasBody bodies_of) p key (bodies_at files mode p)
+  unless-tells false p key j = walk-tells (HasBody bodies_of) p key (bodies_at files mode p)
       (λ name scope j. refl) (order p.instance.rows (all_targets p.instance key)) (nothing_ran p) j
 
   by-tells : (key : RequestKey) (j : Journal) (x : Result Instance Reply) →
-      Tells (HasBody bodies_of) (request_by places files mode key j x) j
+      Tells (HasBody bodies_of) (request_by files mode key j x) j
   by-tells key j (Err reply) = tt
   by-tells key j (Ok instance) =
       let p : Project = record { files = files; key = key.instance; instance = instance } in
