@@ -87,7 +87,7 @@ module _ {P I A : Type 0} (w : World P I A) where
   history-begun events s h = all-begun [] events (start w) s refl (start-lawful w) start-begun h
 
   -- the function by the table, where the relation holds
-  ran-replayed : (s : State P I A) (l : Lawful s) (id : ℕ) (q : RequestState P I A) →
+  pub ran-replayed : (s : State P I A) (l : Lawful s) (id : ℕ) (q : RequestState P I A) →
       at s.requests id ≡ Some q → (base : Journal) → Ran s.table base q.runs q.journal →
       replay_all s.table q.runs base ≡ Some q.journal
   ran-replayed s l id q e base d =
@@ -97,7 +97,7 @@ module _ {P I A : Type 0} (w : World P I A) where
       let y = replay_all-total s.table l.ordered q.runs base all in
       y.1 ∙ ap Some (reps-one (Recorded s.table) (one_record s.table) (replay_all-reps s.table l.once q.runs base y.0 y.1) q.journal d)
 
-  place-ran : (s : State P I A) (base : Journal) (runs : List RunId) (j : Journal)
+  pub place-ran : (s : State P I A) (base : Journal) (runs : List RunId) (j : Journal)
       (st : Status P I A) → IsInNoBody st → StatusRan s.table base runs j st →
       Ran s.table base runs j
   place-ran s base runs j (ready (walking walk)) i v = v

@@ -1,5 +1,6 @@
 pub mod RunsReplayed
 pub mod JournalsReplayed
+pub mod CallsReplayed
 pub mod BodiesMove
 pub mod UsesTold
 pub mod UsesMeant

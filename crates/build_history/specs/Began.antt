@@ -3,6 +3,7 @@ use Rattle.std.specs.Prelude.{◌≡◌, ℕ, List, [], ◌++◌, Option, None, 
 use Rattle.build_meaning.specs.declared.event.Event.{Event}
 use Rattle.build_meaning.specs.Lists.{at}
 use Rattle.result_cache.specs.Journal.{Journal}
+use Rattle.result_cache.specs.Lists.{In}
 use Rattle.build_meaning.specs.World.{World}
 use Rattle.build_meaning.specs.State.{Place, walking, within, Status, ready, assigned, waits, calling, done, Origin, RequestState, State, new_request}
 use Rattle.build_meaning.specs.History.{IsHistory}
@@ -26,6 +27,11 @@ module _ {P I A : Type 0} where
   IsInNoBody (waits run b go) = Unit {0}
   IsInNoBody (calling keys ids x go) = ⊥
   IsInNoBody (done result) = Unit {0}
+
+  -- a request whose calls are not all done, of which this is one
+  abbrev pub AwaitsCall : ℕ → Status P I A → Type 0
+  AwaitsCall id (calling keys ids x go) = In id ids
+  AwaitsCall id status = ⊥
 
 -- after the first of the events the request was there as it is made, at its beginning with this journal
 pub record BeganWith {P I A : Type 0} (w : World P I A) (events : List Event) (id : ℕ)

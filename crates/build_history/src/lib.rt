@@ -10,6 +10,8 @@ mod told;
 mod tools;
 
 pub use places::{journals_are_meant, places_are_the_meanings};
-pub use replayed::{requests_are_replayed, results_have_the_runs, root_is_replayed};
+pub use replayed::{
+    calls_are_replayed, requests_are_replayed, results_have_the_runs, root_is_replayed,
+};
 pub use told::closed_history_tells;
 pub use tools::{runs_use_tools_once, tools_are_used_as_meant};

@@ -136,7 +136,7 @@ fn go_on<W: Walker>(core: &mut Core<W>, node: u32, asking: Asking<W>) -> Option<
         Ask::Want(run) => claim(core, node, held, &run),
         Ask::Call(calls) => request(core, node, held, calls),
         Ask::Finished(run, made) => finish(core, node, held, &run, made),
-        Ask::Done(told) => end_request(core, node, id, told),
+        Ask::Done(told) => end_request(core, node, held, told),
     }
 }
 
@@ -249,19 +249,26 @@ fn finish<W: Walker>(
 fn end_request<W: Walker>(
     core: &mut Core<W>,
     node: u32,
-    id: u64,
+    held: Held<W>,
     told: RequestResult,
 ) -> Option<Next<W>>
     requires running { core.old.end ≡ None }
     requires active { has_left node (marked core.old.history.events core.old.end) ≡ false }
-    requires asks { ∥ Asks (W.world_of core.old.world) core.old.history.events id (Done told) ∥₁ }
+    requires own { ∥ IsOwn (W.world_of core.old.world) core.old.history.events
+        core.old.table.finished held.id (seen_by W.world W.position W.asked W.learnt held.walk) ∥₁ }
+    requires asks { ∥ Asks (W.world_of core.old.world) core.old.history.events held.id (Done told) ∥₁ }
     ensures world { W.world_of core.new.world ≡ W.world_of core.old.world }
     ensures continues { IsPrefix (marked core.old.history.events core.old.end) (marked core.new.history.events core.new.end) }
     ensures nodes { core.new.history.nodes ≡ core.old.history.nodes }
     ensures spent { IsSpent core.new.history.nodes core.new.history.events core.new.end }
     ensures next { IsNext (seen_by W.world W.position W.asked W.learnt) W.earlier node (W.world_of core.new.world) (marked core.new.history.events core.new.end) result }
 {
-    core.done(id, told);
+    let Held {
+        id,
+        walk,
+        answer: _,
+    } = held;
+    let _left = core.done(id, walk, told);
     if core.end().is_some() {
         return None;
     }

@@ -167,7 +167,7 @@ fn answer_ask<W: Walker>(core: &mut Core<W>, id: u64, walk: W, ask: Ask) -> Turn
             Turn::GoesOn(walk, Answer::Use)
         }
         Ask::Done(told) => {
-            core.done(id, told);
+            let _left = core.done(id, walk, told);
             Turn::Over
         }
     }

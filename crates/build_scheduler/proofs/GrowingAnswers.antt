@@ -1,5 +1,26 @@
 -- A table that gains a run answers as before where it answered.
-use Rattle.std.proofs.Common.{◌≡◌, inl, inr, Bool, true, false, ◌==◌, List, [], ◌∷◌, length, map, Option, None, Some, refl, ap, sym, ◌∙◌}
+use Rattle.std.proofs.Common.{
+  ◌≡◌,
+  IsSome,
+  inl,
+  inr,
+  Bool,
+  true,
+  false,
+  ◌==◌,
+  List,
+  [],
+  ◌∷◌,
+  length,
+  map,
+  Option,
+  None,
+  Some,
+  refl,
+  ap,
+  sym,
+  ◌∙◌,
+}
 use Rattle.msb_laws.specs.Asking.{and_then}
 use Rattle.result_cache.specs.declared.run.RunId.{RunId}
 use Rattle.result_cache.specs.declared.request.RequestResult.{RequestResult}
@@ -17,10 +38,22 @@ use Rattle.build_meaning.specs.SoFar.{with_calls, runs_of}
 use Rattle.build_meaning.specs.Stop.{ends, asks, run_on}
 use Rattle.build_meaning.specs.State.{Place, walking, within}
 use Rattle.build_meaning.specs.Step.{only_if}
+use Rattle.result_cache.proofs.ReplayRelation.{rep-map, rep-one, Recorded}
 use Rattle.build_meaning.proofs.GrowingTables.{same_table, one_newer, newer-replay}
-use Rattle.build_meaning.proofs.LawfulStates.{IsFinished, beginner, beginner_or, found-grows}
+use Rattle.build_meaning.proofs.HistoriesGoOn.{replay-total}
+use Rattle.build_meaning.proofs.LawfulStates.{
+  one_record,
+  IsOnce,
+  IsFinished,
+  IsOrdered,
+  replay-rep,
+  beginner,
+  beginner_or,
+  found-grows,
+}
 use Rattle.build_scheduler.specs.declared.walker.Answer.{Answer}
 use Rattle.build_scheduler.specs.declared.walker.Answer.TheVariants.{First, Go, Use, Results}
+use Rattle.build_scheduler.specs.Learnt.{AreInOrder, ArePartOf}
 use Rattle.build_scheduler.specs.Position.{Position, stopped_in, after_run, answered_at, answered}
 use Rattle.build_scheduler.specs.Slots.{begun_if, unfinished}
 
@@ -52,8 +85,45 @@ replays-more one two f (replays_run r ∷ effects) j k e =
 replay_all-more : (table : Records) (f : FinishedRun) → found table f.run ≡ None → (runs : List RunId) (j k : Journal) → replay_all table runs j ≡ Some k → replay_all (f ∷ table) runs j ≡ Some k
 replay_all-more table f n runs j k e = replays-more (replay table) (replay (f ∷ table)) (replay-more table f n) (map replays_run runs) j k e
 
+-- in a table that is in order each run is once, and after the runs of its record's calls
+once-of : (table : Records) → AreInOrder table → IsOnce table
+once-of [] h = tt
+once-of (f ∷ table) h = (h.0, once-of table h.2)
+
+made-of : (o : Option Record) → IsSome o → (m : Record) × (o ≡ Some m)
+made-of None h = absurd (cc)
+made-of (Some m) h = (m, refl)
+
+ordered-of : (table : Records) → AreInOrder table → IsOrdered table
+ordered-of [] h = tt
+ordered-of (f ∷ table) h = ((λ r i. made-of (found table r) (h.1 r i)), ordered-of table h.2)
+
+-- what some records of a table replay, the table replays so
+module _ (part table : Records) (ordered : AreInOrder table) (p : ArePartOf part table) where
+  part-replay : (r : RunId) (j k : Journal) → replay part r j ≡ Some k → replay table r j ≡ Some k
+  part-replay r j k e = go (has (end_of r) j) refl
+    where
+      go : (b : Bool) → has (end_of r) j ≡ b → replay table r j ≡ Some k
+      go true h = replay-has table r j h ∙ (sym (replay-has part r j h) ∙ e)
+      go false h =
+          let m = replayed-finished part r j k h e in
+          let y = replay-total table (ordered-of table ordered) r j
+          (m.0, p.shared r m.0 m.1) in
+          let d = rep-map (Recorded part) (Recorded table) p.shared
+          (replay-rep part (once-of part p.in_order) r j k e) in
+          let same : y.0 ≡ k = rep-one (Recorded table) (one_record table)
+          (replay-rep table (once-of table ordered) r j y.0 y.1) k d in
+          y.1 ∙ ap Some same
+
+  pub part-replay_all : (runs : List RunId) (j k : Journal) →
+      replay_all part runs j ≡ Some k → replay_all table runs j ≡ Some k
+  part-replay_all runs j k e =
+      replays-more (replay part) (replay table) part-replay (map replays_run runs) j k e
+
 module _ {P I A : Type 0} (w : World P I A) (table : Records) (f : FinishedRun) where
-  answered_at-more : found table f.run ≡ None → (journal : Journal) (runs : List RunId) (place : Place P I A) (answer : Answer) (next : Position P I A) → answered_at w table journal runs place answer ≡ Some next →
+  answered_at-more : found table f.run ≡ None → (journal : Journal) (runs : List RunId)
+      (place : Place P I A) (answer : Answer) (next : Position P I A) →
+      answered_at w table journal runs place answer ≡ Some next →
       answered_at w (f ∷ table) journal runs place answer ≡ Some next
   answered_at-more n journal runs place First next e = e
   answered_at-more n journal runs (walking (gives reply)) Go next e = e
@@ -72,13 +142,16 @@ module _ {P I A : Type 0} (w : World P I A) (table : Records) (f : FinishedRun) 
   answered_at-more n journal runs (walking (wants site run b go)) (Results results) next e = e
   answered_at-more n journal runs (within x (ends outcome)) (Results results) next e = e
   answered_at-more n journal runs (within x (asks key keys go)) (Results results) next e =
-      let after : List RequestResult → Journal → Option (Position P I A) = λ results next. Some (stopped_in runs x.run x.go (run_on w.tools x.run (go results next) next (with_calls x.so_far (key ∷ keys) results))) in
+      let after : List RequestResult → Journal → Option (Position P I A) = λ results next. Some
+      (stopped_in runs x.run x.go (run_on w.tools x.run (go results next) next (with_calls x.so_far
+      (key ∷ keys) results))) in
       let y = and_then-some (only_if (length results == length (key ∷ keys)) results) (λ results. and_then (replay_all table (runs_of results) journal) (after results)) next e in
       let z = and_then-some (replay_all table (runs_of y.0) journal) (after y.0) next y.2 in
       ap (λ o. and_then o (λ results. and_then (replay_all (f ∷ table) (runs_of results) journal) (after results))) y.1
       ∙ (ap (λ o. and_then o (after y.0)) (replay_all-more table f n (runs_of y.0) journal z.0 z.1) ∙ z.2)
 
-  pub answered-more : found table f.run ≡ None → (p next : Position P I A) (answer : Answer) → answered w table p answer ≡ Some next → answered w (f ∷ table) p answer ≡ Some next
+  pub answered-more : found table f.run ≡ None → (p next : Position P I A) (answer : Answer) →
+      answered w table p answer ≡ Some next → answered w (f ∷ table) p answer ≡ Some next
   answered-more n p next answer e = answered_at-more n p.journal p.runs p.place answer next e
 
 flip : (r s : RunId) → same_run r s ≡ same_run s r

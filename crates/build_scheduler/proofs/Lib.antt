@@ -18,6 +18,7 @@ pub mod NewRequests
 pub mod NewSlots
 pub mod OneRequest
 pub mod OwnWalks
+pub mod Passing
 pub mod ReadyRequests
 pub mod Refusing
 pub mod Retiring

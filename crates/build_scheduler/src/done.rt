@@ -1,12 +1,21 @@
 ghost use Rattle.std.specs.Prelude.{◌≡◌, ◌+◌, ◌-◌, ◌<◌, ◌≤◌, ◌++◌, ◌∷◌, ◌==◌, ◌||◌, ◌&&◌, ℕ, [], None, Some, false, true, IsTrue, length, ◌↔◌};
+ghost use Rattle.result_cache.specs.declared.request.RequestResult.{RequestResult as Told};
 ghost use Rattle.build_meaning.specs.declared.event.Event.TheVariants.{Done};
 ghost use Rattle.build_meaning.specs.Lists.{at, put};
 ghost use Rattle.build_scheduler.specs.declared.walker.Ask.TheVariants.{Done as IsOver};
 ghost use Rattle.build_scheduler.specs.declared.slot.End.TheVariants.{Root};
 ghost use Rattle.build_scheduler.specs.declared.slot.Slot.TheVariants.{Calling, Done as Over};
-ghost use Rattle.build_scheduler.specs.Calls.{HasOpen, HasParent, IsCalling, IsResumed};
+ghost use Rattle.build_scheduler.specs.Calls.{
+  CanTake,
+  HasOpen,
+  HasParent,
+  IsCalling,
+  IsPassed,
+  IsResumed,
+};
+ghost use Rattle.build_scheduler.specs.Learnt.{AreInOrder};
 ghost use Rattle.build_scheduler.specs.Numbers.{among};
-ghost use Rattle.build_scheduler.specs.Own.{Asks};
+ghost use Rattle.build_scheduler.specs.Own.{Asks, IsOwn, seen_by};
 ghost use Rattle.build_scheduler.specs.Shown.{is_ready, one_unless};
 
 use crate::numbers::Numbers;
@@ -14,13 +23,17 @@ use crate::scheduler::{put_slot, replace_slot};
 use crate::slot::{Calls, End, Origin, Slot};
 use crate::{Core, Walker};
 use build_meaning::Event;
-use result_cache::RequestResult;
+use result_cache::{RequestResult, Table};
 
 impl<W: Walker> Core<W> {
-    /// Ends a request. The last open call makes its caller ready with all results; with the root the build ends. This takes no
-    /// memory. (MSBuild task.)
-    pub fn done(&mut self, id: u64, told: RequestResult)
+    /// Ends a request. The last open call makes its caller ready with all results; with the root
+    /// the build ends. The walk of the first call hands its journal to the caller, where there is
+    /// memory to take it over; nothing else takes memory. Any other walk is handed back. (MSBuild
+    /// task.)
+    pub fn done(&mut self, id: u64, walk: W, told: RequestResult) -> Option<W>
         requires running { self.old.end ≡ None }
+        requires own { ∥ IsOwn (W.world_of self.old.world) self.old.history.events
+            self.old.table.finished id (seen_by W.world W.position W.asked W.learnt walk) ∥₁ }
         requires asks { ∥ Asks (W.world_of self.old.world) self.old.history.events id (IsOver told) ∥₁ }
         ensures world { W.world_of self.new.world ≡ W.world_of self.old.world }
         ensures history { self.new.history.events ≡ self.old.history.events ++ Done id ∷ [] }
@@ -29,11 +42,35 @@ impl<W: Walker> Core<W> {
         ensures others { (id ≡ 0 → ⊥) → self.new.end ≡ None }
         ensures nodes { self.new.history.nodes ≡ self.old.history.nodes }
     {
+        let left = self.give_journal(id, walk);
         self.history.push(Event::Done(id));
         put_slot(&mut self.slots, id, Slot::Done);
         match parent_of(&self.origins, id) {
-            None => self.end = Some(End::Root(told)),
-            Some(caller) => resume(&mut self.slots, &mut self.ready, caller, id, told),
+            None => {
+                self.end = Some(End::Root(told));
+                left
+            }
+            Some(caller) => {
+                resume(&mut self.slots, &mut self.ready, caller, id, told);
+                left
+            }
+        }
+    }
+
+    /// Gives the journal of a request that is over to its caller, if it is the first call of one.
+    fn give_journal(&mut self, id: u64, walk: W) -> Option<W>
+        requires own { ∥ IsOwn (W.world_of self.old.world) self.old.history.events
+            self.old.table.finished id (seen_by W.world W.position W.asked W.learnt walk) ∥₁ }
+        requires over { ∥ ((told : Told) × Asks (W.world_of self.old.world)
+            self.old.history.events id (IsOver told)) ∥₁ }
+        ensures world { W.world_of self.new.world ≡ W.world_of self.old.world }
+        ensures history { self.new.history ≡ self.old.history }
+        ensures table { self.new.table ≡ self.old.table }
+        ensures end { self.new.end ≡ self.old.end }
+    {
+        match parent_of(&self.origins, id) {
+            None => Some(walk),
+            Some(caller) => pass_journal(&mut self.slots, &self.table, caller, id, walk),
         }
     }
 }
@@ -66,6 +103,26 @@ fn resume<W: Drop>(
     if is_ready {
         ready.insert(caller);
     }
+}
+
+/// Lets a caller take over the journal of a call that is over, where it is its first one.
+fn pass_journal<W: Walker>(
+    slots: &mut Vec<Slot<W>>,
+    table: &Table,
+    caller: u64,
+    id: u64,
+    call: W,
+) -> Option<W>
+    requires in_order { AreInOrder table.now.finished }
+    requires can { CanTake (seen_by W.world W.position W.asked W.learnt) table.now.finished
+        (seen_by W.world W.position W.asked W.learnt call) (at slots.old.items caller) }
+    ensures { IsPassed (seen_by W.world W.position W.asked W.learnt) table.now.finished
+        slots.old.items slots.new.items caller }
+{
+    let mut calls = take_calls(slots, caller);
+    let left = calls.take_journal(id, call, table);
+    put_slot(slots, caller, Slot::Calling(calls));
+    left
 }
 
 fn take_calls<W: Drop>(slots: &mut Vec<Slot<W>>, caller: u64) -> Calls<W>

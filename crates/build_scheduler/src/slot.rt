@@ -1,6 +1,6 @@
-use crate::Answer;
+use crate::{Answer, Walker};
 use msb_values::{InstanceKey, List};
-use result_cache::{RequestKey, RequestResult, RunId};
+use result_cache::{RequestKey, RequestResult, RunId, Table};
 
 /// Whose request it is. This never changes.
 pub struct Origin {
@@ -162,6 +162,32 @@ impl<W: Drop> Calls<W> {
                 open: open - 1,
                 results,
             })
+        }
+    }
+}
+
+impl<W: Walker> Calls<W> {
+    ghost use Rattle.std.specs.Prelude.{◌≡◌, Some};
+    ghost use Rattle.result_cache.specs.Replay.{replay_all};
+    ghost use Rattle.build_scheduler.specs.Calls.{HasTaken};
+    ghost use Rattle.build_scheduler.specs.Learnt.{AreInOrder, ArePartOf};
+    ghost use Rattle.build_scheduler.specs.Own.{seen_by};
+
+    /// Lets the caller take over the journal of a call that is over, where it is the first one: so
+    /// it need not replay the runs of the first result. Else the walk is handed back.
+    pub(crate) fn take_journal(&mut self, id: u64, call: W, table: &Table) -> Option<W>
+        requires in_order { AreInOrder table.now.finished }
+        requires known { ArePartOf (W.learnt self.old.walk) table.now.finished }
+        requires replays { replay_all table.now.finished (W.position call).runs
+            (W.position self.old.walk).journal ≡ Some (W.position call).journal }
+        ensures { HasTaken (seen_by W.world W.position W.asked W.learnt) table.now.finished
+            self.old self.new }
+    {
+        if id == self.first {
+            self.walk.take_journal(call, table);
+            None
+        } else {
+            Some(call)
         }
     }
 }

@@ -1,5 +1,6 @@
 ghost use Rattle.std.specs.Prelude.{◌≡◌, ◌+◌, ◌^◌, ◌<◌, ◌++◌, ℕ, List, IfOk, IsSome, OnOk, OnErr, None, Option, Some};
 ghost use mathlib.Core.List.{IsPrefix};
+ghost use Rattle.result_cache.specs.Replay.{replay_all};
 ghost use Rattle.result_cache.specs.Table.{Records};
 ghost use Rattle.build_meaning.specs.World.{World};
 ghost use Rattle.build_meaning.specs.SoFar.{ToolUse};
@@ -100,6 +101,21 @@ pub trait Walker: Sized + Drop {
         ensures asked { IfOk result (λ child. Self.asked child ≡ 0) }
         ensures learnt { IfOk result (λ child. ArePartOf (Self.learnt child) (Self.learnt self.now)) }
         ensures earlier { IfOk result (λ child. Self.earlier child ≡ None) };
+
+    /// Takes over the journal of a request that this one has called and that is over. The runs of
+    /// that request, replayed by the table in this one's journal, give it: so this one may go on
+    /// from there where it has the results of its calls. The walk stands as before. Where there is
+    /// no memory, nothing is taken over. (MSBuild task.)
+    fn take_journal(&mut self, call: Self, table: &Table)
+        requires in_order { AreInOrder table.now.finished }
+        requires known { ArePartOf (Self.learnt self.old) table.now.finished }
+        requires replays { replay_all table.now.finished (Self.position call).runs
+            (Self.position self.old).journal ≡ Some (Self.position call).journal }
+        ensures known { ArePartOf (Self.learnt self.new) table.now.finished }
+        ensures world { Self.world self.new ≡ Self.world self.old }
+        ensures position { Self.position self.new ≡ Self.position self.old }
+        ensures asked { Self.asked self.new ≡ Self.asked self.old }
+        ensures earlier { Self.earlier self.new ≡ Self.earlier self.old };
 
     /// Learns the records that an answer needs, through all levels of calls: the answer then takes the walk where it would by
     /// the whole table. Where there is no memory, the walk is as it was.

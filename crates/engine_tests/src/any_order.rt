@@ -249,7 +249,7 @@ fn answer_ask<W: Walker>(core: &mut Core<W>, id: u64, walk: W, ask: Ask) -> Opti
             })
         }
         Ask::Done(told) => {
-            core.done(id, told);
+            let _left = core.done(id, walk, told);
             None
         }
     }

@@ -62,6 +62,11 @@ impl<W: Walker> Walker for Refusing<W> {
         })
     }
 
+    fn take_journal(&mut self, call: Refusing<W>, table: &Table) {
+        let Refusing { walk, refuses: _ } = call;
+        self.walk.take_journal(walk, table);
+    }
+
     fn learn(&mut self, table: &Table, answer: &Answer) -> Result<(), NoMemory> {
         self.walk.learn(table, answer)
     }

@@ -37,6 +37,7 @@ use Rattle.result_cache.proofs.table.Table.TheSendSync as table
 use Rattle.result_cache.specs.contracts.run_ref.RunRef as RunRef
 use Rattle.request_machine.proofs.visit.At.TheSendSync as at
 use Rattle.request_machine.proofs.reply.Reply.TheSendSync as reply
+use Rattle.request_machine.proofs.results.Replayed.TheSendSync as replayed
 use Rattle.request_machine.proofs.shared.SharedList.TheSendSync as shared
 use Rattle.request_machine.proofs.standing.Standing.TheSendSync as standing
 use Rattle.request_machine.specs.contracts.former.Before as Before
@@ -44,6 +45,7 @@ use Rattle.request_machine.specs.contracts.former.Former as Former
 use Rattle.request_machine.specs.contracts.former.FormerVisit as FormerVisit
 use Rattle.request_machine.specs.contracts.former.VisitParts as VisitParts
 use Rattle.request_machine.specs.contracts.request.Request as Request
+use Rattle.request_machine.specs.contracts.results.Replayed as Replayed
 use Rattle.request_machine.specs.contracts.stage.Stage as Stage
 use Rattle.request_machine.specs.contracts.visit.Visit as Visit
 use Rattle.request_machine.specs.contracts.walk.Walk as Walk
@@ -77,6 +79,10 @@ instance-send = struct_send (Struct.shape Instance.the_type) (
     ),
   ),
 )
+
+replayed-send : IsSend (Option.the_field Replayed.the_row).row
+replayed-send =
+    enum_send (Enum.shape (Option.the_type Replayed.the_row)) (tt, ((replayed.the_send, tt), tt))
 
 module _ (T : RattleType) (s : IsSend T) where
   visit-send : IsSend (Visit.the_field T).row
@@ -120,4 +126,4 @@ module _ (T : RattleType) (s : IsSend T) where
     )
 
     pub Walk-send : IsSend (Walk.the_row a T)
-    Walk-send = recorded_send _ _ _ (Walk.the_type a T).to_one (struct_send (Struct.shape (Walk.the_type a T)) (request-send, (table.the_send, (search sendable, (before-send, tt)))))
+    Walk-send = recorded_send _ _ _ (Walk.the_type a T).to_one (struct_send (Struct.shape (Walk.the_type a T)) (request-send, (table.the_send, (search sendable, (before-send, (replayed-send, tt))))))

@@ -9,6 +9,7 @@ pub mod Stopping
 pub mod PlacesAnswered
 pub mod RunsMade
 pub mod RunsReplayed
+pub mod ReplayedBefore
 pub mod StagesTaken
 pub mod PutBack
 pub mod WalksAnswered

@@ -12,6 +12,7 @@ pub mod Begun
 pub mod Following
 pub mod Making
 pub mod Runs
+pub mod Replayed
 pub mod Answered
 pub mod Asks
 pub mod Taken

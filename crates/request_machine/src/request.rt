@@ -7,7 +7,7 @@ use crate::former::{Former, replace_body};
 use crate::making::Step;
 use crate::moment::Moment;
 use crate::project::Project;
-use crate::results::replay_results;
+use crate::results::{Replayed, journal_after};
 use crate::shared::SharedList;
 use crate::stage::Stage;
 use crate::visit::Visit;
@@ -96,6 +96,22 @@ impl<'a, T> Request<'a, T> {
         }
     }
 
+    /// The runs that it has made or used, and its journal. This takes no memory.
+    pub fn into_replayed(self) -> Replayed
+        ensures runs { result.runs ≡ self.entry.runs }
+        ensures journal { result.journal ≡ self.entry.journal }
+    {
+        let Request {
+            alloc: _,
+            world: _,
+            key: _,
+            journal,
+            runs,
+            stage: _,
+        } = self;
+        Replayed { runs, journal }
+    }
+
     // Where it stands when it begins, and what it asks then.
     fn begun(&self) -> Result<Begun<T>, NoMemory>
         ensures stands { IfOk result (λ begun. StandsAt self.now.world.now self.now.key self.now.journal (walk_of self.now.world.now self.now.key self.now.journal) begun.stage) }
@@ -163,7 +179,7 @@ impl<'a, T> Request<'a, T> {
 }
 
 impl<'a, T: CountedTools> Request<'a, T> {
-    ghost use Rattle.std.specs.Prelude.{◌++◌, [], false, true, map, IfOk, IsSome, OnErr, OnOk};
+    ghost use Rattle.std.specs.Prelude.{◌++◌, [], false, true, map, IfOk, IfSome, IsSome, OnErr, OnOk};
     ghost use Rattle.build_meaning.specs.SoFar.{runs_of};
     ghost use Rattle.build_scheduler.specs.Position.{answered, used_between};
     ghost use Rattle.build_scheduler.specs.declared.walker.Answer.TheVariants.{First, Go, Use, Results};
@@ -175,22 +191,28 @@ impl<'a, T: CountedTools> Request<'a, T> {
     ghost use Rattle.request_machine.specs.Answered.{GoesOn, HasMade, IsNext, WaitsFor, WantsRun};
     ghost use Rattle.request_machine.specs.Begun.{has_begun};
     ghost use Rattle.request_machine.specs.Former.{Replaces};
-    ghost use Rattle.request_machine.specs.Halted.{HasMadeRun, HasResumedRun, IsMade, IsResumed};
-    ghost use Rattle.request_machine.specs.Making.{IsWaiting};
+    ghost use Rattle.request_machine.specs.Halted.{HasMadeRun, IsMade, IsResumed};
+    ghost use Rattle.request_machine.specs.Making.{GoesOnFrom, IsWaiting};
     ghost use Rattle.request_machine.specs.Positions.{halt_at};
+    ghost use Rattle.request_machine.specs.Replayed.{IsReplayed};
+    ghost use Rattle.request_machine.specs.Runs.{run_in};
     ghost use Rattle.request_machine.specs.WalkPosition.{request_position};
     ghost use Rattle.request_machine.specs.Worlds.{world_of};
 
-    /// Goes on with an answer to the next ask. Where there is no memory, the request is as it was, and the calls of tools begin
-    /// with those of before. (Target build order; MSBuild task.)
+    /// Goes on with an answer to the next ask, from a journal that is there for the runs of the first
+    /// of its results. Where there is no memory, the request is as it was, and the calls of tools
+    /// begin with those of before. (Target build order; MSBuild task.)
     pub fn advance(
         &mut self,
         learnt: &Table,
+        replayed: &Option<Replayed>,
         tools: &mut T,
         answer: &Answer,
     ) -> Result<Advanced<T>, NoMemory>
         requires fits { IsSome (answered (world_of T.answer self.old.world.now) learnt.now.finished (request_position T.calls self.old) answer.now) }
         requires turn { IsNext (has_begun self.old.stage) answer.now }
+        requires known { ∥ IfSome replayed.now
+            (IsReplayed learnt.now.finished self.old.journal) ∥₁ }
         ensures goes { IfOk result (λ advanced. GoesOn (world_of T.answer self.old.world.now) learnt.now.finished (request_position T.calls self.old) (request_position T.calls self.new) answer.now advanced.ask) }
         ensures used { OnOk result (map tool_use (T.calls tools.new) ≡ map tool_use (T.calls tools.old) ++ used_between (request_position T.calls self.old).place (request_position T.calls self.new).place) }
         ensures begun { OnOk result (has_begun self.new.stage ≡ true) }
@@ -203,7 +225,7 @@ impl<'a, T: CountedTools> Request<'a, T> {
             Answer::First => self.begin(),
             Answer::Go => self.go(tools),
             Answer::Use => self.use_record(learnt),
-            Answer::Results(results) => self.take_results(learnt, tools, results),
+            Answer::Results(results) => self.take_results(learnt, replayed, tools, results),
         }
     }
 
@@ -270,11 +292,14 @@ impl<'a, T: CountedTools> Request<'a, T> {
     fn take_results(
         &mut self,
         learnt: &Table,
+        replayed: &Option<Replayed>,
         tools: &mut T,
         results: &List<RequestResult>,
     ) -> Result<Advanced<T>, NoMemory>
         requires waits { WaitsFor T.calls self.old.world.now results.now self.old.stage }
         requires replays { IsSome (replay_all learnt.now.finished (runs_of results.now) self.old.journal) }
+        requires known { ∥ IfSome replayed.now
+            (IsReplayed learnt.now.finished self.old.journal) ∥₁ }
         ensures goes { IfOk result (λ advanced. GoesOn (world_of T.answer self.old.world.now) learnt.now.finished (request_position T.calls self.old) (request_position T.calls self.new) (Results results.now) advanced.ask) }
         ensures used { OnOk result (map tool_use (T.calls tools.new) ≡ map tool_use (T.calls tools.old) ++ used_between (request_position T.calls self.old).place (request_position T.calls self.new).place) }
         ensures begun { OnOk result (has_begun self.new.stage ≡ true) }
@@ -283,7 +308,7 @@ impl<'a, T: CountedTools> Request<'a, T> {
         ensures tools { BeginsWith (T.calls tools.old) (T.calls tools.new) }
         ensures err { OnErr result (self.new ≡ self.old) }
     {
-        let Halted { step, journal } = self.resumed(learnt, tools, results)?;
+        let Halted { step, journal } = self.resumed(learnt, replayed, tools, results)?;
         let Step { at, ask } = step;
         let at = replace_body(&mut self.stage, at);
         let journal = mem::replace(&mut self.journal, journal);
@@ -296,16 +321,21 @@ impl<'a, T: CountedTools> Request<'a, T> {
     fn resumed(
         &self,
         learnt: &Table,
+        replayed: &Option<Replayed>,
         tools: &mut T,
         results: &List<RequestResult>,
     ) -> Result<Halted<T>, NoMemory>
         requires waits { WaitsFor T.calls self.now.world.now results.now self.now.stage }
         requires replays { IsSome (replay_all learnt.now.finished (runs_of results.now) self.now.journal) }
+        requires known { ∥ IfSome replayed.now
+            (IsReplayed learnt.now.finished self.now.journal) ∥₁ }
         ensures halted { IfOk result (λ halted. IsResumed T.answer T.calls self.now.world.now learnt.now.finished results.now self.now.stage self.now.journal halted.journal tools.old tools.new halted.step) }
         ensures tools { BeginsWith (T.calls tools.old) (T.calls tools.new) }
     {
+        let entries = results.as_slice();
+        let journal = journal_after(self.alloc, &self.journal, replayed, learnt, entries)?;
         match &self.stage {
-            Stage::Visits(visit) => self.resumed_at(visit, learnt, tools, results),
+            Stage::Visits(visit) => self.resumed_at(visit, journal, tools, results),
             Stage::Begins | Stage::Over(_) => unreachable!(),
         }
     }
@@ -313,17 +343,20 @@ impl<'a, T: CountedTools> Request<'a, T> {
     fn resumed_at(
         &self,
         visit: &Visit<T>,
-        learnt: &Table,
+        journal: Journal,
         tools: &mut T,
         results: &List<RequestResult>,
     ) -> Result<Halted<T>, NoMemory>
-        requires waits { IsWaiting (halt_at T.calls self.now.world.now visit.now.run (target_named (seen_instance visit.now.instance).targets visit.now.run.target) visit.now.at) results.now }
-        requires replays { IsSome (replay_all learnt.now.finished (runs_of results.now) self.now.journal) }
-        ensures halted { IfOk result (λ halted. HasResumedRun T.answer T.calls self.now.world.now learnt.now.finished results.now visit.now self.now.journal halted.journal tools.old tools.new halted.step) }
+        requires { IsWaiting (halt_at T.calls self.now.world.now visit.now.run (target_named (seen_instance visit.now.instance).targets visit.now.run.target) visit.now.at) results.now }
+        ensures goes { IfOk result (λ halted.
+            let target = target_named (seen_instance visit.now.instance).targets visit.now.run.target in
+            GoesOnFrom T.answer T.calls self.now.world.now visit.now.run target
+            (halt_at T.calls self.now.world.now visit.now.run target visit.now.at) results.now journal
+            halted.journal tools.old tools.new halted.step) }
+        ensures own { IfOk result (λ halted. run_in visit.now.run halted.step.at ≡ visit.now.run) }
         ensures tools { BeginsWith (T.calls tools.old) (T.calls tools.new) }
     {
-        let mut journal = self.journal.copy()?;
-        replay_results(self.alloc, &mut journal, learnt, results.as_slice())?;
+        let mut journal = journal;
         let step = visit.go_on(self.alloc, self.world, tools, &mut journal, results)?;
         Ok(Halted { step, journal })
     }

@@ -1,9 +1,11 @@
 ghost use Rattle.std.specs.Prelude.{◌≡◌, ◌==◌, not, IfSome};
 ghost use Rattle.request_machine.specs.Begun.{has_begun};
 ghost use Rattle.request_machine.specs.Former.{IsBefore};
+ghost use Rattle.request_machine.specs.Replayed.{IsReplayed};
 
 use crate::former::Before;
 use crate::request::{Advanced, Request};
+use crate::results::Replayed;
 use crate::root::root_key;
 use build_scheduler::{Answer, Ask, Walker};
 use build_world::World;
@@ -28,8 +30,11 @@ pub struct Walk<'a, T> {
     pub(crate) asked: u64,
     /// What its last answer has replaced, unless it was taken back.
     pub(crate) before: Option<Before<T>>,
+    /// The runs of a call that is over, and its journal, from which the request may go on.
+    pub(crate) replayed: Option<Replayed>,
     ghost begun: { has_begun request.stage ≡ not (asked == 0) },
     ghost fits: { ∥ IfSome before (IsBefore request) ∥₁ },
+    ghost known: { ∥ IfSome replayed (IsReplayed learnt.finished request.journal) ∥₁ },
 }
 
 // A drop that is written out is proved here alone.
@@ -40,6 +45,7 @@ impl<'a, T> Drop for Walk<'a, T> {
             learnt: _,
             asked: _,
             before: _,
+            replayed: _,
         } = self;
     }
 }
@@ -72,6 +78,21 @@ impl<'a, T: CountedTools> Walk<'a, T> {
         self.request.journal.has_ended(run)
     }
 
+    // The runs that its request has made or used, and its journal. This takes no memory.
+    fn into_replayed(self) -> Replayed
+        ensures runs { result.runs ≡ (walk_position T.calls self.entry).runs }
+        ensures journal { result.journal ≡ (walk_position T.calls self.entry).journal }
+    {
+        let Walk {
+            request,
+            learnt: _,
+            asked: _,
+            before: _,
+            replayed: _,
+        } = self;
+        request.into_replayed()
+    }
+
     // The walk of a request that begins with a journal.
     fn of(alloc: Global, world: &'a World, key: RequestKey, journal: Journal) -> Walk<'a, T>
         ensures world { result.request.world.now ≡ world.entry.now }
@@ -86,6 +107,7 @@ impl<'a, T: CountedTools> Walk<'a, T> {
             learnt: Table::new(alloc),
             asked: 0,
             before: None,
+            replayed: None,
         }
     }
 }
@@ -135,6 +157,14 @@ impl<'a, T: CountedTools> Walker for Walk<'a, T> {
         Ok(Walk::of(self.request.alloc, self.request.world, key, journal))
     }
 
+    // It learns the records by which the runs of the call are replayed.
+    fn take_journal(&mut self, call: Walk<'a, T>, table: &Table) {
+        if let Ok(records) = table.learnt() {
+            self.learnt = records;
+            self.replayed = Some(call.into_replayed());
+        }
+    }
+
     // All records are learnt at once: a copy of a table shares them.
     fn learn(&mut self, table: &Table, _: &Answer) -> Result<(), NoMemory> {
         let learnt = table.learnt()?;
@@ -143,7 +173,10 @@ impl<'a, T: CountedTools> Walker for Walk<'a, T> {
     }
 
     fn advance(&mut self, tools: &mut T, answer: &Answer) -> Result<Ask, NoMemory> {
-        let Advanced { ask, former } = self.request.advance(&self.learnt, tools, answer)?;
+        let Advanced { ask, former } = self
+            .request
+            .advance(&self.learnt, &self.replayed, tools, answer)?;
+        self.replayed = None;
         self.before = Some(Before {
             former,
             asked: self.asked,
@@ -153,6 +186,7 @@ impl<'a, T: CountedTools> Walker for Walk<'a, T> {
     }
 
     fn back(&mut self) {
+        let _replayed = mem::replace(&mut self.replayed, None);
         match mem::replace(&mut self.before, None) {
             Some(before) => self.asked = before.put_back(&mut self.request),
             None => unreachable!(),

@@ -11,7 +11,7 @@ pub returns-then-is_some-clause-continues : goal.returns-then-is_some-clause-con
 returns-then-is_some-clause-continues g c = ahead c.args.core.now.history.events c.done.new.self.history.events _ c.args.core.now.end c.done.new.self.end c.requires.running c.done.ensures.history
 
 pub returns-then-is_some-clause-spent : goal.returns-then-is_some-clause-spent
-returns-then-is_some-clause-spent g c = over-spent c.done.new.self.history.nodes c.done.new.self.history.events c.args.id (Root c.args.told) c.done.new.self.end tt c.done.ensures.root c.done.ensures.others
+returns-then-is_some-clause-spent g c = over-spent c.done.new.self.history.nodes c.done.new.self.history.events c.args.held.id (Root c.args.told) c.done.new.self.end tt c.done.ensures.root c.done.ensures.others
 
 pub returns-then-is_some-clause-next : goal.returns-then-is_some-clause-next
 returns-then-is_some-clause-next g c = left-told c.args.node c.done.new.self.history.events _ (copied-some _ _ c.end.ensures.end (sym c.is_some.ensures ∙ c.if-is_some.true))

@@ -16,8 +16,8 @@ result-requires-clause-asks g c =
     let core = c.args.core.now in
     asks-of (m.world_of core.world) core.history.events core.table.finished c.args.id (seen_by m.world m.position m.asked m.learnt c.args.walk) (Finished c.in-Finished.run' c.in-Finished.made) c.requires.own (c.requires.asks ∙ c.in-Finished.is)
 
-pub done-requires-clause-asks : goal.done-requires-clause-asks
-done-requires-clause-asks g c =
+pub done-left-requires-clause-asks : goal.done-left-requires-clause-asks
+done-left-requires-clause-asks g c =
     let m = g.W.Walker in
     let core = c.args.core.now in
     asks-of (m.world_of core.world) core.history.events core.table.finished c.args.id (seen_by m.world m.position m.asked m.learnt c.args.walk) (IsOver c.in-Done.told) c.requires.own (c.requires.asks ∙ c.in-Done.is)
@@ -36,8 +36,8 @@ pub returns-in-Done-clause-turn : goal.returns-in-Done-clause-turn
 returns-in-Done-clause-turn g c =
     let m = g.W.Walker in
     let core = c.args.core.now in
-    leaves-node (m.world_of core.world) core.history.events c.done.new.self.history.events (Done c.args.id)
-    (legal-of (seen_by m.world m.position m.asked m.learnt) (m.world_of core.world) core.legal) c.done.ensures.history c.args.id refl c.requires.only c.done.new.self.end tt
+    leaves-node (m.world_of core.world) core.history.events c.done-left.new.self.history.events (Done c.args.id)
+    (legal-of (seen_by m.world m.position m.asked m.learnt) (m.world_of core.world) core.legal) c.done-left.ensures.history c.args.id refl c.requires.only c.done-left.new.self.end tt
 
 pub returns-in-Finished-clause-uses : goal.returns-in-Finished-clause-uses
 returns-in-Finished-clause-uses g c =
@@ -53,7 +53,7 @@ pub returns-in-Done-clause-uses : goal.returns-in-Done-clause-uses
 returns-in-Done-clause-uses g c =
     let m = g.W.Walker in
     let core = c.args.core.now in
-    let after = c.done.new.self in
+    let after = c.done-left.new.self in
     away-uses (m.world_of core.world) core.history.events after.history.events (Done c.args.id) c.args.id core.table.finished
-    (seen_by m.world m.position m.asked m.learnt c.args.walk) refl (λ a. a) c.done.ensures.history c.requires.own
-    (subst (λ w. ∥ IsLegal w after.history.events ∥₁) c.done.ensures.world (legal-of (seen_by m.world m.position m.asked m.learnt) (m.world_of after.world) after.legal))
+    (seen_by m.world m.position m.asked m.learnt c.args.walk) refl (λ a. a) c.done-left.ensures.history c.requires.own
+    (subst (λ w. ∥ IsLegal w after.history.events ∥₁) c.done-left.ensures.world (legal-of (seen_by m.world m.position m.asked m.learnt) (m.world_of after.world) after.legal))

@@ -41,4 +41,4 @@ take_results-requires g c =
     let results = c.in-Results.results in
     let both = results_wait answer calls w r.key table r.journal r.runs results r.stage
     (subst (λ a. IsSome (answered (world_of answer w) table (request_position calls r) a)) c.in-Results.is c.requires.fits) in
-    record { waits = both.0; replays = both.1 }
+    record { waits = both.0; replays = both.1; known = c.requires.known }

@@ -4,7 +4,7 @@ use Rattle.request_machine.proofs.WalksAnswered.{position_begins}
 use Rattle.request_machine.proofs.walk.Walk.of.Goals as goal
 
 pub invariant_of-result : goal.invariant_of-result
-invariant_of-result g c = record { begun = ap has_begun c.new-request.ensures.stage; fits = ∣ tt ∣₁ }
+invariant_of-result g c = record { begun = ap has_begun c.new-request.ensures.stage; fits = ∣ tt ∣₁; known = ∣ tt ∣₁ }
 
 pub returns : goal.returns
 returns g c =

@@ -1,5 +1,6 @@
 use Rattle.std.proofs.Common.{◌==◌, not, Some, IfSome, option_map, sym, ap, ◌∙◌, subst, refl}
 use Rattle.request_machine.specs.Former.{IsBefore, position_before}
+use Rattle.request_machine.specs.Replayed.{IsReplayed}
 use Rattle.request_machine.specs.WalkPosition.{request_position}
 use Rattle.request_machine.specs.Worlds.{world_of}
 use Rattle.request_machine.proofs.walk.WalkWalker.back.Goals as goal
@@ -11,6 +12,7 @@ pub invariant_of-self : goal.invariant_of-self
 invariant_of-self g c = record {
   begun = c.put_back-self.ensures.begun ∙ ap (λ n. not (n == 0)) (sym c.put_back-self.ensures.asked);
   fits = subst (λ o. ∥ IfSome o (IsBefore c.put_back-self.new.request) ∥₁) (sym c.replace.ensures.after) ∣ tt ∣₁;
+  known = subst (λ o. ∥ IfSome o (IsReplayed c.args.self.now.learnt.finished c.put_back-self.new.request.journal) ∥₁) (sym c.replace-replayed.ensures.after) ∣ tt ∣₁;
 }
 
 pub returns : goal.returns

@@ -1,9 +1,22 @@
-use Rattle.std.proofs.Common.{refl, sym, ap, subst}
+use Rattle.std.proofs.Common.{IfSome, refl, sym, ap, subst}
 use Rattle.build_scheduler.specs.Learnt.{ArePartOf}
 use Rattle.build_scheduler.specs.Position.{answered}
+use Rattle.request_machine.specs.Replayed.{IsReplayed}
 use Rattle.request_machine.specs.WalkPosition.{request_position}
 use Rattle.request_machine.specs.Worlds.{world_of}
+use Rattle.request_machine.proofs.ReplayedBefore.{replayed-more}
 use Rattle.request_machine.proofs.walk.WalkWalker.learn.Goals as goal
+
+pub invariant_of-self : goal.invariant_of-self
+invariant_of-self g c =
+    let walk = c.args.self.now in
+    let journal = walk.request.journal in
+    record {
+      begun = walk.begun;
+      fits = walk.fits;
+      known = subst (λ records. ∥ IfSome walk.replayed (IsReplayed records journal) ∥₁) (sym c.in_ok-learnt.ensures.finished)
+          (replayed-more walk.learnt.finished c.args.table.now.finished c.requires.in_order c.requires.known journal walk.replayed walk.known);
+    }
 
 pub returns : goal.returns
 returns g c =
