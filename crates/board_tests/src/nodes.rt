@@ -40,7 +40,7 @@ fn work<R: Wait>(
 {
     for _ in rt.forever() {
         match take_turn(board, seat, node, order) {
-            Turn::Missed => thread::yield_now(),
+            Turn::Missed => board.park_held(rt),
             Turn::Idle(number) => board.park_idle(rt, number),
             Turn::Added => board.wake_one(),
             Turn::Full => break,

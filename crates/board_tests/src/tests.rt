@@ -61,6 +61,16 @@ fn sixty_four_seats_are_split_joined_and_closed(rt: HostRuntime) -> Result<(), F
     Ok(())
 }
 
+/// A node that keeps the list long makes the others sleep, and its give wakes one.
+#[test]
+fn nodes_sleep_while_the_list_is_out(rt: HostRuntime) -> Result<(), Fail> {
+    let list = TurnList::new(rt.alloc(), 4_000)?;
+    let filled = fill(&rt, rt.alloc(), list, 8, Order::Slow)?;
+    assert!(rt; filled.entries.len() == 4_000);
+    assert!(rt; filled.entries.iter().all(|node| *node < 8));
+    Ok(())
+}
+
 /// Whether 8 nodes fill a list such that no entry comes before it is supplied.
 fn supplies<R: Threads + Wait + Sync>(rt: &R, alloc: Global) -> Result<bool, AllocError> {
     let list = TurnList::new(alloc, 4_000)?;

@@ -2,6 +2,7 @@ ghost use Rattle.std.specs.Prelude.{◌≡◌, ◌<◌, ◌≤◌, ◌^◌, ◌+
 ghost use mathlib.Core.List.{IsPrefix};
 
 use std::alloc::{AllocError, Global};
+use std::hint;
 use turn_board::Histories;
 
 /// Which node may add the next entry.
@@ -11,6 +12,8 @@ pub enum Order {
     InTurn(u64),
     /// Any node adds an entry whenever it has the list.
     Any,
+    /// The same, and it keeps the list for longer than other nodes look for it before they sleep.
+    Slow,
     /// Node 0 supplies half of the entries. The others add one for each that is supplied.
     Supplied,
 }
@@ -60,6 +63,7 @@ impl TurnList {
         match order {
             Order::InTurn(nodes) => nodes > 0 && number % nodes == node,
             Order::Any => true,
+            Order::Slow => true,
             Order::Supplied if node == 0 => number.saturating_add(self.supplied) < self.limit,
             Order::Supplied => self.supplied > 0,
         }
@@ -89,8 +93,18 @@ impl TurnList {
         if !self.has_turn(node, order) {
             return Turn::Idle(self.entries.len() as u64);
         }
+        if matches!(order, Order::Slow) {
+            wait_long();
+        }
         self.add(node);
         Turn::Added
+    }
+}
+
+/// Lets some tens of microseconds go by.
+fn wait_long() {
+    for _ in 0..1000 {
+        hint::spin_loop();
     }
 }
 

@@ -32,7 +32,7 @@ use Rattle.build_nodes.specs.declared.turn.Asking.{Asking}
 use Rattle.build_nodes.specs.declared.turn.Answered.{Answered}
 use Rattle.build_nodes.specs.Leaving.{has_left}
 use Rattle.build_nodes.specs.Marked.{marked}
-use Rattle.build_nodes.specs.Turns.{CanGoBack, IsAnswered, IsAsking}
+use Rattle.build_nodes.specs.Turns.{AreAlike, CanGoBack, IsAnswered, IsAsking}
 use Rattle.build_nodes.proofs.Here.{still-here}
 use Rattle.build_nodes.proofs.HistoryParts.{goes-on}
 use Rattle.build_nodes.proofs.Marks.{none-more, continues-of, drop-front}
@@ -136,14 +136,19 @@ module _ {W P I A : Type 0} (seen : W → Seen P I A) (earlier : W → Option (P
         let behind : drop a.number log.events ≡ m.0 = ap (λ n. drop n log.events) k.number ∙ (ap (drop (length k.events)) m.1 ∙ drop-front k.events m.0) in
         still-here w k.events m.0 log.events a.id node x.state k.here m.1 (subst (AreOfOthers a.id) behind others) x.history
 
-    -- the walk has learnt what its answer needs
-    pub answer-given : (id : ℕ) (walk after : W) (answer : Answer) (number : ℕ) → end ≡ None → has_left node (marked log.events end) ≡ false → IsAssignedTo w log.events id node → IsOut w log.events table.finished id (seen walk) answer → number ≡ length log.events → length log.events < 2 ^ 63 →
-        answered (seen walk).world (seen after).learnt (seen walk).position answer ≡ answered (seen walk).world table.finished (seen walk).position answer → ArePartOf (seen after).learnt table.finished →
-        (seen after).world ≡ (seen walk).world → (seen after).position ≡ (seen walk).position → (seen after).asked ≡ (seen walk).asked →
-        IsAnswered seen earlier node w (marked log.events end) (record { id = id; walk = after; answer = answer; number = number })
-    answer-given id walk after answer number none active here o n few learns part same_world same_position same_asked =
-        let learns_so : answered w (seen after).learnt (seen walk).position answer ≡ answered w table.finished (seen walk).position answer =
-        subst (λ (v : World P I A). answered v (seen after).learnt (seen walk).position answer ≡ answered v table.finished (seen walk).position answer) o.world learns in
+    -- a walk with its next answer, for which it knows enough
+    pub handed : (id : ℕ) (walk : W) (answer : Answer) (number : ℕ) → end ≡ None →
+        has_left node (marked log.events end) ≡ false → IsAssignedTo w log.events id node →
+        IsOut w log.events table.finished id (seen walk) answer →
+        number ≡ length log.events → length log.events < 2 ^ 63 →
+        AreAlike (seen walk).world (seen walk).learnt table.finished (seen walk).position answer →
+        IsAnswered seen earlier node w (marked log.events end)
+        (record { id = id; walk = walk; answer = answer; number = number })
+    handed id walk answer number none active here o n few enough =
+        let enough_so : AreAlike w (seen walk).learnt table.finished (seen walk).position answer =
+        subst (λ (v : World P I A).
+        AreAlike v (seen walk).learnt table.finished (seen walk).position answer) o.world enough in
+        let same = one_state w log.events o.stands.state x.state o.stands.history x.history in
         record {
           events = log.events;
           table = table.finished;
@@ -152,17 +157,9 @@ module _ {W P I A : Type 0} (seen : W → Seen P I A) (earlier : W → Option (P
           begins = none-more log.events log.events None end refl refl;
           active = ap (λ o. has_left node (marked log.events o)) (sym none) ∙ active;
           here = here;
-          out = record {
-            next = o.next;
-            stands = o.stands;
-            world = same_world ∙ o.world;
-            learnt = part;
-            goes = ap (λ (p : Position P I A). answered w table.finished p answer) same_position ∙ o.goes;
-            turn = subst (λ n. IsInTurn n answer) (sym same_asked) o.turn;
-            few = let a = o.few in omega (arith, same_asked);
-          };
-          table_is = ap (λ (s : State P I A). s.table) (one_state w log.events o.stands.state x.state o.stands.history x.history) ∙ sym x.finished;
-          enough = ap (λ (p : Position P I A). answered w (seen after).learnt p answer) same_position ∙ (learns_so ∙ o.goes);
+          out = o;
+          table_is = ap (λ (s : State P I A). s.table) same ∙ sym x.finished;
+          enough = enough_so ∙ o.goes;
         }
 
   -- the walk has gone on with its answer
@@ -260,6 +257,33 @@ module _ {W P I A : Type 0} (seen : W → Seen P I A) (earlier : W → Option (P
   pub refused-out : (events : List Event) (table : Records) (id : ℕ) (walk after : W) (answer : Answer) → IsOut w events table id (seen walk) answer → (seen after).world ≡ (seen walk).world → (seen after).position ≡ (seen walk).position →
       (seen after).asked ≡ (seen walk).asked → (seen after).learnt ≡ (seen walk).learnt → IsOut w events table id (seen after) answer
   refused-out events table id walk after answer o world position asked learnt = subst (λ (v : Seen P I A). IsOut w events table id v answer) (seen-same (seen walk) (seen after) (sym world) (sym position) (sym asked) (sym learnt)) o
+
+  -- a walk that has learnt records of the table
+  pub learnt-out : (events : List Event) (table : Records) (id : ℕ) (walk after : W)
+      (answer : Answer) → IsOut w events table id (seen walk) answer →
+      ArePartOf (seen after).learnt table → (seen after).world ≡ (seen walk).world →
+      (seen after).position ≡ (seen walk).position → (seen after).asked ≡ (seen walk).asked →
+      IsOut w events table id (seen after) answer
+  learnt-out events table id walk after answer o part world position asked = record {
+    next = o.next;
+    stands = o.stands;
+    world = world ∙ o.world;
+    learnt = part;
+    goes = ap (λ (p : Position P I A). answered w table p answer) position ∙ o.goes;
+    turn = subst (λ n. IsInTurn n answer) (sym asked) o.turn;
+    few = let a = o.few in omega (arith, asked);
+  }
+
+  -- and knows enough then
+  pub learnt-alike : (table : Records) (walk after : W) (answer : Answer) →
+      AreAlike (seen walk).world (seen after).learnt table (seen walk).position answer →
+      (seen after).world ≡ (seen walk).world → (seen after).position ≡ (seen walk).position →
+      AreAlike (seen after).world (seen after).learnt table (seen after).position answer
+  learnt-alike table walk after answer alike world position =
+      let these = (seen after).learnt in
+      let here = (seen walk).position in
+      subst (λ (p : Position P I A). AreAlike (seen after).world these table p answer) (sym position)
+      (subst (λ (v : World P I A). AreAlike v these table here answer) (sym world) alike)
 
   -- a walk whose last answer is taken back
   pub back-out : (events : List Event) (table : Records) (id : ℕ) (walk after : W) (answer : Answer) → CanGoBack seen earlier w events table id walk answer → earlier walk ≡ Some ((seen after).position, (seen after).asked) →

@@ -30,6 +30,7 @@ use Rattle.atomic_table.specs.contracts.owned.Table as Table
 use Rattle.atomic_table.proofs.send_lease.SendLease.TheSendSync as lease
 use Rattle.atomic_table.proofs.shared.Seat.TheSendSync as seat
 use Rattle.atomic_table.proofs.shared.Shared.TheSendSync as shared
+use Rattle.crossbeam_utils.proofs.sync.event_count.EventCount.TheSendSync as waits
 use Rattle.turn_board.specs.declared.histories.Histories as Histories
 use Rattle.turn_board.specs.contracts.board.Board as Board
 use Rattle.turn_board.specs.contracts.board.Board.TheInside as board_inside
@@ -102,7 +103,10 @@ module _ (S T E : RattleType) (h : Histories.Ghosts S.Denot T.Denot E.Denot) (s 
 
   board-sync : IsSync (Board.the_row S T E h)
   board-sync =
-      let I = board_inside.the_type S T E h in view_sync (board_inside.the_row S T E h) _ _ _ _ (recorded_sync _ _ _ I.to_one (struct_sync (Struct.shape I) (search (table-sync, slot-send), tt)))
+      let I = board_inside.the_type S T E h in
+      view_sync (board_inside.the_row S T E h) _ _ _ _
+      (recorded_sync _ _ _ I.to_one (struct_sync (Struct.shape I)
+      (search (table-sync, slot-send), (waits.the_field_sync, (waits.the_field_sync, tt)))))
 
 module _ (W P O : RattleType) (g : Walker.Ghosts W.Denot P.Denot O.Denot) (s : IsSend W) (o : IsSend O) where
   core-send : IsSend (Core.the_field W P O g).row

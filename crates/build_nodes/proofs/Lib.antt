@@ -12,3 +12,4 @@ pub mod Seated
 pub mod Built
 pub mod Leaves
 pub mod Active
+pub mod NoRecords

@@ -33,6 +33,11 @@ number_of (Nothing number) = number
 number_of (Walk a) = a.number
 number_of (Refused a) = a.number
 
+-- an answer takes a walk to the same place by these records and by those
+abbrev pub AreAlike : {P I A : Type 0} →
+    World P I A → Records → Records → Position P I A → Answer → Type 0
+AreAlike w these those p answer = answered w these p answer ≡ answered w those p answer
+
 module _ {W P I A : Type 0} (seen : W → Seen P I A) (earlier : W → Option (Position P I A × ℕ)) where
   -- once its last answer is taken back, the walk is its request's own, and this is its next answer
   pub record CanGoBack (w : World P I A) (events : List Event) (table : Records) (id : ℕ) (walk : W) (answer : Answer) : Type 0 where

@@ -1,26 +1,35 @@
 //! What a node does with the core while it has it.
-ghost use Rattle.std.specs.Prelude.{◌≡◌, false, true, drop, None};
+ghost use Rattle.std.specs.Prelude.{◌≡◌, false, true, drop, IsSome, None, OnErr, OnOk};
 ghost use Rattle.std.specs.List.{list_any};
 ghost use mathlib.Core.List.{IsPrefix};
 ghost use Rattle.build_meaning.specs.History.{AreOfOthers};
 ghost use Rattle.build_meaning.specs.Step.{whose};
+ghost use Rattle.build_scheduler.specs.declared.walker.Answer.TheVariants.{Use};
 ghost use Rattle.build_scheduler.specs.declared.walker.Ask.TheVariants.{Call, Done, Finished, Want};
 ghost use Rattle.build_scheduler.specs.Ends.{IsStop};
+ghost use Rattle.build_scheduler.specs.Learnt.{AreInOrder, ArePartOf};
 ghost use Rattle.build_scheduler.specs.Own.{Asks, IsOut, IsOwn, seen_by};
-ghost use Rattle.build_scheduler.specs.Position.{ask_of};
+ghost use Rattle.build_scheduler.specs.Position.{answered, ask_of};
 ghost use Rattle.build_scheduler.specs.Ready.{IsAssignedTo};
 ghost use Rattle.build_nodes.specs.Leaving.{IsCaused, IsSpent, has_left, is_retire_of};
 ghost use Rattle.build_nodes.specs.Marked.{marked};
-ghost use Rattle.build_nodes.specs.Turns.{CanGoBack, IsAnswered, IsAsking, IsBrought, IsNext, refusal_end};
+ghost use Rattle.build_nodes.specs.Turns.{AreAlike, CanGoBack, IsAnswered, IsAsking, IsBrought};
+ghost use Rattle.build_nodes.specs.Turns.{IsNext, refusal_end};
 
-use crate::turn::{Answered, Asking, Brought, Held, Next};
+use crate::turn::{Answered, Asking, Brought, Discarded, Held, Next};
 use build_scheduler::{Answer, Ask, Claimed, Core, End, Event, RequestFault, Walker};
 use msb_values::{List, NoMemory};
-use result_cache::{RecordRef, RequestKey, RequestResult, RunId};
+use result_cache::{RecordRef, RequestKey, RequestResult, RunId, Table};
 
-/// One turn of a node: what it brings goes on, and where its request can't, the least request that is ready is assigned to the
-/// node. There is nothing to do next once the end is told, or the node has retired.
-pub(crate) fn turn<W: Walker>(core: &mut Core<W>, node: u32, brought: Brought<W>) -> Option<Next<W>>
+/// One turn of a node: what it brings goes on, and where its request can't, the least request that
+/// is ready is assigned to the node. There is nothing to do next once the end is told, or the node
+/// has retired.
+pub(crate) fn turn<W: Walker>(
+    core: &mut Core<W>,
+    node: u32,
+    brought: Brought<W>,
+    discarded: &mut Discarded<W>,
+) -> Option<Next<W>>
     requires spent { IsSpent core.old.history.nodes core.old.history.events core.old.end }
     requires brought { IsBrought (seen_by W.world W.position W.asked W.learnt) W.earlier node (W.world_of core.old.world) (marked core.old.history.events core.old.end) brought }
     ensures world { W.world_of core.new.world ≡ W.world_of core.old.world }
@@ -37,8 +46,8 @@ pub(crate) fn turn<W: Walker>(core: &mut Core<W>, node: u32, brought: Brought<W>
     }
     match brought {
         Brought::Nothing(_) => assign_least(core, node),
-        Brought::Walk(asking) => bring_back(core, node, asking),
-        Brought::Refused(answered) => give_back(core, node, answered),
+        Brought::Walk(asking) => bring_back(core, node, asking, discarded),
+        Brought::Refused(answered) => give_back(core, node, answered, discarded),
     }
 }
 
@@ -66,8 +75,14 @@ fn is_retire_of(event: &Event, node: u32) -> bool
     }
 }
 
-/// Goes on with a walk that the node has advanced, unless its request has moved meanwhile: then the walk is dropped.
-fn bring_back<W: Walker>(core: &mut Core<W>, node: u32, asking: Asking<W>) -> Option<Next<W>>
+/// Goes on with a walk that the node has advanced, unless its request has moved meanwhile: then the
+/// walk is discarded.
+fn bring_back<W: Walker>(
+    core: &mut Core<W>,
+    node: u32,
+    asking: Asking<W>,
+    discarded: &mut Discarded<W>,
+) -> Option<Next<W>>
     requires running { core.old.end ≡ None }
     requires active { has_left node (marked core.old.history.events core.old.end) ≡ false }
     requires asking { ∥ IsAsking (seen_by W.world W.position W.asked W.learnt) W.earlier node (W.world_of core.old.world) (marked core.old.history.events core.old.end) asking ∥₁ }
@@ -78,8 +93,16 @@ fn bring_back<W: Walker>(core: &mut Core<W>, node: u32, asking: Asking<W>) -> Op
     ensures next { IsNext (seen_by W.world W.position W.asked W.learnt) W.earlier node (W.world_of core.new.world) (marked core.new.history.events core.new.end) result }
 {
     if are_of_others(core.history(), asking.id, asking.number) {
-        go_on(core, node, asking)
+        go_on(core, node, asking, discarded)
     } else {
+        let Asking {
+            id: _,
+            walk,
+            answer,
+            ask: _,
+            number: _,
+        } = asking;
+        discarded.put(walk, answer);
         assign_least(core, node)
     }
 }
@@ -111,7 +134,12 @@ fn request_of(event: &Event) -> u64
 }
 
 /// One event of the request that the node has: what its walk asks.
-fn go_on<W: Walker>(core: &mut Core<W>, node: u32, asking: Asking<W>) -> Option<Next<W>>
+fn go_on<W: Walker>(
+    core: &mut Core<W>,
+    node: u32,
+    asking: Asking<W>,
+    discarded: &mut Discarded<W>,
+) -> Option<Next<W>>
     requires running { core.old.end ≡ None }
     requires active { has_left node (marked core.old.history.events core.old.end) ≡ false }
     requires own { ∥ IsOwn (W.world_of core.old.world) core.old.history.events core.old.table.finished asking.id (seen_by W.world W.position W.asked W.learnt asking.walk) ∥₁ }
@@ -131,17 +159,26 @@ fn go_on<W: Walker>(core: &mut Core<W>, node: u32, asking: Asking<W>) -> Option<
         ask,
         number: _,
     } = asking;
-    let held = Held { id, walk, answer };
     match ask {
-        Ask::Want(run) => claim(core, node, held, &run),
-        Ask::Call(calls) => request(core, node, held, calls),
-        Ask::Finished(run, made) => finish(core, node, held, &run, made),
-        Ask::Done(told) => end_request(core, node, held, told),
+        Ask::Want(run) => claim(core, node, Held { id, walk, answer }, &run, discarded),
+        Ask::Call(calls) => request(core, node, Held { id, walk, answer }, calls, discarded),
+        Ask::Finished(run, made) => {
+            discarded.answer = Some(answer);
+            let answer = Answer::Use;
+            finish(core, node, Held { id, walk, answer }, &run, made)
+        }
+        Ask::Done(told) => { end_request(core, node, Held { id, walk, answer }, told, discarded) }
     }
 }
 
 /// Claims the run that the walk wants.
-fn claim<W: Walker>(core: &mut Core<W>, node: u32, held: Held<W>, run: &RunId) -> Option<Next<W>>
+fn claim<W: Walker>(
+    core: &mut Core<W>,
+    node: u32,
+    held: Held<W>,
+    run: &RunId,
+    discarded: &mut Discarded<W>,
+) -> Option<Next<W>>
     requires running { core.old.end ≡ None }
     requires active { has_left node (marked core.old.history.events core.old.end) ≡ false }
     requires own { ∥ IsOwn (W.world_of core.old.world) core.old.history.events core.old.table.finished held.id (seen_by W.world W.position W.asked W.learnt held.walk) ∥₁ }
@@ -157,14 +194,19 @@ fn claim<W: Walker>(core: &mut Core<W>, node: u32, held: Held<W>, run: &RunId) -
     let Held { id, walk, answer } = held;
     match core.claim(id, walk, run) {
         Ok(Claimed::Go(walk)) => {
+            discarded.answer = Some(answer);
             let answer = Answer::Go;
             give_answer(core, node, Held { id, walk, answer })
         }
         Ok(Claimed::Use(walk)) => {
+            discarded.answer = Some(answer);
             let answer = Answer::Use;
             give_answer(core, node, Held { id, walk, answer })
         }
-        Ok(Claimed::Wait) => assign_least(core, node),
+        Ok(Claimed::Wait) => {
+            discarded.answer = Some(answer);
+            assign_least(core, node)
+        }
         Ok(Claimed::Circular(_walk, runs)) => stop(core, node, End::Circular(runs)),
         Err(walk) => take_back(core, node, Held { id, walk, answer }),
     }
@@ -176,6 +218,7 @@ fn request<W: Walker>(
     node: u32,
     held: Held<W>,
     calls: List<RequestKey>,
+    discarded: &mut Discarded<W>,
 ) -> Option<Next<W>>
     requires running { core.old.end ≡ None }
     requires active { has_left node (marked core.old.history.events core.old.end) ≡ false }
@@ -191,7 +234,10 @@ fn request<W: Walker>(
 {
     let Held { id, walk, answer } = held;
     match core.request(id, walk, calls) {
-        Ok(()) => assign_least(core, node),
+        Ok(()) => {
+            discarded.answer = Some(answer);
+            assign_least(core, node)
+        }
         Err((walk, fault)) => refuse(core, node, Held { id, walk, answer }, fault),
     }
 }
@@ -220,7 +266,7 @@ fn refuse<W: Walker>(
     }
 }
 
-/// Finishes the run whose body has come to its end in the walk.
+/// Finishes the run whose body has come to its end in the walk, which uses its record next.
 fn finish<W: Walker>(
     core: &mut Core<W>,
     node: u32,
@@ -232,6 +278,7 @@ fn finish<W: Walker>(
     requires active { has_left node (marked core.old.history.events core.old.end) ≡ false }
     requires own { ∥ IsOwn (W.world_of core.old.world) core.old.history.events core.old.table.finished held.id (seen_by W.world W.position W.asked W.learnt held.walk) ∥₁ }
     requires here { ∥ IsAssignedTo (W.world_of core.old.world) core.old.history.events held.id node ∥₁ }
+    requires answer { held.answer ≡ Use }
     requires asks { ask_of (W.position held.walk) ≡ Finished run.now made }
     ensures world { W.world_of core.new.world ≡ W.world_of core.old.world }
     ensures continues { IsPrefix (marked core.old.history.events core.old.end) (marked core.new.history.events core.new.end) }
@@ -240,9 +287,8 @@ fn finish<W: Walker>(
     ensures next { IsNext (seen_by W.world W.position W.asked W.learnt) W.earlier node (W.world_of core.new.world) (marked core.new.history.events core.new.end) result }
 {
     core.result(held.id, run, made);
-    let mut held = held;
-    held.answer = Answer::Use;
-    give_answer(core, node, held)
+    // The walk has made the record itself.
+    hand_over(core, node, held)
 }
 
 /// Ends the request, and with the root the build.
@@ -251,6 +297,7 @@ fn end_request<W: Walker>(
     node: u32,
     held: Held<W>,
     told: RequestResult,
+    discarded: &mut Discarded<W>,
 ) -> Option<Next<W>>
     requires running { core.old.end ≡ None }
     requires active { has_left node (marked core.old.history.events core.old.end) ≡ false }
@@ -263,12 +310,9 @@ fn end_request<W: Walker>(
     ensures spent { IsSpent core.new.history.nodes core.new.history.events core.new.end }
     ensures next { IsNext (seen_by W.world W.position W.asked W.learnt) W.earlier node (W.world_of core.new.world) (marked core.new.history.events core.new.end) result }
 {
-    let Held {
-        id,
-        walk,
-        answer: _,
-    } = held;
-    let _left = core.done(id, walk, told);
+    let Held { id, walk, answer } = held;
+    discarded.answer = Some(answer);
+    discarded.walk = core.done(id, walk, told);
     if core.end().is_some() {
         return None;
     }
@@ -294,7 +338,7 @@ fn assign_least<W: Walker>(core: &mut Core<W>, node: u32) -> Option<Next<W>>
     }
 }
 
-/// Lets the walk learn the records that its next answer needs. The node advances it when it has given the core back.
+/// Lets the walk learn the records that its next answer needs, and hands it to the node.
 fn give_answer<W: Walker>(core: &mut Core<W>, node: u32, held: Held<W>) -> Option<Next<W>>
     requires running { core.old.end ≡ None }
     requires active { has_left node (marked core.old.history.events core.old.end) ≡ false }
@@ -311,19 +355,67 @@ fn give_answer<W: Walker>(core: &mut Core<W>, node: u32, held: Held<W>) -> Optio
         mut walk,
         answer,
     } = held;
-    match walk.learn(core.table(), &answer) {
-        Ok(()) => Some(Next::Advance(Answered {
-            id,
-            walk,
-            answer,
-            number: core.history().len(),
-        })),
+    match learn_records(&mut walk, core.table(), &answer) {
+        Ok(()) => hand_over(core, node, Held { id, walk, answer }),
         Err(NoMemory) => retire(core, node, Held { id, walk, answer }),
     }
 }
 
-/// Gives a request back whose walk the node had no memory to advance, unless it has moved meanwhile: then the walk is dropped.
-fn give_back<W: Walker>(core: &mut Core<W>, node: u32, answered: Answered<W>) -> Option<Next<W>>
+/// Lets a walk learn the records that an answer needs. The first answer needs none, nor does one
+/// by which the walk makes a run.
+fn learn_records<W: Walker>(walk: &mut W, table: &Table, answer: &Answer) -> Result<(), NoMemory>
+    requires in_order { AreInOrder table.now.finished }
+    requires known { ArePartOf (W.learnt walk.old) table.now.finished }
+    requires fits { IsSome (answered (W.world walk.old) table.now.finished
+        (W.position walk.old) answer.now) }
+    ensures learns { OnOk result (AreAlike (W.world walk.old) (W.learnt walk.new)
+        table.now.finished (W.position walk.old) answer.now) }
+    ensures known { ArePartOf (W.learnt walk.new) table.now.finished }
+    ensures err { OnErr result (W.learnt walk.new ≡ W.learnt walk.old) }
+    ensures world { W.world walk.new ≡ W.world walk.old }
+    ensures position { W.position walk.new ≡ W.position walk.old }
+    ensures asked { W.asked walk.new ≡ W.asked walk.old }
+{
+    match answer {
+        Answer::First => Ok(()),
+        Answer::Go => Ok(()),
+        Answer::Use => walk.learn(table, answer),
+        Answer::Results(_) => walk.learn(table, answer),
+    }
+}
+
+/// Hands a walk to the node, which knows enough for its answer. The node advances it when it has
+/// given the core back.
+fn hand_over<W: Walker>(core: &mut Core<W>, node: u32, held: Held<W>) -> Option<Next<W>>
+    requires running { core.old.end ≡ None }
+    requires active { has_left node (marked core.old.history.events core.old.end) ≡ false }
+    requires out { ∥ IsOut (W.world_of core.old.world) core.old.history.events core.old.table.finished held.id (seen_by W.world W.position W.asked W.learnt held.walk) held.answer ∥₁ }
+    requires here { ∥ IsAssignedTo (W.world_of core.old.world) core.old.history.events held.id node ∥₁ }
+    requires enough { AreAlike (W.world held.walk) (W.learnt held.walk) core.old.table.finished
+        (W.position held.walk) held.answer }
+    ensures world { W.world_of core.new.world ≡ W.world_of core.old.world }
+    ensures continues { IsPrefix (marked core.old.history.events core.old.end) (marked core.new.history.events core.new.end) }
+    ensures nodes { core.new.history.nodes ≡ core.old.history.nodes }
+    ensures spent { IsSpent core.new.history.nodes core.new.history.events core.new.end }
+    ensures next { IsNext (seen_by W.world W.position W.asked W.learnt) W.earlier node (W.world_of core.new.world) (marked core.new.history.events core.new.end) result }
+{
+    let Held { id, walk, answer } = held;
+    Some(Next::Advance(Answered {
+        id,
+        walk,
+        answer,
+        number: core.history().len(),
+    }))
+}
+
+/// Gives a request back whose walk the node had no memory to advance, unless it has moved
+/// meanwhile: then the walk is discarded.
+fn give_back<W: Walker>(
+    core: &mut Core<W>,
+    node: u32,
+    answered: Answered<W>,
+    discarded: &mut Discarded<W>,
+) -> Option<Next<W>>
     requires running { core.old.end ≡ None }
     requires active { has_left node (marked core.old.history.events core.old.end) ≡ false }
     requires answered { ∥ IsAnswered (seen_by W.world W.position W.asked W.learnt) W.earlier node (W.world_of core.old.world) (marked core.old.history.events core.old.end) answered ∥₁ }
@@ -342,6 +434,7 @@ fn give_back<W: Walker>(core: &mut Core<W>, node: u32, answered: Answered<W>) ->
     if are_of_others(core.history(), id, number) {
         retire(core, node, Held { id, walk, answer })
     } else {
+        discarded.put(walk, answer);
         assign_least(core, node)
     }
 }

@@ -11,14 +11,14 @@ ghost use Rattle.build_nodes.specs.Seats.{HasLeft, IsSeated, numbers_below};
 ghost use Rattle.build_nodes.specs.Turns.{IsAnswered, IsBrought, IsNext};
 
 use crate::shared::Shared;
-use crate::turn::{Answered, Asking, Brought, Next, Turn};
+use crate::turn::{Answered, Asking, Brought, Discarded, Next, Turn};
 use build_scheduler::{Core, Walker};
 use msb_values::NoMemory;
 use std::alloc::Global;
 use std::sync::Wait;
 use std::thread;
 use std::thread::Threads;
-use turn_board::{Board, Histories, Seat, Taken};
+use turn_board::{Board, Seat, Taken};
 
 /// One node of several.
 #[derive(Drop)]
@@ -31,7 +31,9 @@ where
     place: W::Place,
 }
 
-/// Takes the core, does what the node is to do while it has it, gives it back, and says what the node does next.
+/// Takes the core, does what the node is to do while it has it, gives it back, and says what the
+/// node does next. A node that sleeps is woken where another request is ready, and where this node
+/// leaves, so that all leave.
 fn take_turn<W: Walker + Send>(
     board: &Board<Shared<W>>,
     seat: &mut Seat<Shared<W>>,
@@ -57,12 +59,12 @@ where
             };
         }
     };
-    let before = shared.events();
-    let next = shared.turn(number, brought);
-    let after = shared.events();
+    // This is dropped at the end of the call, while others may have the core.
+    let mut discarded = Discarded::new();
+    let next = shared.turn(number, brought, &mut discarded);
     let more = shared.has_ready();
     board.give(seat, shared);
-    if after != before {
+    if more || next.is_none() {
         board.wake_one();
     }
     Turn { next, more }
@@ -116,7 +118,7 @@ where
 {
     match next {
         Next::Missed(brought) => {
-            thread::yield_now();
+            board.park_held(rt);
             brought
         }
         Next::Advance(answered) => advance(node, answered),
@@ -149,8 +151,6 @@ where
             None => break,
         }
     }
-    // Each node that leaves wakes another, so all leave.
-    board.wake_one();
 }
 
 /// Takes turns until the end is told, the node retires or there is a walk to advance. A node that is alone

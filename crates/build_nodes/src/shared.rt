@@ -6,7 +6,7 @@ ghost use Rattle.build_nodes.specs.Marked.{marked};
 ghost use Rattle.build_nodes.specs.Turns.{IsBrought, IsNext};
 
 use crate::core_turns::turn;
-use crate::turn::{Brought, Next};
+use crate::turn::{Brought, Discarded, Next};
 use build_scheduler::{Core, Event, Walker};
 use std::snapshot::Snapshot;
 use turn_board::Histories;
@@ -42,14 +42,19 @@ impl<W: Walker> Shared<W> {
     }
 
     /// One turn of a node.
-    pub(crate) fn turn(&mut self, node: u32, brought: Brought<W>) -> Option<Next<W>>
+    pub(crate) fn turn(
+        &mut self,
+        node: u32,
+        brought: Brought<W>,
+        discarded: &mut Discarded<W>,
+    ) -> Option<Next<W>>
         requires brought { IsBrought (seen_by W.world W.position W.asked W.learnt) W.earlier node (W.world_of self.old.core.world) (marked self.old.core.history.events self.old.core.end) brought }
         ensures first { self.new.first ≡ self.old.first }
         ensures continues { IsPrefix (marked self.old.core.history.events self.old.core.end) (marked self.new.core.history.events self.new.core.end) }
         ensures next { IsNext (seen_by W.world W.position W.asked W.learnt) W.earlier node (W.world_of self.new.core.world) (marked self.new.core.history.events self.new.core.end) result }
         ensures few { length (marked self.new.core.history.events self.new.core.end) < 2 ^ 63 }
     {
-        let next = turn(&mut self.core, node, brought);
+        let next = turn(&mut self.core, node, brought, discarded);
         few_events(&self.core);
         next
     }

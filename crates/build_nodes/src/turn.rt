@@ -73,3 +73,27 @@ pub(crate) struct Turn<W> {
     /// Whether another request is ready.
     pub more: bool,
 }
+
+/// What a turn discards. It is dropped once the core is given back: a walk has much to drop.
+#[derive(Drop)]
+pub(crate) struct Discarded<W> {
+    /// The walk of a request that is over, or has moved.
+    pub walk: Option<W>,
+    /// An answer that no walk goes back to.
+    pub answer: Option<Answer>,
+}
+
+impl<W: Drop> Discarded<W> {
+    pub fn new() -> Discarded<W> {
+        Discarded {
+            walk: None,
+            answer: None,
+        }
+    }
+
+    /// Keeps a walk and its last answer until they are dropped.
+    pub fn put(&mut self, walk: W, answer: Answer) {
+        self.walk = Some(walk);
+        self.answer = Some(answer);
+    }
+}

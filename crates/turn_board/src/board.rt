@@ -7,7 +7,9 @@ ghost use Rattle.turn_board.specs.Seats.{opening_seat};
 use crate::rule::{GiveStep, JoinStep, LoadStep, Rule, SplitStep, TakeStep};
 use crate::{Histories, Seat, View};
 use atomic_table::Table;
+use crossbeam_utils::sync::EventCount;
 use std::alloc::Global;
+use std::hint;
 use std::marker::Model;
 use std::snapshot::Snapshot;
 use std::sync::Wait;
@@ -31,7 +33,15 @@ pub struct Refused<S> {
 #[derive(Drop)]
 pub struct Board<S: Histories> {
     table: Table<Option<S>, View<S::World, S::Event>, Snapshot<S>, Rule, Global>,
+    /// Where seats wait for the state to come home. Each give is told there.
+    gives: EventCount,
+    /// Where idle seats wait for a wake.
+    wakes: EventCount,
 }
+
+/// How often a thread looks whether the state is home before it sleeps: for some microseconds,
+/// since most turns have the state out no longer.
+const LOOKS: u32 = 64;
 
 impl<S: Histories> Model for Board<S> {
     ghost use Rattle.std.specs.Prelude.{◌≡◌};
@@ -42,6 +52,24 @@ impl<S: Histories> Model for Board<S> {
     ghost view = { λ b. b.table.shared.table_id };
 
     ghost invariant = { λ b. (b.table.shared.table_id.words ≡ 1) × (b.table.shared.table_id.slots ≡ 1) };
+}
+
+impl<S: Histories> Board<S> {
+    /// Whether a seat has the state out.
+    fn is_out(&self) -> bool {
+        self.table.shared.peek(0) % 2 == 1
+    }
+
+    /// Whether the state is home at one of some looks.
+    fn is_home_soon(&self) -> bool {
+        for _ in 0..LOOKS {
+            if !self.is_out() {
+                return true;
+            }
+            hint::spin_loop();
+        }
+        false
+    }
 }
 
 impl<S: Histories + Send> Board<S> {
@@ -58,7 +86,15 @@ impl<S: Histories + Send> Board<S> {
         let first = Snapshot::of(&state);
         slots.push_reserved(Some(state));
         match Table::new(alloc, &[word], slots, &first) {
-            Ok((table, place)) => Ok((Board { table }, Seat { place })),
+            Ok((table, place)) => {
+                let (gives, wakes) = (EventCount::new(), EventCount::new());
+                let board = Board {
+                    table,
+                    gives,
+                    wakes,
+                };
+                Ok((board, Seat { place }))
+            }
             Err(atomic_table::Refused { mut slots }) => match slots.pop() {
                 Some(Some(state)) => Err(Refused { state }),
                 _ => unreachable!(),
@@ -99,7 +135,8 @@ impl<S: Histories + Send> Board<S> {
         }
     }
 
-    /// Gives the state back, with all that was done with it since it was taken.
+    /// Gives the state back, with all that was done with it since it was taken. One of the
+    /// threads that sleep in `park_held` is woken.
     pub fn give(&self, seat: &mut Seat<S>, state: S)
         requires board { seat.old.board ≡ self.now }
         requires out { seat.old.has_state ≡ true }
@@ -112,6 +149,7 @@ impl<S: Histories + Send> Board<S> {
         let shared = &self.table.shared;
         drop(shared.exchange(&mut seat.place, 0, Some(state)));
         shared.store::<GiveStep>(&mut seat.place, 0, word);
+        self.gives.notify_one();
     }
 
     /// A new seat, which has one share of this one's and has seen the same history.
@@ -148,7 +186,12 @@ impl<S: Histories + Send> Board<S> {
         ensures world { seat.world ≡ Some (S.world result) }
         ensures history { S.history result ≡ seat.seen }
     {
-        let mut closed = self.table.close_with(seat.place);
+        let Board {
+            table,
+            gives: _,
+            wakes: _,
+        } = self;
+        let mut closed = table.close_with(seat.place);
         let slot = closed.take(0);
         closed.free();
         match slot {
@@ -157,18 +200,32 @@ impl<S: Histories + Send> Board<S> {
         }
     }
 
-    /// Sleeps while the state is at home and the history that was given last has this length, until a wake. It may
-    /// also return for no reason. The whole number is compared once, and its low 31 bits where the thread falls
-    /// asleep: a change of a multiple of 2^31 events in between isn't noticed.
-    pub fn park_idle<R: Wait>(&self, rt: &R, number: u64) {
-        let word = self.table.shared.peek(0);
-        if word % 2 == 0 && word / 2 == number {
-            self.table.shared.park(rt, 0, (word % (1 << 32)) as u32);
+    /// Waits while another seat has the state out: looks whether it is home, and sleeps after some
+    /// looks until a give wakes this thread. It may also return for no reason. Whoever comes back
+    /// from here takes the state next, since its give wakes the next one that sleeps here.
+    pub fn park_held<R: Wait>(&self, rt: &R) {
+        if self.is_home_soon() {
+            return;
         }
+        let key = self.gives.prepare_wait();
+        if !self.is_out() {
+            return;
+        }
+        key.wait(rt);
+    }
+
+    /// Sleeps while the history that was given last has this length, until a wake. It may also
+    /// return for no reason.
+    pub fn park_idle<R: Wait>(&self, rt: &R, number: u64) {
+        let key = self.wakes.prepare_wait();
+        if self.table.shared.peek(0) / 2 != number {
+            return;
+        }
+        key.wait(rt);
     }
 
     /// Wakes one thread that sleeps in `park_idle`, if there is one.
     pub fn wake_one(&self) {
-        self.table.shared.wake_one(0);
+        self.wakes.notify_one();
     }
 }

@@ -57,8 +57,8 @@ take_back-requires-clause-back g c =
     ∥∥₁_map c.requires.back (λ b. back-kept (seen_by m.world m.position m.asked m.learnt) m.earlier (m.world_of now.world) (m.world_of next.world) now.history.events next.history.events now.table.finished next.table.finished held.id held.walk c.in-Err.walk
     held.answer e.world e.claimed.0 e.table e.claimed.1 b)
 
-pub returns-clause-continues : goal.returns-clause-continues
-returns-clause-continues g c =
+pub returns-in-Err-clause-continues : goal.returns-in-Err-clause-continues
+returns-in-Err-clause-continues g c =
     let now = c.args.core.now in
     let next = c.claim.new.self in
     prefix_trans _ _ _ (none-more now.history.events next.history.events now.end next.end c.requires.running c.in-Err.ensures.claimed.0) c.take_back.ensures.continues
