@@ -1,5 +1,3 @@
 pub mod Building
-pub mod Counting
-pub mod Trying
 pub mod Using
 pub mod ManyNodes

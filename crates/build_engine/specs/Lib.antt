@@ -1,4 +1,3 @@
 pub mod OnNodes
 pub mod Statuses
-pub mod Tried
 pub mod UsedFor

@@ -1,3 +1,4 @@
-pub mod RootOver
+pub mod Counting
 pub mod NoStops
 pub mod OutcomesAgree
+pub mod RootOver

@@ -1,10 +1,11 @@
-//! What the program prints, writes and removes once the end of a build is told, for any walker, and how it ends.
-//! (MSBuild command-line reference.)
+//! What the program prints, writes and removes once the end of a build is told, for any walker, and
+//! how it ends. (MSBuild command-line reference.)
 //!
-//! `specs/` says what an outcome is by the legal history that leads to it. The laws run no code: their contracts are what is
-//! proved.
+//! `specs/` says what an outcome is by the legal history that leads to it. The laws run no code:
+//! their contracts are what is proved.
 #![tactic(auto)]
 
+mod counted;
 mod outcome;
 mod replayed;
 mod steady;

@@ -1,7 +1,15 @@
 ghost use Rattle.std.specs.Prelude.{◌≡◌, [], IfOk, IfSome, IsSome};
 ghost use Rattle.result_cache.specs.Replay.{replay_all};
-ghost use Rattle.build_outcome.specs.Outcomes.{status_of, built, stopped, IsOutcomeAt, IsStatus};
+ghost use Rattle.build_outcome.specs.Outcomes.{
+  status_of,
+  built,
+  of_text,
+  stopped,
+  IsOutcomeAt,
+  IsStatus,
+};
 
+use crate::counted::runs_in;
 use crate::replayed::replayed;
 use build_report::{shown, shown_circular, shown_too_deep, shown_too_many};
 use build_scheduler::{Core, End, Walker};
@@ -17,6 +25,8 @@ pub struct Outcome {
     pub text: Text8,
     /// The acts to do, in order; each path is there once. (MSBuild targets; Delete task.)
     pub commit: List<Act>,
+    /// How many runs have ended in the journal of the root request; 0 where the build was stopped.
+    pub runs: usize,
 }
 
 // A drop that is written out is proved here alone.
@@ -26,17 +36,19 @@ impl Drop for Outcome {
             status: _,
             text: _,
             commit: _,
+            runs: _,
         } = self;
     }
 }
 
 impl Outcome {
-    /// The outcome of a build whose end is told. Messages of low importance are printed only where they are asked for. Where
-    /// the build ended for want of memory, or there is no memory now, there is none. (MSBuild command-line reference; MSBuild
-    /// task.)
+    /// The outcome of a build whose end is told. Messages of low importance are printed only where
+    /// they are asked for. Where the build ended for want of memory, or there is no memory now,
+    /// there is none. (MSBuild command-line reference; MSBuild task.)
     pub fn of<W: Walker>(alloc: Global, core: &Core<W>, low: bool) -> Result<Outcome, NoMemory>
         requires { IsSome core.now.end }
-        ensures outcome { IfOk result (λ outcome. ∥ IsOutcomeAt (W.world_of core.now.world) low core.now.history.events core.now.end outcome ∥₁) }
+        ensures outcome { IfOk result (λ outcome. ∥ IsOutcomeAt (W.world_of core.now.world) low
+            core.now.history.events core.now.end outcome ∥₁) }
         ensures status { IfOk result (λ outcome. IsStatus outcome.status) }
     {
         match core.end() {
@@ -48,12 +60,26 @@ impl Outcome {
             None => unreachable!(),
         }
     }
+
+    /// An outcome of no build: this text is printed, and nothing is written or removed.
+    pub fn of_text(alloc: Global, status: u8, text: Text8) -> Outcome
+        ensures { result ≡ of_text status text }
+    {
+        Outcome {
+            status,
+            text,
+            commit: List::new(alloc),
+            runs: 0,
+        }
+    }
 }
 
 /// The outcome of a build whose root request is over, with this result.
 fn built(alloc: Global, table: &Table, root: &RequestResult, low: bool) -> Result<Outcome, NoMemory>
     requires { IsSome (replay_all table.now.finished root.now.runs []) }
-    ensures outcome { IfOk result (λ outcome. IfSome (replay_all table.now.finished root.now.runs []) (λ journal. outcome ≡ built low root.now journal)) }
+    ensures outcome { IfOk result (λ outcome.
+        IfSome (replay_all table.now.finished root.now.runs [])
+        (λ journal. outcome ≡ built low root.now journal)) }
     ensures status { IfOk result (λ outcome. IsStatus outcome.status) }
 {
     let journal = replayed(alloc, table, root.runs.as_slice())?;
@@ -61,6 +87,7 @@ fn built(alloc: Global, table: &Table, root: &RequestResult, low: bool) -> Resul
         status: status_of(root.ok),
         text: shown(alloc, root, &journal, low)?,
         commit: journal.commit_list(alloc)?,
+        runs: runs_in(&journal),
     })
 }
 
@@ -75,9 +102,5 @@ fn status_of(ok: bool) -> u8
 fn stopped(alloc: Global, text: Text8) -> Outcome
     ensures { result ≡ stopped text }
 {
-    Outcome {
-        status: 4,
-        text,
-        commit: List::new(alloc),
-    }
+    Outcome::of_text(alloc, 4, text)
 }

@@ -186,7 +186,7 @@ asked-of stamp = record {
 }
 
 comes-so : outcome ≡ comes_of false given.value given.journal
-comes-so = ap (λ text. record { status = 0; text = text; commit = [] }) (sym shows)
+comes-so = ap (λ text. record { status = 0; text = text; commit = []; runs = 1 }) (sym shows)
 
 pub words-mean : (tools : List ℕ → ToolInput → ToolAnswer) (stamp : ℕ) →
     Means tools (codes "build" ∷ codes "a.proj" ∷ []) (Some (files stamp)) outcome

@@ -127,4 +127,4 @@ printed = line (codes "a.proj : build ran") ++ line (codes "  hi") ++ line (code
     ++ line (codes "build succeeded")
 
 abbrev pub outcome : Outcome
-outcome = record { status = 0; text = printed; commit = [] }
+outcome = record { status = 0; text = printed; commit = []; runs = 1 }

@@ -1,4 +1,3 @@
 pub mod Beginning
 pub mod Compared
-pub mod OneNode
 pub mod Working

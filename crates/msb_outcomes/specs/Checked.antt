@@ -1,6 +1,6 @@
 -- What comes of a check: what is printed by its verdict, and the status. (MSBuild command-line
 -- reference; Building projects in parallel)
-use Rattle.std.specs.Prelude.{ℕ, List, []}
+use Rattle.std.specs.Prelude.{ℕ, List}
 use Rattle.build_report.specs.Checked.{
   steady_text,
   differs_text,
@@ -9,6 +9,7 @@ use Rattle.build_report.specs.Checked.{
   crowding_instance_text,
   spent_text,
 }
+use Rattle.build_outcome.specs.Outcomes.{of_text}
 use Rattle.build_outcome.specs.declared.outcome.Outcome.{Outcome}
 use Rattle.build_steady.specs.declared.verdict.Verdict.{Verdict}
 use Rattle.build_steady.specs.declared.verdict.Verdict.TheVariants.{
@@ -40,5 +41,4 @@ verdict_status (Spent bodies) = 9
 
 -- no file is written or removed
 abbrev pub checked : Verdict → Outcome
-checked verdict =
-    record { status = verdict_status verdict; text = verdict_text verdict; commit = [] }
+checked verdict = of_text (verdict_status verdict) (verdict_text verdict)

@@ -1,5 +1,23 @@
 -- What the program does: which outcomes the words have over the files.
-use Rattle.std.specs.Prelude.{◌≡◌, ◌≢◌, ◌⊎◌, ℕ, List, [], ◌++◌, Bool, true, false, Option, Some, None, Result, Ok, Err, codes}
+use Rattle.std.specs.Prelude.{
+  ◌≡◌,
+  ◌≢◌,
+  ◌⊎◌,
+  ℕ,
+  List,
+  [],
+  ◌++◌,
+  Bool,
+  true,
+  false,
+  Option,
+  Some,
+  None,
+  Result,
+  Ok,
+  Err,
+  codes,
+}
 use Rattle.std.specs.Fmt.{decimal}
 use Rattle.msb_values.specs.declared.key.InstanceKey.{InstanceKey}
 use Rattle.msb_values.specs.declared.mode.Mode.{Mode}
@@ -9,7 +27,15 @@ use Rattle.file_store.specs.Entries.{entries_of}
 use Rattle.file_store.specs.Limits.{limit_fault}
 use Rattle.file_store.specs.declared.tree.File.{File}
 use Rattle.file_store.specs.declared.loading.LoadFault.{LoadFault}
-use Rattle.file_store.specs.declared.loading.LoadFault.TheVariants.{Listing, Reading, Files, Bytes, Large, BadPath, Memory}
+use Rattle.file_store.specs.declared.loading.LoadFault.TheVariants.{
+  Listing,
+  Reading,
+  Files,
+  Bytes,
+  Large,
+  BadPath,
+  Memory,
+}
 use Rattle.msb_paths.specs.Refused.{normal_path}
 use Rattle.msb_paths.specs.declared.errors.NormalFault.{NormalFault}
 use Rattle.task_trait.specs.declared.tools.ToolAnswer.{ToolAnswer}
@@ -22,7 +48,7 @@ use Rattle.build_report.specs.Eval.{eval_text}
 use Rattle.build_report.specs.Line.{line}
 use Rattle.build_report.specs.Targets.{targets_text}
 use Rattle.request_machine.specs.Worlds.{world_of}
-use Rattle.build_outcome.specs.Outcomes.{IsOutcome}
+use Rattle.build_outcome.specs.Outcomes.{IsOutcome, of_text}
 use Rattle.build_outcome.specs.declared.outcome.Outcome.{Outcome}
 use Rattle.build_engine.specs.Statuses.{IsCompletion, IsRefusal}
 use Rattle.build_steady.specs.Verdicts.{verdict_of}
@@ -31,18 +57,24 @@ use Rattle.msb_outcomes.specs.declared.work.Work.{Work}
 use Rattle.msb_outcomes.specs.declared.work.Work.TheVariants.{Told, Build, Check}
 use Rattle.msb_words.specs.declared.options.Options.{Options}
 use Rattle.msb_words.specs.declared.options.Action.{Action}
-use Rattle.msb_words.specs.declared.options.Action.TheVariants.{Build as ToBuild, Check as ToCheck, Eval, Targets, Trial}
+use Rattle.msb_words.specs.declared.options.Action.TheVariants.{
+  Build as ToBuild,
+  Check as ToCheck,
+  Eval,
+  Targets,
+  Trial,
+}
 
 -- a project that is refused for this reason
 abbrev pub refused : List ℕ → Outcome
-refused reason = record { status = 3; text = line (codes "project refused") ++ line (codes "  " ++ reason); commit = [] }
+refused reason = of_text 3 (line (codes "project refused") ++ line (codes "  " ++ reason))
 
 abbrev pub not_found : List ℕ → Outcome
 not_found word = refused (word ++ codes ": not found")
 
 -- what was asked for is shown
 abbrev pub shown : List ℕ → Outcome
-shown text = record { status = 0; text = text; commit = [] }
+shown text = of_text 0 text
 
 -- the words ask for a project, and not for a trial
 abbrev pub HasProject : Options → Type 0
@@ -54,7 +86,8 @@ mode_of true = Clean
 mode_of false = Incremental
 
 -- what a build is given: the files, the root project, and what the words say of it
-pub record IsAsked (options : Options) (key : InstanceKey) (files : List File) (given : World) : Type 0 where
+pub record IsAsked (options : Options) (key : InstanceKey) (files : List File)
+    (given : World) : Type 0 where
   pub tree : given.tree.files ≡ files
   pub root : given.root ≡ key.path
   pub globals : given.globals ≡ key.globals
@@ -87,7 +120,7 @@ fault_status Memory = 7
 
 -- the files are not loaded
 abbrev pub unloaded : LoadFault → Outcome
-unloaded fault = record { status = fault_status fault; text = line (load_fault_text fault); commit = [] }
+unloaded fault = of_text (fault_status fault) (line (load_fault_text fault))
 
 -- how tools answer, by their names and what they are handed
 abbrev pub Answering : Type 0
@@ -109,21 +142,27 @@ IsCheckOf options key files (Check given) = IsAsked options key files given
 abbrev pub IsWorkOfAction : Action → Options → InstanceKey → List File → Instance → Work → Type 0
 IsWorkOfAction ToBuild options key files instance work = IsBuildOf options key files work
 IsWorkOfAction ToCheck options key files instance work = IsCheckOf options key files work
-IsWorkOfAction Eval options key files instance work = work ≡ Told (shown (eval_text instance.scope instance.duplicates))
-IsWorkOfAction Targets options key files instance work = work ≡ Told (shown (targets_text instance.rows instance.initial instance.default))
+IsWorkOfAction Eval options key files instance work =
+    work ≡ Told (shown (eval_text instance.scope instance.duplicates))
+IsWorkOfAction Targets options key files instance work =
+    work ≡ Told (shown (targets_text instance.rows instance.initial instance.default))
 IsWorkOfAction Trial options key files instance work = ⊥
 
-abbrev pub IsWorkOfInstance : Options → InstanceKey → List File → Result Instance EvalFault → Work → Type 0
-IsWorkOfInstance options key files (Ok instance) work = IsWorkOfAction options.action options key files instance work
+abbrev pub IsWorkOfInstance : Options → InstanceKey → List File → Result Instance EvalFault → Work →
+    Type 0
+IsWorkOfInstance options key files (Ok instance) work =
+    IsWorkOfAction options.action options key files instance work
 IsWorkOfInstance options key files (Err fault) work = work ≡ Told (refused (fault_text fault))
 
 abbrev pub IsWorkOfFile : Options → InstanceKey → List File → Option File → Work → Type 0
 IsWorkOfFile options key files None work = work ≡ Told (not_found options.project)
-IsWorkOfFile options key files (Some file) work = IsWorkOfInstance options key files (evaluated files key) work
+IsWorkOfFile options key files (Some file) work =
+    IsWorkOfInstance options key files (evaluated files key) work
 
 -- the project's file is the one at the normal path that the word gives from the root of the store
 abbrev pub IsWorkAt : Options → List File → Result (List ℕ) NormalFault → Work → Type 0
-IsWorkAt options files (Ok path) work = IsWorkOfFile options (key_at path options) files (file_at path files) work
+IsWorkAt options files (Ok path) work =
+    IsWorkOfFile options (key_at path options) files (file_at path files) work
 IsWorkAt options files (Err fault) work = work ≡ Told (not_found options.project)
 
 -- the status where the project or its build is refused, or a check is given up: nothing is done
@@ -151,12 +190,15 @@ module _ (tools : Answering) where
   ComesOf low (Check given) outcome = outcome ≡ checked (verdict_of (world_of tools given))
 
   abbrev pub IsOutcomeAt : Options → List File → Result (List ℕ) NormalFault → Outcome → Type 0
-  IsOutcomeAt options files path outcome = (work : Work) × IsWorkAt options files path work × ComesOf options.low work outcome
+  IsOutcomeAt options files path outcome =
+      (work : Work) × IsWorkAt options files path work × ComesOf options.low work outcome
 
   abbrev pub IsOutcomeWithin : Options → List File → Option LoadFault → Outcome → Type 0
   IsOutcomeWithin options files (Some fault) outcome = outcome ≡ unloaded fault
-  IsOutcomeWithin options files None outcome = IsOutcomeAt options files (normal_path [] options.project) outcome
+  IsOutcomeWithin options files None outcome =
+      IsOutcomeAt options files (normal_path [] options.project) outcome
 
   -- an outcome of what the words ask for over these files
   abbrev pub IsOutcomeOf : Options → List File → Outcome → Type 0
-  IsOutcomeOf options files outcome = IsOutcomeWithin options files (limit_fault (entries_of files)) outcome
+  IsOutcomeOf options files outcome =
+      IsOutcomeWithin options files (limit_fault (entries_of files)) outcome

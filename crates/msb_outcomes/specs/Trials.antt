@@ -1,4 +1,5 @@
--- What a trial of the engine prints: a generated set is built on one node, and once more on several. (This engine's own action)
+-- What a trial of the engine prints: a generated set is built on one node, and once more on
+-- several. (This engine's own action)
 use Rattle.std.specs.Prelude.{◌≡◌, ℕ, List, [], ◌++◌, length, Bool, true, false, codes}
 use Rattle.std.specs.Bool.{Decides}
 use Rattle.std.specs.Fmt.{decimal}
@@ -12,8 +13,7 @@ use Rattle.trial_set.specs.Sets.{files_of}
 use Rattle.build_report.specs.Line.{line}
 use Rattle.build_outcome.specs.Outcomes.{IsOutcome}
 use Rattle.build_outcome.specs.declared.outcome.Outcome.{Outcome}
-use Rattle.build_engine.specs.Tried.{IsTried}
-use Rattle.build_engine.specs.declared.tried.Tried.{Tried}
+use Rattle.build_engine.specs.UsedFor.{IsOutcomeOnOne}
 use Rattle.request_machine.specs.Worlds.{world_of}
 use Rattle.msb_words.specs.declared.options.Options.{Options}
 use Rattle.msb_outcomes.specs.Outcomes.{Answering}
@@ -40,7 +40,9 @@ bytes_in acts = sum_by act_size acts
 
 -- what the words ask for
 abbrev pub first_line : Options → List ℕ
-first_line options = line (codes "trial " ++ decimal options.seed ++ codes " size " ++ decimal options.size ++ codes " nodes " ++ decimal options.nodes)
+first_line options =
+    line (codes "trial " ++ decimal options.seed ++ codes " size " ++ decimal options.size
+    ++ codes " nodes " ++ decimal options.nodes)
 
 -- whether both builds are equal
 abbrev pub last_line : Bool → List ℕ
@@ -48,27 +50,27 @@ last_line true = line (codes "equal")
 last_line false = line (codes "different")
 
 -- the five lines of a trial; the counts are those of the first build
-abbrev pub trial_text : Options → Tried → Bool → List ℕ
+abbrev pub trial_text : Options → Outcome → Bool → List ℕ
 trial_text options one equal =
     first_line options
     ++ line (codes "runs " ++ decimal one.runs)
-    ++ line (codes "files " ++ decimal (length one.outcome.commit))
-    ++ line (codes "bytes " ++ decimal (bytes_in one.outcome.commit))
+    ++ line (codes "files " ++ decimal (length one.commit))
+    ++ line (codes "bytes " ++ decimal (bytes_in one.commit))
     ++ last_line equal
 
 -- what is told of two builds: the last line is `equal` exactly where they print
 -- the same and do the same to files
-pub record IsTold (options : Options) (one : Tried) (other : Outcome) (text : List ℕ) : Type 0 where
+pub record IsTold (options : Options) (one other : Outcome) (text : List ℕ) : Type 0 where
   pub equal : Bool
-  pub decides : Decides equal (AreEqual one.outcome other)
+  pub decides : Decides equal (AreEqual one other)
   pub told : text ≡ trial_text options one equal
 
 -- what a trial may print: what is told of the set's build on one node, and of an outcome of the set
 pub record IsTrial (options : Options) (text : List ℕ) : Type 0 where
   pub given : Given
   pub set : IsSetOf options given
-  pub one : Tried
-  pub first : ∥ IsTried (world_of no_tools given) one ∥₁
+  pub one : Outcome
+  pub first : ∥ IsOutcomeOnOne (world_of no_tools given) false one ∥₁
   pub other : Outcome
   pub second : ∥ IsOutcome (world_of no_tools given) false other ∥₁
   pub told : IsTold options one other text

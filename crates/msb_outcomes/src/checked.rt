@@ -15,7 +15,7 @@ use build_report::{
 };
 use build_steady::{Verdict, check};
 use build_world::World;
-use msb_values::{List, NoMemory, Text8};
+use msb_values::{NoMemory, Text8};
 use std::alloc::Global;
 use task_trait::CountedTools;
 
@@ -37,11 +37,8 @@ fn outcome_of(alloc: Global, verdict: &Verdict) -> Result<Outcome, NoMemory>
     ensures outcome { IfOk result (λ o. o ≡ checked verdict.now) }
     ensures status { IfOk result (λ o. IsCompletion o.status ⊎ IsUnfinished o.status) }
 {
-    Ok(Outcome {
-        status: status_of(verdict),
-        text: text_of(alloc, verdict)?,
-        commit: List::new(alloc),
-    })
+    let text = text_of(alloc, verdict)?;
+    Ok(Outcome::of_text(alloc, status_of(verdict), text))
 }
 
 fn status_of(verdict: &Verdict) -> u8

@@ -6,6 +6,7 @@ ghost use Rattle.request_machine.specs.Worlds.{world_of};
 ghost use Rattle.build_engine.specs.OnNodes.{IsOutcomeOn};
 ghost use Rattle.build_engine.specs.Statuses.{IsCompletion, IsRefusal};
 
+use crate::alone::built;
 use build_engine::build_on_many;
 use build_outcome::Outcome;
 use build_world::World;
@@ -16,8 +17,8 @@ use std::sync::Wait;
 use std::thread::Threads;
 use task_trait::{Counted, CountedTools, Tools};
 
-/// What is given is built on up to so many nodes, each in a thread of its own, as there is work for them. They share tools, which
-/// each of them counts by itself.
+/// What is given is built on up to so many nodes, each in a thread of its own, as there is work for
+/// them. They share tools, which each of them counts by itself. One node needs no thread.
 pub fn built_on<R: Threads + Wait + Sync, T: Tools + Sync>(
     rt: &R,
     alloc: Global,
@@ -32,6 +33,10 @@ pub fn built_on<R: Threads + Wait + Sync, T: Tools + Sync>(
         ∥ IsOutcomeOn (world_of T.answer world.now) nodes low o ∥₁) }
     ensures status { IfOk result (λ o. IsCompletion o.status ⊎ IsRefusal o.status) }
 {
+    if nodes == 1 {
+        let mut own = Counted::new(alloc, tools)?;
+        return built(alloc, low, world, &mut own);
+    }
     let counted = counted(alloc, nodes, tools)?;
     built_at(rt, alloc, low, world, counted)
 }

@@ -30,7 +30,8 @@ pub fn outcome_alone<T: CountedTools>(
     ensures outcome { IfOk result (ComesOf T.answer options.now.low work) }
     ensures status { IfOk result (λ o. IsCompletion o.status ⊎ IsUnfinished o.status) }
     ensures uncalled { (MakesRuns work → ⊥) → T.calls tools.new ≡ T.calls tools.old }
-    ensures calls { IfOk result (λ o. AreCallsFor T.answer options.now.low work o (T.calls tools.old) (T.calls tools.new)) }
+    ensures calls { IfOk result (λ o. AreCallsFor T.answer options.now.low work o
+        (T.calls tools.old) (T.calls tools.new)) }
     ensures begun { BeginsWith (T.calls tools.old) (T.calls tools.new) }
 {
     match work {
@@ -40,7 +41,7 @@ pub fn outcome_alone<T: CountedTools>(
     }
 }
 
-/// What comes of the work, where a build takes as many nodes as the words tell. One node needs no thread.
+/// What comes of the work, where a build takes as many nodes as the words tell.
 pub fn outcome_on<R: Threads + Wait + Sync, T: Tools + Sync>(
     rt: &R,
     alloc: Global,
@@ -54,10 +55,6 @@ pub fn outcome_on<R: Threads + Wait + Sync, T: Tools + Sync>(
     ensures nodes { IfOk result (ComesOn T.answer options.now.nodes options.now.low work) }
     ensures status { IfOk result (λ o. IsCompletion o.status ⊎ IsUnfinished o.status) }
 {
-    if options.nodes == 1 {
-        let mut counted = Counted::new(alloc, tools)?;
-        return outcome_alone(alloc, options, work, &mut counted);
-    }
     match work {
         Work::Told(outcome) => Ok(outcome),
         Work::Build(world) => built_on(rt, alloc, options.low, options.nodes, &world, tools),

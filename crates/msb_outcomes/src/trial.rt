@@ -8,23 +8,28 @@ ghost use Rattle.std.specs.List.{list_all, zip};
 ghost use Rattle.result_cache.specs.SameRecords.{same_act, same_put};
 ghost use Rattle.build_report.specs.Line.{line};
 ghost use Rattle.task_trait.specs.Tools.{act_size};
-ghost use Rattle.build_engine.specs.Tried.{IsTried};
-ghost use Rattle.request_machine.specs.Worlds.{world_of};
-ghost use Rattle.msb_outcomes.specs.Trials.{AreEqual, IsSetOf, IsTold, IsTrial, bytes_in, first_line, last_line, trial_text};
+ghost use Rattle.msb_outcomes.specs.Trials.{
+  AreEqual,
+  IsSetOf,
+  IsTold,
+  IsTrial,
+  bytes_in,
+  first_line,
+  last_line,
+  trial_text,
+};
 
 use crate::alone::built;
 use crate::on_nodes::built_on;
-use build_engine::{Tried, build_and_count};
 use build_outcome::Outcome;
 use build_world::World;
 use msb_values::{Act, List, Mode, Named, NoMemory, Put, Text, Text8};
 use msb_words::Options;
-use request_machine::{Walk, root_key};
 use std::alloc::Global;
 use std::fmt::Write;
 use std::sync::Wait;
 use std::thread::Threads;
-use task_trait::{Counted, CountedTools, NoTools};
+use task_trait::{Counted, NoTools};
 use trial_set::make;
 
 /// The five lines of a trial whose builds both take one node. (This engine's own action.)
@@ -33,12 +38,12 @@ pub fn trial_alone(alloc: Global, options: &Options) -> Result<Text8, NoMemory>
 {
     let world = set_of(alloc, options)?;
     let mut tools = Counted::new(alloc, &NoTools)?;
-    let one = built_and_counted(alloc, &world, &mut tools)?;
+    let one = built(alloc, false, &world, &mut tools)?;
     let other = built(alloc, false, &world, &mut tools)?;
     told(alloc, options, &one, &other)
 }
 
-/// The five lines of a trial whose second build takes as many nodes as the words tell. One node needs no thread.
+/// The five lines of a trial whose second build takes as many nodes as the words tell.
 pub fn trial_on<R: Threads + Wait + Sync>(
     rt: &R,
     alloc: Global,
@@ -47,12 +52,9 @@ pub fn trial_on<R: Threads + Wait + Sync>(
     requires { (0 < options.now.nodes) × (options.now.nodes ≤ 64) }
     ensures { IfOk result (IsTrial options.now) }
 {
-    if options.nodes == 1 {
-        return trial_alone(alloc, options);
-    }
     let world = set_of(alloc, options)?;
     let mut tools = Counted::new(alloc, &NoTools)?;
-    let one = built_and_counted(alloc, &world, &mut tools)?;
+    let one = built(alloc, false, &world, &mut tools)?;
     let other = built_on(rt, alloc, false, options.nodes, &world, &NoTools)?;
     told(alloc, options, &one, &other)
 }
@@ -70,48 +72,37 @@ fn set_of(alloc: Global, options: &Options) -> Result<World, NoMemory>
     })
 }
 
-// What is given is built on one node, and its runs are counted.
-fn built_and_counted<T: CountedTools>(
-    alloc: Global,
-    world: &World,
-    tools: &mut T,
-) -> Result<Tried, NoMemory>
-    ensures { IfOk result (λ t. ∥ IsTried (world_of T.answer world.now) t ∥₁) }
-{
-    let key = root_key(world)?;
-    let walk = Walk::start(alloc, world)?;
-    build_and_count(alloc, key, walk, tools)
-}
-
-fn told(alloc: Global, options: &Options, one: &Tried, other: &Outcome) -> Result<Text8, NoMemory>
+fn told(alloc: Global, options: &Options, one: &Outcome, other: &Outcome) -> Result<Text8, NoMemory>
     ensures { IfOk result (IsTold options.now one.now other.now) }
 {
-    let equal = are_equal(&one.outcome, other);
+    let equal = are_equal(one, other);
     text_of(alloc, options, one, equal)
 }
 
-fn text_of(alloc: Global, options: &Options, one: &Tried, equal: bool) -> Result<Text8, NoMemory>
+fn text_of(alloc: Global, options: &Options, one: &Outcome, equal: bool) -> Result<Text8, NoMemory>
     ensures { IfOk result (λ text. text ≡ trial_text options.now one.now equal) }
 {
-    let bytes = bytes_in(one.outcome.commit.as_slice())?;
+    let bytes = bytes_in(one.commit.as_slice())?;
     let mut text = String::new(alloc);
     push_first_line(&mut text, options)?;
     push_count(&mut text, "runs ", one.runs)?;
-    push_count(&mut text, "files ", one.outcome.commit.len())?;
+    push_count(&mut text, "files ", one.commit.len())?;
     push_count(&mut text, "bytes ", bytes)?;
     text.push_str(last_line(equal))?;
     Ok(Text8::from(text.into_bytes()))
 }
 
 fn push_first_line(text: &mut String, options: &Options) -> Result<(), NoMemory>
-    ensures { OnOk result (string_bytes text.new ≡ string_bytes text.old ++ first_line options.now) }
+    ensures { OnOk result (string_bytes text.new
+        ≡ string_bytes text.old ++ first_line options.now) }
 {
     let (seed, size, nodes) = (options.seed, options.size, options.nodes);
     Ok(write!(text, "trial {seed} size {size} nodes {nodes}\n")?)
 }
 
 fn push_count(text: &mut String, words: &str, count: usize) -> Result<(), NoMemory>
-    ensures { OnOk result (string_bytes text.new ≡ string_bytes text.old ++ line (words.now ++ decimal count)) }
+    ensures { OnOk result (string_bytes text.new
+        ≡ string_bytes text.old ++ line (words.now ++ decimal count)) }
 {
     Ok(write!(text, "{words}{count}\n")?)
 }

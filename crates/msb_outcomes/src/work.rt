@@ -7,7 +7,17 @@ ghost use Rattle.msb_values.specs.declared.cause.Cause.TheVariants.{Memory};
 ghost use Rattle.build_world.specs.Faults.{fault_text};
 ghost use Rattle.msb_instance.specs.Evaluated.{seen_instance};
 ghost use Rattle.msb_words.specs.declared.options.Action.TheVariants.{Build};
-ghost use Rattle.msb_outcomes.specs.Outcomes.{HasProject, IsAsked, IsWorkAt, IsWorkOfAction, IsWorkOfFile, mode_of, not_found, refused, shown};
+ghost use Rattle.msb_outcomes.specs.Outcomes.{
+  HasProject,
+  IsAsked,
+  IsWorkAt,
+  IsWorkOfAction,
+  IsWorkOfFile,
+  mode_of,
+  not_found,
+  refused,
+  shown,
+};
 ghost use Rattle.msb_outcomes.specs.declared.work.Work.TheVariants.{Told};
 
 use build_outcome::Outcome;
@@ -16,7 +26,7 @@ use build_world::{EvalFault, Instance, World};
 use file_store::Tree;
 use msb_instance::evaluate;
 use msb_paths::{NormalFault, normal_path};
-use msb_values::{Cause, Copied, InstanceKey, List, Mode, NoMemory, Text, Text8};
+use msb_values::{Cause, Copied, InstanceKey, Mode, NoMemory, Text, Text8};
 use msb_words::{Action, Options};
 use std::alloc::Global;
 
@@ -31,8 +41,8 @@ pub enum Work {
     Check(World),
 }
 
-/// What is left to do of the words over the files of a tree: to tell why the project is refused, to tell what is shown of it,
-/// or to build or check it. (MSBuild command-line reference.)
+/// What is left to do of the words over the files of a tree: to tell why the project is refused, to
+/// tell what is shown of it, or to build or check it. (MSBuild command-line reference.)
 pub fn work_within(alloc: Global, options: &Options, tree: Tree) -> Result<Work, NoMemory>
     requires { HasProject options.now }
     ensures { IfOk result (IsWorkAt options.now tree.files (normal_path [] options.now.project)) }
@@ -71,7 +81,8 @@ fn work_of(
     instance: &Instance,
 ) -> Result<Work, NoMemory>
     requires { HasProject options.now }
-    ensures { IfOk result (IsWorkOfAction options.now.action options.now key tree.files (seen_instance instance.now)) }
+    ensures { IfOk result (IsWorkOfAction options.now.action options.now key tree.files
+        (seen_instance instance.now)) }
 {
     match options.action {
         Action::Build => Ok(Work::Build(asked(options, key, tree)?)),
@@ -113,11 +124,7 @@ fn mode_of(clean: bool) -> Mode
 fn shown(alloc: Global, text: Text8) -> Work
     ensures { result ≡ Told (shown text) }
 {
-    Work::Told(Outcome {
-        status: 0,
-        text,
-        commit: List::new(alloc),
-    })
+    Work::Told(Outcome::of_text(alloc, 0, text))
 }
 
 fn refused_by(alloc: Global, fault: &EvalFault) -> Result<Work, NoMemory>
@@ -141,9 +148,6 @@ fn refused(alloc: Global, reason: &str) -> Result<Work, NoMemory>
     ensures { IfOk result (λ work. work ≡ Told (refused reason.now)) }
 {
     let text = format!(in alloc; "project refused\n  {reason}\n")?;
-    Ok(Work::Told(Outcome {
-        status: 3,
-        text: Text8::from(text.into_bytes()),
-        commit: List::new(alloc),
-    }))
+    let text = Text8::from(text.into_bytes());
+    Ok(Work::Told(Outcome::of_text(alloc, 3, text)))
 }

@@ -1,3 +1,4 @@
+pub mod Answered
 pub mod Calling
 pub mod Claims
 pub mod CleanAnswers
@@ -7,6 +8,7 @@ pub mod Ended
 pub mod GivenFiles
 pub mod Meant
 pub mod NextBuilds
+pub mod Parts
 pub mod Ready
 pub mod TrialEnded
 pub mod Unloaded

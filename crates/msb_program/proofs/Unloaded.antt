@@ -1,22 +1,63 @@
 -- The answer of the program where the store's files were not loaded.
-use Rattle.std.proofs.Common.{◌≡◌, ◌⊎◌, ℕ, List, Option, Some, None, inl, inr, refl, sym, subst, ◌∙◌, arith}
+use Rattle.std.proofs.Common.{
+  ◌≡◌,
+  ◌⊎◌,
+  ℕ,
+  List,
+  Option,
+  Some,
+  None,
+  inl,
+  inr,
+  refl,
+  sym,
+  subst,
+  ◌∙◌,
+  arith,
+}
 use Rattle.msb_laws.specs.Faults.{Rose}
 use Rattle.file_store.specs.Limits.{limit_fault}
 use Rattle.file_store.specs.Loads.{OfListing, IsCaused, IsOfKind}
 use Rattle.file_store.specs.declared.loading.LoadFault.{LoadFault}
-use Rattle.file_store.specs.declared.loading.LoadFault.TheVariants.{Listing, Reading, Files, Bytes, Large, BadPath, Memory}
+use Rattle.file_store.specs.declared.loading.LoadFault.TheVariants.{
+  Listing,
+  Reading,
+  Files,
+  Bytes,
+  Large,
+  BadPath,
+  Memory,
+}
 use Rattle.file_store.specs.declared.tree.File.{File}
 use Rattle.msb_words.specs.Options.{options_in}
 use Rattle.msb_words.specs.declared.options.Options.{Options}
 use Rattle.build_report.specs.Line.{line}
-use Rattle.msb_outcomes.specs.Outcomes.{Answering, HasProject, IsOutcomeWithin, fault_status, load_fault_text, unloaded}
+use Rattle.msb_outcomes.specs.Outcomes.{
+  Answering,
+  HasProject,
+  IsOutcomeWithin,
+  fault_status,
+  load_fault_text,
+  unloaded,
+}
 use Rattle.msb_program.specs.Endings.{Saving, Kept, Printing, Printed, Silent}
-use Rattle.msb_program.specs.Answers.{AsksForProject, Loading, LoadFails, IsStoreFault, IsStatusOf, IsStatusOfProject, Answers}
+use Rattle.msb_program.specs.Answers.{
+  AsksForProject,
+  Loading,
+  LoadFails,
+  IsStoreFault,
+  IsStatusOf,
+  IsStatusOfProject,
+  Answers,
+}
 use Rattle.msb_program.specs.Calls.{IsUndone}
 use Rattle.msb_program.specs.declared.top.Prepared.TheVariants.{Ended}
 use Rattle.msb_program.proofs.Claims.{answers_at, memory_answers}
+use Rattle.msb_program.proofs.Parts.{invocation_of}
 
-past_limit : (told : Option (List File)) (fault : LoadFault) (before after : ℕ) → fault_status fault ≡ 8 → IsCaused before after told fault → OfListing told (λ listing. limit_fault listing ≡ Some fault)
+past_limit : (told : Option (List File)) (fault : LoadFault) (before after : ℕ) →
+    fault_status fault ≡ 8 → IsCaused before after told fault →
+    OfListing told (λ listing. limit_fault listing ≡ Some fault)
 past_limit told Listing before after is caused = absurd (grind arith)
 past_limit told (Reading path) before after is caused = absurd (grind arith)
 past_limit told (Files number) before after is caused = caused
@@ -25,7 +66,9 @@ past_limit told (Large path) before after is caused = caused
 past_limit told (BadPath path) before after is caused = caused
 past_limit told Memory before after is caused = absurd (grind arith)
 
-store_fault : (told : Option (List File)) (fault : LoadFault) (before after : ℕ) → fault_status fault ≡ 5 → IsCaused before after told fault → IsStoreFault fault × Rose before after
+store_fault : (told : Option (List File)) (fault : LoadFault) (before after : ℕ) →
+    fault_status fault ≡ 5 → IsCaused before after told fault →
+    IsStoreFault fault × Rose before after
 store_fault told Listing before after is caused = (inl refl, caused)
 store_fault told (Reading path) before after is caused = (inr (path, refl), caused.0)
 store_fault told (Files number) before after is caused = absurd (grind arith)
@@ -34,7 +77,8 @@ store_fault told (Large path) before after is caused = absurd (grind arith)
 store_fault told (BadPath path) before after is caused = absurd (grind arith)
 store_fault told Memory before after is caused = absurd (grind arith)
 
-either_status : (fault : LoadFault) → (fault ≡ Memory → ⊥) → (fault_status fault ≡ 5) ⊎ (fault_status fault ≡ 8)
+either_status : (fault : LoadFault) → (fault ≡ Memory → ⊥) →
+    (fault_status fault ≡ 5) ⊎ (fault_status fault ≡ 8)
 either_status Listing never = inl refl
 either_status (Reading path) never = inl refl
 either_status (Files number) never = inr refl
@@ -45,7 +89,8 @@ either_status Memory never = absurd (never refl)
 
 fails : (words : List (List ℕ)) (l : Loading) (s : Saving) (p : Printing) (options : Options)
     (fault : LoadFault) → options_in words ≡ Some options → HasProject options →
-    IsCaused l.faults_before l.faults_after l.told fault → IsOfKind l.before l.after fault → Kept s →
+    IsCaused l.faults_before l.faults_after l.told fault → IsOfKind l.before l.after fault →
+    Kept s →
     Printed p (line (load_fault_text fault)) → LoadFails words l s p fault
 fails words l s p options fault asked project caused kind kept printed = record {
   asked = subst AsksForProject (sym asked) project;
@@ -57,25 +102,55 @@ fails words l s p options fault asked project caused kind kept printed = record 
 
 module _ (tools : Answering) where
   -- files past a limit have an outcome of this status
-  limited_status : (told : Option (List File)) (options : Options) (fault : LoadFault) (status : ℕ) → HasProject options → status ≡ fault_status fault → OfListing told (λ listing. limit_fault listing ≡ Some fault)
+  limited_status : (told : Option (List File)) (options : Options) (fault : LoadFault) (status : ℕ)
+      → HasProject options → status ≡ fault_status fault →
+      OfListing told (λ listing. limit_fault listing ≡ Some fault)
       → IsStatusOfProject tools options told status
   limited_status None options fault status project is past = (project, tt)
-  limited_status (Some files) options fault status project is past = (project, (unloaded fault, subst (λ limit. IsOutcomeWithin tools options files limit (unloaded fault)) (sym past) refl, is))
+  limited_status (Some files) options fault status project is past = (
+    project,
+    (
+      unloaded fault,
+      subst (λ limit. IsOutcomeWithin tools options files limit (unloaded fault))
+          (sym past) refl,
+      is,
+    ),
+  )
 
-  module _ (words : List (List ℕ)) (l : Loading) (s : Saving) (p : Printing) (options : Options) (fault : LoadFault) (asked : options_in words ≡ Some options) (project : HasProject options)
-      (caused : IsCaused l.faults_before l.faults_after l.told fault) (kind : IsOfKind l.before l.after fault) (kept : Kept s) where
-    fault_answers : (status : ℕ) → status ≡ fault_status fault → Printed p (line (load_fault_text fault)) → (fault_status fault ≡ 5) ⊎ (fault_status fault ≡ 8) → Answers tools words l s p status
+  module _ (words : List (List ℕ)) (l : Loading) (s : Saving) (p : Printing) (options : Options)
+      (fault : LoadFault) (asked : options_in words ≡ Some options) (project : HasProject options)
+      (caused : IsCaused l.faults_before l.faults_after l.told fault)
+      (kind : IsOfKind l.before l.after fault) (kept : Kept s) where
+    fault_answers : (status : ℕ) → status ≡ fault_status fault →
+        Printed p (line (load_fault_text fault)) →
+        (fault_status fault ≡ 5) ⊎ (fault_status fault ≡ 8) → Answers tools words l s p status
     fault_answers status is printed (inl five) =
         let stored = store_fault l.told fault l.faults_before l.faults_after five caused in
-        answers_at tools words l s p 5 (inr (inr (inr (inr (inr (inl refl)))))) (inl (fault, stored.0, stored.1, fails words l s p options fault asked project caused kind kept printed)) status (is ∙ five) (λ store sink. absurd (store stored.1))
+        answers_at tools words l s p 5 (inr (inr (inr (inr (inr (inl refl))))))
+        (inl (
+          fault,
+          stored.0,
+          stored.1,
+          fails words l s p options fault asked project caused kind kept printed,
+        )) status (is ∙ five)
+        (λ store sink. absurd (store stored.1))
     fault_answers status is printed (inr eight) =
         let past = past_limit l.told fault l.faults_before l.faults_after eight caused in
-        answers_at tools words l s p 8 (inr (inr (inr (inr (inr (inr (inr (inr (inl refl))))))))) (fault, past, fails words l s p options fault asked project caused kind kept printed) status (is ∙ eight)
-        (λ store sink. inr (subst (λ asks. IsStatusOf tools asks l.told status) (sym asked) (inl (limited_status l.told options fault status project is past))))
+        answers_at tools words l s p 8 (inr (inr (inr (inr (inr (inr (inr (inr (inl refl)))))))))
+        (fault, past, fails words l s p options fault asked project caused kind kept printed) status
+        (is ∙ eight)
+        (λ store sink.
+        inr (subst (λ asks. IsStatusOf tools asks l.told status) (sym asked)
+        (inl (limited_status l.told options fault status project is past))))
 
-    pub unloaded_answers : (status : ℕ) → ((status ≡ fault_status fault) × (fault ≡ Memory → ⊥) × Printed p (line (load_fault_text fault))) ⊎ ((status ≡ 7) × Silent p) → Answers tools words l s p status
-    unloaded_answers status (inl told) = fault_answers status told.0 told.2 (either_status fault told.1)
-    unloaded_answers status (inr memory) = memory_answers tools words l s p status memory.0 (memory.1, inl kept)
+    pub unloaded_answers : (status : ℕ) →
+        ((status ≡ fault_status fault) × (fault ≡ Memory → ⊥) × Printed p
+        (line (load_fault_text fault))) ⊎ ((status ≡ 7) × Silent p) →
+        Answers tools words l s p status
+    unloaded_answers status (inl told) =
+        fault_answers status told.0 told.2 (either_status fault told.1)
+    unloaded_answers status (inr memory) =
+        memory_answers tools words l s p status memory.0 (memory.1, inl kept)
 
 -- a load that fails comes to no outcome
 module _ (words : List (List ℕ)) (l : Loading) (s : Saving) (p : Printing) (options : Options)
@@ -83,7 +158,8 @@ module _ (words : List (List ℕ)) (l : Loading) (s : Saving) (p : Printing) (op
     (caused : IsCaused l.faults_before l.faults_after l.told fault)
     (kind : IsOfKind l.before l.after fault) (kept : Kept s) where
   failed_undone : (status : ℕ) → status ≡ fault_status fault → LoadFails words l s p fault →
-      (fault_status fault ≡ 5) ⊎ (fault_status fault ≡ 8) → IsUndone words l s p (Ended status)
+      (fault_status fault ≡ 5) ⊎ (fault_status fault ≡ 8) →
+      IsUndone (invocation_of words l s p) (Ended status)
   failed_undone status is fails (inl five) =
       let stored = store_fault l.told fault l.faults_before l.faults_after five caused in
       inr (inr (inl (is ∙ five, (fault, stored.0, stored.1, fails))))
@@ -95,7 +171,7 @@ module _ (words : List (List ℕ)) (l : Loading) (s : Saving) (p : Printing) (op
 
   pub unloaded_undone : (status : ℕ) → ((status ≡ fault_status fault) × (fault ≡ Memory → ⊥)
       × Printed p (line (load_fault_text fault))) ⊎ ((status ≡ 7) × Silent p) →
-      IsUndone words l s p (Ended status)
+      IsUndone (invocation_of words l s p) (Ended status)
   unloaded_undone status (inl told) =
       failed_undone status told.0
       (fails words l s p options fault asked project caused kind kept told.2)

@@ -1,5 +1,6 @@
--- What a status of the program says of its words, of the files that the store tells, and of what was done to files and printed.
-use Rattle.std.specs.Prelude.{◌≡◌, ◌⊎◌, ℕ, List, true, Option, Some, None, IfSome, codes}
+-- What a status of the program says of its words, of the files that the store tells, and of what
+-- was done to files and printed.
+use Rattle.std.specs.Prelude.{◌≡◌, ◌⊎◌, ◌++◌, ℕ, List, true, Option, Some, None, IfSome, codes}
 use Rattle.msb_laws.specs.Faults.{Rose}
 use Rattle.file_store.specs.Entries.{entries_of}
 use Rattle.file_store.specs.Failed.{Failures}
@@ -8,17 +9,32 @@ use Rattle.file_store.specs.Limits.{limit_fault}
 use Rattle.file_store.specs.Loads.{OfListing, IsCaused, IsOfKind}
 use Rattle.file_store.specs.declared.loading.LoadFault.{LoadFault}
 use Rattle.file_store.specs.declared.loading.LoadFault.TheVariants.{Listing, Reading}
+use Rattle.file_store.specs.declared.store.Store.{Ghosts as StoreTells}
 use Rattle.file_store.specs.declared.tree.File.{File}
 use Rattle.msb_words.specs.Options.{options_in}
 use Rattle.msb_words.specs.declared.options.Options.{Options}
 use Rattle.msb_words.specs.declared.options.Action.TheVariants.{Build, Check, Trial}
 use Rattle.build_report.specs.Line.{line}
 use Rattle.msb_outcomes.specs.Outcomes.{Answering, HasProject, IsOutcomeOf, load_fault_text}
-use Rattle.msb_program.specs.Endings.{Saving, Kept, Printing, Printed, PrintedAll, PrintedFront, Silent, EndsWhole, EndsRefused, EndsUnprinted, EndsUnwritten, EndsHalfway}
+use Rattle.msb_program.specs.Endings.{
+  Saving,
+  Kept,
+  Printing,
+  Printed,
+  PrintedAll,
+  PrintedFront,
+  Silent,
+  EndsWhole,
+  EndsRefused,
+  EndsUnprinted,
+  EndsUnwritten,
+  EndsHalfway,
+}
 use Rattle.msb_outcomes.specs.Trials.{IsTrial}
 use Rattle.build_outcome.specs.declared.outcome.Outcome.{Outcome}
 
--- the files that a store tells, its count of faults, and its failed calls by their kinds, before and after the call
+-- the files that a store tells, its count of faults, and its failed calls by their kinds, before
+-- and after the call
 pub record Loading : Type 0 where
   pub told : Option (List File)
   pub faults_before : ℕ
@@ -26,11 +42,20 @@ pub record Loading : Type 0 where
   pub before : Failures
   pub after : Failures
 
-abbrev pub loading : Option (List File) → ℕ → ℕ → Failures → Failures → Loading
-loading told faults_before faults_after before after = record { told = told; faults_before = faults_before; faults_after = faults_after; before = before; after = after }
+-- by what the store's type tells of its values
+abbrev pub loading : {S : Type 0} → StoreTells S → S → S → Loading
+loading store old new = record {
+  told = store.tree old;
+  faults_before = store.fault_count old;
+  faults_after = store.fault_count new;
+  before = store.failures old;
+  after = store.failures new;
+}
 
 abbrev pub usage : List ℕ
-usage = line (codes "usage: msb ACTION PROJECT [--target LIST] [--property LIST] [--nodes N] [--clean] [--show low] [--size N]")
+usage =
+    line (codes "usage: msb ACTION PROJECT [--target LIST] [--property LIST] [--nodes N] [--clean]"
+    ++ codes " [--show low] [--size N]")
 
 -- files in byte order and within the limits, which are the told ones where files are told
 pub record AreLoaded (told : Option (List File)) (files : List File) : Type 0 where
@@ -58,7 +83,8 @@ abbrev pub IsUsage : List (List ℕ) → Saving → Printing → Type 0
 IsUsage words s p = (options_in words ≡ None) × Kept s × Printed p usage
 
 -- a load fails for this reason, by a call of its kind, and so it is told
-pub record LoadFails (words : List (List ℕ)) (l : Loading) (s : Saving) (p : Printing) (fault : LoadFault) : Type 0 where
+pub record LoadFails (words : List (List ℕ)) (l : Loading) (s : Saving) (p : Printing)
+    (fault : LoadFault) : Type 0 where
   pub asked : AsksForProject (options_in words)
   pub cause : IsCaused l.faults_before l.faults_after l.told fault
   pub kind : IsOfKind l.before l.after fault
@@ -70,15 +96,21 @@ abbrev pub IsStoreFault : LoadFault → Type 0
 IsStoreFault fault = (fault ≡ Listing) ⊎ ((path : List ℕ) × (fault ≡ Reading path))
 
 abbrev pub IsLoadFailure : List (List ℕ) → Loading → Saving → Printing → Type 0
-IsLoadFailure words l s p = (fault : LoadFault) × IsStoreFault fault × Rose l.faults_before l.faults_after × LoadFails words l s p fault
+IsLoadFailure words l s p =
+    (fault : LoadFault) × IsStoreFault fault × Rose l.faults_before l.faults_after
+    × LoadFails words l s p fault
 
 -- 8: the listing that was got passes a limit
 abbrev pub IsPastLimit : List (List ℕ) → Loading → Saving → Printing → Type 0
-IsPastLimit words l s p = (fault : LoadFault) × OfListing l.told (λ listing. limit_fault listing ≡ Some fault) × LoadFails words l s p fault
+IsPastLimit words l s p =
+    (fault : LoadFault) × OfListing l.told (λ listing. limit_fault listing ≡ Some fault)
+    × LoadFails words l s p fault
 
 -- the statuses of the program
 abbrev pub IsStatus : ℕ → Type 0
-IsStatus status = (status ≡ 0) ⊎ (status ≡ 1) ⊎ (status ≡ 2) ⊎ (status ≡ 3) ⊎ (status ≡ 4) ⊎ (status ≡ 5) ⊎ (status ≡ 6) ⊎ (status ≡ 7) ⊎ (status ≡ 8) ⊎ (status ≡ 9)
+IsStatus status =
+    (status ≡ 0) ⊎ (status ≡ 1) ⊎ (status ≡ 2) ⊎ (status ≡ 3) ⊎ (status ≡ 4)
+    ⊎ (status ≡ 5) ⊎ (status ≡ 6) ⊎ (status ≡ 7) ⊎ (status ≡ 8) ⊎ (status ≡ 9)
 
 -- the words ask for a trial, and P holds of a text that it may print; no file is written or removed
 pub record HasTrial (words : List (List ℕ)) (s : Saving) (P : List ℕ → Type 0) : Type 0 where
@@ -92,7 +124,9 @@ pub record HasTrial (words : List (List ℕ)) (s : Saving) (P : List ℕ → Typ
 
 module _ (tools : Answering) where
   -- the words ask for a project, the store's files were loaded, and P holds of an outcome of both
-  pub record HasOutcome (words : List (List ℕ)) (told : Option (List File)) (P : Outcome → Type 0) : Type 0 where
+  pub record HasOutcome (words : List (List ℕ)) (told : Option (List File))
+      (P : Outcome → Type 0)
+      : Type 0 where
     pub options : Options
     pub asked : options_in words ≡ Some options
     pub project : HasProject options
@@ -104,10 +138,12 @@ module _ (tools : Answering) where
 
   -- 0: what the words ask for was done, its acts were done, and its text was printed whole
   abbrev pub IsDone : List (List ℕ) → Option (List File) → Saving → Printing → Type 0
-  IsDone words told s p = HasOutcome words told (λ o. (o.status ≡ 0) × EndsWhole s p o) ⊎ HasTrial words s (PrintedAll p)
+  IsDone words told s p =
+      HasOutcome words told (λ o. (o.status ≡ 0) × EndsWhole s p o)
+      ⊎ HasTrial words s (PrintedAll p)
 
-  -- 1: the request failed, or a check has another verdict than that the set is steady; its acts were
-  -- done, and its text was printed whole
+  -- 1: the request failed, or a check has another verdict than that the set is steady; its acts
+  -- were done, and its text was printed whole
   abbrev pub IsFailed : List (List ℕ) → Option (List File) → Saving → Printing → Type 0
   IsFailed words told s p = HasOutcome words told (λ o. (o.status ≡ 1) × EndsWhole s p o)
 
@@ -125,11 +161,15 @@ module _ (tools : Answering) where
 
   -- 5: the store's count of faults rose, in the load, or as the acts of an outcome were done
   abbrev pub IsStoreFailure : List (List ℕ) → Loading → Saving → Printing → Type 0
-  IsStoreFailure words l s p = IsLoadFailure words l s p ⊎ HasOutcome words l.told (EndsUnwritten l.faults_before l.faults_after s p)
+  IsStoreFailure words l s p =
+      IsLoadFailure words l s p
+      ⊎ HasOutcome words l.told (EndsUnwritten l.faults_before l.faults_after s p)
 
   -- 6: the sink's count of faults rose where all else was done
   abbrev pub IsSinkFailure : List (List ℕ) → Option (List File) → Saving → Printing → Type 0
-  IsSinkFailure words told s p = HasOutcome words told (EndsUnprinted s p) ⊎ HasTrial words s (λ text. Rose p.faults_before p.faults_after × PrintedFront p text)
+  IsSinkFailure words told s p =
+      HasOutcome words told (EndsUnprinted s p)
+      ⊎ HasTrial words s (λ text. Rose p.faults_before p.faults_after × PrintedFront p text)
 
   -- 7: want of memory, which may come at any place and prints nothing
   abbrev pub IsMemory : List (List ℕ) → Option (List File) → Saving → Printing → Type 0
@@ -137,15 +177,21 @@ module _ (tools : Answering) where
 
   -- the words ask for a project, and the status is that of an outcome of it and the told files
   abbrev pub IsStatusOfProject : Options → Option (List File) → ℕ → Type 0
-  IsStatusOfProject options told status = HasProject options × IfSome told (λ files. (outcome : Outcome) × IsOutcomeOf tools options files outcome × (status ≡ outcome.status))
+  IsStatusOfProject options told status =
+      HasProject options
+      × IfSome told (λ files. (outcome : Outcome) × IsOutcomeOf tools options files outcome
+      × (status ≡ outcome.status))
 
-  -- where neither failed, the status is 2, or that of an outcome, or that of a trial that was done, or want of memory
+  -- where neither failed, the status is 2, or that of an outcome, or that of a trial that was done,
+  -- or want of memory
   abbrev pub IsStatusOf : Option Options → Option (List File) → ℕ → Type 0
   IsStatusOf None told status = status ≡ 2
-  IsStatusOf (Some options) told status = IsStatusOfProject options told status ⊎ ((options.action ≡ Trial) × (status ≡ 0))
+  IsStatusOf (Some options) told status =
+      IsStatusOfProject options told status ⊎ ((options.action ≡ Trial) × (status ≡ 0))
 
   -- What each status says.
-  pub record Answers (words : List (List ℕ)) (l : Loading) (s : Saving) (p : Printing) (status : ℕ) : Type 0 where
+  pub record Answers (words : List (List ℕ)) (l : Loading) (s : Saving) (p : Printing)
+      (status : ℕ) : Type 0 where
     pub known : IsStatus status
     pub done : status ≡ 0 → IsDone words l.told s p
     pub failed : status ≡ 1 → IsFailed words l.told s p
@@ -157,4 +203,5 @@ module _ (tools : Answering) where
     pub memory : status ≡ 7 → IsMemory words l.told s p
     pub limited : status ≡ 8 → IsPastLimit words l s p
     pub spent : status ≡ 9 → IsSpent words l.told s p
-    pub unfailing : ¬ Rose l.faults_before l.faults_after → ¬ Rose p.faults_before p.faults_after → (status ≡ 7) ⊎ IsStatusOf (options_in words) l.told status
+    pub unfailing : ¬ Rose l.faults_before l.faults_after → ¬ Rose p.faults_before p.faults_after →
+        (status ≡ 7) ⊎ IsStatusOf (options_in words) l.told status

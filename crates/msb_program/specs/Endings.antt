@@ -1,11 +1,29 @@
 -- How an outcome ends: what becomes of the acts of its commit list, and of its text.
-use Rattle.std.specs.Prelude.{◌≡◌, ◌⊎◌, ◌++◌, ◌<◌, ℕ, List, length, slice_get, Option, IfSome, IsSomeAnd, Result, Ok, Err, codes}
+use Rattle.std.specs.Prelude.{
+  ◌≡◌,
+  ◌⊎◌,
+  ◌++◌,
+  ◌<◌,
+  ℕ,
+  List,
+  length,
+  slice_get,
+  Option,
+  IfSome,
+  IsSomeAnd,
+  Result,
+  Ok,
+  Err,
+  codes,
+}
 use Rattle.msb_laws.specs.Faults.{Rose}
 use Rattle.msb_laws.specs.Gains.{Appends, AppendsFront, Prints}
 use Rattle.msb_values.specs.declared.errors.NoMemory.{NoMemory}
 use Rattle.msb_values.specs.Acts.{act_path}
 use Rattle.msb_values.specs.declared.act.Act.{Act}
 use Rattle.file_store.specs.Commits.{AreDone, AreDoneTo, HasContents}
+use Rattle.file_store.specs.declared.sink.Sink.{Ghosts as SinkTells}
+use Rattle.file_store.specs.declared.store.Store.{Ghosts as StoreTells}
 use Rattle.file_store.specs.declared.tree.File.{File}
 use Rattle.build_report.specs.Line.{line}
 use Rattle.msb_outcomes.specs.Outcomes.{Answering, IsOutcomeOf, IsUnfinished}
@@ -18,8 +36,9 @@ pub record Saving : Type 0 where
   pub before : Option (List File)
   pub after : Option (List File)
 
-abbrev pub saving : Option (List File) → Option (List File) → Saving
-saving before after = record { before = before; after = after }
+-- by what the store's type tells of its values
+abbrev pub saving : {S : Type 0} → StoreTells S → S → S → Saving
+saving store old new = record { before = store.tree old; after = store.tree new }
 
 -- the files are as they were
 abbrev pub Kept : Saving → Type 0
@@ -30,8 +49,8 @@ pub record SavedAll (s : Saving) (list : List Act) : Type 0 where
   pub done : IfSome s.before (λ files. IsSomeAnd s.after (AreDone list files))
   pub contents : IfSome s.before (λ files. IsSomeAnd s.after (HasContents list files))
 
--- Those before a place of the list were done, and the one there was or was not: its path has the old
--- or the new bytes, or for a removal the old bytes or no file.
+-- Those before a place of the list were done, and the one there was or was not: its path has the
+-- old or the new bytes, or for a removal the old bytes or no file.
 pub record SavedTo (s : Saving) (list : List Act) (place : ℕ) : Type 0 where
   pub within : place < length list
   pub done : IfSome s.before (λ files. IsSomeAnd s.after (AreDoneTo place list files))
@@ -43,8 +62,14 @@ pub record Printing : Type 0 where
   pub before : Option (List ℕ)
   pub after : Option (List ℕ)
 
-abbrev pub printing : ℕ → ℕ → Option (List ℕ) → Option (List ℕ) → Printing
-printing faults_before faults_after before after = record { faults_before = faults_before; faults_after = faults_after; before = before; after = after }
+-- by what the sink's type tells of its values
+abbrev pub printing : {K : Type 0} → SinkTells K → K → K → Printing
+printing sink old new = record {
+  faults_before = sink.fault_count old;
+  faults_after = sink.fault_count new;
+  before = sink.told old;
+  after = sink.told new;
+}
 
 -- the whole text was printed
 abbrev pub PrintedAll : Printing → List ℕ → Type 0
@@ -78,7 +103,8 @@ pub record EndsUnprinted (s : Saving) (p : Printing) (o : Outcome) : Type 0 wher
   pub printed : PrintedFront p o.text
 
 -- its acts were done to a place where the store failed, whose path was printed
-pub record EndsUnwritten (faults_before faults_after : ℕ) (s : Saving) (p : Printing) (o : Outcome) : Type 0 where
+pub record EndsUnwritten (faults_before faults_after : ℕ) (s : Saving) (p : Printing)
+    (o : Outcome) : Type 0 where
   pub completion : IsCompletion o.status
   pub place : ℕ
   pub saved : SavedTo s o.commit place
@@ -86,13 +112,15 @@ pub record EndsUnwritten (faults_before faults_after : ℕ) (s : Saving) (p : Pr
   pub printed : IsSomeAnd (slice_get o.commit place)
       (λ act. Printed p (line (codes "store fault " ++ act_path act)))
 
--- its acts were done to a place where no memory was found, or where that the store failed could not be told
+-- its acts were done to a place where no memory was found, or where that the store failed could not
+-- be told
 pub record EndsHalfway (s : Saving) (o : Outcome) : Type 0 where
   pub completion : IsCompletion o.status
   pub place : ℕ
   pub saved : SavedTo s o.commit place
 
--- how an outcome ends where a store's count of faults was and is this, and the status that comes of it
+-- how an outcome ends where a store's count of faults was and is this, and the status that comes of
+-- it
 abbrev pub Ends : Outcome → ℕ → ℕ → Saving → Printing → ℕ → Type 0
 Ends o faults_before faults_after s p status =
     ((status ≡ o.status) × IsCompletion o.status × EndsWhole s p o)
@@ -108,11 +136,14 @@ EndsMade (Err none) faults_before faults_after s p status = (status ≡ 7) × Ke
 
 -- how a trial ends: its text is printed, or the sink fails; for want of memory there is none
 abbrev pub EndsTrial : Result (List ℕ) NoMemory → Printing → ℕ → Type 0
-EndsTrial (Ok text) p status = ((status ≡ 0) × PrintedAll p text) ⊎ ((status ≡ 6) × Rose p.faults_before p.faults_after × PrintedFront p text)
+EndsTrial (Ok text) p status =
+    ((status ≡ 0) × PrintedAll p text)
+    ⊎ ((status ≡ 6) × Rose p.faults_before p.faults_after × PrintedFront p text)
 EndsTrial (Err none) p status = (status ≡ 7) × Silent p
 
 -- how an outcome of these files ends, where it is made
 abbrev pub EndsOver : Answering → Options → List File → ℕ → ℕ → Saving → Printing → ℕ → Type 0
 EndsOver tools options files faults_before faults_after s p status =
-    ((outcome : Outcome) × IsOutcomeOf tools options files outcome × Ends outcome faults_before faults_after s p status)
+    ((outcome : Outcome) × IsOutcomeOf tools options files outcome
+    × Ends outcome faults_before faults_after s p status)
     ⊎ ((status ≡ 7) × Kept s × Silent p)

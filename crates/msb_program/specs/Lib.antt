@@ -1,7 +1,9 @@
+pub mod Answered
 pub mod Answers
 pub mod Calls
 pub mod Clean
 pub mod Endings
+pub mod Invocation
 pub mod Meanings
 pub mod NextBuilds
 pub mod Prepared

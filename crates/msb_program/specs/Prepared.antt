@@ -1,4 +1,5 @@
--- What is left to do once the words are read, the files loaded and the project evaluated. (MSBuild command-line reference)
+-- What is left to do once the words are read, the files loaded and the project evaluated. (MSBuild
+-- command-line reference)
 use Rattle.std.specs.Prelude.{◌≡◌, ◌<◌, ◌≤◌, ℕ, List, [], Some}
 use Rattle.file_store.specs.declared.tree.File.{File}
 use Rattle.msb_paths.specs.Refused.{normal_path}
@@ -7,13 +8,15 @@ use Rattle.msb_words.specs.declared.options.Action.TheVariants.{Trial as ToTry}
 use Rattle.msb_words.specs.declared.options.Options.{Options}
 use Rattle.msb_program.specs.Answers.{Answers, AreLoaded, Loading}
 use Rattle.msb_program.specs.Endings.{Saving, Kept, Printing, Silent}
+use Rattle.msb_program.specs.Invocation.{Invocation}
 use Rattle.msb_outcomes.specs.Outcomes.{Answering, HasProject, IsWorkAt}
 use Rattle.msb_program.specs.declared.top.Prepared.{Prepared}
 use Rattle.msb_program.specs.declared.top.Prepared.TheVariants.{Ended, Ready, Trial}
 use Rattle.msb_outcomes.specs.declared.work.Work.{Work}
 
 -- the words ask for this trial; no file was touched, and nothing printed
-pub record IsTrialAsked (words : List (List ℕ)) (s : Saving) (p : Printing) (options : Options) : Type 0 where
+pub record IsTrialAsked (words : List (List ℕ)) (s : Saving) (p : Printing)
+    (options : Options) : Type 0 where
   pub asked : options_in words ≡ Some options
   pub nodes : (0 < options.nodes) × (options.nodes ≤ 64)
   pub trial : options.action ≡ ToTry
@@ -22,7 +25,8 @@ pub record IsTrialAsked (words : List (List ℕ)) (s : Saving) (p : Printing) (o
   pub unfailing : p.faults_after ≡ p.faults_before
 
 -- the words ask for this work over loaded files; no file was touched, and nothing printed
-pub record IsReady (words : List (List ℕ)) (l : Loading) (s : Saving) (p : Printing) (options : Options) (work : Work) : Type 0 where
+pub record IsReady (words : List (List ℕ)) (l : Loading) (s : Saving) (p : Printing)
+    (options : Options) (work : Work) : Type 0 where
   pub asked : options_in words ≡ Some options
   pub project : HasProject options
   pub nodes : (0 < options.nodes) × (options.nodes ≤ 64)
@@ -35,13 +39,15 @@ pub record IsReady (words : List (List ℕ)) (l : Loading) (s : Saving) (p : Pri
   pub unfailing : p.faults_after ≡ p.faults_before
 
 -- all is done, whatever tools answer; or a trial or work is left
-abbrev pub IsPrepared : List (List ℕ) → Loading → Saving → Printing → Prepared → Type 0
-IsPrepared words l s p (Ended status) = (tools : Answering) → Answers tools words l s p status
-IsPrepared words l s p (Trial options) = IsTrialAsked words s p options
-IsPrepared words l s p (Ready options work) = IsReady words l s p options work
+abbrev pub IsPrepared : Invocation → Prepared → Type 0
+IsPrepared i (Ended status) =
+    (tools : Answering) → Answers tools i.words i.load i.save i.print status
+IsPrepared i (Trial options) = IsTrialAsked i.words i.save i.print options
+IsPrepared i (Ready options work) = IsReady i.words i.load i.save i.print options work
 
 -- what is left to do of the words over the files of a tree
 abbrev pub IsLeft : Options → List File → Prepared → Type 0
 IsLeft options files (Ended status) = status ≡ 7
 IsLeft options files (Trial asked) = ⊥
-IsLeft options files (Ready asked work) = (asked ≡ options) × IsWorkAt options files (normal_path [] options.project) work
+IsLeft options files (Ready asked work) =
+    (asked ≡ options) × IsWorkAt options files (normal_path [] options.project) work

@@ -1,26 +1,52 @@
-ghost use Rattle.std.specs.Prelude.{◌≡◌, ◌++◌, ◌⊎◌, ◌<◌, ◌≤◌, Some, None, map, string_bytes, IfOk, codes};
+ghost use Rattle.std.specs.Prelude.{
+  ◌≡◌,
+  ◌++◌,
+  ◌⊎◌,
+  map,
+  string_bytes,
+  IfOk,
+  codes,
+};
 ghost use Rattle.msb_laws.specs.Faults.{Rose};
-ghost use Rattle.msb_laws.specs.Gains.{Prints};
 ghost use Rattle.file_store.specs.declared.loading.LoadFault.TheVariants.{Memory};
-ghost use Rattle.file_store.specs.declared.tree.Tree.{Tree as TheTree};
 ghost use Rattle.result_cache.specs.declared.request.RequestResult.{RequestResult};
-ghost use Rattle.build_world.specs.declared.world.World.{World as TheWorld};
 ghost use Rattle.task_trait.specs.Tools.{BeginsWith};
 ghost use Rattle.task_trait.specs.declared.tools.ToolInput.{ToolInput};
 ghost use Rattle.build_meaning.specs.Meaning.{Given};
 ghost use Rattle.msb_words.specs.Options.{options_in};
 ghost use Rattle.build_report.specs.Line.{line};
 ghost use Rattle.build_engine.specs.Statuses.{IsCompletion};
-ghost use Rattle.msb_outcomes.specs.Outcomes.{HasProject, IsUnfinished, load_fault_text, fault_status};
-ghost use Rattle.msb_program.specs.Endings.{Ends, EndsMade, EndsTrial, Printed, PrintedAll, PrintedFront, Silent, printing, saving};
-ghost use Rattle.msb_program.specs.Calls.{AreMeantCalls, IsOfHistory, IsOfNodes, IsUndone, IsUnmade};
-ghost use Rattle.msb_program.specs.Answers.{Answers, AsksForRuns, AsksForTrial, loading};
-ghost use Rattle.msb_program.specs.Clean.{AnswersClean, MeansClean};
-ghost use Rattle.msb_program.specs.NextBuilds.{AreCallsOfOthers, EndsIdle, HasSaved, MeansRepeated, MeansUpToDate, PrintedSkips, StaysFresh};
-ghost use Rattle.msb_program.specs.Prepared.{IsLeft, IsPrepared};
-ghost use Rattle.msb_program.specs.Meanings.{AnswersMeant, IsAskedOf, Means};
 ghost use Rattle.build_outcome.specs.declared.outcome.Outcome.{Outcome as TheOutcome};
 ghost use Rattle.request_machine.specs.Walk.{Site};
+ghost use Rattle.msb_outcomes.specs.Outcomes.{
+  HasProject,
+  IsUnfinished,
+  load_fault_text,
+  fault_status,
+};
+ghost use Rattle.msb_program.specs.Answered.{IsAnswered};
+ghost use Rattle.msb_program.specs.Answers.{AsksForRuns, AsksForTrial};
+ghost use Rattle.msb_program.specs.Calls.{
+  AreMeantCalls,
+  ComesOfHistory,
+  ComesOfNodes,
+  IsUndone,
+};
+ghost use Rattle.msb_program.specs.Endings.{
+  Ends,
+  EndsMade,
+  EndsTrial,
+  Printed,
+  PrintedAll,
+  PrintedFront,
+  Silent,
+  printing,
+  saving,
+};
+ghost use Rattle.msb_program.specs.Invocation.{invocation};
+ghost use Rattle.msb_program.specs.Meanings.{Means};
+ghost use Rattle.msb_program.specs.NextBuilds.{AreCallsOfOthers, MeansUpToDate};
+ghost use Rattle.msb_program.specs.Prepared.{IsLeft, IsPrepared};
 
 use build_outcome::Outcome;
 use file_store::{CommitFault, LoadFault, Sink, SinkError, Store, Tree, commit, load};
@@ -32,8 +58,10 @@ use std::sync::Wait;
 use std::thread::Threads;
 use task_trait::{CountedTools, Tools};
 
-const USAGE: &str =
-    "usage: msb ACTION PROJECT [--target LIST] [--property LIST] [--nodes N] [--clean] [--show low] [--size N]\n";
+const USAGE: &str = concat!(
+    "usage: msb ACTION PROJECT [--target LIST] [--property LIST] [--nodes N] [--clean]",
+    " [--show low] [--size N]\n"
+);
 
 /// Does what the words ask for: reads them, loads the store's files, evaluates the project, builds,
 /// checks or shows it, writes files to the store, and prints to the sink.
@@ -41,21 +69,24 @@ const USAGE: &str =
 /// `words` are those after the program's name. The answer is the program's status: 0 where it was
 /// done, 1 where the build failed or a check does not find the set steady, 2 where the words are
 /// outside the grammar, 3 where the project is refused, 4 where its build is, 5 where the store
-/// failed, 6 where the sink failed and nothing else did, 7 for want of memory, 8 where the files pass
-/// a limit, and 9 where a check has made as many bodies as it makes. Files are written and removed
-/// with status 0, 1 and 6, and up to some place of the list with 5 and 7.
+/// failed, 6 where the sink failed and nothing else did, 7 for want of memory, 8 where the files
+/// pass a limit, and 9 where a check has made as many bodies as it makes. Files are written and
+/// removed with status 0, 1 and 6, and up to some place of the list with 5 and 7.
 ///
-/// A build takes as many nodes as the words tell, each in a thread of its own, and waits for them; over one node it starts no
-/// thread. A trial builds its set so too, and on one node first, whose numbers it prints; it touches neither the store nor the
-/// tools. (MSBuild command-line reference, -maxCpuCount.)
+/// A build takes as many nodes as the words tell, each in a thread of its own, and waits for them;
+/// over one node it starts no thread. A trial builds its set so too, and on one node first, whose
+/// numbers it prints; it touches neither the store nor the tools. (MSBuild command-line reference,
+/// -maxCpuCount.)
 ///
-/// A build that may be trusted to skip what is up to date ends as a build with `--clean` would: with its status, the items that
-/// it returns, and the bytes that it leaves at each path. If it is settled, and the clean build is repeated over the tree that it
-/// leaves, the next build may be trusted as well. A build that finds no output older than its inputs skips each piece, and prints
+/// A build that may be trusted to skip what is up to date ends as a build with `--clean` would:
+/// with its status, the items that it returns, and the bytes that it leaves at each path. If it is
+/// settled, and the clean build is repeated over the tree that it leaves, the next build may be
+/// trusted as well. A build that finds no output older than its inputs skips each piece, and prints
 /// so, and no history that leads to its outcome uses a tool for one. (Incremental builds.)
 ///
-/// Whatever the world, a build comes of a legal history of as many nodes as the words tell, one of which does not retire, also
-/// where its files are not all written or its text is not printed; unless its files are not loaded, or memory is wanted before.
+/// Whatever the world, a build comes of a legal history of as many nodes as the words tell, one of
+/// which does not retire, also where its files are not all written or its text is not printed;
+/// unless its files are not loaded, or memory is wanted before.
 pub fn run<R: Threads + Wait + Sync, S: Store, K: Sink, T: Tools + Sync>(
     rt: &R,
     alloc: Global,
@@ -64,186 +95,12 @@ pub fn run<R: Threads + Wait + Sync, S: Store, K: Sink, T: Tools + Sync>(
     sink: &mut K,
     tools: &T,
 ) -> u8
-    ensures answer { Answers T.answer (map string_bytes words.now) (loading (S.tree store.old) (S.fault_count store.old) (S.fault_count store.new) (S.failures store.old) (S.failures store.new)) (saving (S.tree store.old) (S.tree store.new)) (printing (K.fault_count sink.old) (K.fault_count sink.new) (K.told sink.old) (K.told sink.new)) result }
-    ensures meaning { (meant : TheOutcome) → Means T.answer (map string_bytes words.now) (S.tree store.old) meant → AnswersMeant (map string_bytes words.now) (loading (S.tree store.old) (S.fault_count store.old) (S.fault_count store.new) (S.failures store.old) (S.failures store.new)) (saving (S.tree store.old) (S.tree store.new)) (printing (K.fault_count sink.old) (K.fault_count sink.new) (K.told sink.old) (K.told sink.new)) meant result }
-    ensures clean { (clean : Given Site ToolInput RequestResult) →
-        MeansClean T.answer (map string_bytes words.now) (S.tree store.old) clean →
-        AnswersClean
-        (loading (S.tree store.old) (S.fault_count store.old) (S.fault_count store.new)
-        (S.failures store.old) (S.failures store.new))
-        (saving (S.tree store.old) (S.tree store.new))
-        (printing (K.fault_count sink.old) (K.fault_count sink.new) (K.told sink.old)
-        (K.told sink.new))
-        clean result }
-    ensures stays { (left : TheTree) (again : Given Site ToolInput RequestResult)
-        (m : MeansRepeated T.answer (map string_bytes words.now) (S.tree store.old) left again) →
-        S.tree store.new ≡ Some left.files → HasSaved result →
-        StaysFresh T.answer m.given left again }
-    ensures skips { (clean : Given Site ToolInput RequestResult)
-        (m : MeansUpToDate T.answer (map string_bytes words.now) (S.tree store.old) clean) →
-        IsCompletion result →
-        PrintedSkips T.answer m.means.given.tree.files
-        (printing (K.fault_count sink.old) (K.fault_count sink.new) (K.told sink.old)
-        (K.told sink.new))
-        clean.value }
-    ensures idle { (clean : Given Site ToolInput RequestResult)
-        (m : MeansUpToDate T.answer (map string_bytes words.now) (S.tree store.old) clean) →
-        IsCompletion result →
-        EndsIdle T.answer m.means.given m.means.build.options.low
-        (saving (S.tree store.old) (S.tree store.new))
-        (printing (K.fault_count sink.old) (K.fault_count sink.new) (K.told sink.old)
-        (K.told sink.new)) }
-    ensures nodes { (given : TheWorld)
-        (build : IsAskedOf (map string_bytes words.now) (S.tree store.old) given) →
-        ∥ IsOfNodes T.answer given build.options
-        (loading (S.tree store.old) (S.fault_count store.old) (S.fault_count store.new)
-        (S.failures store.old) (S.failures store.new))
-        (saving (S.tree store.old) (S.tree store.new))
-        (printing (K.fault_count sink.old) (K.fault_count sink.new) (K.told sink.old)
-        (K.told sink.new))
-        result ∥₁
-        ⊎ IsUnmade (map string_bytes words.now)
-        (loading (S.tree store.old) (S.fault_count store.old) (S.fault_count store.new)
-        (S.failures store.old) (S.failures store.new))
-        (saving (S.tree store.old) (S.tree store.new))
-        (printing (K.fault_count sink.old) (K.fault_count sink.new) (K.told sink.old)
-        (K.told sink.new))
-        result }
-    ensures untouched { AsksForTrial (options_in (map string_bytes words.now)) → store.new ≡ store.old }
-{
-    answered_on(rt, alloc, words, store, sink, tools)
-}
-
-/// The same on one node, whatever the number of nodes that the words tell. It starts no thread and always returns. A build
-/// that is done, of a whole and steady world, has called the tools for each run of its meaning as one body of that run does, in
-/// order; where no calls are made at once, a run has one body alone, so they were called as often as in the meaning. Where each
-/// piece is skipped, no tool is called for it. Whatever the world, a build comes of the history in which the node takes the least
-/// ready request each time, and the calls are that history's, also where its files are not all written or its text is not printed;
-/// unless its files are not loaded, or memory is wanted before. For want of memory, too, the calls begin with those of before.
-pub fn run_alone<S: Store, K: Sink, T: CountedTools>(
-    alloc: Global,
-    words: &[String],
-    store: &mut S,
-    sink: &mut K,
-    tools: &mut T,
-) -> u8
-    ensures answer { Answers T.answer (map string_bytes words.now) (loading (S.tree store.old) (S.fault_count store.old) (S.fault_count store.new) (S.failures store.old) (S.failures store.new)) (saving (S.tree store.old) (S.tree store.new)) (printing (K.fault_count sink.old) (K.fault_count sink.new) (K.told sink.old) (K.told sink.new)) result }
-    ensures meaning { (meant : TheOutcome) → Means T.answer (map string_bytes words.now) (S.tree store.old) meant → AnswersMeant (map string_bytes words.now) (loading (S.tree store.old) (S.fault_count store.old) (S.fault_count store.new) (S.failures store.old) (S.failures store.new)) (saving (S.tree store.old) (S.tree store.new)) (printing (K.fault_count sink.old) (K.fault_count sink.new) (K.told sink.old) (K.told sink.new)) meant result }
-    ensures clean { (clean : Given Site ToolInput RequestResult) →
-        MeansClean T.answer (map string_bytes words.now) (S.tree store.old) clean →
-        AnswersClean
-        (loading (S.tree store.old) (S.fault_count store.old) (S.fault_count store.new)
-        (S.failures store.old) (S.failures store.new))
-        (saving (S.tree store.old) (S.tree store.new))
-        (printing (K.fault_count sink.old) (K.fault_count sink.new) (K.told sink.old)
-        (K.told sink.new))
-        clean result }
-    ensures stays { (left : TheTree) (again : Given Site ToolInput RequestResult)
-        (m : MeansRepeated T.answer (map string_bytes words.now) (S.tree store.old) left again) →
-        S.tree store.new ≡ Some left.files → HasSaved result →
-        StaysFresh T.answer m.given left again }
-    ensures skips { (clean : Given Site ToolInput RequestResult)
-        (m : MeansUpToDate T.answer (map string_bytes words.now) (S.tree store.old) clean) →
-        IsCompletion result →
-        PrintedSkips T.answer m.means.given.tree.files
-        (printing (K.fault_count sink.old) (K.fault_count sink.new) (K.told sink.old)
-        (K.told sink.new))
-        clean.value }
-    ensures uncalled { (AsksForRuns (options_in (map string_bytes words.now)) → ⊥) → T.calls tools.new ≡ T.calls tools.old }
-    ensures untouched { AsksForTrial (options_in (map string_bytes words.now)) → store.new ≡ store.old }
-    ensures calls { (meant : TheOutcome) (m : Means T.answer (map string_bytes words.now) (S.tree store.old) meant) → IsCompletion result → ∥ AreMeantCalls m.out (T.calls tools.old) (T.calls tools.new) ∥₁ }
-    ensures history { (given : TheWorld)
-        (build : IsAskedOf (map string_bytes words.now) (S.tree store.old) given) →
-        ∥ IsOfHistory T.answer given build.options.low (T.calls tools.old) (T.calls tools.new)
-        (loading (S.tree store.old) (S.fault_count store.old) (S.fault_count store.new)
-        (S.failures store.old) (S.failures store.new))
-        (saving (S.tree store.old) (S.tree store.new))
-        (printing (K.fault_count sink.old) (K.fault_count sink.new) (K.told sink.old)
-        (K.told sink.new))
-        result ∥₁
-        ⊎ IsUnmade (map string_bytes words.now)
-        (loading (S.tree store.old) (S.fault_count store.old) (S.fault_count store.new)
-        (S.failures store.old) (S.failures store.new))
-        (saving (S.tree store.old) (S.tree store.new))
-        (printing (K.fault_count sink.old) (K.fault_count sink.new) (K.told sink.old)
-        (K.told sink.new))
-        result }
-    ensures begun { BeginsWith (T.calls tools.old) (T.calls tools.new) }
-    ensures idle { (clean : Given Site ToolInput RequestResult)
-        (m : MeansUpToDate T.answer (map string_bytes words.now) (S.tree store.old) clean) →
-        IsCompletion result →
-        ∥ AreCallsOfOthers T.answer m.means.given (T.calls tools.old) (T.calls tools.new) ∥₁ }
-{
-    answered_alone(alloc, words, store, sink, tools)
-}
-
-// What the words come to, on one node.
-fn answered_alone<S: Store, K: Sink, T: CountedTools>(
-    alloc: Global,
-    words: &[String],
-    store: &mut S,
-    sink: &mut K,
-    tools: &mut T,
-) -> u8
-    ensures answer { Answers T.answer (map string_bytes words.now) (loading (S.tree store.old) (S.fault_count store.old) (S.fault_count store.new) (S.failures store.old) (S.failures store.new)) (saving (S.tree store.old) (S.tree store.new)) (printing (K.fault_count sink.old) (K.fault_count sink.new) (K.told sink.old) (K.told sink.new)) result }
-    ensures uncalled { (AsksForRuns (options_in (map string_bytes words.now)) → ⊥) → T.calls tools.new ≡ T.calls tools.old }
-    ensures untouched { AsksForTrial (options_in (map string_bytes words.now)) → store.new ≡ store.old }
-    ensures calls { (meant : TheOutcome) (m : Means T.answer (map string_bytes words.now) (S.tree store.old) meant) → IsCompletion result → ∥ AreMeantCalls m.out (T.calls tools.old) (T.calls tools.new) ∥₁ }
-    ensures history { (given : TheWorld)
-        (build : IsAskedOf (map string_bytes words.now) (S.tree store.old) given) →
-        ∥ IsOfHistory T.answer given build.options.low (T.calls tools.old) (T.calls tools.new)
-        (loading (S.tree store.old) (S.fault_count store.old) (S.fault_count store.new)
-        (S.failures store.old) (S.failures store.new))
-        (saving (S.tree store.old) (S.tree store.new))
-        (printing (K.fault_count sink.old) (K.fault_count sink.new) (K.told sink.old)
-        (K.told sink.new))
-        result ∥₁
-        ⊎ IsUnmade (map string_bytes words.now)
-        (loading (S.tree store.old) (S.fault_count store.old) (S.fault_count store.new)
-        (S.failures store.old) (S.failures store.new))
-        (saving (S.tree store.old) (S.tree store.new))
-        (printing (K.fault_count sink.old) (K.fault_count sink.new) (K.told sink.old)
-        (K.told sink.new))
-        result }
-    ensures begun { BeginsWith (T.calls tools.old) (T.calls tools.new) }
-{
-    match prepare(alloc, words, store, sink) {
-        Prepared::Ended(status) => status,
-        Prepared::Trial(options) => end_trial(trial_alone(alloc, &options), sink),
-        Prepared::Ready(options, work) => {
-            let made = outcome_alone(alloc, &options, work, tools);
-            end(alloc, made, store, sink)
-        }
-    }
-}
-
-// What the words come to, on as many nodes as they tell.
-fn answered_on<R: Threads + Wait + Sync, S: Store, K: Sink, T: Tools + Sync>(
-    rt: &R,
-    alloc: Global,
-    words: &[String],
-    store: &mut S,
-    sink: &mut K,
-    tools: &T,
-) -> u8
-    ensures answer { Answers T.answer (map string_bytes words.now) (loading (S.tree store.old) (S.fault_count store.old) (S.fault_count store.new) (S.failures store.old) (S.failures store.new)) (saving (S.tree store.old) (S.tree store.new)) (printing (K.fault_count sink.old) (K.fault_count sink.new) (K.told sink.old) (K.told sink.new)) result }
-    ensures nodes { (given : TheWorld)
-        (build : IsAskedOf (map string_bytes words.now) (S.tree store.old) given) →
-        ∥ IsOfNodes T.answer given build.options
-        (loading (S.tree store.old) (S.fault_count store.old) (S.fault_count store.new)
-        (S.failures store.old) (S.failures store.new))
-        (saving (S.tree store.old) (S.tree store.new))
-        (printing (K.fault_count sink.old) (K.fault_count sink.new) (K.told sink.old)
-        (K.told sink.new))
-        result ∥₁
-        ⊎ IsUnmade (map string_bytes words.now)
-        (loading (S.tree store.old) (S.fault_count store.old) (S.fault_count store.new)
-        (S.failures store.old) (S.failures store.new))
-        (saving (S.tree store.old) (S.tree store.new))
-        (printing (K.fault_count sink.old) (K.fault_count sink.new) (K.told sink.old)
-        (K.told sink.new))
-        result }
-    ensures untouched { AsksForTrial (options_in (map string_bytes words.now)) → store.new ≡ store.old }
+    ensures answer { IsAnswered T.answer (invocation S.Store K.Sink words.now
+        store.old store.new sink.old sink.new) result }
+    ensures nodes { ComesOfNodes T.answer (invocation S.Store K.Sink words.now
+        store.old store.new sink.old sink.new) result }
+    ensures untouched { AsksForTrial (options_in (map string_bytes words.now)) →
+        store.new ≡ store.old }
 {
     match prepare(alloc, words, store, sink) {
         Prepared::Ended(status) => status,
@@ -255,7 +112,50 @@ fn answered_on<R: Threads + Wait + Sync, S: Store, K: Sink, T: Tools + Sync>(
     }
 }
 
-/// What is left to do once the words are read, and where they ask for a project the files loaded and it evaluated.
+/// The same on one node, whatever the number of nodes that the words tell. It starts no thread and
+/// always returns. A build that is done, of a whole and steady world, has called the tools for each
+/// run of its meaning as one body of that run does, in order; where no calls are made at once, a
+/// run has one body alone, so they were called as often as in the meaning. Where each piece is
+/// skipped, no tool is called for it. Whatever the world, a build comes of the history in which the
+/// node takes the least ready request each time, and the calls are that history's, also where its
+/// files are not all written or its text is not printed; unless its files are not loaded, or memory
+/// is wanted before. For want of memory, too, the calls begin with those of before.
+pub fn run_alone<S: Store, K: Sink, T: CountedTools>(
+    alloc: Global,
+    words: &[String],
+    store: &mut S,
+    sink: &mut K,
+    tools: &mut T,
+) -> u8
+    ensures answer { IsAnswered T.answer (invocation S.Store K.Sink words.now
+        store.old store.new sink.old sink.new) result }
+    ensures history { ComesOfHistory T.answer (invocation S.Store K.Sink words.now
+        store.old store.new sink.old sink.new) (T.calls tools.old) (T.calls tools.new) result }
+    ensures calls { (meant : TheOutcome)
+        (m : Means T.answer (map string_bytes words.now) (S.tree store.old) meant) →
+        IsCompletion result → ∥ AreMeantCalls m.out (T.calls tools.old) (T.calls tools.new) ∥₁ }
+    ensures idle { (clean : Given Site ToolInput RequestResult)
+        (m : MeansUpToDate T.answer (map string_bytes words.now) (S.tree store.old) clean) →
+        IsCompletion result →
+        ∥ AreCallsOfOthers T.answer m.means.given (T.calls tools.old) (T.calls tools.new) ∥₁ }
+    ensures uncalled { (AsksForRuns (options_in (map string_bytes words.now)) → ⊥) →
+        T.calls tools.new ≡ T.calls tools.old }
+    ensures begun { BeginsWith (T.calls tools.old) (T.calls tools.new) }
+    ensures untouched { AsksForTrial (options_in (map string_bytes words.now)) →
+        store.new ≡ store.old }
+{
+    match prepare(alloc, words, store, sink) {
+        Prepared::Ended(status) => status,
+        Prepared::Trial(options) => end_trial(trial_alone(alloc, &options), sink),
+        Prepared::Ready(options, work) => {
+            let made = outcome_alone(alloc, &options, work, tools);
+            end(alloc, made, store, sink)
+        }
+    }
+}
+
+/// What is left to do once the words are read, and where they ask for a project the files loaded
+/// and it evaluated.
 #[derive(Drop)]
 enum Prepared {
     /// Nothing: this is the status.
@@ -273,15 +173,12 @@ fn prepare<S: Store, K: Sink>(
     store: &mut S,
     sink: &mut K,
 ) -> Prepared
-    ensures prepared { IsPrepared (map string_bytes words.now) (loading (S.tree store.old) (S.fault_count store.old) (S.fault_count store.new) (S.failures store.old) (S.failures store.new)) (saving (S.tree store.old) (S.tree store.new)) (printing (K.fault_count sink.old) (K.fault_count sink.new) (K.told sink.old) (K.told sink.new)) result }
-    ensures untouched { AsksForTrial (options_in (map string_bytes words.now)) → store.new ≡ store.old }
-    ensures undone { IsUndone (map string_bytes words.now)
-        (loading (S.tree store.old) (S.fault_count store.old) (S.fault_count store.new)
-        (S.failures store.old) (S.failures store.new))
-        (saving (S.tree store.old) (S.tree store.new))
-        (printing (K.fault_count sink.old) (K.fault_count sink.new) (K.told sink.old)
-        (K.told sink.new))
-        result }
+    ensures prepared { IsPrepared (invocation S.Store K.Sink words.now
+        store.old store.new sink.old sink.new) result }
+    ensures undone { IsUndone (invocation S.Store K.Sink words.now
+        store.old store.new sink.old sink.new) result }
+    ensures untouched { AsksForTrial (options_in (map string_bytes words.now)) →
+        store.new ≡ store.old }
 {
     let options = match read_words(alloc, words) {
         Ok(options) => options,
@@ -319,7 +216,8 @@ fn end<S: Store, K: Sink>(
     sink: &mut K,
 ) -> u8
     requires { IfOk made (λ o. IsCompletion o.status ⊎ IsUnfinished o.status) }
-    ensures { EndsMade made (S.fault_count store.old) (S.fault_count store.new) (saving (S.tree store.old) (S.tree store.new)) (printing (K.fault_count sink.old) (K.fault_count sink.new) (K.told sink.old) (K.told sink.new)) result }
+    ensures { EndsMade made (S.fault_count store.old) (S.fault_count store.new)
+        (saving S.Store store.old store.new) (printing K.Sink sink.old sink.new) result }
 {
     match made {
         Ok(outcome) => commit_and_print(alloc, &outcome, store, sink),
@@ -329,7 +227,7 @@ fn end<S: Store, K: Sink>(
 
 // Ends a trial: its text is printed.
 fn end_trial<K: Sink>(made: Result<Text8, NoMemory>, sink: &mut K) -> u8
-    ensures { EndsTrial made (printing (K.fault_count sink.old) (K.fault_count sink.new) (K.told sink.old) (K.told sink.new)) result }
+    ensures { EndsTrial made (printing K.Sink sink.old sink.new) result }
 {
     match made {
         Ok(text) => tell(sink, 0, text.as_bytes()),
@@ -345,7 +243,8 @@ fn commit_and_print<S: Store, K: Sink>(
     sink: &mut K,
 ) -> u8
     requires { IsCompletion outcome.now.status ⊎ IsUnfinished outcome.now.status }
-    ensures { Ends outcome.now (S.fault_count store.old) (S.fault_count store.new) (saving (S.tree store.old) (S.tree store.new)) (printing (K.fault_count sink.old) (K.fault_count sink.new) (K.told sink.old) (K.told sink.new)) result }
+    ensures { Ends outcome.now (S.fault_count store.old) (S.fault_count store.new)
+        (saving S.Store store.old store.new) (printing K.Sink sink.old sink.new) result }
 {
     if outcome.status > 1 {
         print(sink, outcome.text.as_bytes());
@@ -366,7 +265,9 @@ fn commit_and_print<S: Store, K: Sink>(
 
 // Prints the text of an outcome whose acts are done.
 fn tell<K: Sink>(sink: &mut K, status: u8, text: &[u8]) -> u8
-    ensures { ((result ≡ status) × PrintedAll (printing (K.fault_count sink.old) (K.fault_count sink.new) (K.told sink.old) (K.told sink.new)) text.now) ⊎ ((result ≡ 6) × Rose (K.fault_count sink.old) (K.fault_count sink.new) × PrintedFront (printing (K.fault_count sink.old) (K.fault_count sink.new) (K.told sink.old) (K.told sink.new)) text.now) }
+    ensures { ((result ≡ status) × PrintedAll (printing K.Sink sink.old sink.new) text.now)
+        ⊎ ((result ≡ 6) × Rose (K.fault_count sink.old) (K.fault_count sink.new)
+        × PrintedFront (printing K.Sink sink.old sink.new) text.now) }
 {
     match sink.write(text) {
         Ok(()) => status,
@@ -376,14 +277,16 @@ fn tell<K: Sink>(sink: &mut K, status: u8, text: &[u8]) -> u8
 
 // Prints a text whose status stands, whatever the sink does.
 fn print<K: Sink>(sink: &mut K, text: &[u8])
-    ensures { Prints (K.fault_count sink.old) (K.fault_count sink.new) (K.told sink.old) (K.told sink.new) text.now }
+    ensures { Printed (printing K.Sink sink.old sink.new) text.now }
 {
     let _ = sink.write(text);
 }
 
 // Prints which file the store failed to write or to remove.
 fn print_write_fault<K: Sink>(alloc: Global, path: &str, sink: &mut K) -> u8
-    ensures { ((result ≡ 5) × Printed (printing (K.fault_count sink.old) (K.fault_count sink.new) (K.told sink.old) (K.told sink.new)) (line (codes "store fault " ++ path.now))) ⊎ ((result ≡ 7) × Silent (printing (K.fault_count sink.old) (K.fault_count sink.new) (K.told sink.old) (K.told sink.new))) }
+    ensures { ((result ≡ 5) × Printed (printing K.Sink sink.old sink.new)
+        (line (codes "store fault " ++ path.now)))
+        ⊎ ((result ≡ 7) × Silent (printing K.Sink sink.old sink.new)) }
 {
     match path_line(alloc, "store fault ", path) {
         Ok(text) => {
@@ -396,7 +299,9 @@ fn print_write_fault<K: Sink>(alloc: Global, path: &str, sink: &mut K) -> u8
 
 // Prints why the store's files are not loaded.
 fn print_load_fault<K: Sink>(alloc: Global, fault: &LoadFault, sink: &mut K) -> u8
-    ensures { ((result ≡ fault_status fault.now) × (fault.now ≡ Memory → ⊥) × Printed (printing (K.fault_count sink.old) (K.fault_count sink.new) (K.told sink.old) (K.told sink.new)) (line (load_fault_text fault.now))) ⊎ ((result ≡ 7) × Silent (printing (K.fault_count sink.old) (K.fault_count sink.new) (K.told sink.old) (K.told sink.new))) }
+    ensures { ((result ≡ fault_status fault.now) × (fault.now ≡ Memory → ⊥)
+        × Printed (printing K.Sink sink.old sink.new) (line (load_fault_text fault.now)))
+        ⊎ ((result ≡ 7) × Silent (printing K.Sink sink.old sink.new)) }
 {
     match fault_text(alloc, fault) {
         Ok(text) => {

@@ -3,9 +3,9 @@ use Rattle.msb_program.specs.Endings.{Printed, printing}
 use Rattle.msb_program.proofs.top.print_write_fault.Goals as goal
 
 pub returns-in-Ok : goal.returns-in-Ok
-returns-in-Ok g c =
-    inl (
-      refl,
-      subst (λ (text : List ℕ). Printed (printing (g.K.Sink.fault_count c.args.sink.now) (g.K.Sink.fault_count c.print.new.sink) (g.K.Sink.told c.args.sink.now) (g.K.Sink.told c.print.new.sink)) text)
-          (c.as_bytes.ensures.value ∙ c.in-Ok.ensures) c.print.ensures,
-    )
+returns-in-Ok g c = inl (
+  refl,
+  subst (λ (text : List ℕ).
+      Printed (printing g.K.Sink c.args.sink.now c.print.new.sink) text)
+      (c.as_bytes.ensures.value ∙ c.in-Ok.ensures) c.print.ensures,
+)

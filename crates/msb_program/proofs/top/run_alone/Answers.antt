@@ -1,25 +1,108 @@
-use Rattle.std.proofs.Common.{refl}
-use Rattle.msb_program.proofs.CleanAnswers.{answers_clean}
-use Rattle.msb_program.proofs.Meant.{answers_meant}
-use Rattle.msb_program.proofs.NextBuilds.{build_skips, calls_of_others, stays_fresh}
+use Rattle.std.proofs.Common.{[], inr, map, refl}
+use Rattle.std.specs.Prelude.{string_bytes}
+use Rattle.msb_paths.specs.Refused.{normal_path}
+use Rattle.msb_outcomes.proofs.Working.{has_status}
+use Rattle.msb_program.proofs.Answered.{is_answered}
+use Rattle.msb_program.proofs.Calling.{
+  done_calls,
+  made_history,
+  no_trial_built,
+  no_trial_meant,
+  undone_incomplete,
+  undone_unmade,
+}
+use Rattle.msb_program.proofs.NextBuilds.{calls_of_others}
+use Rattle.msb_program.proofs.Ready.{ended_since, ready_answers, runs_of_words}
+use Rattle.msb_program.proofs.TrialEnded.{no_trial, trial_answers}
 use Rattle.msb_program.proofs.top.run_alone.Goals as goal
 
-pub returns-clause-meaning : goal.returns-clause-meaning
-returns-clause-meaning g c = answers_meant g.T.CountedTools.answer _ _ _ _ _ c.answered_alone.ensures.answer
+pub outcome_alone-made-requires : goal.outcome_alone-made-requires
+outcome_alone-made-requires g c =
+    let ready = c.in-Ready.ensures.prepared in
+    has_status c.in-Ready.options ready.files (normal_path [] c.in-Ready.options.project)
+    c.in-Ready.work ready.is
 
-pub returns-clause-clean : goal.returns-clause-clean
-returns-clause-clean g c =
-    answers_clean g.T.CountedTools.answer _ _ _ _ _ c.answered_alone.ensures.answer refl
+pub returns-in-Ended-clause-answer : goal.returns-in-Ended-clause-answer
+returns-in-Ended-clause-answer g c =
+    is_answered g.T.CountedTools.answer _ _ _ _ c.in-Ended.status
+    (c.in-Ended.ensures.prepared g.T.CountedTools.answer) refl
 
-pub returns-clause-stays : goal.returns-clause-stays
-returns-clause-stays g c =
-    stays_fresh g.T.CountedTools.answer _ _ _ _ _ c.answered_alone.ensures.answer refl
+pub returns-in-Trial-clause-answer : goal.returns-in-Trial-clause-answer
+returns-in-Trial-clause-answer g c =
+    is_answered g.T.CountedTools.answer _ _ _ _ c.end_trial.result
+    (trial_answers g.T.CountedTools.answer c.in-Trial.options c.in-Trial.ensures.prepared
+    c.trial_alone.result c.trial_alone.ensures c.end_trial.result c.end_trial.ensures) refl
 
-pub returns-clause-skips : goal.returns-clause-skips
-returns-clause-skips g c =
-    build_skips g.T.CountedTools.answer _ _ _ _ _ c.answered_alone.ensures.answer
+pub returns-in-Ready-clause-answer : goal.returns-in-Ready-clause-answer
+returns-in-Ready-clause-answer g c =
+    is_answered g.T.CountedTools.answer _ _ _ _ c.end.result
+    (ready_answers g.T.CountedTools.answer c.in-Ready.options c.in-Ready.work
+    c.in-Ready.ensures.prepared c.outcome_alone-made.result c.outcome_alone-made.ensures.outcome
+    c.end.result c.end.ensures) refl
 
-pub returns-clause-idle : goal.returns-clause-idle
-returns-clause-idle g c = λ clean m.
-    calls_of_others g.T.CountedTools.answer _ _ clean m _ _ c.answered_alone.result
-    c.answered_alone.ensures.calls
+pub returns-in-Ended-clause-history : goal.returns-in-Ended-clause-history
+returns-in-Ended-clause-history g c = λ given build.
+    inr (undone_unmade g.T.CountedTools.answer _ _ given build _ _ _ c.in-Ended.status refl
+    c.in-Ended.ensures.undone)
+
+pub returns-in-Trial-clause-history : goal.returns-in-Trial-clause-history
+returns-in-Trial-clause-history g c = λ given build.
+    let prepared = c.in-Trial.ensures.prepared in
+    absurd (no_trial_built (map string_bytes c.args.words.now)
+    (g.S.Store.tree c.args.store.now) given build c.in-Trial.options prepared.asked prepared.trial)
+
+pub returns-in-Ready-clause-history : goal.returns-in-Ready-clause-history
+returns-in-Ready-clause-history g c = λ given build.
+    let ready = c.in-Ready.ensures.prepared in
+    made_history g.T.CountedTools.answer _ _ given build c.in-Ready.options ready.files
+    c.in-Ready.work
+    ready.asked ready.loaded ready.is _ _ _ c.end.result c.outcome_alone-made.result _ _
+    c.outcome_alone-made.ensures.calls
+    (ended_since c.in-Ready.options c.in-Ready.work ready c.outcome_alone-made.result _ _ _ _
+    c.end.result c.end.ensures)
+
+pub returns-in-Ended-clause-calls : goal.returns-in-Ended-clause-calls
+returns-in-Ended-clause-calls g c = λ meant m done.
+    absurd (undone_incomplete _ _ _ _ c.in-Ended.status c.in-Ended.ensures.undone done)
+
+pub returns-in-Trial-clause-calls : goal.returns-in-Trial-clause-calls
+returns-in-Trial-clause-calls g c = λ meant m done.
+    let prepared = c.in-Trial.ensures.prepared in
+    absurd (no_trial_meant g.T.CountedTools.answer (map string_bytes c.args.words.now)
+    (g.S.Store.tree c.args.store.now) meant m c.in-Trial.options prepared.asked prepared.trial)
+
+pub returns-in-Ready-clause-calls : goal.returns-in-Ready-clause-calls
+returns-in-Ready-clause-calls g c = λ meant m done.
+    let ready = c.in-Ready.ensures.prepared in
+    done_calls g.T.CountedTools.answer (map string_bytes c.args.words.now)
+    (g.S.Store.tree c.args.store.now) meant m c.in-Ready.options ready.files c.in-Ready.work
+    c.outcome_alone-made.result (g.T.CountedTools.calls c.args.tools.now)
+    (g.T.CountedTools.calls c.outcome_alone-made.new.tools) _ _ _ _ c.end.result ready.asked
+    ready.loaded ready.is c.outcome_alone-made.ensures.calls c.end.ensures done
+
+pub returns-in-Ended-clause-idle : goal.returns-in-Ended-clause-idle
+returns-in-Ended-clause-idle g c = λ clean m done.
+    absurd (undone_incomplete _ _ _ _ c.in-Ended.status c.in-Ended.ensures.undone done)
+
+pub returns-in-Trial-clause-idle : goal.returns-in-Trial-clause-idle
+returns-in-Trial-clause-idle g c = λ clean m done.
+    let prepared = c.in-Trial.ensures.prepared in
+    absurd (no_trial_built (map string_bytes c.args.words.now) (g.S.Store.tree c.args.store.now)
+    m.means.given m.means.build c.in-Trial.options prepared.asked prepared.trial)
+
+pub returns-in-Ready-clause-idle : goal.returns-in-Ready-clause-idle
+returns-in-Ready-clause-idle g c = λ clean m.
+    calls_of_others g.T.CountedTools.answer (map string_bytes c.args.words.now)
+    (g.S.Store.tree c.args.store.now) clean m _ _ c.end.result (returns-in-Ready-clause-calls g c)
+
+pub returns-in-Ready-clause-uncalled : goal.returns-in-Ready-clause-uncalled
+returns-in-Ready-clause-uncalled g c = λ unasked.
+    let ready = c.in-Ready.ensures.prepared in
+    c.outcome_alone-made.ensures.uncalled (λ makes.
+    unasked
+    (runs_of_words _ ready.files c.in-Ready.options c.in-Ready.work ready.asked ready.is makes))
+
+pub returns-in-Ready-clause-untouched : goal.returns-in-Ready-clause-untouched
+returns-in-Ready-clause-untouched g c = λ trial.
+    let ready = c.in-Ready.ensures.prepared in
+    absurd (no_trial _ c.in-Ready.options ready.asked ready.project trial)

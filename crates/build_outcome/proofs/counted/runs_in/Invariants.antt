@@ -1,7 +1,7 @@
 use Rattle.std.proofs.Common.{◌≡◌, ◌≤◌, take, reverse}
 use Rattle.std.specs.List.{count_by}
-use Rattle.build_engine.specs.Tried.{is_end}
-use Rattle.build_engine.proofs.tried.runs_in.Given as goal
+use Rattle.build_outcome.specs.Counted.{is_end}
+use Rattle.build_outcome.proofs.counted.runs_in.Given as goal
 
 abbrev pub invariant-loop-at : goal.invariant-loop-at
 invariant-loop-at l = record {
