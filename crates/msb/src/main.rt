@@ -15,16 +15,40 @@ const NO_WORDS: u8 = 11;
 /// The status for want of memory.
 const NO_MEMORY: u8 = 7;
 
+/// The stack that the first thread takes before it begins: so many blocks of so many bytes, which is
+/// more than any build needs.
+const BLOCKS: usize = 32;
+
+const BLOCK: usize = 16 * 1024;
+
 fn main(rt: HostRuntime) -> ExitCode {
     let alloc = rt.alloc();
     let Ok(words) = words(&rt, alloc) else {
         return ExitCode::from(NO_WORDS);
     };
+    if take_stack(BLOCKS, words.len()) > 1 {
+        return ExitCode::from(NO_MEMORY);
+    }
     let Ok(mut store) = DirStore::new(&rt, alloc, ".") else {
         return ExitCode::from(NO_MEMORY);
     };
     let mut sink = OutSink::new(&rt);
     ExitCode::from(run(&rt, alloc, &words, &mut store, &mut sink, &NoTools))
+}
+
+// Takes so many blocks of the stack, and gives them back: the kernel ends a program whose stack
+// can't grow since its address space is used up, where it refuses an allocation. The answer is 0 or
+// 1. Each block is read where the ones below say, so that no compiler leaves it out.
+#[inline(never)]
+fn take_stack(blocks: usize, at: usize) -> usize {
+    let mut block = [0u8; BLOCK];
+    block[at % BLOCK] = 1;
+    let below = if blocks == 0 {
+        at / 2
+    } else {
+        take_stack(blocks - 1, at)
+    };
+    usize::from(block[below % BLOCK])
 }
 
 // The words after the program's name.

@@ -1,0 +1,4 @@
+use Rattle.msb.proofs.+take_stack.Given as goal
+
+abbrev pub decreases-take_stack : goal.decreases-take_stack
+decreases-take_stack l = l.blocks
