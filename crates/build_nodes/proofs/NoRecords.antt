@@ -8,7 +8,6 @@ use Rattle.build_meaning.specs.Stop.{ends, asks}
 use Rattle.build_meaning.specs.State.{Place, walking, within}
 use Rattle.build_meaning.specs.Walk.{gives, wants}
 use Rattle.build_meaning.specs.World.{World}
-use Rattle.build_scheduler.specs.declared.walker.Ask.{Ask}
 use Rattle.build_scheduler.specs.declared.walker.Ask.TheVariants.{Finished, Want}
 use Rattle.build_scheduler.specs.declared.walker.Answer.TheVariants.{First, Go, Use}
 use Rattle.build_scheduler.specs.Position.{Position, answered_at, ask_at, ask_of}

@@ -55,10 +55,19 @@ pub(crate) fn turn<W: Walker>(
 fn has_retired(events: &[Event], node: u32, number: usize) -> bool
     ensures { result ≡ list_any (is_retire_of node) (drop number events.now) }
 {
-    events
+    events_from(events, number)
         .iter()
-        .skip(number)
         .any(|event| is_retire_of(event, node))
+}
+
+/// The events from this number on. A `skip` would step over all that come before.
+fn events_from(events: &[Event], number: usize) -> &[Event]
+    ensures { result.now ≡ drop number events.now }
+{
+    if number >= events.len() {
+        return &[];
+    }
+    &events[number..]
 }
 
 /// Whether an event is a Retire of the node.
