@@ -5,6 +5,7 @@
 
 mod attributes;
 mod clashes;
+mod copying;
 mod element;
 mod errors;
 mod kind;
