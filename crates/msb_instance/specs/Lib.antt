@@ -1,3 +1,5 @@
 pub mod Targets
 pub mod Evaluated
 pub mod Made
+pub mod Kept
+pub mod KeptOnce

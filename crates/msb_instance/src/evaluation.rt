@@ -11,7 +11,7 @@ use crate::targets::used_targets;
 use build_world::{EvalFault, Instance, LaidOut, UsedTarget, UsedTargets};
 use file_store::Tree;
 use msb_items::{definition_pass, item_pass};
-use msb_properties::property_pass;
+use msb_properties::{ElementTrees, property_pass};
 use msb_values::{Copied, InstanceKey, List, Name, Named, NoMemory, Scope};
 use std::alloc::Global;
 
@@ -22,7 +22,21 @@ pub fn evaluate(alloc: Global, tree: &Tree, key: &InstanceKey) -> Result<Instanc
     requires { IsSome (file_at key.now.path tree.now.files) }
     ensures { GivesFault seen_instance result (evaluated tree.now.files key.now) }
 {
-    let laid = property_pass(alloc, tree, key)?;
+    let mut trees = ElementTrees::new(alloc);
+    evaluate_by(alloc, tree, key, &mut trees)
+}
+
+/// The same, by element trees of files that other evaluations have imported.
+pub(crate) fn evaluate_by(
+    alloc: Global,
+    tree: &Tree,
+    key: &InstanceKey,
+    trees: &mut ElementTrees,
+) -> Result<Instance, EvalFault>
+    requires { IsSome (file_at key.now.path tree.now.files) }
+    ensures { GivesFault seen_instance result (evaluated tree.now.files key.now) }
+{
+    let laid = property_pass(alloc, tree, key, trees)?;
     after_layout(alloc, tree, key, laid)
 }
 

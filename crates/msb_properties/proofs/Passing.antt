@@ -1,5 +1,20 @@
 -- What the layout of a project makes of the whole pass.
-use Rattle.std.proofs.Common.{◌≡◌, ℕ, List, [], map, Result, Ok, Err, sym, ap, ◌∙◌, ◌-◌, length}
+use Rattle.std.proofs.Common.{
+  ◌≡◌,
+  ℕ,
+  List,
+  [],
+  map,
+  Result,
+  Ok,
+  Err,
+  OnOk,
+  sym,
+  ap,
+  ◌∙◌,
+  ◌-◌,
+  length,
+}
 use Rattle.build_world.specs.Elements.{seen_placed}
 use Rattle.build_world.specs.declared.fault.EvalFault.{EvalFault}
 use Rattle.build_world.specs.declared.laid_out.Placed.{Placed}
@@ -8,6 +23,9 @@ use Rattle.msb_properties.specs.Settings.{Setting, Properties}
 use Rattle.msb_properties.specs.Propertied.{properties_of}
 use Rattle.msb_properties.specs.Laid.{Layout, lay_within, layout_of}
 use Rattle.msb_properties.specs.Passed.{passed, with_targets}
+use Rattle.msb_properties.specs.Seen.{IsKept}
+use Rattle.msb_properties.specs.declared.layout.Layout.{Layout as Laid}
+use Rattle.msb_properties.specs.declared.trees.ElementTrees.{ElementTrees}
 
 -- the layout that nothing is in yet
 abbrev pub laid_from : Setting → List (List ℕ) → List Placed → List (List ℕ) → List (List ℕ) → Result Layout EvalFault
@@ -29,3 +47,18 @@ pub pass_goes : (s : Setting) (chain : List (List ℕ)) (elements : List Placed)
 pass_goes s chain elements files duplicates l p no_chain no_elements no_files no_duplicates is are =
     ap (λ r. and_then r (λ m. and_then (properties_of s m.elements) (with_targets s m))) (whole s chain elements files duplicates (Ok l) no_chain no_elements no_files no_duplicates is)
     ∙ ap (λ r. and_then r (with_targets s l)) are
+
+-- other trees leave what is kept of a layout
+abbrev with_trees : Laid → ElementTrees → Laid
+with_trees l trees = record {
+  properties = l.properties;
+  elements = l.elements;
+  files = l.files;
+  duplicates = l.duplicates;
+  trees = trees;
+}
+
+pub kept_still : (r : Result (Unit {0}) EvalFault) (s : Setting) (l : Laid) (trees : ElementTrees) →
+    OnOk r (IsKept s l) → OnOk r (IsKept s (with_trees l trees))
+kept_still (Ok done) s l trees kept = record { plain = kept.plain; kept = kept.kept }
+kept_still (Err fault) s l trees kept = tt

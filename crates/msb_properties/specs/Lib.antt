@@ -3,3 +3,4 @@ pub mod Propertied
 pub mod Laid
 pub mod Passed
 pub mod Seen
+pub mod ElementSets

@@ -2,6 +2,7 @@ ghost use Rattle.std.specs.Prelude.{◌≡◌, ◌<◌, ◌-◌, [], ◌∷◌, 
 ghost use Rattle.msb_elements.specs.View.{view, views};
 ghost use Rattle.build_world.specs.Answers.{GivesFault};
 ghost use Rattle.build_world.specs.Elements.{seen_element};
+ghost use Rattle.build_world.specs.Readings.{project_of};
 ghost use Rattle.msb_elements.specs.Nodes.{name_of};
 ghost use Rattle.msb_properties.specs.declared.part.Part.TheVariants.{Grouped};
 ghost use Rattle.msb_properties.specs.Laid.{import_text, imported_as, lay_import, lay, part_of, lay_all, lay_chosen, lay_project, lay_within};
@@ -11,7 +12,9 @@ use crate::layout::Layout;
 use crate::part::Part;
 use crate::properties::Properties;
 use crate::setting::Setting;
-use build_world::{EvalFault, PlacedElement, read_file};
+use crate::trees::ElementTrees;
+use build_world::{EvalFault, PlacedElement};
+use file_store::File;
 use msb_elements::Element;
 use msb_expand::Use;
 use msb_import::{ImportFault, resolve};
@@ -35,11 +38,26 @@ pub(crate) fn lay_file(
     let Some(file) = setting.tree.find(path.as_str()) else {
         return Ok(());
     };
-    let Ok(chain) = with_file(chain, path) else {
+    let Ok(longer) = with_file(chain, path) else {
         return Err(EvalFault::memory(alloc));
     };
-    let project = read_file(alloc, file)?;
-    lay_project(alloc, setting, layout, &chain, &file.path, project.root)
+    let root = root_in(alloc, &mut layout.trees, chain, file)?;
+    lay_project(alloc, setting, layout, &longer, &file.path, root)
+}
+
+/// The root of a file that the last of a chain imports, or of the project's own file.
+fn root_in(
+    alloc: Global,
+    trees: &mut ElementTrees,
+    chain: &List<Text>,
+    file: &File,
+) -> Result<Element, EvalFault>
+    ensures { GivesFault view result (project_of file.now) }
+{
+    if chain.is_empty() {
+        return trees.own(alloc, file);
+    }
+    trees.imported(alloc, file)
 }
 
 /// The chain with one more file.

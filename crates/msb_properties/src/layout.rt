@@ -6,6 +6,7 @@ ghost use Rattle.msb_elements.specs.View.{view};
 use crate::properties::Properties;
 use crate::setting::Setting;
 use crate::taking::take_element;
+use crate::trees::ElementTrees;
 use build_world::{EvalFault, Placed, PlacedElement};
 use msb_elements::Element;
 use msb_import::LaidOut;
@@ -13,12 +14,13 @@ use msb_values::{Copied, List, NoMemory, Text};
 use std::alloc::Global;
 
 /// The elements so far with the properties that they give, the files that they come from, and the imports that were
-/// ignored.
+/// ignored; and the trees of files that are kept meanwhile, of which no contract speaks.
 pub(crate) struct Layout {
     pub properties: Properties,
     pub elements: Vec<Placed>,
     pub files: LaidOut,
     pub duplicates: List<Text>,
+    pub trees: ElementTrees,
 }
 
 // A drop that is written out is proved here alone.
@@ -29,6 +31,7 @@ impl Drop for Layout {
             elements: _,
             files: _,
             duplicates: _,
+            trees: _,
         } = self;
     }
 }
@@ -49,6 +52,7 @@ impl Layout {
             elements,
             files: _,
             duplicates,
+            trees: _,
         } = self;
         (properties, elements, duplicates)
     }

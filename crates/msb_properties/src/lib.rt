@@ -12,5 +12,7 @@ mod properties;
 mod setting;
 mod taking;
 mod targets;
+mod trees;
 
 pub use pass::property_pass;
+pub use trees::ElementTrees;

@@ -76,26 +76,26 @@ pub lay_chosen-returns-clause-laid : goal.lay_chosen-returns-clause-laid
 lay_chosen-returns-clause-laid t c =
     step.chosen_ends (lay_within (64 - length c.args.chain.now) (seen_setting c.args.setting.now)) (seen_setting c.args.setting.now) c.args.chain.now c.args.file.now (seen_laid c.loop-choice.layout) _ _ (nil_from_length (into_iter_items c.loop-choice.choice-iterator) (sym c.loop-choice.invariant.counted ∙ c.in-None.ensures.steps.0)) c.loop-choice.invariant.laid
 
-pub lay_file-returns-in_err-project-clause-laid : goal.lay_file-returns-in_err-project-clause-laid
-lay_file-returns-in_err-project-clause-laid t c =
+pub lay_file-returns-in_err-root-clause-laid : goal.lay_file-returns-in_err-root-clause-laid
+lay_file-returns-in_err-root-clause-laid t c =
     let found : file_at c.args.path.now c.args.setting.now.tree.now.files ≡ Some c.in-Some.file.now = ap (λ p. file_at p c.args.setting.now.tree.now.files) (sym c.as_str.ensures) ∙ sym c.in-Some.ensures in
     let p = err_from_is_err_and c.from_residual.result c.from_residual.ensures.1 in
     rw (p.1, p.2)
-    (passed_on (λ (f : EvalFault). f.cause) c.in_err-project.field-0.0 _ _
-    (λ f is. step.file_stops (seen_setting c.args.setting.now) c.args.chain.now c.args.path.now (seen_laid c.args.layout.now) (64 - length c.args.chain.now) (64 - length c.in-Ok.chain) c.in-Some.file.now f (one_less c.args.chain.now c.in-Ok.chain c.args.path.now c.requires.short c.in-Ok.ensures) found is)
-    c.in_err-project.ensures)
+    (passed_on (λ (f : EvalFault). f.cause) c.in_err-root.field-0.0 _ _
+    (λ f is. step.file_stops (seen_setting c.args.setting.now) c.args.chain.now c.args.path.now (seen_laid c.args.layout.now) (64 - length c.args.chain.now) (64 - length c.in-Ok.longer) c.in-Some.file.now f (one_less c.args.chain.now c.in-Ok.longer c.args.path.now c.requires.short c.in-Ok.ensures) found is)
+    c.in_err-root.ensures)
 
 pub lay_file-lay_project-requires : goal.lay_file-lay_project-requires
 lay_file-lay_project-requires t c =
     let found : file_at c.args.path.now c.args.setting.now.tree.now.files ≡ Some c.in-Some.file.now = ap (λ p. file_at p c.args.setting.now.tree.now.files) (sym c.as_str.ensures) ∙ sym c.in-Some.ensures in
-    let deep = less_deep c.args.path.now c.args.setting.now.tree.now.files c.in-Some.file.now (view c.in_ok-project.project.root) found c.in_ok-project.ensures in
-    (omega (arith, lower (64 - length c.args.chain.now) (64 - length c.in-Ok.chain) (height (view c.in_ok-project.project.root)) (above_all c.args.setting.now.tree.now.files) (one_less c.args.chain.now c.in-Ok.chain c.args.path.now c.requires.short c.in-Ok.ensures) deep, c.decreases), c.requires.kept)
+    let deep = less_deep c.args.path.now c.args.setting.now.tree.now.files c.in-Some.file.now (view c.in_ok-root.root) found c.in_ok-root.ensures in
+    (omega (arith, lower (64 - length c.args.chain.now) (64 - length c.in-Ok.longer) (height (view c.in_ok-root.root)) (above_all c.args.setting.now.tree.now.files) (one_less c.args.chain.now c.in-Ok.longer c.args.path.now c.requires.short c.in-Ok.ensures) deep, c.decreases), record { plain = c.requires.kept.plain; kept = c.requires.kept.kept })
 
 pub lay_file-returns-clause-laid : goal.lay_file-returns-clause-laid
 lay_file-returns-clause-laid t c =
     let found : file_at c.args.path.now c.args.setting.now.tree.now.files ≡ Some c.in-Some.file.now = ap (λ p. file_at p c.args.setting.now.tree.now.files) (sym c.as_str.ensures) ∙ sym c.in-Some.ensures in
     gives_same _ c.lay_project.result _ _
-    (step.file_goes (seen_setting c.args.setting.now) c.args.chain.now c.in-Ok.chain c.args.path.now (seen_laid c.args.layout.now) (64 - length c.args.chain.now) (64 - length c.in-Ok.chain) c.in-Some.file.now (view c.in_ok-project.project.root) (one_less c.args.chain.now c.in-Ok.chain c.args.path.now c.requires.short c.in-Ok.ensures) found c.in-Ok.ensures c.in_ok-project.ensures)
+    (step.file_goes (seen_setting c.args.setting.now) c.args.chain.now c.in-Ok.longer c.args.path.now (seen_laid c.args.layout.now) (64 - length c.args.chain.now) (64 - length c.in-Ok.longer) c.in-Some.file.now (view c.in_ok-root.root) (one_less c.args.chain.now c.in-Ok.longer c.args.path.now c.requires.short c.in-Ok.ensures) found c.in-Ok.ensures c.in_ok-root.ensures)
     c.lay_project.ensures.laid
 
 pub lay_group-returns-in_err-holds_in_file-clause-laid : goal.lay_group-returns-in_err-holds_in_file-clause-laid

@@ -1,0 +1,30 @@
+use Rattle.std.proofs.Common.{◌≡◌, Ok, sym, subst}
+use Rattle.std.proofs.lemmas.Result.{IfOk-weaker}
+use Rattle.build_world.specs.Answers.{GivesFault}
+use Rattle.msb_instance.specs.Evaluated.{evaluated, seen_instance}
+use Rattle.msb_instance.specs.Kept.{AreEvaluated, Keeps}
+use Rattle.msb_instance.proofs.Keeping.{evaluated-kept, keeps-found, same_key, same_key-exact}
+use Rattle.msb_instance.proofs.instances.Instances.get.Goals as goal
+
+pub returns-in-Some-clause-gives : goal.returns-in-Some-clause-gives
+returns-in-Some-clause-gives c =
+    let files = c.args.tree.now.files in
+    let key = c.args.key.now in
+    let instance = c.in-Some.instance.now in
+    let es = c.self.inside.kept.entries in
+    let is : evaluated files key ≡ Ok (seen_instance instance) =
+    evaluated-kept same_key same_key-exact key instance files es
+    (subst (AreEvaluated files) (sym c.self.view_is) c.requires.kept)
+    (keeps-found same_key same_key-exact key instance es (sym c.in-Some.ensures.value)) in
+    subst (GivesFault seen_instance c.shared.result) (sym is) c.shared.ensures.gives
+
+pub returns-in-Some-clause-keeps : goal.returns-in-Some-clause-keeps
+returns-in-Some-clause-keeps c =
+    let key = c.args.key.now in
+    let instance = c.in-Some.instance.now in
+    let es = c.self.inside.kept.entries in
+    let kept : Keeps key instance c.args.self.now =
+    subst (Keeps key instance) c.self.view_is
+    (keeps-found same_key same_key-exact key instance es (sym c.in-Some.ensures.value)) in
+    IfOk-weaker c.shared.result (λ i. i ≡ instance) (λ i. Keeps key i c.args.self.now)
+    (λ i is. subst (λ i. Keeps key i c.args.self.now) (sym is) kept) c.shared.ensures.is
