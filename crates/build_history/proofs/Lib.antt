@@ -1,6 +1,7 @@
 pub mod RunsReplayed
 pub mod JournalsReplayed
 pub mod CallsReplayed
+pub mod ToldByTable
 pub mod BodiesMove
 pub mod UsesTold
 pub mod UsesMeant

@@ -1,3 +1,4 @@
 pub mod Began
 pub mod Places
+pub mod Repeated
 pub mod Uses

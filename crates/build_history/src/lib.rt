@@ -5,11 +5,13 @@
 #![tactic(auto)]
 
 mod places;
+mod repeated;
 mod replayed;
 mod told;
 mod tools;
 
 pub use places::{journals_are_meant, places_are_the_meanings};
+pub use repeated::{calls_go_by_the_table, requests_end_by_the_table, what_the_table_tells_stays};
 pub use replayed::{
     calls_are_replayed, requests_are_replayed, results_have_the_runs, root_is_replayed,
 };

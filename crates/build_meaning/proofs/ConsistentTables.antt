@@ -132,6 +132,7 @@ module _ {P I A : Type 0} (w : World P I A) where
 
   pub record Trace (T : Records) (events : List Event) (starts : List Start)
       (q : RequestState P I A) (s : Start) : Type 0 where
+    pub key : q.origin.key ≡ s.key
     pub status : StatusTrace T events starts s.key s.journal q.journal q.runs q.status
 
   pub record Traced (events : List Event) (s : State P I A) (starts : List Start) : Type 0 where
@@ -175,7 +176,7 @@ module _ {P I A : Type 0} (w : World P I A) where
 
     trace-later : (q : RequestState P I A) (s : Start) → Trace T events starts q s →
         Trace T (events ++ event ∷ []) more q s
-    trace-later q s v = record { status = status-later s.key s.journal q.journal q.runs q.status v.status }
+    trace-later q s v = record { key = v.key; status = status-later s.key s.journal q.journal q.runs q.status v.status }
 
   -- one more record
   module _ (T : Records) (fin : FinishedRun) (n : found T fin.run ≡ None) (events : List Event) (starts : List Start) where
@@ -263,7 +264,7 @@ module _ {P I A : Type 0} (w : World P I A) where
         let z : RequestState P I A = request_of o j runs (assigned node p) in
         subst (λ (u : State P I A). Next u starts) (some-is (with_request s id z) t h)
         (put-traced events event s starts id (request_of o j runs (ready p)) z v e
-        (λ a x. record { status = place-later s.table events event starts starts (λ i g h. h) a.key a.journal j runs p x.status }))
+        (λ a x. record { key = x.key; status = place-later s.table events event starts starts (λ i g h. h) a.key a.journal j runs p x.status }))
     assign-traced s starts id node o j runs _ t v e h = absurd (cc)
 
     retire-traced : (s : State P I A) (starts : List Start) (id node : ℕ) (o : Origin) (j : Journal)
@@ -274,7 +275,7 @@ module _ {P I A : Type 0} (w : World P I A) where
         subst (λ (u : State P I A). Next u starts) (only_if-some (by == node)
         (with_request s id z) t h).1 (put-traced events event s starts id (request_of o j runs
         (assigned by p)) z v e
-        (λ a x. record { status = place-later s.table events event starts starts (λ i g h. h) a.key a.journal j runs p x.status }))
+        (λ a x. record { key = x.key; status = place-later s.table events event starts starts (λ i g h. h) a.key a.journal j runs p x.status }))
     retire-traced s starts id node o j runs _ t v e h = absurd (cc)
 
     claimed-traced : (s : State P I A) (starts : List Start) (id node : ℕ) (o : Origin)
@@ -294,6 +295,7 @@ module _ {P I A : Type 0} (w : World P I A) where
         subst (λ (u : State P I A). Next u starts) x.1 (record {
           each = Paired-put (Trace s.table events starts) (Trace s.table (events ++ event ∷ []) starts) (trace-later s.table events event starts starts (λ i g h. h)) q z
               (λ a y. record {
+                key = y.key;
                 status = (
                   b,
                   j,
@@ -333,6 +335,7 @@ module _ {P I A : Type 0} (w : World P I A) where
         (put-traced events event s starts id (request_of o j runs
         (assigned node (walking (wants site r b go)))) z v e
         (λ a c. record {
+          key = c.key;
           status = walk-uses s.table l.once a.key a.journal j runs site r b go x.0
               y.0 x.1 y.1 c.status;
         }))
@@ -342,7 +345,7 @@ module _ {P I A : Type 0} (w : World P I A) where
         subst (λ (u : State P I A). Next u starts) x.1 (put-traced events event s starts id
         (request_of o j runs (assigned node (walking (wants site r b go)))) (request_of o j runs
         (waits r b go)) v e
-        (λ a c. record { status = (site, c.status) }))
+        (λ a c. record { key = c.key; status = (site, c.status) }))
 
     claim-traced : (s : State P I A) (starts : List Start) (id : ℕ) (run : RunId) (kind : ClaimKind)
         (o : Origin) (j : Journal) (runs : List RunId) (st : Status P I A) (t : State P I A) →
@@ -365,7 +368,7 @@ module _ {P I A : Type 0} (w : World P I A) where
     kids-each : (T : Records) (all : List Start) (parent : Option ℕ) (path : List RunId) (j : Journal) (keys : List RequestKey) →
         Paired (Trace T (events ++ event ∷ []) all) (map (new_request w parent path j) keys) (starts_of j keys)
     kids-each T all parent path j [] = tt
-    kids-each T all parent path j (key ∷ keys) = (record { status = (none, λ U n. refl) }, kids-each T all parent path j keys)
+    kids-each T all parent path j (key ∷ keys) = (record { key = refl; status = (none, λ U n. refl) }, kids-each T all parent path j keys)
 
     kids-match : (goals : List Start) (j : Journal) (keys : List RequestKey) (more : List Start) → more ≡ goals ++ starts_of j keys → Kids more (numbered_from (length goals) keys) keys j
     kids-match goals j [] more h = tt
@@ -393,7 +396,7 @@ module _ {P I A : Type 0} (w : World P I A) where
         in-later s.table events event starts all (λ i g p. at-front starts (starts_of j keys) i g p) here.0.key here.0.journal j runs x (after_calls x.run x.so_far keys go j) here.1.status in
         let front : Paired (Trace s.table (events ++ event ∷ []) all) (put s.requests id z) starts =
         Paired-put_at (Trace s.table events starts) (Trace s.table (events ++ event ∷ []) all) (trace-later s.table events event starts all (λ i g p. at-front starts (starts_of j keys) i g p)) z here.0
-        (record { status = (mine, kids) }) s.requests id starts v.each here.2 in
+        (record { key = here.1.key; status = (mine, kids) }) s.requests id starts v.each here.2 in
         record {
           each = Paired-append (Trace s.table (events ++ event ∷ []) all) (put s.requests id z) starts (map (new_request w (Some id) (x.run ∷ o.path) j) keys) (starts_of j keys) front (kids-each s.table all (Some id) (x.run ∷ o.path) j keys);
           consistent = consistent-more w events event s.table v.consistent;
@@ -413,31 +416,32 @@ module _ {P I A : Type 0} (w : World P I A) where
 
     -- a run is finished
     woken-traced : (T : Records) (fin : FinishedRun) → found T fin.run ≡ None → IsOnce (fin ∷ T) →
-        (starts : List Start) (q t : RequestState P I A) (a : Start) →
+        (starts : List Start) (q t : RequestState P I A) (a : Start) → q.origin.key ≡ a.key →
         LawfulJournal T q.journal q.runs → (st : Status P I A) →
         StatusTrace T (events ++ event ∷ []) starts a.key a.journal q.journal q.runs st → StatusTrace T (events ++ event ∷ []) starts a.key a.journal q.journal q.runs q.status →
         woken_at w (fin ∷ T) fin.run fin.made q st ≡ Some t → Trace (fin ∷ T) (events ++ event ∷ []) starts t a
-    woken-traced T fin n once starts q t a l (waits r b go) v same h = f (same_run r fin.run) refl h
+    woken-traced T fin n once starts q t a p l (waits r b go) v same h = f (same_run r fin.run) refl h
       where
         f : (y : Bool) → same_run r fin.run ≡ y → woken_if w y (fin ∷ T) q fin.made r go ≡ Some t → Trace (fin ∷ T) (events ++ event ∷ []) starts t a
         f false e h =
             subst (λ (u : RequestState P I A). Trace (fin ∷ T) (events ++ event ∷ []) starts u a)
             (some-is q t h)
-            (record { status = status-newer T fin n (events ++ event ∷ []) starts a.key a.journal q.journal q.runs q.status l same })
+            (record { key = p; status = status-newer T fin n (events ++ event ∷ []) starts a.key a.journal q.journal q.runs q.status l same })
         f true e h =
             let y = and_then-some (replay (fin ∷ T) r q.journal) (λ next. Some (goes_on w ready q.origin q.runs r go fin.made next)) t h in
             let rec : Recorded (fin ∷ T) r fin.made = subst (λ x. Recorded (fin ∷ T) x fin.made) (sym (same_run-true r fin.run e)) (found-newest T fin) in
             subst (λ (u : RequestState P I A). Trace (fin ∷ T) (events ++ event ∷ []) starts u a)
             (some-is (goes_on w ready q.origin q.runs r go fin.made y.0) t y.2)
             (record {
+              key = p;
               status = walk-uses (fin ∷ T) once a.key a.journal q.journal q.runs v.0 r b go fin.made
                   y.0 rec y.1 (walk-newer T fin n (events ++ event ∷ []) starts a.key a.journal
                   q.journal q.runs (wants v.0 r b go) v.1);
             })
-    woken-traced T fin n once starts q t a l _ v same h =
+    woken-traced T fin n once starts q t a p l _ v same h =
         subst (λ (u : RequestState P I A). Trace (fin ∷ T) (events ++ event ∷ []) starts u a)
         (some-is q t h)
-        (record { status = status-newer T fin n (events ++ event ∷ []) starts a.key a.journal q.journal q.runs q.status l same })
+        (record { key = p; status = status-newer T fin n (events ++ event ∷ []) starts a.key a.journal q.journal q.runs q.status l same })
 
     -- the record that a body has made, at the end of its walk's replay
     ends-walk : (T : Records) (x : Within P I A) (outcome : Outcome) (key : RequestKey)
@@ -487,7 +491,7 @@ module _ {P I A : Type 0} (w : World P I A) where
           each = Paired-traverse (λ y a. ((y ≡ z) × Trace (fin ∷ s.table) later starts z a) ⊎ Trace s.table later starts y a) (Trace (fin ∷ s.table) later starts) (woken w (fin ∷ s.table) x.run m) (put s.requests id z) u.0 starts
               (Paired-put (Trace s.table events starts) (λ y a. ((y ≡ z) × Trace (fin ∷ s.table) later starts z a) ⊎ Trace s.table later starts y a)
               (λ y a c. inr (trace-later s.table events event starts starts (λ i g h. h) y a c)) q z
-              (λ a c. inl (refl, record { status = ends-walk s.table x outcome a.key a.journal j runs n ordered (n, l.once) c.status })) s.requests id starts v.each e)
+              (λ a c. inl (refl, record { key = c.key; status = ends-walk s.table x outcome a.key a.journal j runs n ordered (n, l.once) c.status })) s.requests id starts v.each e)
               u.1
               (λ i y k a at_i c woke. elim c [
                 | inl d ↦
@@ -504,8 +508,8 @@ module _ {P I A : Type 0} (w : World P I A) where
                       (sym r.1) d in
                       subst (λ (g : RequestState P I A). Trace (fin ∷ s.table) later starts g a)
                       (some-is z k zk)
-                      (record { status = walk-newer s.table fin n later starts a.key a.journal z.journal z.runs (x.go m (add j (ended x.run m))) tz.status })
-                  | inr r ↦ woken-traced s.table fin n (n, l.once) starts y k a (l.each i y r.1).journal y.status d.status d.status woke
+                      (record { key = tz.key; status = walk-newer s.table fin n later starts a.key a.journal z.journal z.runs (x.go m (add j (ended x.run m))) tz.status })
+                  | inr r ↦ woken-traced s.table fin n (n, l.once) starts y k a d.key (l.each i y r.1).journal y.status d.status d.status woke
                 ]
               ]);
           consistent = ((mine.0, mine.1, j, begun-more w events event x.run mine.0 mine.1 mine.2.begun, mine.2.left s.table same_table), consistent-more w events event s.table v.consistent);
@@ -577,7 +581,7 @@ module _ {P I A : Type 0} (w : World P I A) where
         (go results y.0) y.0 (with_calls x.so_far keys results)) in
         subst (λ (u : State P I A). Next u starts) (some-is (with_request s id z) t y.2) (record {
           each = Paired-put (Trace s.table (events ++ event ∷ []) starts) (Trace s.table (events ++ event ∷ []) starts) (λ a b c. c) q z
-              (λ a c. record { status = back a c.status (kids-by s.table starts s.requests starts v.each j lq.closed j lq.closed (λ m h. h) ids keys results c.status.1 g) d }) s.requests id starts v.each e;
+              (λ a c. record { key = c.key; status = back a c.status (kids-by s.table starts s.requests starts v.each j lq.closed j lq.closed (λ m h. h) ids keys results c.status.1 g) d }) s.requests id starts v.each e;
           consistent = v.consistent;
         })
       where
@@ -629,7 +633,7 @@ module _ {P I A : Type 0} (w : World P I A) where
         let z : RequestState P I A = request_of o j runs (done (result_of reply runs)) in
         let lq = l.each id (request_of o j runs (assigned node (walking (gives reply)))) e in
         let zl = put-lawful s id z l (record { journal = lq.journal; status = lq.journal.runs_in }) in
-        back_to-traced (with_request s id z) starts o.parent t zl (put-traced events event s starts id (request_of o j runs (assigned node (walking (gives reply)))) z v e (λ a c. record { status = c.status })) h
+        back_to-traced (with_request s id z) starts o.parent t zl (put-traced events event s starts id (request_of o j runs (assigned node (walking (gives reply)))) z v e (λ a c. record { key = c.key; status = c.status })) h
     done-traced s starts id o j runs _ t l v e h = absurd (cc)
 
   step_of-traced : (events : List Event) (s : State P I A) (starts : List Start) (event : Event)
@@ -655,19 +659,32 @@ module _ {P I A : Type 0} (w : World P I A) where
 
   all-traced : (past events : List Event) (s t : State P I A) (starts : List Start) →
       IsHistory w past s → Lawful s → Traced past s starts → after_all w s events ≡ Some t →
-      IsConsistent w (past ++ events) t.table
-  all-traced past [] s t starts hist l v h =
-      subst (λ es. IsConsistent w es t.table) (sym (append-nil past))
-      (subst (λ (u : State P I A). IsConsistent w past u.table) (some-is s t h) v.consistent)
+      (last : List Start) × Traced (past ++ events) t last
+  all-traced past [] s t starts hist l v h = (
+    starts,
+    subst (λ es. Traced es t starts) (sym (append-nil past))
+        (subst (λ (u : State P I A). Traced past u starts) (some-is s t h) v),
+  )
   all-traced past (event ∷ events) s t starts hist l v h =
       let y = and_then-some (step w s event) (λ next. after_all w next events) t h in
       let z = and_then-some (at s.requests (whose event)) (step_of w s event) y.0 y.1 in
       let n = step_of-traced past s starts event z.0 y.0 hist l v z.1 z.2 in
-      subst (λ es. IsConsistent w es t.table) (append_assoc past (event ∷ []) events)
-      (all-traced (past ++ event ∷ []) events y.0 t n.0 (after-more past event (start w) s y.0 hist y.1) (step-lawful w s event y.0 l y.1) n.1 y.2)
+      let rest = all-traced (past ++ event ∷ []) events y.0 t n.0
+      (after-more past event (start w) s y.0 hist y.1) (step-lawful w s event y.0 l y.1) n.1 y.2 in
+      (rest.0, subst (λ es. Traced es t rest.0) (append_assoc past (event ∷ []) events) rest.1)
+
+  -- the requests of every legal history, and its table
+  pub traced : (events : List Event) (s : State P I A) → IsHistory w events s →
+      (starts : List Start) × Traced events s starts
+  traced events s h =
+      all-traced [] events (start w) s (record { key = w.root; journal = [] } ∷ []) refl
+      (start-lawful w)
+      (record {
+        each = (record { key = refl; status = (none, λ U n. refl) }, tt);
+        consistent = tt;
+      }) h
 
   -- the table of every legal history is consistent
   pub consistent : (events : List Event) (s : State P I A) → IsHistory w events s →
       IsConsistent w events s.table
-  consistent events s h =
-      all-traced [] events (start w) s (record { key = w.root; journal = [] } ∷ []) refl (start-lawful w) (record { each = (record { status = (none, λ U n. refl) }, tt); consistent = tt }) h
+  consistent events s h = (traced events s h).1.consistent
