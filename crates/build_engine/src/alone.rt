@@ -29,10 +29,13 @@ pub fn build_on_one<W: Walker>(
     requires begins { W.position walk ≡ begins (W.world walk) key [] }
     requires asked { W.asked walk ≡ 0 }
     requires learnt { W.learnt walk ≡ [] }
+    requires place { W.Fits place.old (W.world walk) }
     ensures outcome { IfOk result (λ o. ∥ IsOutcome (W.world walk) low o ∥₁) }
     ensures status { IfOk result (λ o. IsCompletion o.status ⊎ IsRefusal o.status) }
     ensures used { IfOk result (λ o. ∥ IsUsedFor (W.world walk) low o (W.used place.old) (W.used place.new) ∥₁) }
     ensures front { IsPrefix (W.used place.old) (W.used place.new) }
+    ensures place { W.Fits place.new (W.world walk) }
+    ensures lent { W.lent place.new ≡ W.lent place.old }
 {
     let mut core = Core::new(alloc, key, walk)?;
     build_alone(&mut core, place);

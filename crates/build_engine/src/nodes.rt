@@ -1,6 +1,6 @@
 //! Builds on several nodes.
 
-ghost use Rattle.std.specs.Prelude.{◌≡◌, ◌⊎◌, ◌<◌, ◌≤◌, [], IfOk, vec_len};
+ghost use Rattle.std.specs.Prelude.{◌≡◌, ◌⊎◌, ◌<◌, ◌≤◌, [], All, IfOk, vec_len};
 ghost use Rattle.build_outcome.specs.Outcomes.{IsOutcome};
 ghost use Rattle.build_scheduler.specs.Position.{begins};
 ghost use Rattle.build_engine.specs.OnNodes.{IsOutcomeOn};
@@ -34,6 +34,7 @@ where
     requires asked { W.asked walk ≡ 0 }
     requires learnt { W.learnt walk ≡ [] }
     requires places { (0 < vec_len places) × (vec_len places ≤ 64) }
+    requires fits { All (λ place. W.Fits place (W.world walk)) places.items }
     ensures outcome { IfOk result (λ o. ∥ IsOutcome (W.world walk) low o ∥₁) }
     ensures nodes { IfOk result (λ o. ∥ IsOutcomeOn (W.world walk) (vec_len places) low o ∥₁) }
     ensures status { IfOk result (λ o. IsCompletion o.status ⊎ IsRefusal o.status) }

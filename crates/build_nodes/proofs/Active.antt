@@ -24,7 +24,9 @@ left-is node [] None = refl
 left-is node [] (Some end) = refl
 left-is node (x ∷ xs) end = ap (λ b. is_retire_of node x || b) (left-is node xs end) ∙ or-assoc (is_retire_of node x) (list_any (is_retire_of node) xs) (is_some end)
 
-any-append : (node : ℕ) (xs ys : List Event) → list_any (is_retire_of node) (xs ++ ys) ≡ list_any (is_retire_of node) xs || list_any (is_retire_of node) ys
+pub any-append : (node : ℕ) (xs ys : List Event) →
+    list_any (is_retire_of node) (xs ++ ys)
+    ≡ list_any (is_retire_of node) xs || list_any (is_retire_of node) ys
 any-append node [] ys = refl
 any-append node (x ∷ xs) ys = ap (λ b. is_retire_of node x || b) (any-append node xs ys) ∙ or-assoc (is_retire_of node x) (list_any (is_retire_of node) xs) (list_any (is_retire_of node) ys)
 
@@ -40,6 +42,14 @@ pub active-more : (node : ℕ) (xs ys : List Event) (event : Event) (before afte
 active-more node xs ys event before after b a is other e =
     left-none node ys after a (ap (list_any (is_retire_of node)) is ∙ (any-append node xs (event ∷ [])
     ∙ (ap (λ x. x || (is_retire_of node event || false)) (none-left node xs before b e) ∙ (or-none (is_retire_of node event) ∙ other))))
+
+-- events of which none is a Retire of the node
+pub active-all : (node : ℕ) (xs ys more : List Event) (before after : Option End) →
+    before ≡ None → after ≡ None → ys ≡ xs ++ more → list_any (is_retire_of node) more ≡ false →
+    has_left node (marked xs before) ≡ false → has_left node (marked ys after) ≡ false
+active-all node xs ys more before after b a is none e =
+    left-none node ys after a (ap (list_any (is_retire_of node)) is ∙ (any-append node xs more
+    ∙ (ap (λ x. x || list_any (is_retire_of node) more) (none-left node xs before b e) ∙ none)))
 
 -- nothing has changed
 pub active-same : (node : ℕ) (xs ys : List Event) (before after : Option End) → after ≡ before → ys ≡ xs → has_left node (marked xs before) ≡ false → has_left node (marked ys after) ≡ false

@@ -17,6 +17,8 @@ use Rattle.result_cache.specs.contracts.request.RequestResult as RequestResult
 use Rattle.result_cache.specs.contracts.run.RunId as RunId
 use Rattle.build_meaning.specs.contracts.event.Event as Event
 use Rattle.build_scheduler.specs.contracts.instances.Instances as Instances
+use Rattle.build_scheduler.specs.contracts.kept.Kept as Kept
+use Rattle.build_scheduler.specs.contracts.kept.KeptEnds as KeptEnds
 use Rattle.build_scheduler.specs.contracts.log.Log as Log
 use Rattle.build_scheduler.specs.contracts.numbers.Numbers as Numbers
 use Rattle.build_scheduler.specs.contracts.slot.Calls as Calls
@@ -85,6 +87,25 @@ Slot-send : (W : RattleType) → IsSend W → IsSend (Slot.the_row W)
 Slot-send W s =
     recorded_send _ _ _ (Slot.the_type W).to_one (enum_send (Enum.shape (Slot.the_type W)) ((s, (answer-send, tt)), ((search sendable, tt), ((s, (search sendable, tt)), ((calls-send W s, tt), (tt, tt))))))
 
+some-send : (S : RattleType) → IsSend S → IsSend (Option.the_row S)
+some-send S s =
+    recorded_send _ _ _ (Option.the_type S).to_one (enum_send (Enum.shape (Option.the_type S))
+    (tt, ((s, tt), tt)))
+
+Kept-send : (W : RattleType) → IsSend W → IsSend (Kept.the_row W)
+Kept-send W s =
+    recorded_send _ _ _ (Kept.the_type W).to_one (struct_send (Struct.shape (Kept.the_type W))
+    (search sendable, (told-send, (s, tt))))
+
+ends-send : (W : RattleType) → IsSend W → IsSend (KeptEnds.the_field W).row
+ends-send W s = struct_send (Struct.shape (KeptEnds.the_type W)) (
+  search (owned, sendable) depth 20,
+  (
+    search (owned, sendable) depth 20,
+    (Vec-send (Option.the_row (Kept.the_row W)) (some-send (Kept.the_row W) (Kept-send W s)), tt),
+  ),
+)
+
 module _ (S V K P : RattleType) (g : TableRule.Ghosts P.Denot S.Denot V.Denot K.Denot) (s : IsSend S) where
   table-sync : IsSync (Table.the_field S V K P Heap.the_row g heap).row
   table-sync = struct_sync (Struct.shape (Table.the_type S V K P Heap.the_row g heap)) (
@@ -95,7 +116,7 @@ module _ (S V K P : RattleType) (g : TableRule.Ghosts P.Denot S.Denot V.Denot K.
 -- a board may be shared, and its seats may cross, where its state may
 module _ (S T E : RattleType) (h : Histories.Ghosts S.Denot T.Denot E.Denot) (s : IsSend S) where
   slot-send : IsSend (Option.the_row S)
-  slot-send = recorded_send _ _ _ (Option.the_type S).to_one (enum_send (Enum.shape (Option.the_type S)) (tt, ((s, tt), tt)))
+  slot-send = some-send S s
 
   seat-send : IsSend (Seat.the_row S T E h)
   seat-send =
@@ -122,7 +143,16 @@ module _ (W P O : RattleType) (g : Walker.Ghosts W.Denot P.Denot O.Denot) (s : I
             Vec-send (Slot.the_row W) (Slot-send W s),
             (
               search (RunId-send, owned, sendable) depth 20,
-              (Numbers-send, (Vec-send Numbers.the_row Numbers-send, (Instances-send, (search (End-send, owned, sendable) depth 20, tt)))),
+              (
+                Numbers-send,
+                (
+                  Vec-send Numbers.the_row Numbers-send,
+                  (
+                    Instances-send,
+                    (search (End-send, owned, sendable) depth 20, (ends-send W s, tt)),
+                  ),
+                ),
+              ),
             ),
           ),
         ),

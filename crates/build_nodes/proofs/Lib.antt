@@ -12,4 +12,7 @@ pub mod Seated
 pub mod Built
 pub mod Leaves
 pub mod Active
+pub mod Fitting
+pub mod Repeats
+pub mod SameShown
 pub mod NoRecords

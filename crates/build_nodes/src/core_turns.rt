@@ -1,5 +1,18 @@
 //! What a node does with the core while it has it.
-ghost use Rattle.std.specs.Prelude.{◌≡◌, false, true, drop, IsSome, None, OnErr, OnOk};
+ghost use Rattle.std.specs.Prelude.{
+  ◌≡◌,
+  ◌<◌,
+  ◌^◌,
+  false,
+  true,
+  drop,
+  length,
+  IsSome,
+  None,
+  OnErr,
+  OnOk,
+  Some,
+};
 ghost use Rattle.std.specs.List.{list_any};
 ghost use mathlib.Core.List.{IsPrefix};
 ghost use Rattle.build_meaning.specs.History.{AreOfOthers};
@@ -7,15 +20,17 @@ ghost use Rattle.build_meaning.specs.Step.{whose};
 ghost use Rattle.build_scheduler.specs.declared.walker.Answer.TheVariants.{Use};
 ghost use Rattle.build_scheduler.specs.declared.walker.Ask.TheVariants.{Call, Done, Finished, Want};
 ghost use Rattle.build_scheduler.specs.Ends.{IsStop};
+ghost use Rattle.build_scheduler.specs.Kept.{IsRepeated};
 ghost use Rattle.build_scheduler.specs.Learnt.{AreInOrder, ArePartOf};
-ghost use Rattle.build_scheduler.specs.Own.{Asks, IsOut, IsOwn, seen_by};
+ghost use Rattle.build_scheduler.specs.Own.{IsOut, IsOwn, seen_by};
 ghost use Rattle.build_scheduler.specs.Position.{answered, ask_of};
-ghost use Rattle.build_scheduler.specs.Ready.{IsAssignedTo};
+ghost use Rattle.build_scheduler.specs.Ready.{IsAssignedTo, IsLeastReady};
 ghost use Rattle.build_nodes.specs.Leaving.{IsCaused, IsSpent, has_left, is_retire_of};
 ghost use Rattle.build_nodes.specs.Marked.{marked};
 ghost use Rattle.build_nodes.specs.Turns.{AreAlike, CanGoBack, IsAnswered, IsAsking, IsBrought};
 ghost use Rattle.build_nodes.specs.Turns.{IsNext, refusal_end};
 
+use crate::shared::few_events;
 use crate::turn::{Answered, Asking, Brought, Discarded, Held, Next};
 use build_scheduler::{Answer, Ask, Claimed, Core, End, Event, RequestFault, Walker};
 use msb_values::{List, NoMemory};
@@ -312,7 +327,7 @@ fn end_request<W: Walker>(
     requires active { has_left node (marked core.old.history.events core.old.end) ≡ false }
     requires own { ∥ IsOwn (W.world_of core.old.world) core.old.history.events
         core.old.table.finished held.id (seen_by W.world W.position W.asked W.learnt held.walk) ∥₁ }
-    requires asks { ∥ Asks (W.world_of core.old.world) core.old.history.events held.id (Done told) ∥₁ }
+    requires asks { ask_of (W.position held.walk) ≡ Done told }
     ensures world { W.world_of core.new.world ≡ W.world_of core.old.world }
     ensures continues { IsPrefix (marked core.old.history.events core.old.end) (marked core.new.history.events core.new.end) }
     ensures nodes { core.new.history.nodes ≡ core.old.history.nodes }
@@ -321,6 +336,8 @@ fn end_request<W: Walker>(
 {
     let Held { id, walk, answer } = held;
     discarded.answer = Some(answer);
+    // Where there is no memory, nothing is kept.
+    let _ = core.keep(id, &walk, &told);
     discarded.walk = core.done(id, walk, told);
     if core.end().is_some() {
         return None;
@@ -338,12 +355,54 @@ fn assign_least<W: Walker>(core: &mut Core<W>, node: u32) -> Option<Next<W>>
     ensures spent { IsSpent core.new.history.nodes core.new.history.events core.new.end }
     ensures next { IsNext (seen_by W.world W.position W.asked W.learnt) W.earlier node (W.world_of core.new.world) (marked core.new.history.events core.new.end) result }
 {
-    match core.ready() {
+    match next_ready(core, node) {
         None => Some(Next::Park(core.history().len())),
         Some(id) => {
             let (walk, answer) = core.assign(id, node);
             give_answer(core, node, Held { id, walk, answer })
         }
+    }
+}
+
+/// The least ready request whose walk goes on. Those before it are over at once, by what others of
+/// their keys have given. (MSBuild task: a target is run once.)
+fn next_ready<W: Walker>(core: &mut Core<W>, node: u32) -> Option<u64>
+    requires running { core.old.end ≡ None }
+    requires active { has_left node (marked core.old.history.events core.old.end) ≡ false }
+    ensures world { W.world_of core.new.world ≡ W.world_of core.old.world }
+    ensures running { core.new.end ≡ None }
+    ensures active { has_left node (marked core.new.history.events core.new.end) ≡ false }
+    ensures continues { IsPrefix (marked core.old.history.events core.old.end)
+        (marked core.new.history.events core.new.end) }
+    ensures nodes { core.new.history.nodes ≡ core.old.history.nodes }
+    ensures least { IsLeastReady (W.world_of core.new.world) core.new.history.events result }
+{
+    let mut next = core.ready();
+    while let Some(id) = next {
+        if !is_repeated(core, id, node) {
+            return Some(id);
+        }
+        next = core.ready();
+    }
+    None
+}
+
+/// Whether the least ready request is over at once, by what another one of its key has given. Then
+/// events have come, of which there are few: so this can't be so again and again.
+fn is_repeated<W: Walker>(core: &mut Core<W>, id: u64, node: u32) -> bool
+    requires running { core.old.end ≡ None }
+    requires least { IsLeastReady (W.world_of core.old.world) core.old.history.events (Some id) }
+    ensures world { W.world_of core.new.world ≡ W.world_of core.old.world }
+    ensures end { core.new.end ≡ core.old.end }
+    ensures nodes { core.new.history.nodes ≡ core.old.history.nodes }
+    ensures few { length core.old.history.events < 2 ^ 63 }
+    ensures repeated { IsRepeated (W.world_of core.old.world) core.old.table.finished
+        core.old.history.events core.new.history.events id node result }
+{
+    few_events(core);
+    match core.repeat(id, node) {
+        Ok(repeated) => repeated,
+        Err(NoMemory) => false,
     }
 }
 

@@ -29,6 +29,7 @@ where
     number: u32,
     seat: Seat<Shared<W>>,
     place: W::Place,
+    ghost fits: { ∥ IsSomeAnd seat.world (λ first. W.Fits place (W.world_of first.world)) ∥₁ },
 }
 
 /// Takes the core, does what the node is to do while it has it, gives it back, and says what the
@@ -215,6 +216,8 @@ where
     requires board { seat.old.board ≡ board.now }
     requires seat { (seat.old.has_state ≡ false) × (vec_len places < seat.old.share) × (seat.old.share ≤ 128) × (is_some seat.old.world ≡ true) }
     requires room { (all.old.items ≡ []) × (vec_len places ≤ vec_capacity all.old) }
+    requires fits { IsSomeAnd seat.old.world (λ first.
+        All (λ place. W.Fits place (W.world_of first.world)) places.items) }
     ensures nodes { (vec_len all.new ≡ vec_len places) × All (λ n. IsSeated board.now n.seat) all.new.items }
     ensures numbers { map (λ n. n.number) all.new.items ≡ numbers_below (vec_len places) }
     ensures seat { seat.new ≡ record seat.old { share = seat.old.share - vec_len places } }
@@ -367,6 +370,7 @@ where
     requires places { (0 < vec_len places) × (vec_len places ≤ 64) }
     requires empty { core.history.events ≡ [] }
     requires running { core.end ≡ None }
+    requires fits { All (λ place. W.Fits place (W.world_of core.world)) places.items }
     ensures world { IfOk result (λ built. ∥ W.world_of built.world ≡ W.world_of core.world ∥₁) }
     ensures continues { IfOk result (λ built. ∥ Continues core.history.events built.history.events ∥₁) }
     ensures legal { IfOk result (λ built. ∥ IsLegal (W.world_of core.world) built.history.events ∥₁) }

@@ -66,7 +66,7 @@ impl<W: Walker> Shared<W> {
 }
 
 /// A list has fewer entries than this, and so has the history with the mark of an end.
-fn few_events<W: Walker>(core: &Core<W>)
+pub(crate) fn few_events<W: Walker>(core: &Core<W>)
     ensures { length core.now.history.events + 1 < 2 ^ 63 }
 {
     let _events = core.history();

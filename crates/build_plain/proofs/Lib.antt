@@ -5,3 +5,4 @@ pub mod RequestsMove
 pub mod Turns
 pub mod Using
 pub mod Fronts
+pub mod Repeats

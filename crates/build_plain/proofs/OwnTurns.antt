@@ -50,6 +50,15 @@ module _ {P I A : Type 0} (w : World P I A) (events : List Event) (table : Recor
     pub turn-of : IsInTurn walk.asked answer
     turn-of = ∥∥₁_elim out (turn-prop walk.asked answer) (λ o. o.turn)
 
+    -- a place that fits the world fits the walk's, and one that fits the walk's fits the world
+    pub fits-walk : (Fits : World P I A → Type 0) →
+        ((v : World P I A) (a b : Fits v) → a ≡ b) → Fits w → Fits walk.world
+    fits-walk Fits once fits = ∥∥₁_elim out (once walk.world) (λ o. subst Fits (sym o.world) fits)
+
+    pub fits-world : (Fits : World P I A → Type 0) →
+        ((v : World P I A) (a b : Fits v) → a ≡ b) → Fits walk.world → Fits w
+    fits-world Fits once fits = ∥∥₁_elim out (once w) (λ o. subst Fits o.world fits)
+
     pub room-of : length events < 2 ^ 63 → walk.asked < 2 ^ 63
     room-of l = ∥∥₁_elim out (λ p q. le_prop p q) (λ o. let f : walk.asked < length events = o.few in omega arith)
 
@@ -78,3 +87,12 @@ module _ {P I A : Type 0} (w : World P I A) (events : List Event) (id : ℕ) whe
   -- and so does a cycle of runs
   pub cycle-shown : (run : RunId) (runs : List RunId) → ∥ ClosesCycle w events id run runs ∥₁ → IsStop w events (Circular runs)
   cycle-shown run runs h = ∥∥₁_map h (λ x. (id, run, x))
+
+-- nothing of this has changed
+pub own-same : {P I A : Type 0} (w v : World P I A) (before after : List Event)
+    (table records : Records) (id : ℕ) (walk : Seen P I A) → v ≡ w → after ≡ before →
+    records ≡ table → ∥ IsOwn w before table id walk ∥₁ → ∥ IsOwn v after records id walk ∥₁
+own-same w v before after table records id walk world events known own =
+    subst (λ x. ∥ IsOwn x after records id walk ∥₁) (sym world)
+    (subst (λ es. ∥ IsOwn w es records id walk ∥₁) (sym events)
+    (subst (λ t. ∥ IsOwn w before t id walk ∥₁) (sym known) own))

@@ -5,15 +5,17 @@ ghost use Rattle.build_meaning.specs.History.{retires};
 ghost use Rattle.build_plain.specs.declared.alone.Turn.TheVariants.{Over};
 ghost use Rattle.build_plain.specs.Used.{UnlessMemory, Uses, due, due_in};
 ghost use Rattle.build_plain.specs.Driven.{AssignsLeast, Continues, Drives, HasGrown, IsFree, IsLegal, IsTurn, NoneAssigned, OnlyAssigned, end_of};
-ghost use Rattle.build_scheduler.specs.declared.walker.Ask.TheVariants.{Want, Call};
+ghost use Rattle.build_scheduler.specs.declared.walker.Ask.TheVariants.{Want, Call, Done as IsOver};
 ghost use Rattle.build_scheduler.specs.Ends.{IsStop};
+ghost use Rattle.build_scheduler.specs.Kept.{IsRepeated};
 ghost use Rattle.build_scheduler.specs.Learnt.{AreInOrder, ArePartOf};
 ghost use Rattle.build_scheduler.specs.Own.{IsOut, IsOwn, seen_by};
 ghost use Rattle.build_scheduler.specs.Position.{IsInTurn, answered, ask_of, used_between};
+ghost use Rattle.build_scheduler.specs.Ready.{IsLeastReady};
 
 use build_scheduler::{Answer, Ask, Claimed, Core, End, RequestFault, Walker};
 use msb_values::{List, NoMemory};
-use result_cache::{RequestKey, RunId, Table};
+use result_cache::{RequestKey, RequestResult, RunId, Table};
 
 /// What becomes of the request with the node.
 #[derive(Drop)]
@@ -31,7 +33,8 @@ pub(crate) enum Turn<W> {
 /// After want of memory, too, they begin with those of before. (MSBuild task; Building projects in
 /// parallel.)
 pub fn build_alone<W: Walker>(core: &mut Core<W>, place: &mut W::Place)
-    requires { NoneAssigned (W.world_of core.old.world) core.old.history.events }
+    requires free { NoneAssigned (W.world_of core.old.world) core.old.history.events }
+    requires place { W.Fits place.old (W.world_of core.old.world) }
     ensures world { W.world_of core.new.world ≡ W.world_of core.old.world }
     ensures continues { ∥ Continues core.old.history.events core.new.history.events ∥₁ }
     ensures legal { ∥ IsLegal (W.world_of core.new.world) core.new.history.events ∥₁ }
@@ -42,16 +45,19 @@ pub fn build_alone<W: Walker>(core: &mut Core<W>, place: &mut W::Place)
         ∥ Uses (W.world_of core.old.world) core.old.history.events core.new.history.events
         (W.used place.old) (W.used place.new) ∥₁ }
     ensures front { IsPrefix (W.used place.old) (W.used place.new) }
+    ensures place { W.Fits place.new (W.world_of core.old.world) }
+    ensures lent { W.lent place.new ≡ W.lent place.old }
 {
     while core.end().is_none() {
         take_turn(core, place);
     }
 }
 
-/// Assigns the least ready request, and works at it.
+/// Ends the least ready request at once, where that can be, or assigns it and works at it.
 fn take_turn<W: Walker>(core: &mut Core<W>, place: &mut W::Place)
     requires running { core.old.end ≡ None }
     requires free { NoneAssigned (W.world_of core.old.world) core.old.history.events }
+    requires place { W.Fits place.old (W.world_of core.old.world) }
     ensures world { W.world_of core.new.world ≡ W.world_of core.old.world }
     ensures drives { Drives (W.world_of core.old.world) core.old.history.events core.new.history.events }
     ensures free { IsFree (W.world_of core.old.world) core.new.history.events core.new.end }
@@ -61,15 +67,56 @@ fn take_turn<W: Walker>(core: &mut Core<W>, place: &mut W::Place)
         ∥ Uses (W.world_of core.old.world) core.old.history.events core.new.history.events
         (W.used place.old) (W.used place.new) ∥₁ }
     ensures front { IsPrefix (W.used place.old) (W.used place.new) }
+    ensures place { W.Fits place.new (W.world_of core.old.world) }
+    ensures lent { W.lent place.new ≡ W.lent place.old }
 {
     few_events(core);
     match core.ready() {
         Some(id) => {
-            let (walk, answer) = core.assign(id, 0);
-            work(core, place, id, walk, answer);
+            if !is_repeated(core, id) {
+                hand_out(core, place, id);
+            }
         }
         None => unreachable!(),
     }
+}
+
+/// Whether the least ready request is over at once, by what another one of its key has given.
+/// (MSBuild task: a target is run once.)
+fn is_repeated<W: Walker>(core: &mut Core<W>, id: u64) -> bool
+    requires running { core.old.end ≡ None }
+    requires least { IsLeastReady (W.world_of core.old.world) core.old.history.events (Some id) }
+    ensures world { W.world_of core.new.world ≡ W.world_of core.old.world }
+    ensures end { core.new.end ≡ core.old.end }
+    ensures repeated { IsRepeated (W.world_of core.old.world) core.old.table.finished
+        core.old.history.events core.new.history.events id 0 result }
+{
+    match core.repeat(id, 0) {
+        Ok(repeated) => repeated,
+        Err(NoMemory) => false,
+    }
+}
+
+/// Assigns the least ready request, and works at it.
+fn hand_out<W: Walker>(core: &mut Core<W>, place: &mut W::Place, id: u64)
+    requires running { core.old.end ≡ None }
+    requires free { NoneAssigned (W.world_of core.old.world) core.old.history.events }
+    requires least { IsLeastReady (W.world_of core.old.world) core.old.history.events (Some id) }
+    requires place { W.Fits place.old (W.world_of core.old.world) }
+    ensures world { W.world_of core.new.world ≡ W.world_of core.old.world }
+    ensures drives { Drives (W.world_of core.old.world)
+        core.old.history.events core.new.history.events }
+    ensures free { IsFree (W.world_of core.old.world) core.new.history.events core.new.end }
+    ensures grows { length core.old.history.events < length core.new.history.events }
+    ensures uses { retires core.old.history.events ≡ 0 → UnlessMemory core.new.end
+        ∥ Uses (W.world_of core.old.world) core.old.history.events core.new.history.events
+        (W.used place.old) (W.used place.new) ∥₁ }
+    ensures front { IsPrefix (W.used place.old) (W.used place.new) }
+    ensures place { W.Fits place.new (W.world_of core.old.world) }
+    ensures lent { W.lent place.new ≡ W.lent place.old }
+{
+    let (walk, answer) = core.assign(id, 0);
+    work(core, place, id, walk, answer);
 }
 
 /// Works at the request with the node until it leaves the node, or the build ends.
@@ -77,11 +124,14 @@ fn work<W: Walker>(core: &mut Core<W>, place: &mut W::Place, id: u64, walk: W, a
     requires running { core.old.end ≡ None }
     requires out { ∥ IsOut (W.world_of core.old.world) core.old.history.events core.old.table.finished id (seen_by W.world W.position W.asked W.learnt walk) answer ∥₁ }
     requires only { OnlyAssigned (W.world_of core.old.world) core.old.history.events id }
+    requires place { W.Fits place.old (W.world_of core.old.world) }
     ensures world { W.world_of core.new.world ≡ W.world_of core.old.world }
     ensures drives { Drives (W.world_of core.old.world) core.old.history.events core.new.history.events }
     ensures free { IsFree (W.world_of core.old.world) core.new.history.events core.new.end }
     ensures uses { UnlessMemory core.new.end ∥ Uses (W.world_of core.old.world) core.old.history.events core.new.history.events (W.used place.old ++ due (W.world_of core.old.world) core.old.table.finished (seen_by W.world W.position W.asked W.learnt walk) answer) (W.used place.new) ∥₁ }
     ensures front { IsPrefix (W.used place.old) (W.used place.new) }
+    ensures place { W.Fits place.new (W.world_of core.old.world) }
+    ensures lent { W.lent place.new ≡ W.lent place.old }
 {
     let mut turn = Turn::GoesOn(walk, answer);
     while let Turn::GoesOn(walk, answer) = turn {
@@ -100,6 +150,7 @@ fn step<W: Walker>(
     requires running { core.old.end ≡ None }
     requires out { ∥ IsOut (W.world_of core.old.world) core.old.history.events core.old.table.finished id (seen_by W.world W.position W.asked W.learnt walk) answer ∥₁ }
     requires only { OnlyAssigned (W.world_of core.old.world) core.old.history.events id }
+    requires place { W.Fits place.old (W.world_of core.old.world) }
     ensures world { W.world_of core.new.world ≡ W.world_of core.old.world }
     ensures drives { Drives (W.world_of core.old.world) core.old.history.events core.new.history.events }
     ensures turn { IsTurn (seen_by W.world W.position W.asked W.learnt) (W.world_of core.old.world) core.new.history.events core.new.table.finished core.new.end id result }
@@ -107,6 +158,8 @@ fn step<W: Walker>(
     ensures few { length core.old.history.events < 2 ^ 63 }
     ensures uses { UnlessMemory core.new.end ∥ Uses (W.world_of core.old.world) core.old.history.events core.new.history.events (W.used place.old ++ due (W.world_of core.old.world) core.old.table.finished (seen_by W.world W.position W.asked W.learnt walk) answer) (W.used place.new ++ due_in (seen_by W.world W.position W.asked W.learnt) (W.world_of core.old.world) core.new.table.finished result) ∥₁ }
     ensures front { IsPrefix (W.used place.old) (W.used place.new) }
+    ensures place { W.Fits place.new (W.world_of core.old.world) }
+    ensures lent { W.lent place.new ≡ W.lent place.old }
 {
     few_events(core);
     let mut walk = walk;
@@ -135,6 +188,7 @@ fn go_on<W: Walker>(
     requires fits { IsSome (answered (W.world walk.old) table.now.finished (W.position walk.old) answer.now) }
     requires turn { IsInTurn (W.asked walk.old) answer.now }
     requires room { W.asked walk.old < 2 ^ 63 }
+    requires place { W.Fits place.old (W.world walk.old) }
     ensures asks { IfOk result (λ ask. ask ≡ ask_of (W.position walk.new)) }
     ensures goes_on { OnOk result (answered (W.world walk.old) table.now.finished (W.position walk.old) answer.now ≡ Some (W.position walk.new)) }
     ensures asked { OnOk result (W.asked walk.new ≡ W.asked walk.old + 1) }
@@ -142,6 +196,8 @@ fn go_on<W: Walker>(
     ensures used { OnOk result (W.used place.new ≡ W.used place.old ++ used_between (W.position walk.old).place (W.position walk.new).place) }
     ensures world { W.world walk.new ≡ W.world walk.old }
     ensures front { IsPrefix (W.used place.old) (W.used place.new) }
+    ensures place { W.Fits place.new (W.world walk.old) }
+    ensures lent { W.lent place.new ≡ W.lent place.old }
 {
     walk.learn(table, answer)?;
     walk.advance(place, answer)
@@ -167,10 +223,29 @@ fn answer_ask<W: Walker>(core: &mut Core<W>, id: u64, walk: W, ask: Ask) -> Turn
             Turn::GoesOn(walk, Answer::Use)
         }
         Ask::Done(told) => {
-            let _left = core.done(id, walk, told);
+            end_request(core, id, walk, told);
             Turn::Over
         }
     }
+}
+
+/// Ends a request, and keeps how it has ended for others of its key. Where there is no memory,
+/// nothing is kept. (MSBuild task: a target is run once.)
+fn end_request<W: Walker>(core: &mut Core<W>, id: u64, walk: W, told: RequestResult)
+    requires running { core.old.end ≡ None }
+    requires own { ∥ IsOwn (W.world_of core.old.world) core.old.history.events
+        core.old.table.finished id (seen_by W.world W.position W.asked W.learnt walk) ∥₁ }
+    requires asks { ask_of (W.position walk) ≡ IsOver told }
+    requires only { OnlyAssigned (W.world_of core.old.world) core.old.history.events id }
+    ensures world { W.world_of core.new.world ≡ W.world_of core.old.world }
+    ensures drives { Drives (W.world_of core.old.world)
+        core.old.history.events core.new.history.events }
+    ensures free { IsFree (W.world_of core.old.world) core.new.history.events core.new.end }
+    ensures uses { ∥ Uses (W.world_of core.old.world)
+        core.old.history.events core.new.history.events [] [] ∥₁ }
+{
+    let _ = core.keep(id, &walk, &told);
+    let _left = core.done(id, walk, told);
 }
 
 /// Claims the run that a request wants: it goes on, or waits, or a cycle of runs ends the build. (MSBuild task: a target is

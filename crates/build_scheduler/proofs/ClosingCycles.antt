@@ -1,40 +1,130 @@
 -- Where a request would close a cycle of runs if it waited for a run: exactly where the request that has begun the run is found among those whose
 -- runs need what the request holds.
-use Rattle.std.proofs.Common.{◌≡◌, ◌<◌, ◌⊎◌, inl, inr, ℕ, zero, suc, true, false, List, [], ◌∷◌, length, map, Option, None, Some, refl, ap, sym, ◌∙◌, subst, arith}
+use Rattle.std.proofs.Common.{
+  ◌≡◌,
+  ◌≤◌,
+  ◌<◌,
+  ◌+◌,
+  ◌⊎◌,
+  inl,
+  inr,
+  ℕ,
+  zero,
+  suc,
+  true,
+  false,
+  List,
+  [],
+  ◌∷◌,
+  length,
+  map,
+  get_or,
+  Option,
+  None,
+  Some,
+  refl,
+  ap,
+  sym,
+  ◌∙◌,
+  subst,
+  arith,
+}
 use Rattle.std.proofs.lemmas.Bool.{eqb-true, eq-eqb}
+use Rattle.std.proofs.lemmas.List.{length-map}
 use Rattle.msb_laws.specs.Asking.{and_then}
 use Rattle.result_cache.specs.declared.run.RunId.{RunId}
+use Rattle.result_cache.specs.declared.request.RequestKey.{RequestKey}
 use Rattle.result_cache.specs.declared.record.Record.{Record}
 use Rattle.result_cache.specs.Journal.{Journal}
 use Rattle.result_cache.specs.Lists.{In}
 use Rattle.result_cache.specs.Table.{TableRuns, found, request_of, is_begun}
 use Rattle.result_cache.proofs.RunTests.{and_then-some}
-use Rattle.build_meaning.specs.Lists.{at}
+use Rattle.build_meaning.specs.Lists.{at, numbered_from}
 use Rattle.build_meaning.specs.World.{World}
 use Rattle.build_meaning.specs.Walk.{Walk, Body}
-use Rattle.build_meaning.specs.State.{Place, walking, within, Status, ready, assigned, waits, calling, done, RequestState, State}
+use Rattle.build_meaning.specs.State.{
+  Place,
+  walking,
+  within,
+  Status,
+  ready,
+  assigned,
+  waits,
+  calling,
+  done,
+  RequestState,
+  State,
+}
 use Rattle.build_meaning.specs.Cycle.{holds, Needs, IsChain}
 use Rattle.build_meaning.specs.Step.{waiting}
 use Rattle.build_meaning.proofs.EventsKeepLawful.{some-is}
 use Rattle.build_meaning.proofs.LawfulStates.{beginner, beginner-begun, Lawful}
-use Rattle.build_meaning.proofs.ListPlaces.{at-map, map-at}
+use Rattle.build_meaning.proofs.ListPlaces.{
+  at-less,
+  at-map,
+  in-numbered,
+  map-at,
+  numbered-in,
+  numbered-length,
+}
 use Rattle.build_meaning.proofs.NeedsOfRuns.{need, needs-of}
-use Rattle.build_meaning.proofs.OpenRequests.{Open, ids_in, told_in, inside_of, waits_of, kin_of, kins_of, kins-at, at-kins, put-kins, calling-so, inside-open, waits-open}
-use Rattle.build_meaning.proofs.PairedLists.{Paired-some}
-use Rattle.build_meaning.proofs.ParentsAndChildren.{Kin, Kins, NeedOf, Family, PutAt, put-cases, same_some, none_some}
+use Rattle.build_meaning.proofs.OpenRequests.{
+  Open,
+  ids_in,
+  told_in,
+  inside_of,
+  waits_of,
+  kin_of,
+  kins_of,
+  kins-at,
+  at-kins,
+  path-first,
+  put-kins,
+  calling-so,
+  inside-open,
+  waits-open,
+}
+use Rattle.build_meaning.proofs.PairedLists.{Paired-length, Paired-some}
+use Rattle.build_meaning.proofs.ParentsAndChildren.{
+  Kin,
+  Kins,
+  NeedOf,
+  Family,
+  PutAt,
+  put-cases,
+  same_some,
+  none_some,
+}
 use Rattle.build_meaning.proofs.RunPaths.{Path, last_one, step_on, path-mono}
 use Rattle.build_scheduler.specs.declared.slot.Origin.{Origin}
+use Rattle.build_scheduler.specs.declared.slot.Calls.{Calls}
 use Rattle.build_scheduler.specs.declared.slot.Slot.{Slot}
-use Rattle.build_scheduler.specs.declared.slot.Slot.TheVariants.{Ready, Assigned, Waiting, Calling, Done}
+use Rattle.build_scheduler.specs.declared.slot.Slot.TheVariants.{
+  Ready,
+  Assigned,
+  Waiting,
+  Calling,
+  Done,
+}
 use Rattle.build_scheduler.specs.declared.slot.End.{End}
 use Rattle.build_scheduler.specs.Log.{Logged}
+use Rattle.build_scheduler.specs.Free.{AreFree, IsFree, NeedsNothing}
 use Rattle.build_scheduler.specs.Dependents.{caller_at, CallsOver, AreFound, AreApart, AreOver}
 use Rattle.build_scheduler.specs.Numbers.{among, Numbered}
 use Rattle.build_scheduler.specs.Own.{Seen}
-use Rattle.build_scheduler.specs.Shown.{Shown, Indexed, waits_for, numbers_of}
-use Rattle.build_scheduler.specs.Slots.{origin_of, making_of, run_at, unfinished, ShowsSlot}
+use Rattle.build_scheduler.specs.Shown.{Shown, Indexed, IsWaiting, waits_for, numbers_of}
+use Rattle.build_scheduler.specs.Slots.{
+  origin_of,
+  making_of,
+  result_at,
+  run_at,
+  unfinished,
+  ShowsSlot,
+}
+use Rattle.build_scheduler.proofs.CallResults.{told-length}
 use Rattle.build_scheduler.proofs.GrowingAnswers.{unfinished-beginner}
 use Rattle.build_scheduler.proofs.HistoryFacts.{lawful, kindred}
+use Rattle.build_scheduler.proofs.SlotNumbers.{at-get}
 use Rattle.build_scheduler.proofs.SlotsStay.{paired-other}
 
 module _ {P I A : Type 0} where
@@ -322,6 +412,94 @@ module _ {W P I A : Type 0} (seen : W → Seen P I A) (w : World P I A) {log : L
       let before : z.place < suc i = z.before in
       (over n z.next z.needs (found-calling first requests overs f c b z.place z.next (omega arith) z.next_is)).caller
 
+  -- the slot of a request that calls, and where its calls are
+  slot-calls : (slot : Slot W) (q : RequestState P I A) (ids : List ℕ) →
+      ShowsSlot w x.state (length log.events) seen slot q → ids_in q.status ≡ Some ids →
+      (calls : Calls W) × (slot ≡ Calling calls) × ((n : ℕ) → In n ids →
+      (i : ℕ) × (n ≡ calls.first + i) × (i < length calls.results.items))
+  slot-calls (Ready walk answer) q ids h e =
+      let a = ap (λ (q : RequestState P I A). ids_in q.status) h.is in
+      none_some (ids_in q.status) ids e a
+  slot-calls (Assigned node) q ids h e =
+      none_some (ids_in q.status) ids e (ap ids_in h.is)
+  slot-calls (Waiting walk by) q ids h e =
+      none_some (ids_in q.status) ids e (ap ids_in h.is)
+  slot-calls (Calling calls) q ids h e =
+      let keys : List RequestKey = h.key ∷ h.keys in
+      let named : List ℕ = numbered_from calls.first keys in
+      let same : named ≡ ids = some-is named ids (sym (ap ids_in h.is) ∙ e) in
+      let told : length calls.results.items ≡ length keys =
+      told-length (map (result_at x.state.requests) named) calls.results.items calls.«open» h.so_far
+      ∙ (length-map named (result_at x.state.requests) ∙ numbered-length calls.first keys) in (
+        calls,
+        refl,
+        λ n i.
+            let z = in-numbered calls.first keys n (subst (In n) (sym same) i) in
+            let l : z.0 < length keys = at-less keys z.0 z.1 z.3 in (z.0, z.2, omega arith),
+      )
+  slot-calls Done q ids h e = none_some (ids_in q.status) ids e (ap ids_in h.is)
+
+  -- all calls of a request have slots
+  pub calls-within : (by : ℕ) (calls : Calls W) → at slots by ≡ Some (Calling calls) →
+      calls.first + length calls.results.items ≤ length slots
+  calls-within by calls e =
+      let z = Paired-some (ShowsSlot w x.state (length log.events) seen) slots x.state.requests by
+      (Calling calls) x.each e in
+      let keys : List RequestKey = z.1.key ∷ z.1.keys in
+      let ids : List ℕ = numbered_from calls.first keys in
+      let told : length calls.results.items ≡ length keys =
+      told-length (map (result_at x.state.requests) ids) calls.results.items calls.«open»
+      z.1.so_far
+      ∙ (length-map ids (result_at x.state.requests) ∙ numbered-length calls.first keys) in
+      let more : length keys ≡ suc (length z.1.keys) = refl in
+      let within : length z.1.keys < length keys = omega arith in
+      let last : In (calls.first + length z.1.keys) ids =
+      numbered-in calls.first keys (length z.1.keys) (get_or keys (length z.1.keys) z.1.key)
+      (at-get keys (length z.1.keys) z.1.key within) in
+      let d = family.down by (kin_of z.0) ids (kins-at x.state.requests by z.0 z.2)
+      (ap ids_in z.1.is) (calls.first + length z.1.keys) last in
+      let c = at-kins x.state.requests (calls.first + length z.1.keys) d.0 d.1 in
+      let l : calls.first + length z.1.keys < length x.state.requests =
+      at-less x.state.requests (calls.first + length z.1.keys) c.0 c.1 in
+      let a : length slots ≡ length x.state.requests =
+      Paired-length (ShowsSlot w x.state (length log.events) seen) slots x.state.requests x.each in
+      omega arith
+
+  -- a request that is free holds no run
+  free-holds : (n : ℕ) (k : Kin) (t : RunId) → kin n ≡ Some k → IsFree slots making n →
+      (k.inside ≡ Some t) ⊎ (k.waits ≡ Some t) → ⊥
+  free-holds n k t h free (inl e) =
+      let q = at-kins x.state.requests n k h in
+      let made : at making n ≡ Some (making_of q.0) =
+      ap (λ ms. at ms n) x.bodies ∙ map-at making_of x.state.requests n q.0 q.1 in
+      let idle : None ≡ making_of q.0 =
+      same_some (at making n) None (making_of q.0) free.idle made in
+      none_some k.inside t e
+      (ap (λ (k : Kin). k.inside) (sym q.2) ∙ (inside-run q.0.status ∙ sym idle))
+  free-holds n k t h free (inr e) =
+      let q = at-kins x.state.requests n k h in
+      let st = waits-so q.0.status t (ap (λ (k : Kin). k.waits) q.2 ∙ e) in
+      let s = paired-other (ShowsSlot w x.state (length log.events) seen) slots x.state.requests n
+      q.0 x.each q.1 in
+      let z = slot-waits s.0 q.0 t st.0 st.1 s.1 st.2 in
+      free.awake (subst IsWaiting (sym (s.2 ∙ ap Some z.2)) tt)
+
+  -- the run of a request needs none where its calls are free
+  needs-none : (by : ℕ) (r t : RunId) → NeedsNothing slots making (at slots by) →
+      beginner x.state.begun r ≡ Some by → NeedOf kin r t → ⊥
+  needs-none by r t free b d =
+      let i = inside-open x.state law d.caller d.kin r d.at_caller d.in_run in
+      let same : d.caller ≡ by = same_some (beginner x.state.begun r) d.caller by i.1 b in
+      let q = at-kins x.state.requests d.caller d.kin d.at_caller in
+      let s = paired-other (ShowsSlot w x.state (length log.events) seen) slots x.state.requests
+      d.caller q.0 x.each q.1 in
+      let z = slot-calls s.0 q.0 d.ids s.1 (ap (λ (k : Kin). k.calls) q.2 ∙ d.calls_so) in
+      let frees : AreFree slots making z.0.first (length z.0.results.items) =
+      subst (NeedsNothing slots making) (ap (at slots) (sym same) ∙ (s.2 ∙ ap Some z.1)) free in
+      let c = z.2 d.child_id d.child_in in
+      free-holds d.child_id d.child t d.at_child
+      (subst (IsFree slots making) (sym c.1) (frees c.0 c.2)) d.holds
+
   -- a request with a node
   module _ (id node : ℕ) (q : RequestState P I A) (place : Place P I A) (here : at x.state.requests id ≡ Some q) (st : q.status ≡ assigned node place) where
     there : kin id ≡ Some (kin_of q)
@@ -481,3 +659,21 @@ module _ {W P I A : Type 0} (seen : W → Seen P I A) (w : World P I A) {log : L
           contra n b h =
               let same : n ≡ by = same_some (beginner x.state.begun run) n by b begun-by in
               let t : true ≡ false = sym h ∙ (ap (λ m. among m requests) same ∙ a.apart) in absurd (cc)
+
+      -- where the run needs no other, and the request that has begun it does not call this one,
+      -- the wait closes none
+      pub free-open : (caller_at origins id ≡ Some by → ⊥) →
+          NeedsNothing slots making (at slots by) →
+          (between : List RunId) → IsChain then run between run → ⊥
+      free-open other free between c =
+          let p : Path (NeedOf (kins_of then.requests)) run run =
+          path-mono (kin-needs then) (chain-path then run run between c) in
+          let d = path-first p in
+          elim (old-or-new id (kin_of q) (kin_of new) run changed refl family run d.0 d.1) [
+            | inl o ↦ needs-none by run d.0 free begun-by o
+            | inr o ↦
+                let inside = inside-open x.state law o.caller o.kin run o.there o.inside in
+                let same : o.caller ≡ by =
+                same_some (beginner x.state.begun run) o.caller by inside.1 begun-by in
+                other (kin-caller id by (kin_of q) changed.was (o.called ∙ ap Some same))
+          ]

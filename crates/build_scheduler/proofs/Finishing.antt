@@ -372,6 +372,16 @@ module _ {W P I A : Type 0} (seen : W → Seen P I A) (w : World P I A) (log aft
       let y = open_run seen w log after id run made p x e h in
       ap (λ bs. request_of bs run) x.begun ∙ (ap (request_of (unfinished x.state.table x.state.begun)) (sym e.run_is) ∙ (unfinished-beginner x.state.table x.state.begun e.inside.run y.0 ∙ y.1))
 
+  -- the run has no record before
+  pub finish-new : Asks w log.events id (Finished run made) →
+      Shown seen w log origins slots making table end → found table.finished run ≡ None
+  finish-new a x =
+      let p : Position P I A = a.position in
+      let e = ends-of p.runs p.place run made a.asks in
+      let h = there-of seen w x id p a.stands in
+      let y = open_run seen w log after id run made p x e h in
+      ap (λ records. found records run) x.finished ∙ (ap (found x.state.table) (sym e.run_is) ∙ y.0)
+
   pub finish-room : Asks w log.events id (Finished run made) → Shown seen w log origins slots making table end → 0 < log.room
   finish-room a x =
       let p : Position P I A = a.position in

@@ -6,7 +6,11 @@ pub mod Claims
 pub mod Dependents
 pub mod Ends
 pub mod Entered
+pub mod Free
+pub mod HandedBack
 pub mod Instances
+pub mod Kept
+pub mod KeptEnds
 pub mod Learnt
 pub mod Log
 pub mod Numbers

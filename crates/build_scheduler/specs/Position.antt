@@ -77,6 +77,11 @@ abbrev pub IsCall : RequestKey → Ask → Type 0
 IsCall key (Call keys) = In key keys
 IsCall key ask = ⊥
 
+-- the request asks for nothing more
+abbrev pub HasEnded : Ask → Type 0
+HasEnded (Done told) = Unit {0}
+HasEnded ask = ⊥
+
 -- the tools that the body which a request is in has used
 abbrev pub tools_in : {P I A : Type 0} → Place P I A → List (ToolUse I)
 tools_in (walking walk) = []

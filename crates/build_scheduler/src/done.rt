@@ -13,6 +13,7 @@ ghost use Rattle.build_scheduler.specs.Calls.{
   IsPassed,
   IsResumed,
 };
+ghost use Rattle.build_scheduler.specs.HandedBack.{IsHandedBack, IsLeft};
 ghost use Rattle.build_scheduler.specs.Learnt.{AreInOrder};
 ghost use Rattle.build_scheduler.specs.Numbers.{among};
 ghost use Rattle.build_scheduler.specs.Own.{Asks, IsOwn, seen_by};
@@ -41,8 +42,11 @@ impl<W: Walker> Core<W> {
         ensures root { id ≡ 0 → self.new.end ≡ Some (Root told) }
         ensures others { (id ≡ 0 → ⊥) → self.new.end ≡ None }
         ensures nodes { self.new.history.nodes ≡ self.old.history.nodes }
+        ensures left { IsHandedBack (W.world_of self.old.world) self.old.history.events id walk
+            result }
     {
         let left = self.give_journal(id, walk);
+        self.kept.count_done(id);
         self.history.push(Event::Done(id));
         put_slot(&mut self.slots, id, Slot::Done);
         match parent_of(&self.origins, id) {
@@ -67,6 +71,8 @@ impl<W: Walker> Core<W> {
         ensures history { self.new.history ≡ self.old.history }
         ensures table { self.new.table ≡ self.old.table }
         ensures end { self.new.end ≡ self.old.end }
+        ensures left { IsHandedBack (W.world_of self.old.world) self.old.history.events id walk
+            result }
     {
         match parent_of(&self.origins, id) {
             None => Some(walk),
@@ -116,8 +122,9 @@ fn pass_journal<W: Walker>(
     requires in_order { AreInOrder table.now.finished }
     requires can { CanTake (seen_by W.world W.position W.asked W.learnt) table.now.finished
         (seen_by W.world W.position W.asked W.learnt call) (at slots.old.items caller) }
-    ensures { IsPassed (seen_by W.world W.position W.asked W.learnt) table.now.finished
+    ensures passed { IsPassed (seen_by W.world W.position W.asked W.learnt) table.now.finished
         slots.old.items slots.new.items caller }
+    ensures left { IsLeft (at slots.old.items caller) id call result }
 {
     let mut calls = take_calls(slots, caller);
     let left = calls.take_journal(id, call, table);

@@ -50,6 +50,11 @@ impl Instances {
         Ok(Instances { seen })
     }
 
+    /// The place of an instance, in the order in which they came. This takes no memory.
+    pub(crate) fn place(&self, instance: &InstanceKey) -> Option<usize> {
+        self.seen.get_index_of(instance)
+    }
+
     /// Adds the instances of some calls. Where there would be too many, or no memory, nothing changes.
     pub(crate) fn add(&mut self, calls: &[RequestKey]) -> Result<(), Crowd>
         requires { length self.old ≤ most_instances }

@@ -196,6 +196,7 @@ impl<W: Walker> Core<W> {
             count,
         )?;
         self.ready.reserve(count)?;
+        self.kept.reserve(count)?;
         self.history.reserve(events)?;
         Ok(())
     }
@@ -228,6 +229,7 @@ impl<W: Walker> Core<W> {
             Err(Crowd::TooMany(instance)) => Err((walk, RequestFault::TooMany(instance))),
             Err(Crowd::Memory) => Err((walk, RequestFault::Memory)),
             Ok(()) => {
+                self.kept.count(&self.instances, calls.as_slice());
                 list_new(&mut self.ready, self.slots.len() as u64, calls.len());
                 self.history.push(Event::Request(id, calls));
                 children.enter_all(

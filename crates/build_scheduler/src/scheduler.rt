@@ -5,6 +5,7 @@ ghost use Rattle.build_meaning.specs.Meaning.{most_instances};
 ghost use Rattle.build_scheduler.specs.Behind.{AreBehind, IsBehind};
 ghost use Rattle.build_scheduler.specs.Ends.{IsEnd, IsStop, ShowsStop};
 ghost use Rattle.build_scheduler.specs.Instances.{AreCounted, instance_asked};
+ghost use Rattle.build_scheduler.specs.Kept.{AreKept};
 ghost use Rattle.build_scheduler.specs.Learnt.{AreInOrder};
 ghost use Rattle.build_scheduler.specs.Own.{IsOut, seen_by};
 ghost use Rattle.build_scheduler.specs.Position.{begins};
@@ -14,6 +15,7 @@ ghost use Rattle.build_scheduler.specs.declared.slot.Slot.TheVariants.{Ready, As
 ghost use Rattle.build_meaning.specs.Lists.{at, put};
 
 use crate::instances::Instances;
+use crate::kept::KeptEnds;
 use crate::log::Log;
 use crate::numbers::Numbers;
 use crate::opening::{Opening, alone};
@@ -43,6 +45,8 @@ pub struct Core<W: Walker> {
     pub(crate) waiting: Vec<Numbers>,
     pub(crate) instances: Instances,
     pub(crate) end: Option<End>,
+    /// How requests have ended, for others of their keys.
+    pub(crate) kept: KeptEnds<W>,
     ghost legal: { ∥ Shown (seen_by W.world W.position W.asked W.learnt) (W.world_of world) history origins.items slots.items making.items table end ∥₁ },
     ghost indexed: { ∥ Indexed slots.items ready waiting.items ∥₁ },
     ghost counted: { ∥ AreCounted instances (map instance_asked origins.items) ∥₁ },
@@ -50,6 +54,8 @@ pub struct Core<W: Walker> {
     ghost few: { length instances ≤ most_instances },
     ghost nested: { ∥ AreNested origins.items ∥₁ },
     ghost stops: { ∥ ShowsStop (W.world_of world) history.events end ∥₁ },
+    ghost kept_so: { ∥ AreKept (seen_by W.world W.position W.asked W.learnt) (W.world_of world)
+        table.finished origins.items kept.ends.items ∥₁ },
     ghost behind: { ∥ AreBehind (seen_by W.world W.position W.asked W.learnt) (W.world_of world) history.events slots.items ∥₁ },
 }
 
@@ -67,6 +73,7 @@ impl<W: Walker + Drop> Drop for Core<W> {
             waiting: _,
             instances: _,
             end: _,
+            kept: _,
         } = self;
     }
 }
@@ -106,6 +113,7 @@ impl<W: Walker> Core<W> {
             waiting,
             instances,
             end: None,
+            kept: KeptEnds::new(alloc)?,
         })
     }
 
@@ -126,6 +134,7 @@ impl<W: Walker> Core<W> {
         ensures table { self.new.table ≡ self.old.table }
         ensures end { self.new.end ≡ self.old.end }
         ensures nodes { self.new.history.nodes ≡ self.old.history.nodes }
+        ensures room { self.old.history.room ≡ self.new.history.room + 1 }
         ensures out { ∥ IsOut (W.world_of self.new.world) self.new.history.events self.new.table.finished id (seen_by W.world W.position W.asked W.learnt result.0) result.1 ∥₁ }
         ensures behind { ∥ IsBehind (W.world_of self.old.world) self.old.history.events id (W.position result.0).place ∥₁ }
     {

@@ -169,7 +169,9 @@ impl<W: Drop> Calls<W> {
 impl<W: Walker> Calls<W> {
     ghost use Rattle.std.specs.Prelude.{◌≡◌, Some};
     ghost use Rattle.result_cache.specs.Replay.{replay_all};
+    ghost use Rattle.build_scheduler.specs.declared.slot.Slot.TheVariants.{Calling};
     ghost use Rattle.build_scheduler.specs.Calls.{HasTaken};
+    ghost use Rattle.build_scheduler.specs.HandedBack.{IsLeft};
     ghost use Rattle.build_scheduler.specs.Learnt.{AreInOrder, ArePartOf};
     ghost use Rattle.build_scheduler.specs.Own.{seen_by};
 
@@ -180,8 +182,9 @@ impl<W: Walker> Calls<W> {
         requires known { ArePartOf (W.learnt self.old.walk) table.now.finished }
         requires replays { replay_all table.now.finished (W.position call).runs
             (W.position self.old.walk).journal ≡ Some (W.position call).journal }
-        ensures { HasTaken (seen_by W.world W.position W.asked W.learnt) table.now.finished
+        ensures taken { HasTaken (seen_by W.world W.position W.asked W.learnt) table.now.finished
             self.old self.new }
+        ensures left { IsLeft (Some (Calling self.old)) id call result }
     {
         if id == self.first {
             self.walk.take_journal(call, table);

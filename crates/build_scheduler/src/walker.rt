@@ -1,10 +1,37 @@
-ghost use Rattle.std.specs.Prelude.{◌≡◌, ◌+◌, ◌^◌, ◌<◌, ◌++◌, ℕ, List, IfOk, IsSome, OnOk, OnErr, None, Option, Some};
+ghost use Rattle.std.specs.Prelude.{
+  ◌≡◌,
+  ◌+◌,
+  ◌^◌,
+  ◌<◌,
+  ◌++◌,
+  ℕ,
+  List,
+  [],
+  length,
+  true,
+  IfOk,
+  IsSome,
+  OnOk,
+  OnErr,
+  None,
+  Option,
+  Some,
+};
 ghost use mathlib.Core.List.{IsPrefix};
 ghost use Rattle.result_cache.specs.Replay.{replay_all};
 ghost use Rattle.result_cache.specs.Table.{Records};
 ghost use Rattle.build_meaning.specs.World.{World};
 ghost use Rattle.build_meaning.specs.SoFar.{ToolUse};
-ghost use Rattle.build_scheduler.specs.Position.{Position, ask_of, answered, begins, IsInTurn, IsCall, used_between};
+ghost use Rattle.build_scheduler.specs.Position.{
+  Position,
+  ask_of,
+  answered,
+  begins,
+  IsInTurn,
+  IsCall,
+  HasEnded,
+  used_between,
+};
 ghost use Rattle.build_scheduler.specs.Learnt.{AreInOrder, ArePartOf};
 
 use msb_values::{List, NoMemory};
@@ -89,6 +116,12 @@ pub trait Walker: Sized + Drop {
     /// The tools that were used at a place, in order.
     ghost used: { Self.Place → List (ToolUse Self.Input) };
 
+    /// The name of the borrow by which a place has what is lent to it: no walk changes it.
+    ghost lent: { Self.Place → ℕ };
+
+    /// Whether what a place keeps for the walks that it advances is what this world gives.
+    ghost Fits: { Self.Place → World Self.Site Self.Input Self.Output → Type 0 };
+
     /// What tells the walk's world. This takes no memory.
     fn origin(&self) -> Self::Origin
         ensures { Self.world_of result ≡ Self.world self.now };
@@ -117,6 +150,24 @@ pub trait Walker: Sized + Drop {
         ensures asked { Self.asked self.new ≡ Self.asked self.old }
         ensures earlier { Self.earlier self.new ≡ Self.earlier self.old };
 
+    /// Whether its journal is empty. This takes no memory.
+    fn knows_nothing(&self) -> bool
+        ensures { result ≡ true → (Self.position self.now).journal ≡ [] };
+
+    /// How many runs it has made or used. This takes no memory.
+    fn runs_used(&self) -> usize
+        ensures { result ≡ length (Self.position self.now).runs };
+
+    /// A walk that is over as this one is, with the same journal. It has learnt nothing.
+    fn ended(&self) -> Result<Self, NoMemory>
+        requires asked { 0 < Self.asked self.now }
+        requires over { HasEnded (ask_of (Self.position self.now)) }
+        ensures world { IfOk result (λ ended. Self.world ended ≡ Self.world self.now) }
+        ensures position { IfOk result (λ ended. Self.position ended ≡ Self.position self.now) }
+        ensures asked { IfOk result (λ ended. Self.asked ended ≡ 1) }
+        ensures learnt { IfOk result (λ ended. Self.learnt ended ≡ []) }
+        ensures earlier { IfOk result (λ ended. Self.earlier ended ≡ None) };
+
     /// Learns the records that an answer needs, through all levels of calls: the answer then takes the walk where it would by
     /// the whole table. Where there is no memory, the walk is as it was.
     fn learn(&mut self, table: &Table, answer: &Answer) -> Result<(), NoMemory>
@@ -133,11 +184,14 @@ pub trait Walker: Sized + Drop {
         ensures earlier { Self.earlier self.new ≡ Self.earlier self.old };
 
     /// Goes on with an answer to the next ask. Where there is no memory, the walk is as it was, and the calls of tools begin with
-    /// those of before.
+    /// those of before. The place fits the walk's world, before and after.
     fn advance(&mut self, place: &mut Self::Place, answer: &Answer) -> Result<Ask, NoMemory>
         requires fits { IsSome (answered (Self.world self.old) (Self.learnt self.old) (Self.position self.old) answer.now) }
         requires turn { IsInTurn (Self.asked self.old) answer.now }
         requires room { Self.asked self.old < 2 ^ 63 }
+        requires place { Self.Fits place.old (Self.world self.old) }
+        ensures place { Self.Fits place.new (Self.world self.old) }
+        ensures lent { Self.lent place.new ≡ Self.lent place.old }
         ensures asks { IfOk result (λ ask. ask ≡ ask_of (Self.position self.new)) }
         ensures goes_on { OnOk result (answered (Self.world self.old) (Self.learnt self.old) (Self.position self.old) answer.now ≡ Some (Self.position self.new)) }
         ensures asked { OnOk result (Self.asked self.new ≡ Self.asked self.old + 1) }
@@ -156,4 +210,8 @@ pub trait Walker: Sized + Drop {
         ensures earlier { Self.earlier self.new ≡ None }
         ensures world { Self.world self.new ≡ Self.world self.old }
         ensures learnt { Self.learnt self.new ≡ Self.learnt self.old };
+
+    /// A place fits a world in one way alone.
+    ghost fits_once: { (place : Self.Place) (w : World Self.Site Self.Input Self.Output)
+        (a b : Self.Fits place w) → a ≡ b };
 }

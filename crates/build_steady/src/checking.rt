@@ -99,7 +99,8 @@ const MOST_ASKS: u64 = 1 << 62;
 /// Checks the world of a root request, whose walk had no answer yet and is for this instance. Each
 /// run is made wherever the journal of the request that wants it lacks it, in the order of demand,
 /// up to the first event that speaks against the world. One record is kept of each run. Want of
-/// memory is the only refusal; the tools' uses begin with those of before then, too. (MSBuild task; Building projects in parallel.)
+/// memory is the only refusal; the tools' uses begin with those of before then, too. The place fits
+/// the world, before and after. (MSBuild task; Building projects in parallel.)
 pub fn check_walk<W: Recalls>(
     alloc: Global,
     root: &InstanceKey,
@@ -110,8 +111,11 @@ pub fn check_walk<W: Recalls>(
     requires begins { W.position walk ≡ begins (W.world walk) (W.world walk).root [] }
     requires asked { W.asked walk ≡ 0 }
     requires learnt { W.learnt walk ≡ [] }
+    requires place { W.Fits place.old (W.world walk) }
     ensures verdict { IfOk result (λ verdict. verdict ≡ verdict_of (W.world walk)) }
     ensures front { IsPrefix (W.used place.old) (W.used place.new) }
+    ensures place { W.Fits place.new (W.world walk) }
+    ensures lent { W.lent place.new ≡ W.lent place.old }
 {
     let mut check = Check::new(alloc);
     let mut turn = check.start(root, walk)?;
@@ -166,10 +170,13 @@ impl<W: Recalls> Check<W> {
         requires room { self.old.asks < 2 ^ 62 }
         requires turn { IsTurn (seen_by W.world W.position W.asked W.learnt) (W.world walk) self.old
             (GoesOn walk answer) }
+        requires place { W.Fits place.old (W.world walk) }
         ensures turn { IfOk result (IsTurn (seen_by W.world W.position W.asked W.learnt)
             (W.world walk) self.new) }
         ensures asks { OnOk result (self.new.asks ≡ self.old.asks + 1) }
         ensures front { IsPrefix (W.used place.old) (W.used place.new) }
+        ensures place { W.Fits place.new (W.world walk) }
+        ensures lent { W.lent place.new ≡ W.lent place.old }
     {
         let mut walk = walk;
         let ask = go_on(&self.findings.records, place, &mut walk, &answer)?;
@@ -342,6 +349,7 @@ fn go_on<W: Recalls>(
         answer.now) }
     requires turn { IsInTurn (W.asked walk.old) answer.now }
     requires room { W.asked walk.old < 2 ^ 63 }
+    requires place { W.Fits place.old (W.world walk.old) }
     ensures asks { IfOk result (λ ask. ask ≡ ask_of (W.position walk.new)) }
     ensures goes_on { OnOk result (answered (W.world walk.old) records.now.finished
         (W.position walk.old) answer.now ≡ Some (W.position walk.new)) }
@@ -349,6 +357,8 @@ fn go_on<W: Recalls>(
     ensures known { ArePartOf (W.learnt walk.new) records.now.finished }
     ensures world { W.world walk.new ≡ W.world walk.old }
     ensures front { IsPrefix (W.used place.old) (W.used place.new) }
+    ensures place { W.Fits place.new (W.world walk.old) }
+    ensures lent { W.lent place.new ≡ W.lent place.old }
 {
     walk.learn(records, answer)?;
     walk.advance(place, answer)

@@ -13,7 +13,7 @@ pub trait Recalls: Walker {
         ensures { result ≡ has (end_of run.now) (Self.position self.now).journal };
 }
 
-impl<'a, T: CountedTools> Recalls for Walk<'a, T> {
+impl<'a, T: CountedTools + 'a> Recalls for Walk<'a, T> {
     fn recalls(&self, run: &RunRef) -> bool {
         self.has_ended(run)
     }

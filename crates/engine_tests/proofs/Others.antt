@@ -1,5 +1,34 @@
 -- A walk stays its request's own through the events of others.
-use Rattle.std.proofs.Common.{◌≡◌, ◌<◌, ◌≤◌, ℕ, zero, suc, List, [], ◌∷◌, ◌++◌, length, drop, take, All, get_or, Option, Some, refl, ap, sym, subst, ◌∙◌, arith, append_assoc, length-append}
+use Rattle.std.proofs.Common.{
+  ◌≡◌,
+  ◌<◌,
+  ◌≤◌,
+  ℕ,
+  zero,
+  suc,
+  List,
+  [],
+  ◌∷◌,
+  ◌++◌,
+  length,
+  drop,
+  take,
+  All,
+  get_or,
+  Bool,
+  true,
+  false,
+  Option,
+  Some,
+  refl,
+  ap,
+  sym,
+  subst,
+  ◌∙◌,
+  arith,
+  append_assoc,
+  length-append,
+}
 use Rattle.std.specs.List.{remove}
 use Rattle.std.proofs.lemmas.List.{append-nil}
 use Rattle.std.proofs.lemmas.List.Elements.{All-append, All-drop, All-take}
@@ -18,6 +47,7 @@ use Rattle.build_meaning.proofs.OrderlyHistories.{records_stay}
 use Rattle.build_scheduler.specs.declared.slot.Origin.{Origin}
 use Rattle.build_scheduler.specs.declared.slot.Slot.{Slot}
 use Rattle.build_scheduler.specs.declared.slot.End.{End}
+use Rattle.build_scheduler.specs.Kept.{IsRepeated, repeats}
 use Rattle.build_scheduler.specs.Log.{Logged}
 use Rattle.build_scheduler.specs.Own.{Seen, placed, IsOwn}
 use Rattle.build_scheduler.specs.Position.{ask_of}
@@ -103,20 +133,45 @@ module _ {P I A : Type 0} (w : World P I A) {W : Type 0} {seen : W → Seen P I 
 
 -- a request still asks after more events, in the same world
 pub asks-on : {P I A : Type 0} (w v : World P I A) (events after : List Event) (id number : ℕ)
-    (walk : Seen P I A) (ask : Ask) → v ≡ w → Continues events after →
+    (walk : Seen P I A) (ask : Ask) → v ≡ w → ∥ Continues events after ∥₁ →
     IsAsking w events id number walk ask → IsAsking v after id number walk ask
-asks-on w v events after id number walk ask same (more, e) (asks, own) = (
+asks-on w v events after id number walk ask same continues (asks, own) = (
   asks,
-  subst (λ u. ∥ WasOwn u after id number walk ∥₁) (sym same) (∥∥₁_map own (λ k. record {
-    before = k.before;
-    more = k.more ++ more;
-    table = k.table;
-    number_is = k.number_is;
-    continues = e ∙ (ap (λ l. l ++ more) k.continues ∙ append_assoc k.before k.more more);
-    own = k.own;
-    table_is = k.table_is;
-  })),
+  subst (λ u. ∥ WasOwn u after id number walk ∥₁) (sym same)
+      (∥∥₁_map₂ own continues (λ k more. record {
+        before = k.before;
+        more = k.more ++ more.0;
+        table = k.table;
+        number_is = k.number_is;
+        continues = more.1
+            ∙ (ap (λ l. l ++ more.0) k.continues ∙ append_assoc k.before k.more more.0);
+        own = k.own;
+        table_is = k.table_is;
+      })),
 )
+
+-- a request that is over at once adds events, and one that is not adds none
+pub repeated-none : {P I A : Type 0} (w : World P I A) (table : Records) (events after : List Event)
+    (id node : ℕ) (repeated : Bool) → repeated ≡ false →
+    IsRepeated w table events after id node repeated → after ≡ events
+repeated-none w table events after id node repeated is h =
+    subst (λ (b : Bool). IsRepeated w table events after id node b) is h
+
+pub repeated-continues : {P I A : Type 0} (w : World P I A) (table : Records)
+    (events after : List Event) (id node : ℕ) (repeated : Bool) →
+    IsRepeated w table events after id node repeated → ∥ Continues events after ∥₁
+repeated-continues w table events after id node true h =
+    ∥∥₁_map h (λ x. (repeats id node x.rest, x.is))
+repeated-continues w table events after id node false h = ∣ ([], h ∙ sym (append-nil events)) ∣₁
+
+pub assigned-continues : {P I A : Type 0} (w : World P I A) (table : Records)
+    (events mid after : List Event) (id node : ℕ) (repeated : Bool) (event : Event) →
+    repeated ≡ false → IsRepeated w table events mid id node repeated →
+    after ≡ mid ++ event ∷ [] → ∥ Continues events after ∥₁
+assigned-continues w table events mid after id node repeated event is h grown = ∣ (
+  event ∷ [],
+  grown ∙ ap (λ l. l ++ event ∷ []) (repeated-none w table events mid id node repeated is h),
+) ∣₁
 
 -- the events behind a place of a history, as they are looked through
 pub others-none : (xs : List Event) (n id : ℕ) → AreOfOthers id (drop n (take n xs))

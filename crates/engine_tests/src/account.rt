@@ -41,6 +41,8 @@ pub struct Account {
     requests: Vec<Request>,
     /// The first rule that was broken; empty where none was.
     pub broken: &'static str,
+    /// How many requests were over at once.
+    pub repeats: u64,
 }
 
 impl Account {
@@ -51,6 +53,7 @@ impl Account {
             runs: Vec::new(alloc),
             requests: Vec::new(alloc),
             broken: "",
+            repeats: 0,
         };
         account.add_requests(None, 1)?;
         Ok(account)
@@ -62,16 +65,18 @@ impl Account {
         }
     }
 
-    /// Looks at a core that is at most one event later than when it was looked at last.
+    /// Looks at a core that is at most one event later than when it was looked at last, or later by
+    /// the events of one request that is over at once.
     pub fn look<W: Walker>(&mut self, core: &Core<W>) -> Result<(), NoMemory> {
         let before = self.events;
-        self.events = core.history().len();
-        self.rule(
-            self.events <= before.saturating_add(1),
-            "one event at a time",
-        );
-        if let Some(event) = core.history().get(before) {
-            self.see(event, core.table())?;
+        let events = core.history();
+        self.events = events.len();
+        if self.events > before.saturating_add(1) {
+            self.rule(is_repeat(events, before), "one event at a time");
+            self.repeats = self.repeats.saturating_add(1);
+        }
+        for at in before..events.len() {
+            self.see(&events[at], core.table())?;
         }
         self.compare(core.table(), core.ready(), core.end());
         Ok(())
@@ -283,4 +288,29 @@ impl Account {
         }
         false
     }
+}
+
+/// Whether the events from this place on are those of one request that is assigned, uses records,
+/// and is over.
+fn is_repeat(events: &[Event], from: usize) -> bool {
+    let (Some(Event::Assign(id, _)), Some(Event::Done(over))) = (events.get(from), events.last())
+    else {
+        return false;
+    };
+    id == over && are_uses(events, from.saturating_add(1), *id)
+}
+
+/// Whether the events from this place to the one ahead of the last are of a request that uses
+/// records.
+fn are_uses(events: &[Event], from: usize, id: u64) -> bool {
+    for at in from..events.len().saturating_sub(1) {
+        let is_use = matches!(
+            events.get(at),
+            Some(Event::Claim(by, _, ClaimKind::Use)) if *by == id
+        );
+        if !is_use {
+            return false;
+        }
+    }
+    true
 }

@@ -1,11 +1,15 @@
-//! A build on several nodes, one event at a time: each request that is with a node has asked, and any of them is answered next.
+//! A build on several nodes, step by step: each request that is with a node has asked, and any of
+//! them is answered next. One that is ready may be over at once, by what another one of its key has
+//! given.
 ghost use Rattle.std.specs.Prelude.{◌≡◌, ◌+◌, ◌^◌, ◌<◌, [], true, All, drop, length, None, Some, IfOk, IfSome, IsSome, OnOk};
 ghost use Rattle.build_meaning.specs.History.{AreOfOthers};
 ghost use Rattle.build_meaning.specs.Step.{whose};
-ghost use Rattle.build_scheduler.specs.declared.walker.Ask.TheVariants.{Want, Call};
+ghost use Rattle.build_scheduler.specs.declared.walker.Ask.TheVariants.{Want, Call, Done as IsOver};
+ghost use Rattle.build_scheduler.specs.Kept.{IsRepeated};
 ghost use Rattle.build_scheduler.specs.Learnt.{AreInOrder, ArePartOf};
 ghost use Rattle.build_scheduler.specs.Own.{IsOut, IsOwn, seen_by};
 ghost use Rattle.build_scheduler.specs.Position.{IsInTurn, answered, ask_of, begins};
+ghost use Rattle.build_scheduler.specs.Ready.{IsReady};
 ghost use Rattle.build_plain.specs.Driven.{Continues, end_of};
 ghost use Rattle.engine_tests.specs.Trials.{IsAsking};
 
@@ -14,9 +18,10 @@ use crate::random::Random;
 use build_outcome::Outcome;
 use build_scheduler::{Answer, Ask, Claimed, Core, End, Event, RequestFault, Walker};
 use build_world::World;
+use msb_instance::Instances;
 use msb_values::{List, NoMemory, Text};
-use request_machine::{Walk, root_key};
-use result_cache::{RequestKey, RunId, Table};
+use request_machine::{Site, Walk, root_key};
+use result_cache::{RequestKey, RequestResult, RunId, Table};
 use std::alloc::Global;
 use task_trait::CountedTools;
 
@@ -40,22 +45,28 @@ struct Next<W> {
 
 /// A build, and its requests that are with nodes.
 #[derive(Drop)]
-struct AnyOrder<W: Walker> {
-    core: Core<W>,
+pub struct AnyOrder<W: Walker> {
+    pub core: Core<W>,
     out: Vec<Asking<W>>,
     ghost asking: { All (λ a. IsAsking (W.world_of core.world) core.history.events a.id a.number (seen_by W.world W.position W.asked W.learnt a.walk) a.ask) out.items },
 }
 
 impl<W: Walker> AnyOrder<W> {
-    fn new(alloc: Global, core: Core<W>) -> AnyOrder<W> {
+    pub fn new(alloc: Global, core: Core<W>) -> AnyOrder<W>
+        ensures { result.core ≡ core }
+    {
         AnyOrder {
             core,
             out: Vec::new(alloc),
         }
     }
 
-    /// One event, if the build has not ended: the choice says whose.
-    fn turn(&mut self, place: &mut W::Place, choice: u64) -> Result<(), NoMemory> {
+    /// One event, or all those by which a request is over at once, if the build has not ended: the
+    /// choice says whose.
+    pub fn turn(&mut self, place: &mut W::Place, choice: u64) -> Result<(), NoMemory>
+        requires place { W.Fits place.old (W.world_of self.old.core.world) }
+        ensures place { W.Fits place.new (W.world_of self.new.core.world) }
+    {
         if self.core.end().is_some() {
             return Ok(());
         }
@@ -63,6 +74,17 @@ impl<W: Walker> AnyOrder<W> {
             Some(next) => advance(&self.core, &mut self.out, place, next),
             None => Ok(()),
         }
+    }
+
+    /// Whether no request is with a node, and the least one that is ready is this one.
+    pub fn is_next(&self, id: u64) -> bool {
+        self.out.is_empty() && self.core.ready() == Some(id)
+    }
+
+    /// The core; requests that are with nodes are dropped.
+    pub fn into_core(self) -> Core<W> {
+        let AnyOrder { core, out: _ } = self;
+        core
     }
 }
 
@@ -73,18 +95,25 @@ pub struct Watched {
     pub outcome: Option<Outcome>,
     /// The first rule that was broken; empty where none was.
     pub broken: Text,
+    /// How many requests were over at once.
+    pub repeats: u64,
 }
 
 /// What comes of a build whose events come in the order of this seed.
-pub fn in_any_order<T: CountedTools>(
+pub fn in_any_order<'a, T: CountedTools + 'a>(
     alloc: Global,
-    world: &World,
-    tools: &mut T,
+    world: &'a World,
+    tools: &'a mut T,
     seed: u64,
 ) -> Result<Watched, NoMemory> {
     let key = root_key(world)?;
     let walk = Walk::start(alloc, world)?;
-    built(alloc, key, walk, tools, Random::new(seed))
+    let mut site = Site {
+        world,
+        tools: &mut *tools,
+        instances: Instances::new(alloc),
+    };
+    built(alloc, key, walk, &mut site, Random::new(seed))
 }
 
 fn built<W: Walker>(
@@ -98,13 +127,15 @@ fn built<W: Walker>(
     requires begins { W.position walk ≡ begins (W.world walk) key [] }
     requires asked { W.asked walk ≡ 0 }
     requires learnt { W.learnt walk ≡ [] }
+    requires place { W.Fits place.old (W.world walk) }
 {
     let core = Core::new(alloc, key, walk)?;
     let mut build = AnyOrder::new(alloc, core);
-    let broken = played(alloc, &mut build, place, random)?;
+    let account = played(alloc, &mut build, place, random)?;
     Ok(Watched {
         outcome: outcome_of(alloc, &build.core)?,
-        broken,
+        broken: Text::of(alloc, account.broken)?,
+        repeats: account.repeats,
     })
 }
 
@@ -115,16 +146,18 @@ fn outcome_of<W: Walker>(alloc: Global, core: &Core<W>) -> Result<Option<Outcome
     Ok(Some(Outcome::of(alloc, core, false)?))
 }
 
-/// The rule that is broken by a build that is played to its end.
+/// The account of a build that is played to its end.
 fn played<W: Walker>(
     alloc: Global,
     build: &mut AnyOrder<W>,
     place: &mut W::Place,
     random: Random,
-) -> Result<Text, NoMemory> {
+) -> Result<Account, NoMemory>
+    requires { W.Fits place.old (W.world_of build.old.core.world) }
+{
     let mut account = Account::new(alloc)?;
     play(build, &mut account, place, random)?;
-    Text::of(alloc, account.broken)
+    Ok(account)
 }
 
 /// The build goes on to its end.
@@ -133,7 +166,9 @@ fn play<W: Walker>(
     account: &mut Account,
     place: &mut W::Place,
     random: Random,
-) -> Result<(), NoMemory> {
+) -> Result<(), NoMemory>
+    requires { W.Fits place.old (W.world_of build.old.core.world) }
+{
     let mut random = random;
     for _ in 0..MOST_TURNS {
         build.turn(place, random.next())?;
@@ -153,6 +188,7 @@ const MOST_TURNS: usize = 100_000;
 fn next_of<W: Walker>(core: &mut Core<W>, out: &mut Vec<Asking<W>>, choice: u64) -> Option<Next<W>>
     requires running { core.old.end ≡ None }
     requires out { All (λ a. IsAsking (W.world_of core.old.world) core.old.history.events a.id a.number (seen_by W.world W.position W.asked W.learnt a.walk) a.ask) out.old.items }
+    ensures world { W.world_of core.new.world ≡ W.world_of core.old.world }
     ensures out { All (λ a. IsAsking (W.world_of core.new.world) core.new.history.events a.id a.number (seen_by W.world W.position W.asked W.learnt a.walk) a.ask) out.new.items }
     ensures next { IfSome result (λ next. ∥ IsOut (W.world_of core.new.world) core.new.history.events core.new.table.finished next.id (seen_by W.world W.position W.asked W.learnt next.walk) next.answer ∥₁) }
 {
@@ -165,19 +201,51 @@ fn next_of<W: Walker>(core: &mut Core<W>, out: &mut Vec<Asking<W>>, choice: u64)
     }
 }
 
-/// Assigns the least request that is ready, if any is.
+/// Assigns the least request that is ready, if any is, unless it is over at once.
 fn assign_least<W: Walker>(core: &mut Core<W>, node: u32) -> Option<Next<W>>
     requires running { core.old.end ≡ None }
     ensures world { W.world_of core.new.world ≡ W.world_of core.old.world }
-    ensures continues { Continues core.old.history.events core.new.history.events }
-    ensures next { IfSome result (λ next. ∥ IsOut (W.world_of core.old.world) core.new.history.events core.new.table.finished next.id (seen_by W.world W.position W.asked W.learnt next.walk) next.answer ∥₁) }
+    ensures continues { ∥ Continues core.old.history.events core.new.history.events ∥₁ }
+    ensures next { IfSome result (λ next. ∥ IsOut (W.world_of core.old.world)
+        core.new.history.events core.new.table.finished next.id
+        (seen_by W.world W.position W.asked W.learnt next.walk) next.answer ∥₁) }
 {
     match core.ready() {
         None => None,
-        Some(id) => {
-            let (walk, answer) = core.assign(id, node);
-            Some(Next { id, walk, answer })
-        }
+        Some(id) => hand_out(core, id, node),
+    }
+}
+
+/// Assigns a ready request, unless it is over at once.
+fn hand_out<W: Walker>(core: &mut Core<W>, id: u64, node: u32) -> Option<Next<W>>
+    requires running { core.old.end ≡ None }
+    requires ready { ∥ IsReady (W.world_of core.old.world) core.old.history.events id ∥₁ }
+    ensures world { W.world_of core.new.world ≡ W.world_of core.old.world }
+    ensures continues { ∥ Continues core.old.history.events core.new.history.events ∥₁ }
+    ensures next { IfSome result (λ next. ∥ IsOut (W.world_of core.old.world)
+        core.new.history.events core.new.table.finished next.id
+        (seen_by W.world W.position W.asked W.learnt next.walk) next.answer ∥₁) }
+{
+    if is_repeated(core, id, node) {
+        None
+    } else {
+        let (walk, answer) = core.assign(id, node);
+        Some(Next { id, walk, answer })
+    }
+}
+
+/// Whether a ready request is over at once, by what another one of its key has given.
+fn is_repeated<W: Walker>(core: &mut Core<W>, id: u64, node: u32) -> bool
+    requires running { core.old.end ≡ None }
+    requires ready { ∥ IsReady (W.world_of core.old.world) core.old.history.events id ∥₁ }
+    ensures world { W.world_of core.new.world ≡ W.world_of core.old.world }
+    ensures end { core.new.end ≡ core.old.end }
+    ensures repeated { IsRepeated (W.world_of core.old.world) core.old.table.finished
+        core.old.history.events core.new.history.events id node result }
+{
+    match core.repeat(id, node) {
+        Ok(repeated) => repeated,
+        Err(NoMemory) => false,
     }
 }
 
@@ -249,10 +317,24 @@ fn answer_ask<W: Walker>(core: &mut Core<W>, id: u64, walk: W, ask: Ask) -> Opti
             })
         }
         Ask::Done(told) => {
-            let _left = core.done(id, walk, told);
+            end_request(core, id, walk, told);
             None
         }
     }
+}
+
+/// Ends a request, and keeps how it has ended for others of its key. Where there is no memory,
+/// nothing is kept.
+fn end_request<W: Walker>(core: &mut Core<W>, id: u64, walk: W, told: RequestResult)
+    requires running { core.old.end ≡ None }
+    requires own { ∥ IsOwn (W.world_of core.old.world) core.old.history.events
+        core.old.table.finished id (seen_by W.world W.position W.asked W.learnt walk) ∥₁ }
+    requires asks { ask_of (W.position walk) ≡ IsOver told }
+    ensures world { W.world_of core.new.world ≡ W.world_of core.old.world }
+    ensures continues { Continues core.old.history.events core.new.history.events }
+{
+    let _ = core.keep(id, &walk, &told);
+    let _left = core.done(id, walk, told);
 }
 
 fn claim<W: Walker>(core: &mut Core<W>, id: u64, walk: W, run: &RunId) -> Option<Next<W>>
@@ -323,7 +405,10 @@ fn advance<W: Walker>(
 ) -> Result<(), NoMemory>
     requires out { All (λ a. IsAsking (W.world_of core.now.world) core.now.history.events a.id a.number (seen_by W.world W.position W.asked W.learnt a.walk) a.ask) out.old.items }
     requires next { ∥ IsOut (W.world_of core.now.world) core.now.history.events core.now.table.finished next.id (seen_by W.world W.position W.asked W.learnt next.walk) next.answer ∥₁ }
-    ensures { All (λ a. IsAsking (W.world_of core.now.world) core.now.history.events a.id a.number (seen_by W.world W.position W.asked W.learnt a.walk) a.ask) out.new.items }
+    requires place { W.Fits place.old (W.world_of core.now.world) }
+    ensures place { W.Fits place.new (W.world_of core.now.world) }
+    ensures out { All (λ a. IsAsking (W.world_of core.now.world) core.now.history.events a.id
+        a.number (seen_by W.world W.position W.asked W.learnt a.walk) a.ask) out.new.items }
 {
     let Next {
         id,
@@ -360,6 +445,8 @@ fn step<W: Walker>(
     requires fits { IsSome (answered (W.world walk.old) table.now.finished (W.position walk.old) answer.now) }
     requires turn { IsInTurn (W.asked walk.old) answer.now }
     requires room { W.asked walk.old < 2 ^ 63 }
+    requires place { W.Fits place.old (W.world walk.old) }
+    ensures place { W.Fits place.new (W.world walk.old) }
     ensures asks { IfOk result (λ ask. ask ≡ ask_of (W.position walk.new)) }
     ensures goes_on { OnOk result (answered (W.world walk.old) table.now.finished (W.position walk.old) answer.now ≡ Some (W.position walk.new)) }
     ensures asked { OnOk result (W.asked walk.new ≡ W.asked walk.old + 1) }

@@ -34,15 +34,18 @@ fn built_alone(alloc: Global, set: Tree, tools: &Gate) -> Result<(u8, Outside), 
 // An account is kept of each build.
 #[test]
 fn every_order_comes_to_the_same(rt: HostRuntime) -> Result<(), Fail> {
+    let mut repeats = 0u64;
     for seed in 0..SETS {
-        let status = status_in_every_order(&rt, rt.alloc(), seed, false)?;
+        let built = built_in_every_order(&rt, rt.alloc(), seed, false)?;
         is_number(
             &rt,
-            u64::from(status),
+            u64::from(built.status),
             0,
             "no project calls one ahead of it",
         );
+        repeats = repeats.saturating_add(built.repeats);
     }
+    is_so(&rt, repeats > 5, "there are requests that are over at once");
     Ok(())
 }
 
@@ -50,23 +53,31 @@ fn every_order_comes_to_the_same(rt: HostRuntime) -> Result<(), Fail> {
 fn a_circle_ends_every_order(rt: HostRuntime) -> Result<(), Fail> {
     let mut circles = 0u64;
     for seed in 0..SETS {
-        let status = status_in_every_order(&rt, rt.alloc(), seed, true)?;
-        circles = circles.saturating_add(u64::from(status == 4));
+        let built = built_in_every_order(&rt, rt.alloc(), seed, true)?;
+        circles = circles.saturating_add(u64::from(built.status == 4));
     }
     is_so(&rt, circles > 5, "there are circles");
     Ok(())
 }
 
-fn status_in_every_order<R: Abort>(
+/// What comes of the builds of a set: their status, and how many of their requests were over at
+/// once.
+#[derive(Clone, Copy)]
+struct Built {
+    status: u8,
+    repeats: u64,
+}
+
+fn built_in_every_order<R: Abort>(
     rt: &R,
     alloc: Global,
     seed: u64,
     may_call_all: bool,
-) -> Result<u8, Fail> {
+) -> Result<Built, Fail> {
     let (status, on) = built_alone(alloc, set(alloc, seed, may_call_all)?, &Gate::new())?;
     let world = world(alloc, set(alloc, seed, may_call_all)?)?;
-    all_end_so(rt, alloc, &world, status, &on)?;
-    Ok(status)
+    let repeats = all_end_so(rt, alloc, &world, status, &on)?;
+    Ok(Built { status, repeats })
 }
 
 /// What is built of a set: its first project.
@@ -80,20 +91,23 @@ pub fn world(alloc: Global, tree: Tree) -> Result<World, NoMemory> {
     })
 }
 
+/// All orders end so. How many requests were over at once is told.
 fn all_end_so<R: Abort>(
     rt: &R,
     alloc: Global,
     world: &World,
     status: u8,
     on: &Outside,
-) -> Result<(), NoMemory> {
+) -> Result<u64, NoMemory> {
     let tools = Gate::new();
+    let mut repeats = 0u64;
     for order in 0..ORDERS {
         let mut counted = Counted::new(alloc, &tools)?;
         let watched = in_any_order(alloc, world, &mut counted, order)?;
         ends_so(rt, &watched, world, status, on);
+        repeats = repeats.saturating_add(watched.repeats);
     }
-    Ok(())
+    Ok(repeats)
 }
 
 fn ends_so<R: Abort>(rt: &R, watched: &Watched, world: &World, status: u8, on: &Outside) {

@@ -1,5 +1,5 @@
 //! Builds in which a walk is refused memory once: of two nodes the other one goes on, and on one node the build ends.
-ghost use Rattle.std.specs.Prelude.{◌≡◌, ◌<◌, ◌≤◌, [], IfOk, IsSome, vec_len};
+ghost use Rattle.std.specs.Prelude.{◌≡◌, ◌<◌, ◌≤◌, [], All, IfOk, IsSome, vec_len};
 ghost use Rattle.build_scheduler.specs.Position.{begins};
 
 use crate::orders::world;
@@ -9,6 +9,8 @@ use build_nodes::build_with;
 use build_outcome::Outcome;
 use build_scheduler::{Answer, Ask, Core, End, Event, Walker};
 use build_world::World;
+use msb_instance::Instances;
+use msb_outcomes::sites_of;
 use msb_program::Gate;
 use msb_values::NoMemory;
 use request_machine::{Walk, root_key};
@@ -51,6 +53,12 @@ impl<W: Walker> Walker for Refusing<W> {
 
     ghost used = { W.used };
 
+    ghost lent = { W.lent };
+
+    ghost Fits = { W.Fits };
+
+    ghost fits_once = { W.fits_once };
+
     fn origin(&self) -> W::Origin {
         self.walk.origin()
     }
@@ -65,6 +73,21 @@ impl<W: Walker> Walker for Refusing<W> {
     fn take_journal(&mut self, call: Refusing<W>, table: &Table) {
         let Refusing { walk, refuses: _ } = call;
         self.walk.take_journal(walk, table);
+    }
+
+    fn knows_nothing(&self) -> bool {
+        self.walk.knows_nothing()
+    }
+
+    fn runs_used(&self) -> usize {
+        self.walk.runs_used()
+    }
+
+    fn ended(&self) -> Result<Refusing<W>, NoMemory> {
+        Ok(Refusing {
+            walk: self.walk.ended()?,
+            refuses: false,
+        })
     }
 
     fn learn(&mut self, table: &Table, answer: &Answer) -> Result<(), NoMemory> {
@@ -151,8 +174,8 @@ fn built_on<R: Threads + Wait + Sync, T: Tools + Sync>(
 ) -> Result<Told, NoMemory>
     requires { (0 < manner.nodes) × (manner.nodes ≤ 64) }
 {
-    let counted = counted(alloc, manner.nodes, tools)?;
-    built_at(rt, alloc, world, counted, manner.refuses)
+    let mut counted = counted(alloc, manner.nodes, tools)?;
+    built_at(rt, alloc, world, &mut counted, manner.refuses)
 }
 
 fn counted<'a, T: Tools>(
@@ -169,18 +192,19 @@ fn counted<'a, T: Tools>(
     Ok(counted)
 }
 
-fn built_at<'a, R: Threads + Wait + Sync, T: CountedTools + Send + Drop>(
+fn built_at<'a, R: Threads + Wait + Sync, T: CountedTools + Send + Drop + 'a>(
     rt: &R,
     alloc: Global,
     world: &'a World,
-    tools: Vec<T>,
+    tools: &'a mut Vec<T>,
     refuses: bool,
 ) -> Result<Told, NoMemory>
-    requires { (0 < vec_len tools) × (vec_len tools ≤ 64) }
+    requires { (0 < vec_len tools.old) × (vec_len tools.old ≤ 64) }
 {
     let key = root_key(world)?;
     let walk = Walk::start(alloc, world)?;
-    build_walk(rt, alloc, key, Refusing { walk, refuses }, tools)
+    let sites = sites_of(alloc, world, Instances::new(alloc), tools)?;
+    build_walk(rt, alloc, key, Refusing { walk, refuses }, sites)
 }
 
 fn build_walk<R: Threads + Wait + Sync, W: Walker + Send>(
@@ -198,6 +222,7 @@ where
     requires asked { W.asked walk ≡ 0 }
     requires learnt { W.learnt walk ≡ [] }
     requires places { (0 < vec_len places) × (vec_len places ≤ 64) }
+    requires fits { All (λ place. W.Fits place (W.world walk)) places.items }
 {
     let core = Core::new(alloc, key, walk)?;
     let built = build_with(rt, alloc, core, places)?;

@@ -8,13 +8,13 @@ ghost use Rattle.task_trait.specs.Tools.{BeginsWith};
 ghost use Rattle.msb_outcomes.specs.Checked.{checked, verdict_status, verdict_text};
 ghost use Rattle.msb_outcomes.specs.Outcomes.{IsUnfinished};
 
+use crate::world_with_instances::WorldWithInstances;
 use build_outcome::Outcome;
 use build_report::{
     shown_circular_run, shown_crowding_instance, shown_deep_instance, shown_differs, shown_spent,
     shown_steady,
 };
 use build_steady::{Verdict, check};
-use build_world::World;
 use msb_values::{NoMemory, Text8};
 use std::alloc::Global;
 use task_trait::CountedTools;
@@ -22,14 +22,15 @@ use task_trait::CountedTools;
 /// What is given is checked: its verdict is told, and no file is written.
 pub fn checked<T: CountedTools>(
     alloc: Global,
-    world: &World,
+    given: WorldWithInstances,
     tools: &mut T,
 ) -> Result<Outcome, NoMemory>
-    ensures outcome { IfOk result (λ o. o ≡ checked (verdict_of (world_of T.answer world.now))) }
+    ensures outcome { IfOk result (λ o. o ≡ checked (verdict_of (world_of T.answer given))) }
     ensures status { IfOk result (λ o. IsCompletion o.status ⊎ IsUnfinished o.status) }
     ensures begun { BeginsWith (T.calls tools.old) (T.calls tools.new) }
 {
-    let verdict = check(alloc, world, tools)?;
+    let (world, instances) = given.parts();
+    let verdict = check(alloc, &world, instances, tools)?;
     outcome_of(alloc, &verdict)
 }
 

@@ -1,18 +1,23 @@
 //! Builds on several nodes.
 
-ghost use Rattle.std.specs.Prelude.{◌≡◌, ◌⊎◌, ◌<◌, ◌≤◌, IfOk, vec_len};
+ghost use Rattle.std.specs.Prelude.{◌≡◌, ◌⊎◌, ◌<◌, ◌≤◌, All, IfOk, vec_len};
 ghost use Rattle.build_outcome.specs.Outcomes.{IsOutcome};
+ghost use Rattle.msb_instance.specs.Kept.{AreEvaluated};
+ghost use Rattle.request_machine.specs.Sites.{Suits};
 ghost use Rattle.request_machine.specs.Worlds.{world_of};
 ghost use Rattle.build_engine.specs.OnNodes.{IsOutcomeOn};
 ghost use Rattle.build_engine.specs.Statuses.{IsCompletion, IsRefusal};
 
 use crate::alone::built;
+use crate::world_with_instances::WorldWithInstances;
 use build_engine::build_on_many;
 use build_outcome::Outcome;
 use build_world::World;
+use msb_instance::Instances;
 use msb_values::NoMemory;
-use request_machine::{Walk, root_key};
+use request_machine::{Site, Walk, root_key};
 use std::alloc::Global;
+use std::mem;
 use std::sync::Wait;
 use std::thread::Threads;
 use task_trait::{Counted, CountedTools, Tools};
@@ -24,40 +29,69 @@ pub fn built_on<R: Threads + Wait + Sync, T: Tools + Sync>(
     alloc: Global,
     low: bool,
     nodes: u32,
-    world: &World,
+    given: WorldWithInstances,
     tools: &T,
 ) -> Result<Outcome, NoMemory>
     requires { (0 < nodes) × (nodes ≤ 64) }
-    ensures outcome { IfOk result (λ o. ∥ IsOutcome (world_of T.answer world.now) low o ∥₁) }
+    ensures outcome { IfOk result (λ o. ∥ IsOutcome (world_of T.answer given) low o ∥₁) }
     ensures nodes { IfOk result (λ o.
-        ∥ IsOutcomeOn (world_of T.answer world.now) nodes low o ∥₁) }
+        ∥ IsOutcomeOn (world_of T.answer given) nodes low o ∥₁) }
     ensures status { IfOk result (λ o. IsCompletion o.status ⊎ IsRefusal o.status) }
 {
     if nodes == 1 {
         let mut own = Counted::new(alloc, tools)?;
-        return built(alloc, low, world, &mut own);
+        return built(alloc, low, given, &mut own);
     }
-    let counted = counted(alloc, nodes, tools)?;
-    built_at(rt, alloc, low, world, counted)
+    let (world, instances) = given.parts();
+    let mut counted = counted(alloc, nodes, tools)?;
+    let sites = sites_of(alloc, &world, instances, &mut counted)?;
+    built_at(rt, alloc, low, &world, sites)
 }
 
-// What is given is built, on a node for each of these tools.
-fn built_at<'a, R: Threads + Wait + Sync, T: CountedTools + Send + Drop>(
+// What is given is built, on a node for each of these sites.
+fn built_at<'a, R: Threads + Wait + Sync, T: CountedTools + Send + Drop + 'a>(
     rt: &R,
     alloc: Global,
     low: bool,
     world: &'a World,
-    tools: Vec<T>,
+    sites: Vec<Site<'a, &'a mut T>>,
 ) -> Result<Outcome, NoMemory>
-    requires { (0 < vec_len tools) × (vec_len tools ≤ 64) }
+    requires count { (0 < vec_len sites) × (vec_len sites ≤ 64) }
+    requires suit { All (λ site. Suits T.answer site.world.now site.instances
+        (world_of T.answer world.now)) sites.items }
     ensures outcome { IfOk result (λ o. ∥ IsOutcome (world_of T.answer world.entry.now) low o ∥₁) }
     ensures nodes { IfOk result (λ o.
-        ∥ IsOutcomeOn (world_of T.answer world.entry.now) (vec_len tools) low o ∥₁) }
+        ∥ IsOutcomeOn (world_of T.answer world.entry.now) (vec_len sites.entry) low o ∥₁) }
     ensures status { IfOk result (λ o. IsCompletion o.status ⊎ IsRefusal o.status) }
 {
     let key = root_key(world)?;
     let walk = Walk::start(alloc, world)?;
-    build_on_many(rt, alloc, key, walk, tools, low)
+    build_on_many(rt, alloc, key, walk, sites, low)
+}
+
+/// The sites of nodes that have these tools. The first node keeps these instances, since it is the
+/// one that begins with the root request.
+pub fn sites_of<'a, T: CountedTools + Drop + 'a>(
+    alloc: Global,
+    world: &'a World,
+    instances: Instances,
+    tools: &'a mut Vec<T>,
+) -> Result<Vec<Site<'a, &'a mut T>>, NoMemory>
+    requires { AreEvaluated world.now.tree.files instances }
+    ensures count { IfOk result (λ sites. vec_len sites ≡ vec_len tools.old) }
+    ensures suit { IfOk result (λ sites. All (λ site. Suits T.answer site.world.now
+        site.instances (world_of T.answer world.entry.now)) sites.items) }
+{
+    let mut instances = instances;
+    let mut sites = Vec::new(alloc);
+    for lent in tools.iter_mut() {
+        sites.push(Site {
+            world,
+            tools: lent,
+            instances: mem::replace(&mut instances, Instances::new(alloc)),
+        })?;
+    }
+    Ok(sites)
 }
 
 // The tools for each node, which counts its calls by itself.

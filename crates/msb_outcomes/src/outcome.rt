@@ -36,8 +36,8 @@ pub fn outcome_alone<T: CountedTools>(
 {
     match work {
         Work::Told(outcome) => Ok(outcome),
-        Work::Build(world) => built(alloc, options.low, &world, tools),
-        Work::Check(world) => checked(alloc, &world, tools),
+        Work::Build(given) => built(alloc, options.low, given, tools),
+        Work::Check(given) => checked(alloc, given, tools),
     }
 }
 
@@ -57,10 +57,10 @@ pub fn outcome_on<R: Threads + Wait + Sync, T: Tools + Sync>(
 {
     match work {
         Work::Told(outcome) => Ok(outcome),
-        Work::Build(world) => built_on(rt, alloc, options.low, options.nodes, &world, tools),
-        Work::Check(world) => {
+        Work::Build(given) => built_on(rt, alloc, options.low, options.nodes, given, tools),
+        Work::Check(given) => {
             let mut counted = Counted::new(alloc, tools)?;
-            checked(alloc, &world, &mut counted)
+            checked(alloc, given, &mut counted)
         }
     }
 }

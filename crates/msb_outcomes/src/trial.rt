@@ -1,6 +1,6 @@
 //! Trials of the engine: a generated set is built on one node, and once more on several.
 
-ghost use Rattle.std.specs.Prelude.{◌≡◌, ◌<◌, ◌≤◌, ◌++◌, IfOk, OnOk, string_bytes};
+ghost use Rattle.std.specs.Prelude.{◌≡◌, ◌<◌, ◌≤◌, ◌++◌, IfOk, OnOk, false, string_bytes};
 ghost use Rattle.std.specs.Bool.{Decides};
 ghost use Rattle.std.specs.Cmp.Lexicographic.{pointwise};
 ghost use Rattle.std.specs.Fmt.{decimal};
@@ -8,6 +8,9 @@ ghost use Rattle.std.specs.List.{list_all, zip};
 ghost use Rattle.result_cache.specs.SameRecords.{same_act, same_put};
 ghost use Rattle.build_report.specs.Line.{line};
 ghost use Rattle.task_trait.specs.Tools.{act_size};
+ghost use Rattle.build_engine.specs.UsedFor.{IsOutcomeOnOne};
+ghost use Rattle.build_outcome.specs.Outcomes.{IsOutcome};
+ghost use Rattle.request_machine.specs.Worlds.{world_of};
 ghost use Rattle.msb_outcomes.specs.Trials.{
   AreEqual,
   IsSetOf,
@@ -19,17 +22,19 @@ ghost use Rattle.msb_outcomes.specs.Trials.{
   trial_text,
 };
 
-use crate::alone::built;
+use crate::alone::built_with;
 use crate::on_nodes::built_on;
+use crate::world_with_instances::WorldWithInstances;
 use build_outcome::Outcome;
 use build_world::World;
+use msb_instance::Instances;
 use msb_values::{Act, List, Mode, Named, NoMemory, Put, Text, Text8};
 use msb_words::Options;
 use std::alloc::Global;
 use std::fmt::Write;
 use std::sync::Wait;
 use std::thread::Threads;
-use task_trait::{Counted, NoTools};
+use task_trait::{Counted, CountedTools, NoTools};
 use trial_set::make;
 
 /// The five lines of a trial whose builds both take one node. (This engine's own action.)
@@ -38,8 +43,8 @@ pub fn trial_alone(alloc: Global, options: &Options) -> Result<Text8, NoMemory>
 {
     let world = set_of(alloc, options)?;
     let mut tools = Counted::new(alloc, &NoTools)?;
-    let one = built(alloc, false, &world, &mut tools)?;
-    let other = built(alloc, false, &world, &mut tools)?;
+    let one = built_anew(alloc, &world, &mut tools)?;
+    let other = built_anew(alloc, &world, &mut tools)?;
     told(alloc, options, &one, &other)
 }
 
@@ -54,8 +59,9 @@ pub fn trial_on<R: Threads + Wait + Sync>(
 {
     let world = set_of(alloc, options)?;
     let mut tools = Counted::new(alloc, &NoTools)?;
-    let one = built(alloc, false, &world, &mut tools)?;
-    let other = built_on(rt, alloc, false, options.nodes, &world, &NoTools)?;
+    let one = built_anew(alloc, &world, &mut tools)?;
+    let given = WorldWithInstances::of_world(alloc, world);
+    let other = built_on(rt, alloc, false, options.nodes, given, &NoTools)?;
     told(alloc, options, &one, &other)
 }
 
@@ -70,6 +76,20 @@ fn set_of(alloc: Global, options: &Options) -> Result<World, NoMemory>
         targets: List::new(alloc),
         mode: Mode::Incremental,
     })
+}
+
+// What is given is built on one node, where no instance is evaluated yet.
+fn built_anew<'a, T: CountedTools + 'a>(
+    alloc: Global,
+    world: &'a World,
+    tools: &'a mut T,
+) -> Result<Outcome, NoMemory>
+    ensures outcome { IfOk result (λ o.
+        ∥ IsOutcome (world_of T.answer world.entry.now) false o ∥₁) }
+    ensures comes { IfOk result (λ o.
+        ∥ IsOutcomeOnOne (world_of T.answer world.entry.now) false o ∥₁) }
+{
+    built_with(alloc, false, world, Instances::new(alloc), tools)
 }
 
 fn told(alloc: Global, options: &Options, one: &Outcome, other: &Outcome) -> Result<Text8, NoMemory>

@@ -1,11 +1,15 @@
 //! What is left to do of the words once the project is evaluated.
 
-ghost use Rattle.std.specs.Prelude.{◌≡◌, ◌≢◌, [], IfOk};
+ghost use Rattle.std.specs.Prelude.{◌≡◌, ◌≢◌, [], IfOk, IsSome};
 ghost use Rattle.file_store.specs.Files.{file_at};
 ghost use Rattle.msb_paths.specs.Refused.{normal_path};
 ghost use Rattle.msb_values.specs.declared.cause.Cause.TheVariants.{Memory};
+ghost use Rattle.build_report.specs.Eval.{eval_text};
+ghost use Rattle.build_report.specs.Targets.{targets_text};
+ghost use Rattle.build_world.specs.Answers.{GivesFault};
 ghost use Rattle.build_world.specs.Faults.{fault_text};
-ghost use Rattle.msb_instance.specs.Evaluated.{seen_instance};
+ghost use Rattle.msb_instance.specs.Evaluated.{evaluated, seen_instance};
+ghost use Rattle.msb_instance.specs.Kept.{AreEvaluated};
 ghost use Rattle.msb_words.specs.declared.options.Action.TheVariants.{Build};
 ghost use Rattle.msb_outcomes.specs.Outcomes.{
   HasProject,
@@ -20,11 +24,12 @@ ghost use Rattle.msb_outcomes.specs.Outcomes.{
 };
 ghost use Rattle.msb_outcomes.specs.declared.work.Work.TheVariants.{Told};
 
+use crate::world_with_instances::WorldWithInstances;
 use build_outcome::Outcome;
 use build_report::{shown_eval, shown_targets};
-use build_world::{EvalFault, Instance, World};
+use build_world::{EvalFault, World};
 use file_store::Tree;
-use msb_instance::evaluate;
+use msb_instance::{InstanceRef, Instances};
 use msb_paths::{NormalFault, normal_path};
 use msb_values::{Cause, Copied, InstanceKey, Mode, NoMemory, Text, Text8};
 use msb_words::{Action, Options};
@@ -36,9 +41,16 @@ pub enum Work {
     /// Nothing but to tell this.
     Told(Outcome),
     /// This is built.
-    Build(World),
+    Build(WorldWithInstances),
     /// It is told whether a build of this gives one answer in every order.
-    Check(World),
+    Check(WorldWithInstances),
+}
+
+// The root project as it is evaluated, and the instances that are kept, which it is among.
+#[derive(Drop)]
+struct Root {
+    instance: InstanceRef,
+    instances: Instances,
 }
 
 /// What is left to do of the words over the files of a tree: to tell why the project is refused, to
@@ -67,10 +79,24 @@ fn work_at(alloc: Global, options: &Options, key: InstanceKey, tree: Tree) -> Re
     if tree.find(key.path.as_str()).is_none() {
         return not_found(alloc, options.project.as_str());
     }
-    match evaluate(alloc, &tree, &key) {
-        Ok(instance) => work_of(alloc, options, key, tree, &instance),
+    match evaluated(alloc, &tree, &key) {
+        Ok(root) => work_of(alloc, options, key, tree, root),
         Err(fault) => refused_by(alloc, &fault),
     }
+}
+
+fn evaluated(alloc: Global, tree: &Tree, key: &InstanceKey) -> Result<Root, EvalFault>
+    requires { IsSome (file_at key.now.path tree.now.files) }
+    ensures gives { GivesFault (λ root. seen_instance root.instance) result
+        (evaluated tree.now.files key.now) }
+    ensures kept { IfOk result (λ root. AreEvaluated tree.now.files root.instances) }
+{
+    let mut instances = Instances::new(alloc);
+    let instance = instances.get(alloc, tree, key)?;
+    Ok(Root {
+        instance,
+        instances,
+    })
 }
 
 fn work_of(
@@ -78,37 +104,62 @@ fn work_of(
     options: &Options,
     key: InstanceKey,
     tree: Tree,
-    instance: &Instance,
+    root: Root,
 ) -> Result<Work, NoMemory>
-    requires { HasProject options.now }
+    requires project { HasProject options.now }
+    requires kept { AreEvaluated tree.files root.instances }
     ensures { IfOk result (IsWorkOfAction options.now.action options.now key tree.files
-        (seen_instance instance.now)) }
+        (seen_instance root.instance)) }
 {
+    let Root {
+        instance,
+        instances,
+    } = root;
     match options.action {
-        Action::Build => Ok(Work::Build(asked(options, key, tree)?)),
-        Action::Check => Ok(Work::Check(asked(options, key, tree)?)),
-        Action::Eval => Ok(shown(
-            alloc,
-            shown_eval(alloc, &instance.scope, &instance.duplicates)?,
-        )),
-        Action::Targets => Ok(shown(
-            alloc,
-            shown_targets(alloc, &instance.rows, &instance.initial, &instance.default)?,
-        )),
+        Action::Build => Ok(Work::Build(asked(options, key, tree, instances)?)),
+        Action::Check => Ok(Work::Check(asked(options, key, tree, instances)?)),
+        Action::Eval => told_eval(alloc, &instance),
+        Action::Targets => told_targets(alloc, &instance),
         Action::Trial => unreachable!(),
     }
 }
 
-fn asked(options: &Options, key: InstanceKey, tree: Tree) -> Result<World, NoMemory>
+fn told_eval(alloc: Global, instance: &InstanceRef) -> Result<Work, NoMemory>
+    ensures { IfOk result (λ work. let i = seen_instance instance.now in
+        work ≡ Told (shown (eval_text i.scope i.duplicates))) }
+{
+    let project = instance.get();
+    let text = shown_eval(alloc, &project.scope, &project.duplicates)?;
+    Ok(shown(alloc, text))
+}
+
+fn told_targets(alloc: Global, instance: &InstanceRef) -> Result<Work, NoMemory>
+    ensures { IfOk result (λ work. let i = seen_instance instance.now in
+        work ≡ Told (shown (targets_text i.rows i.initial i.default))) }
+{
+    let project = instance.get();
+    let text = shown_targets(alloc, &project.rows, &project.initial, &project.default)?;
+    Ok(shown(alloc, text))
+}
+
+// What a build is given, with the instances by its files that are evaluated already.
+fn asked(
+    options: &Options,
+    key: InstanceKey,
+    tree: Tree,
+    instances: Instances,
+) -> Result<WorldWithInstances, NoMemory>
+    requires { AreEvaluated tree.files instances }
     ensures { IfOk result (IsAsked options.now key tree.files) }
 {
-    Ok(World {
+    let world = World {
         tree,
         root: key.path,
         globals: key.globals,
         targets: options.targets.copy()?,
         mode: mode_of(options.clean),
-    })
+    };
+    Ok(WorldWithInstances::of(world, instances))
 }
 
 fn mode_of(clean: bool) -> Mode

@@ -14,3 +14,5 @@ pub mod StagesTaken
 pub mod PutBack
 pub mod WalksAnswered
 pub mod Crossing
+pub mod OtherWorlds
+pub mod Ending

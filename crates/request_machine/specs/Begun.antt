@@ -1,5 +1,5 @@
 -- Where a request stands when its order has been answered so far. (Target build order)
-use Rattle.std.specs.Prelude.{◌≡◌, ℕ, List, Bool, true, false}
+use Rattle.std.specs.Prelude.{◌≡◌, ℕ, List, Bool, true, false, None}
 use Rattle.msb_laws.specs.Asking.{asks as asks_of}
 use Rattle.target_order.specs.Left.{left}
 use Rattle.target_order.specs.Progress.{Progress}
@@ -14,7 +14,7 @@ use Rattle.task_trait.specs.declared.tools.ToolAnswer.{ToolAnswer}
 use Rattle.task_trait.specs.declared.tools.ToolInput.{ToolInput}
 use Rattle.build_meaning.specs.State.{walking}
 use Rattle.build_meaning.specs.Walk.{Walk, gives}
-use Rattle.request_machine.specs.Requests.{Project}
+use Rattle.request_machine.specs.Requests.{Project, failed}
 use Rattle.request_machine.specs.Stands.{Bodies}
 use Rattle.request_machine.specs.Walk.{Site, walk}
 use Rattle.request_machine.specs.Worlds.{bodies_of, project_of}
@@ -43,6 +43,12 @@ abbrev pub is_fresh : {T : Type 0} → Stage T → Bool
 is_fresh Begins = false
 is_fresh (Visits v) = is_wanted v.at
 is_fresh (Over reply) = true
+
+-- how a request that is over stands: where its project has not the target of its run, it has failed
+abbrev pub ended_stage : {T : Type 0} → Stage T → Stage T
+ended_stage Begins = Over (failed None)
+ended_stage (Visits v) = Over (failed None)
+ended_stage (Over reply) = Over reply
 
 -- the instance of the run that it wants or makes, which is that of the request
 abbrev pub instance_in : {T : Type 0} → InstanceKey → Stage T → InstanceKey

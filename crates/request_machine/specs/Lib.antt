@@ -6,6 +6,9 @@ pub mod Seen
 pub mod Turns
 pub mod Stands
 pub mod Worlds
+pub mod Sites
+pub mod WorldSets
+pub mod SuitsOnce
 pub mod Visited
 pub mod Positions
 pub mod Begun

@@ -2,6 +2,7 @@ ghost use Rattle.std.specs.Prelude.{◌≡◌, ◌≢◌, ◌++◌, IfOk, Some, 
 ghost use Rattle.msb_values.specs.declared.cause.Cause.TheVariants.{Memory};
 ghost use Rattle.build_world.specs.Faults.{fault_text};
 ghost use Rattle.build_world.specs.Instances.{seen_instance};
+ghost use Rattle.msb_instance.specs.Kept.{AreEvaluated};
 ghost use Rattle.request_machine.specs.Requests.{failed, has_no_targets, unevaluated};
 ghost use Rattle.request_machine.specs.Walk.{walk_in};
 ghost use Rattle.request_machine.specs.Worlds.{bodies_of, project_of, walk_of};
@@ -21,7 +22,7 @@ use crate::turn::Stand;
 use crate::visit::{At, Visit};
 use build_world::{EvalFault, Instance, World};
 use msb_files::Journal;
-use msb_instance::evaluate;
+use msb_instance::{InstanceRef, Instances};
 use msb_values::{Cause, Copied, NoMemory, Text};
 use result_cache::{RequestKey, RunId};
 use std::alloc::Global;
@@ -32,15 +33,19 @@ use target_order::{OrderAnswer, OrderWalk};
 pub fn begin<T>(
     alloc: Global,
     world: &World,
+    instances: &mut Instances,
     key: &RequestKey,
     journal: &Journal,
 ) -> Result<Stage<T>, NoMemory>
-    ensures { IfOk result (StandsAt world.now key.now journal.now (walk_of world.now key.now journal.now)) }
+    requires { AreEvaluated world.now.tree.files instances.old }
+    ensures stands { IfOk result (StandsAt world.now key.now journal.now
+        (walk_of world.now key.now journal.now)) }
+    ensures kept { AreEvaluated world.now.tree.files instances.new }
 {
     if world.tree.find(key.instance.path.as_str()).is_none() {
         return not_found(alloc, key.instance.path.as_str());
     }
-    match evaluate(alloc, &world.tree, &key.instance) {
+    match instances.get(alloc, &world.tree, &key.instance) {
         Ok(instance) => begin_visit(alloc, world, key, journal, instance),
         Err(fault) => refused(alloc, &fault),
     }
@@ -68,19 +73,20 @@ fn begin_visit<T>(
     world: &World,
     key: &RequestKey,
     journal: &Journal,
-    instance: Instance,
+    instance: InstanceRef,
 ) -> Result<Stage<T>, NoMemory>
     ensures { IfOk result (let p = project_of world.now key.now (seen_instance instance) in StandsAt world.now key.now journal.now (walk_in p key.now (bodies_of world.now p) journal.now)) }
 {
-    if has_no_targets(&instance, key) {
+    let evaluated = instance.get();
+    if has_no_targets(evaluated, key) {
         return no_targets(alloc);
     }
     let standing = Standing {
-        scope: instance.scope.copy()?,
+        scope: evaluated.scope.copy()?,
         returned: SharedList::new(alloc),
     };
-    let targets = all_targets(&instance, key)?;
-    let mut order = OrderWalk::start(alloc, &instance.rows, &targets)?;
+    let targets = all_targets(evaluated, key)?;
+    let mut order = OrderWalk::start(alloc, &evaluated.rows, &targets)?;
     let moment = Moment {
         project: Project {
             tree: &world.tree,
@@ -111,7 +117,7 @@ fn has_no_targets(instance: &Instance, key: &RequestKey) -> bool
 
 fn stage_by<T>(
     key: &RequestKey,
-    instance: Instance,
+    instance: InstanceRef,
     standing: Standing,
     order: OrderWalk,
     stand: Stand,
@@ -131,7 +137,7 @@ fn stage_by<T>(
     }
 }
 
-fn wanted<T>(instance: Instance, standing: Standing, order: OrderWalk, run: RunId) -> Visit<T>
+fn wanted<T>(instance: InstanceRef, standing: Standing, order: OrderWalk, run: RunId) -> Visit<T>
     requires { order.asked ≡ ForBody }
     ensures instance { result.instance ≡ instance }
     ensures standing { result.standing ≡ standing }

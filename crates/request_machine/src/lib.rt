@@ -20,6 +20,7 @@ mod returned;
 mod root;
 mod running;
 mod shared;
+mod site;
 mod stage;
 mod standing;
 mod turn;
@@ -28,4 +29,5 @@ mod visiting;
 mod walk;
 
 pub use root::root_key;
+pub use site::Site;
 pub use walk::{Walk, WorldRef};

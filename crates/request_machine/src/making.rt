@@ -11,8 +11,9 @@ use crate::held::HeldBody;
 use crate::log::Log;
 use crate::visit::{At, Uses};
 use build_scheduler::Ask;
-use build_world::{Instance, World};
+use build_world::World;
 use msb_files::Journal;
+use msb_instance::InstanceRef;
 use msb_values::{Copied, List, NoMemory, Scope};
 use result_cache::{Record, RecordRef, RequestResult, RunRef};
 use std::alloc::Global;
@@ -23,7 +24,7 @@ use task_trait::CountedTools;
 #[derive(Clone, Copy)]
 pub struct Making<'a> {
     pub world: &'a World,
-    pub instance: &'a Instance,
+    pub instance: &'a InstanceRef,
     pub run: &'a RunRef,
 }
 
@@ -75,7 +76,8 @@ impl<'a> Making<'a> {
     {
         let mut body = body;
         let before = noted(tools);
-        let ask = body.advance(alloc, self.world, tools, self.instance, journal, results)?;
+        let instance = self.instance.get();
+        let ask = body.advance(alloc, self.world, tools, instance, journal, results)?;
         let uses = uses.and(&before, &noted(tools));
         self.stopped(alloc, body, uses, ask)
     }

@@ -3,8 +3,9 @@ ghost use Rattle.build_world.specs.Instances.{seen_target};
 ghost use Rattle.request_machine.specs.Requests.{target_at};
 ghost use Rattle.request_machine.specs.Seen.{seen_project};
 
-use build_world::{Instance, UsedTarget};
+use build_world::UsedTarget;
 use file_store::Tree;
+use msb_instance::InstanceRef;
 use msb_values::{InstanceKey, Name};
 
 /// An instance of a project as it was evaluated, with the files of the build as they stood at the start. (How MSBuild
@@ -13,7 +14,7 @@ use msb_values::{InstanceKey, Name};
 pub struct Project<'a> {
     pub tree: &'a Tree,
     pub key: &'a InstanceKey,
-    pub instance: &'a Instance,
+    pub instance: &'a InstanceRef,
 }
 
 impl<'a> Project<'a> {
@@ -21,6 +22,6 @@ impl<'a> Project<'a> {
     pub fn target(&self, name: &Name) -> Option<&'a UsedTarget>
         ensures { option_map seen_target (option_copied result) ≡ target_at (seen_project self.now) name.now }
     {
-        self.instance.targets.find(name)
+        self.instance.get().targets.find(name)
     }
 }

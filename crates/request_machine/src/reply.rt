@@ -80,6 +80,18 @@ impl Reply {
         Ok(Reply::failed(alloc, Some(text)))
     }
 
+    /// An equal reply.
+    pub fn copy(&self) -> Result<Reply, NoMemory>
+        ensures { IfOk result (λ reply. reply ≡ self.now) }
+    {
+        Ok(Reply {
+            ok: self.ok,
+            evaluated: self.evaluated,
+            returned: self.returned.copy()?,
+            error: copied(&self.error)?,
+        })
+    }
+
     /// The result of a request that answers so, by the runs that it made or used.
     pub fn result(
         &self,

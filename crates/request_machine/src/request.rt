@@ -9,11 +9,13 @@ use crate::moment::Moment;
 use crate::project::Project;
 use crate::results::{Replayed, journal_after};
 use crate::shared::SharedList;
+use crate::site::Site;
 use crate::stage::Stage;
 use crate::visit::Visit;
 use build_scheduler::{Answer, Ask};
 use build_world::World;
 use msb_files::Journal;
+use msb_instance::Instances;
 use msb_values::{Copied, List, NoMemory};
 use result_cache::{Record, RequestKey, RequestResult, RunRef, Table};
 use std::alloc::Global;
@@ -70,9 +72,10 @@ struct Halted<T> {
 impl<'a, T> Request<'a, T> {
     ghost use Rattle.std.specs.Prelude.{◌++◌, ◌∷◌, [], IfOk};
     ghost use Rattle.build_world.specs.Instances.{seen_instance};
+    ghost use Rattle.msb_instance.specs.Kept.{AreEvaluated};
     ghost use Rattle.request_machine.specs.Answered.{HasMade, HasRecord};
     ghost use Rattle.request_machine.specs.Asks.{AsksAt};
-    ghost use Rattle.request_machine.specs.Begun.{StandsAt};
+    ghost use Rattle.request_machine.specs.Begun.{StandsAt, ended_stage};
     ghost use Rattle.request_machine.specs.Following.{Follows};
     ghost use Rattle.request_machine.specs.Taken.{ComesAfter, IsAfter};
     ghost use Rattle.request_machine.specs.declared.stage.Stage.TheVariants.{Begins};
@@ -96,6 +99,25 @@ impl<'a, T> Request<'a, T> {
         }
     }
 
+    /// A request that is over as this one is, with the same journal.
+    pub fn ended(&self) -> Result<Request<'a, T>, NoMemory>
+        ensures world { IfOk result (λ ended. ended.world.now ≡ self.now.world.now) }
+        ensures key { IfOk result (λ ended. ended.key ≡ self.now.key) }
+        ensures journal { IfOk result (λ ended. ended.journal ≡ self.now.journal) }
+        ensures runs { IfOk result (λ ended. ended.runs ≡ self.now.runs) }
+        ensures stage { IfOk result (λ ended. ended.stage ≡ ended_stage self.now.stage) }
+    {
+        let stage = self.stage.ended(self.alloc)?;
+        Ok(Request {
+            alloc: self.alloc,
+            world: self.world,
+            key: self.key.copy()?,
+            journal: self.journal.copy()?,
+            runs: self.runs.copy()?,
+            stage,
+        })
+    }
+
     /// The runs that it has made or used, and its journal. This takes no memory.
     pub fn into_replayed(self) -> Replayed
         ensures runs { result.runs ≡ self.entry.runs }
@@ -112,12 +134,15 @@ impl<'a, T> Request<'a, T> {
         Replayed { runs, journal }
     }
 
-    // Where it stands when it begins, and what it asks then.
-    fn begun(&self) -> Result<Begun<T>, NoMemory>
-        ensures stands { IfOk result (λ begun. StandsAt self.now.world.now self.now.key self.now.journal (walk_of self.now.world.now self.now.key self.now.journal) begun.stage) }
+    // Where it stands when it begins in a world, and what it asks then.
+    fn begun(&self, world: &World, instances: &mut Instances) -> Result<Begun<T>, NoMemory>
+        requires { AreEvaluated world.now.tree.files instances.old }
+        ensures stands { IfOk result (λ begun. StandsAt world.now self.now.key self.now.journal
+            (walk_of world.now self.now.key self.now.journal) begun.stage) }
         ensures asks { IfOk result (λ begun. AsksAt self.now.runs begun.stage begun.ask) }
+        ensures kept { AreEvaluated world.now.tree.files instances.new }
     {
-        let stage = begin(self.alloc, self.world, &self.key, &self.journal)?;
+        let stage = begin(self.alloc, world, instances, &self.key, &self.journal)?;
         let ask = stage.ask(self.alloc, &self.runs)?;
         Ok(Begun { stage, ask })
     }
@@ -178,7 +203,7 @@ impl<'a, T> Request<'a, T> {
     }
 }
 
-impl<'a, T: CountedTools> Request<'a, T> {
+impl<'a, T: CountedTools + 'a> Request<'a, T> {
     ghost use Rattle.std.specs.Prelude.{◌++◌, [], false, true, map, IfOk, IfSome, IsSome, OnErr, OnOk};
     ghost use Rattle.build_meaning.specs.SoFar.{runs_of};
     ghost use Rattle.build_scheduler.specs.Position.{answered, used_between};
@@ -186,6 +211,7 @@ impl<'a, T: CountedTools> Request<'a, T> {
     ghost use Rattle.result_cache.specs.Replay.{replay_all};
     ghost use Rattle.result_cache.specs.Table.{Records};
     ghost use Rattle.build_world.specs.Instances.{seen_instance};
+    ghost use Rattle.msb_instance.specs.Kept.{AreEvaluated};
     ghost use Rattle.target_body.specs.Standings.{target_named, tool_use};
     ghost use Rattle.task_trait.specs.Tools.{BeginsWith};
     ghost use Rattle.request_machine.specs.Answered.{GoesOn, HasMade, IsNext, WaitsFor, WantsRun};
@@ -196,6 +222,7 @@ impl<'a, T: CountedTools> Request<'a, T> {
     ghost use Rattle.request_machine.specs.Positions.{halt_at};
     ghost use Rattle.request_machine.specs.Replayed.{IsReplayed};
     ghost use Rattle.request_machine.specs.Runs.{run_in};
+    ghost use Rattle.request_machine.specs.Sites.{Suits};
     ghost use Rattle.request_machine.specs.WalkPosition.{request_position};
     ghost use Rattle.request_machine.specs.Worlds.{world_of};
 
@@ -206,40 +233,61 @@ impl<'a, T: CountedTools> Request<'a, T> {
         &mut self,
         learnt: &Table,
         replayed: &Option<Replayed>,
-        tools: &mut T,
+        site: &mut Site<'a, &'a mut T>,
         answer: &Answer,
     ) -> Result<Advanced<T>, NoMemory>
         requires fits { IsSome (answered (world_of T.answer self.old.world.now) learnt.now.finished (request_position T.calls self.old) answer.now) }
         requires turn { IsNext (has_begun self.old.stage) answer.now }
         requires known { ∥ IfSome replayed.now
             (IsReplayed learnt.now.finished self.old.journal) ∥₁ }
+        requires place { Suits T.answer site.old.world.now site.old.instances
+            (world_of T.answer self.old.world.now) }
+        ensures place { Suits T.answer site.new.world.now site.new.instances
+            (world_of T.answer self.old.world.now) }
         ensures goes { IfOk result (λ advanced. GoesOn (world_of T.answer self.old.world.now) learnt.now.finished (request_position T.calls self.old) (request_position T.calls self.new) answer.now advanced.ask) }
-        ensures used { OnOk result (map tool_use (T.calls tools.new) ≡ map tool_use (T.calls tools.old) ++ used_between (request_position T.calls self.old).place (request_position T.calls self.new).place) }
+        ensures lent { site.new.tools.ghost_name ≡ site.old.tools.ghost_name }
+        ensures used { OnOk result (map tool_use (T.calls site.new.tools.now) ≡ map tool_use
+            (T.calls site.old.tools.now)
+            ++ used_between (request_position T.calls self.old).place
+            (request_position T.calls self.new).place) }
         ensures begun { OnOk result (has_begun self.new.stage ≡ true) }
-        ensures world { self.new.world ≡ self.old.world }
+        ensures world { world_of T.answer self.new.world.now
+            ≡ world_of T.answer self.old.world.now }
         ensures former { IfOk result (λ advanced. Replaces T.calls self.old self.new advanced.former) }
-        ensures tools { BeginsWith (T.calls tools.old) (T.calls tools.new) }
+        ensures tools { BeginsWith (T.calls site.old.tools.now) (T.calls site.new.tools.now) }
         ensures err { OnErr result (self.new ≡ self.old) }
     {
         match answer {
-            Answer::First => self.begin(),
-            Answer::Go => self.go(tools),
+            Answer::First => self.begin(site.world, &mut site.instances),
+            Answer::Go => self.go(&mut *site.tools),
             Answer::Use => self.use_record(learnt),
-            Answer::Results(results) => self.take_results(learnt, replayed, tools, results),
+            Answer::Results(results) => {
+                self.take_results(learnt, replayed, &mut *site.tools, results)
+            }
         }
     }
 
-    // It begins: its project is evaluated, and its order is answered. (Target build order.)
-    fn begin(&mut self) -> Result<Advanced<T>, NoMemory>
-        requires { has_begun self.old.stage ≡ false }
+    // It begins, and goes on in this world: its project is evaluated, and its order is answered.
+    // (Target build order.)
+    fn begin(
+        &mut self,
+        world: &'a World,
+        instances: &mut Instances,
+    ) -> Result<Advanced<T>, NoMemory>
+        requires unbegun { has_begun self.old.stage ≡ false }
+        requires world { world_of T.answer self.old.world.now ≡ world_of T.answer world.now }
+        requires kept { AreEvaluated world.now.tree.files instances.old }
+        ensures kept { AreEvaluated world.entry.now.tree.files instances.new }
         ensures goes { (table : Records) → IfOk result (λ advanced. GoesOn (world_of T.answer self.old.world.now) table (request_position T.calls self.old) (request_position T.calls self.new) First advanced.ask) }
         ensures used { OnOk result (used_between (request_position T.calls self.old).place (request_position T.calls self.new).place ≡ []) }
         ensures begun { OnOk result (has_begun self.new.stage ≡ true) }
-        ensures world { self.new.world ≡ self.old.world }
+        ensures world { world_of T.answer self.new.world.now
+            ≡ world_of T.answer self.old.world.now }
         ensures former { IfOk result (λ advanced. Replaces T.calls self.old self.new advanced.former) }
         ensures err { OnErr result (self.new ≡ self.old) }
     {
-        let Begun { stage, ask } = self.begun()?;
+        let Begun { stage, ask } = self.begun(world, instances)?;
+        self.world = world;
         self.stage = stage;
         Ok(Advanced {
             ask,

@@ -20,7 +20,7 @@ impl<'a> Moment<'a> {
     pub fn success(&self, alloc: Global) -> Result<Reply, NoMemory>
         ensures { IfOk result (λ reply. reply ≡ succeeded (seen_project self.now.project).instance self.now.key.now self.now.standing.now.returned) }
     {
-        let names = asked_targets(self.project.instance, self.key);
+        let names = asked_targets(self.project.instance.get(), self.key);
         let returned = self.standing.returned.entries(alloc)?;
         Ok(Reply {
             ok: true,

@@ -59,22 +59,29 @@ impl<T> Copied for Shared<T> {
 pub struct SharedList<T> {
     /// In order; each is larger than the next one.
     layers: List<Shared<List<Shared<T>>>>,
+    /// How many entries there are in all of them.
+    count: usize,
 }
 
 // A drop that is written out is proved here alone.
 impl<T: Drop> Drop for SharedList<T> {
     fn drop(self) {
-        let SharedList { layers: _ } = self;
+        let SharedList {
+            layers: _,
+            count: _,
+        } = self;
     }
 }
 
 impl<T> Model for SharedList<T> {
-    ghost use Rattle.std.specs.Prelude.{List};
+    ghost use Rattle.std.specs.Prelude.{◌≡◌, List, length};
     ghost use Rattle.request_machine.specs.Layers.{joined};
 
     ghost Value = { List T };
 
     ghost view = { λ l. joined l.layers };
+
+    ghost invariant = { λ l. l.count ≡ length (joined l.layers) };
 }
 
 impl<T> SharedList<T> {
@@ -83,6 +90,7 @@ impl<T> SharedList<T> {
     {
         SharedList {
             layers: List::new(alloc),
+            count: 0,
         }
     }
 }
@@ -93,10 +101,22 @@ impl<T: Drop> SharedList<T> {
         ensures ok { OnOk result (self.new ≡ self.old ++ entry ∷ []) }
         ensures err { OnErr result (self.new ≡ self.old) }
     {
+        // Where they can't be counted, there is no memory for them either.
+        let Some(count) = self.count.checked_add(1) else {
+            return Err(NoMemory);
+        };
         let mut newest = List::new(alloc);
         newest.push(Shared::new(alloc, entry)?)?;
-        self.layers = with_last(alloc, self.layers.as_slice(), newest)?;
+        let layers = with_last(alloc, self.layers.as_slice(), newest)?;
+        *self = SharedList { layers, count };
         Ok(())
+    }
+
+    /// How many entries there are. This takes no memory.
+    pub fn len(&self) -> usize
+        ensures { result ≡ length self.now }
+    {
+        self.count
     }
 
     /// The entries in order.
@@ -121,6 +141,7 @@ impl<T: Drop> Copied for SharedList<T> {
     fn copy(&self) -> Result<SharedList<T>, NoMemory> {
         Ok(SharedList {
             layers: self.layers.copy()?,
+            count: self.count,
         })
     }
 }

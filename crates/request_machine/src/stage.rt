@@ -27,7 +27,7 @@ impl<T> Drop for Stage<T> {
 
 impl<T> Stage<T> {
     ghost use Rattle.std.specs.Prelude.{◌≡◌, IfOk, true};
-    ghost use Rattle.request_machine.specs.Begun.{is_fresh};
+    ghost use Rattle.request_machine.specs.Begun.{ended_stage, is_fresh};
     ghost use Rattle.request_machine.specs.Asks.{AsksAt};
 
     /// What a request asks that has made or used these runs, and wants another one or is over.
@@ -39,6 +39,17 @@ impl<T> Stage<T> {
             Stage::Visits(visit) => Ok(Ask::Want(visit.run.copy()?)),
             Stage::Over(reply) => Ok(Ask::Done(reply.result(alloc, runs)?)),
             Stage::Begins => unreachable!(),
+        }
+    }
+
+    /// How a request stands that is over. In the body of a run it is over only where its project has
+    /// no such target, and has failed then.
+    pub fn ended(&self, alloc: Global) -> Result<Stage<T>, NoMemory>
+        ensures { IfOk result (λ stage. stage ≡ ended_stage self.now) }
+    {
+        match self {
+            Stage::Over(reply) => Ok(Stage::Over(reply.copy()?)),
+            Stage::Begins | Stage::Visits(_) => Ok(Stage::Over(Reply::failed(alloc, None))),
         }
     }
 }

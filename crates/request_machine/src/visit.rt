@@ -5,7 +5,7 @@ ghost use Rattle.request_machine.specs.Runs.{run_in};
 use crate::held::HeldBody;
 use crate::log::Log;
 use crate::standing::Standing;
-use build_world::Instance;
+use msb_instance::InstanceRef;
 use result_cache::{RecordRef, RunId};
 use target_order::OrderWalk;
 
@@ -35,7 +35,7 @@ impl<T> Drop for At<T> {
 
 /// A request of an evaluated project that wants the run of a target, or makes it. (Target build order.)
 pub struct Visit<T> {
-    pub instance: Instance,
+    pub instance: InstanceRef,
     pub standing: Standing,
     /// It has asked for the body of the run's target.
     pub order: OrderWalk,

@@ -7,6 +7,7 @@ use crate::former::Before;
 use crate::request::{Advanced, Request};
 use crate::results::Replayed;
 use crate::root::root_key;
+use crate::site::Site;
 use build_scheduler::{Answer, Ask, Walker};
 use build_world::World;
 use msb_files::Journal;
@@ -112,16 +113,18 @@ impl<'a, T: CountedTools> Walk<'a, T> {
     }
 }
 
-impl<'a, T: CountedTools> Walker for Walk<'a, T> {
+impl<'a, T: CountedTools + 'a> Walker for Walk<'a, T> {
     ghost use Rattle.std.specs.Prelude.{◌≡◌};
+    ghost use Rattle.request_machine.specs.Sites.{Suits};
+    ghost use Rattle.request_machine.specs.SuitsOnce.{suits-once};
     ghost use Rattle.request_machine.specs.Walk.{Site};
     ghost use Rattle.request_machine.specs.WalkPosition.{earlier_position, tools_used, walk_position, walk_world};
     ghost use Rattle.request_machine.specs.Worlds.{world_of};
     ghost use Rattle.task_trait.specs.declared.tools.ToolAnswer.{ToolAnswer};
     ghost use Rattle.task_trait.specs.declared.tools.ToolInput.{ToolInput};
 
-    /// The tools of the node that advances it.
-    type Place = T;
+    /// The tools are lent to it.
+    type Place = Site<'a, &'a mut T>;
 
     type Origin = WorldRef<'a>;
 
@@ -143,7 +146,13 @@ impl<'a, T: CountedTools> Walker for Walk<'a, T> {
 
     ghost earlier = { earlier_position T.calls };
 
-    ghost used = { tools_used T.calls };
+    ghost used = { λ site. tools_used T.calls site.tools.now };
+
+    ghost lent = { λ site. site.tools.ghost_name };
+
+    ghost Fits = { λ site. Suits T.answer site.world.now site.instances };
+
+    ghost fits_once = { λ site. suits-once T.answer site.world.now site.instances };
 
     fn origin(&self) -> WorldRef<'a> {
         WorldRef {
@@ -165,6 +174,24 @@ impl<'a, T: CountedTools> Walker for Walk<'a, T> {
         }
     }
 
+    fn knows_nothing(&self) -> bool {
+        self.request.journal.count() == 0
+    }
+
+    fn runs_used(&self) -> usize {
+        self.request.runs.len()
+    }
+
+    fn ended(&self) -> Result<Walk<'a, T>, NoMemory> {
+        Ok(Walk {
+            request: self.request.ended()?,
+            learnt: Table::new(self.request.alloc),
+            asked: 1,
+            before: None,
+            replayed: None,
+        })
+    }
+
     // All records are learnt at once: a copy of a table shares them.
     fn learn(&mut self, table: &Table, _: &Answer) -> Result<(), NoMemory> {
         let learnt = table.learnt()?;
@@ -172,10 +199,14 @@ impl<'a, T: CountedTools> Walker for Walk<'a, T> {
         Ok(())
     }
 
-    fn advance(&mut self, tools: &mut T, answer: &Answer) -> Result<Ask, NoMemory> {
+    fn advance(
+        &mut self,
+        site: &mut Site<'a, &'a mut T>,
+        answer: &Answer,
+    ) -> Result<Ask, NoMemory> {
         let Advanced { ask, former } = self
             .request
-            .advance(&self.learnt, &self.replayed, tools, answer)?;
+            .advance(&self.learnt, &self.replayed, site, answer)?;
         self.replayed = None;
         self.before = Some(Before {
             former,

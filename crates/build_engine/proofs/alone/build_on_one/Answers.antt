@@ -8,10 +8,19 @@ use Rattle.build_engine.proofs.Using.{all_used_for}
 use Rattle.build_engine.proofs.Building.{known_statuses, none_at_first, outcomes_are}
 use Rattle.build_engine.proofs.alone.build_on_one.Goals as goal
 
-pub build_alone-requires : goal.build_alone-requires
-build_alone-requires g c =
+pub build_alone-requires-clause-free : goal.build_alone-requires-clause-free
+build_alone-requires-clause-free g c =
     let core = c.in_ok-core.core in
     subst (λ (events : List Event). NoneAssigned (g.W.Walker.world_of core.world) events) (sym c.in_ok-core.ensures.history) (none_at_first (g.W.Walker.world_of core.world))
+
+pub build_alone-requires-clause-place : goal.build_alone-requires-clause-place
+build_alone-requires-clause-place g c =
+    subst (g.W.Walker.Fits c.args.place.now) (sym c.in_ok-core.ensures.world) c.requires.place
+
+pub returns-clause-place : goal.returns-clause-place
+returns-clause-place g c =
+    subst (g.W.Walker.Fits c.build_alone.new.place) c.in_ok-core.ensures.world
+    c.build_alone.ensures.place
 
 pub returns-clause-outcome : goal.returns-clause-outcome
 returns-clause-outcome g c =

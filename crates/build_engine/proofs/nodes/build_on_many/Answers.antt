@@ -1,7 +1,13 @@
+use Rattle.std.proofs.Common.{All, subst, sym}
 use Rattle.std.specs.Prelude.{vec_len}
 use Rattle.build_engine.proofs.Building.{known_statuses, outcome_of_core}
 use Rattle.build_engine.proofs.ManyNodes.{outcome_on_core}
 use Rattle.build_engine.proofs.nodes.build_on_many.Goals as goal
+
+pub build_with-requires-clause-fits : goal.build_with-requires-clause-fits
+build_with-requires-clause-fits g c κs within =
+    subst (λ w. All (λ place. g.W.Walker.Fits place w) c.args.places.items)
+    (sym c.in_ok-core.ensures.world) c.requires.fits
 
 pub returns-clause-outcome : goal.returns-clause-outcome
 returns-clause-outcome g c =

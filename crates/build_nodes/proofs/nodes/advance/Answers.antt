@@ -4,6 +4,7 @@ use Rattle.build_scheduler.specs.Own.{seen_by}
 use Rattle.build_scheduler.proofs.HistoryFacts.{some-prop}
 use Rattle.build_nodes.specs.Turns.{IsAnswered}
 use Rattle.build_nodes.proofs.Away.{answer-fits, answer-in-room, asks-next, refused-again, turn-prop}
+use Rattle.build_nodes.proofs.Fitting.{fits-seat, fits-walk}
 use Rattle.build_nodes.proofs.Turning.{of-some, and-some}
 use Rattle.build_nodes.proofs.nodes.advance.Goals as goal
 
@@ -33,6 +34,30 @@ advance-requires-clause-room g c =
     let a = c.args.answered in
     let k = of-some seat.world (λ first. ∥ IsAnswered seen m.earlier c.args.node.now.number (m.world_of first.world) seat.seen a ∥₁) c.requires.answered in
     ∥∥₁_elim k.2 (λ p q. le_prop p q) (λ k. answer-in-room seen m.earlier c.args.node.now.number _ seat.seen a k)
+
+pub advance-requires-clause-place : goal.advance-requires-clause-place
+advance-requires-clause-place g c =
+    let m = g.W.Walker in
+    let laws =
+    g.met.W.Walker g.world.𝓛 g.world.𝓜 g.world.𝓡 ((λ s x. x), (λ x. x), (λ x. x), λ x. x) in
+    let node = c.args.node.now in
+    fits-walk m.Fits laws.fits_once (λ first. m.world_of first.world)
+    (seen_by m.world m.position m.asked m.learnt) m.earlier node.number node.seat.world
+    node.seat.seen c.args.answered c.requires.answered node.place node.fits
+
+pub invariant_of-node : goal.invariant_of-node
+invariant_of-node g c =
+    let m = g.W.Walker in
+    let laws =
+    g.met.W.Walker g.world.𝓛 g.world.𝓜 g.world.𝓡 ((λ s x. x), (λ x. x), (λ x. x), λ x. x) in
+    let node = c.args.node.now in
+    record {
+      fits =
+          fits-seat m.Fits laws.fits_once (λ first. m.world_of first.world)
+          (seen_by m.world m.position m.asked m.learnt) m.earlier node.number node.seat.world
+          node.seat.seen c.args.answered c.requires.answered c.advance.new.place
+          c.advance.ensures.place;
+    }
 
 pub returns-in-Ok-clause-brought : goal.returns-in-Ok-clause-brought
 returns-in-Ok-clause-brought g c =

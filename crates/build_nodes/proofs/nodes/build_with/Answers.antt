@@ -1,4 +1,5 @@
-use Rattle.std.proofs.Common.{◌≡◌, vec_len, ap, sym, ◌∙◌, subst}
+use Rattle.std.proofs.Common.{◌≡◌, All, vec_len, ap, sym, ◌∙◌, subst}
+use Rattle.std.specs.Prelude.{IsSomeAnd}
 use Rattle.std.proofs.Math.Logic.{∥∥₁_map}
 use Rattle.build_meaning.specs.History.{AreOfNodes}
 use Rattle.build_meaning.proofs.EventsKeepLawful.{some-is}
@@ -14,6 +15,14 @@ use Rattle.build_nodes.proofs.nodes.build_with.Goals as goal
 
 pub open_board-requires-clause-running : goal.open_board-requires-clause-running
 open_board-requires-clause-running g c κs within = c.nodes.ensures.end ∙ c.requires.running
+
+pub split_all-requires-clause-fits : goal.split_all-requires-clause-fits
+split_all-requires-clause-fits g c κs within =
+    let m = g.W.Walker in
+    subst (λ known. IsSomeAnd known (λ first. All (λ place. m.Fits place (m.world_of first.world))
+    c.args.places.items)) (sym (ap (λ s. s.world) c.in_ok-board.ensures))
+    (subst (λ w. All (λ place. m.Fits place w) c.args.places.items)
+    (sym c.nodes.ensures.world) c.requires.fits)
 
 pub close-requires-send-S : goal.close-requires-send-S
 close-requires-send-S g c κs within = shared-crosses _ _ _ g.W.Walker c.type_bounds.send-W c.type_bounds.send-W-Origin _

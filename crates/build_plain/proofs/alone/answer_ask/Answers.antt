@@ -1,13 +1,12 @@
 use Rattle.std.proofs.Common.{refl, ◌∙◌, subst}
-use Rattle.build_meaning.specs.declared.event.Event.TheVariants.{Result, Done}
-use Rattle.build_scheduler.specs.declared.walker.Ask.TheVariants.{Finished, Done as IsOver}
+use Rattle.build_meaning.specs.declared.event.Event.TheVariants.{Result}
+use Rattle.build_scheduler.specs.declared.walker.Ask.TheVariants.{Finished}
 use Rattle.build_scheduler.specs.declared.walker.Answer.TheVariants.{Use}
 use Rattle.build_scheduler.specs.Own.{IsOut, seen_by}
-use Rattle.build_plain.specs.Driven.{IsLegal}
 use Rattle.build_plain.proofs.OneAtATime.{legal-of}
 use Rattle.build_plain.proofs.OwnTurns.{asks-of}
-use Rattle.build_plain.proofs.Turns.{goes-on, leaves-node}
-use Rattle.build_plain.proofs.Using.{goes-uses, away-uses}
+use Rattle.build_plain.proofs.Turns.{goes-on}
+use Rattle.build_plain.proofs.Using.{goes-uses}
 use Rattle.build_plain.proofs.alone.answer_ask.Goals as goal
 
 pub result-requires-clause-asks : goal.result-requires-clause-asks
@@ -15,12 +14,6 @@ result-requires-clause-asks g c =
     let m = g.W.Walker in
     let core = c.args.core.now in
     asks-of (m.world_of core.world) core.history.events core.table.finished c.args.id (seen_by m.world m.position m.asked m.learnt c.args.walk) (Finished c.in-Finished.run' c.in-Finished.made) c.requires.own (c.requires.asks ∙ c.in-Finished.is)
-
-pub done-left-requires-clause-asks : goal.done-left-requires-clause-asks
-done-left-requires-clause-asks g c =
-    let m = g.W.Walker in
-    let core = c.args.core.now in
-    asks-of (m.world_of core.world) core.history.events core.table.finished c.args.id (seen_by m.world m.position m.asked m.learnt c.args.walk) (IsOver c.in-Done.told) c.requires.own (c.requires.asks ∙ c.in-Done.is)
 
 pub returns-in-Finished-clause-turn : goal.returns-in-Finished-clause-turn
 returns-in-Finished-clause-turn g c =
@@ -32,13 +25,6 @@ returns-in-Finished-clause-turn g c =
     (subst (λ w. ∥ IsOut w c.result.new.self.history.events c.result.new.self.table.finished c.args.id (seen_by m.world m.position m.asked m.learnt c.args.walk) Use ∥₁) c.result.ensures.world
     (c.result.ensures.out c.args.walk c.requires.own (c.requires.asks ∙ c.in-Finished.is)))
 
-pub returns-in-Done-clause-turn : goal.returns-in-Done-clause-turn
-returns-in-Done-clause-turn g c =
-    let m = g.W.Walker in
-    let core = c.args.core.now in
-    leaves-node (m.world_of core.world) core.history.events c.done-left.new.self.history.events (Done c.args.id)
-    (legal-of (seen_by m.world m.position m.asked m.learnt) (m.world_of core.world) core.legal) c.done-left.ensures.history c.args.id refl c.requires.only c.done-left.new.self.end tt
-
 pub returns-in-Finished-clause-uses : goal.returns-in-Finished-clause-uses
 returns-in-Finished-clause-uses g c =
     let m = g.W.Walker in
@@ -48,12 +34,3 @@ returns-in-Finished-clause-uses g c =
     (seen_by m.world m.position m.asked m.learnt c.args.walk) Use refl c.result.ensures.history c.requires.own
     (subst (λ w. ∥ IsOut w after.history.events after.table.finished c.args.id (seen_by m.world m.position m.asked m.learnt c.args.walk) Use ∥₁) c.result.ensures.world
     (c.result.ensures.out c.args.walk c.requires.own (c.requires.asks ∙ c.in-Finished.is)))
-
-pub returns-in-Done-clause-uses : goal.returns-in-Done-clause-uses
-returns-in-Done-clause-uses g c =
-    let m = g.W.Walker in
-    let core = c.args.core.now in
-    let after = c.done-left.new.self in
-    away-uses (m.world_of core.world) core.history.events after.history.events (Done c.args.id) c.args.id core.table.finished
-    (seen_by m.world m.position m.asked m.learnt c.args.walk) refl (λ a. a) c.done-left.ensures.history c.requires.own
-    (subst (λ w. ∥ IsLegal w after.history.events ∥₁) c.done-left.ensures.world (legal-of (seen_by m.world m.position m.asked m.learnt) (m.world_of after.world) after.legal))

@@ -25,6 +25,8 @@ loop-core-preserved g c =
           (sym c.end.ensures.end ∙ ap option_copied (none-of c.end.result (c.is_none.ensures ∙ ap not c.loop-core-test.true)))
           (c.loop-core.invariant.uses none) (c.take_turn.ensures.uses (none-retired (m.world_of first.world) first.history.events before.history.events c.loop-core.invariant.drives none));
       front = front-trans (m.used c.args.place.now) (m.used c.loop-core.place) (m.used c.take_turn.new.place) c.loop-core.invariant.front c.take_turn.ensures.front;
+      place = subst (m.Fits c.take_turn.new.place) same c.take_turn.ensures.place;
+      lent = c.take_turn.ensures.lent ∙ c.loop-core.invariant.lent;
     }
 
 pub loop-core-init : goal.loop-core-init
@@ -34,9 +36,11 @@ loop-core-init g c =
     record {
       world = refl;
       drives = drives-none (m.world_of first.world) first.history.events first.history.events refl;
-      free = free-of (m.world_of first.world) first.history.events first.end c.requires;
+      free = free-of (m.world_of first.world) first.history.events first.end c.requires.free;
       uses = λ none. unless-any first.end _ ∣ uses-none (m.world_of first.world) first.history.events first.history.events _ refl ∣₁;
       front = front-self (m.used c.args.place.now);
+      place = c.requires.place;
+      lent = refl;
     }
 
 pub returns-clause-legal : goal.returns-clause-legal

@@ -14,6 +14,8 @@ invariant-loop-core g l =
       free : IsFree (m.world_of l.initial.core.world) l.core.history.events l.core.end;
       uses : retires l.initial.core.history.events ≡ 0 → UnlessMemory l.core.end ∥ Uses (m.world_of l.initial.core.world) l.initial.core.history.events l.core.history.events (m.used l.initial.place) (m.used l.place) ∥₁;
       front : IsPrefix (m.used l.initial.place) (m.used l.place);
+      place : m.Fits l.place (m.world_of l.initial.core.world);
+      lent : m.lent l.place ≡ m.lent l.initial.place;
     }
 
 abbrev pub decreases-loop-core : goal.decreases-loop-core

@@ -3,7 +3,15 @@ use Rattle.std.specs.Prelude.{IsSome}
 use Rattle.build_scheduler.specs.Learnt.{ArePartOf}
 use Rattle.build_scheduler.specs.Own.{seen_by}
 use Rattle.build_scheduler.specs.Position.{answered}
-use Rattle.build_plain.proofs.OwnTurns.{known-of, fits-of, turn-of, room-of, own-of}
+use Rattle.build_plain.proofs.OwnTurns.{
+  known-of,
+  fits-of,
+  turn-of,
+  room-of,
+  own-of,
+  fits-walk,
+  fits-world,
+}
 use Rattle.build_plain.proofs.Using.{step-uses, unless-wanted}
 use Rattle.build_plain.proofs.alone.step.Goals as goal
 
@@ -33,6 +41,15 @@ go_on-requires-clause-room g c =
     let core = c.args.core.now in
     room-of (m.world_of core.world) core.history.events core.table.finished c.args.id (seen_by m.world m.position m.asked m.learnt c.args.walk) c.args.answer c.requires.out c.few_events.ensures
 
+pub go_on-requires-clause-place : goal.go_on-requires-clause-place
+go_on-requires-clause-place g c =
+    let m = g.W.Walker in
+    let core = c.args.core.now in
+    let place = c.args.place.now in
+    fits-walk (m.world_of core.world) core.history.events core.table.finished c.args.id
+    (seen_by m.world m.position m.asked m.learnt c.args.walk) c.args.answer c.requires.out
+    (m.Fits place) (g.met.W.Walker.fits_once place) c.requires.place
+
 pub answer_ask-requires-clause-own : goal.answer_ask-requires-clause-own
 answer_ask-requires-clause-own g c =
     let m = g.W.Walker in
@@ -41,6 +58,24 @@ answer_ask-requires-clause-own g c =
     (seen_by m.world m.position m.asked m.learnt c.go_on.new.walk) c.in-Ok.ensures.world
     (subst (λ table. answered (m.world c.args.walk) table.finished (m.position c.args.walk) c.args.answer ≡ Some (m.position c.go_on.new.walk)) c.table.ensures.table c.in-Ok.ensures.goes_on)
     c.in-Ok.ensures.asked (subst (λ table. ArePartOf (m.learnt c.go_on.new.walk) table.finished) c.table.ensures.table c.in-Ok.ensures.known)
+
+pub returns-in-Ok-clause-place : goal.returns-in-Ok-clause-place
+returns-in-Ok-clause-place g c =
+    let m = g.W.Walker in
+    let core = c.args.core.now in
+    let place = c.go_on.new.place in
+    fits-world (m.world_of core.world) core.history.events core.table.finished c.args.id
+    (seen_by m.world m.position m.asked m.learnt c.args.walk) c.args.answer c.requires.out
+    (m.Fits place) (g.met.W.Walker.fits_once place) c.go_on.ensures.place
+
+pub returns-clause-place : goal.returns-clause-place
+returns-clause-place g c =
+    let m = g.W.Walker in
+    let core = c.args.core.now in
+    let place = c.go_on.new.place in
+    fits-world (m.world_of core.world) core.history.events core.table.finished c.args.id
+    (seen_by m.world m.position m.asked m.learnt c.args.walk) c.args.answer c.requires.out
+    (m.Fits place) (g.met.W.Walker.fits_once place) c.go_on.ensures.place
 
 pub returns-in-Ok-clause-uses : goal.returns-in-Ok-clause-uses
 returns-in-Ok-clause-uses g c =

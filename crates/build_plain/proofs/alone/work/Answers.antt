@@ -25,6 +25,8 @@ loop-turn-preserved g c =
           (subst (λ turn. IsTurn (seen_by m.world m.position m.asked m.learnt) (m.world_of first.world) before.history.events before.table.finished before.end c.args.id turn) c.in-GoesOn.is c.loop-turn.invariant.turn).0
           c.in-GoesOn.is c.loop-turn.invariant.uses c.step-turn.ensures.uses;
       front = front-trans (m.used c.args.place.now) (m.used c.loop-turn.place) (m.used c.step-turn.new.place) c.loop-turn.invariant.front c.step-turn.ensures.front;
+      place = subst (m.Fits c.step-turn.new.place) same c.step-turn.ensures.place;
+      lent = c.step-turn.ensures.lent ∙ c.loop-turn.invariant.lent;
     }
 
 pub loop-turn-init : goal.loop-turn-init
@@ -37,6 +39,8 @@ loop-turn-init g c =
       turn = (c.requires.running, c.requires.out, c.requires.only);
       uses = unless-any first.end _ ∣ uses-none (m.world_of first.world) first.history.events first.history.events _ refl ∣₁;
       front = front-self (m.used c.args.place.now);
+      place = c.requires.place;
+      lent = refl;
     }
 
 pub returns-clause-uses : goal.returns-clause-uses

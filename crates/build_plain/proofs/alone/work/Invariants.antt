@@ -17,6 +17,8 @@ invariant-loop-turn g l =
           (m.used l.initial.place ++ due_in (seen_by m.world m.position m.asked m.learnt) (m.world_of l.initial.core.world) l.initial.core.table.finished l.initial.turn)
           (m.used l.place ++ due_in (seen_by m.world m.position m.asked m.learnt) (m.world_of l.initial.core.world) l.core.table.finished l.turn) ∥₁;
       front : IsPrefix (m.used l.initial.place) (m.used l.place);
+      place : m.Fits l.place (m.world_of l.initial.core.world);
+      lent : m.lent l.place ≡ m.lent l.initial.place;
     }
 
 abbrev pub decreases-loop-turn : goal.decreases-loop-turn

@@ -1,7 +1,8 @@
-use Rattle.std.proofs.Common.{ap, ◌∙◌, subst}
+use Rattle.std.proofs.Common.{ap, sym, ◌∙◌, subst}
 use Rattle.build_meaning.specs.Lists.{put}
 use Rattle.build_scheduler.specs.declared.slot.Slot.TheVariants.{Calling, Done as Over}
 use Rattle.build_scheduler.specs.Calls.{CanTake}
+use Rattle.build_scheduler.specs.HandedBack.{IsLeft}
 use Rattle.build_scheduler.specs.Own.{seen_by}
 use Rattle.build_scheduler.proofs.Passing.{can_take-calls}
 use Rattle.build_scheduler.proofs.SlotNumbers.{put-put}
@@ -27,14 +28,19 @@ take_journal-left-requires-clause-replays g c =
     (subst (CanTake seen c.args.table.now.finished (seen c.args.call))
     c.take_calls-calls.ensures.was c.requires.can).1
 
-pub returns : goal.returns
-returns g c = record {
+pub returns-clause-passed : goal.returns-clause-passed
+returns-clause-passed g c = record {
   before = c.take_calls-calls.result;
   now = c.take_journal-left.new.self;
   was = c.take_calls-calls.ensures.was;
-  taken = c.take_journal-left.ensures;
+  taken = c.take_journal-left.ensures.taken;
   is =
       c.put_slot.ensures ∙ (ap (λ xs. put xs c.args.caller (Calling c.take_journal-left.new.self))
       c.take_calls-calls.ensures.is ∙ put-put c.args.slots.now.items c.args.caller Over
       (Calling c.take_journal-left.new.self));
 }
+
+pub returns-clause-left : goal.returns-clause-left
+returns-clause-left g c =
+    subst (λ slot. IsLeft slot c.args.id c.args.call c.take_journal-left.result)
+    (sym c.take_calls-calls.ensures.was) c.take_journal-left.ensures.left

@@ -10,6 +10,8 @@ invariant-loop-check g l =
     record {
       turn : IsTurn (seen_by m.world m.position m.asked m.learnt) (m.world l.fn.walk) l.check l.turn;
       front : IsPrefix (m.used l.initial.place) (m.used l.place);
+      place : m.Fits l.place (m.world l.fn.walk);
+      lent : m.lent l.place ≡ m.lent l.initial.place;
     }
 
 abbrev pub decreases-loop-check : goal.decreases-loop-check

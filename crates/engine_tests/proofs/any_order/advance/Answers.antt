@@ -4,7 +4,15 @@ use Rattle.std.specs.Prelude.{IsSome}
 use Rattle.build_scheduler.specs.Learnt.{ArePartOf}
 use Rattle.build_scheduler.specs.Own.{seen_by}
 use Rattle.build_scheduler.specs.Position.{answered}
-use Rattle.build_plain.proofs.OwnTurns.{known-of, fits-of, turn-of, room-of, own-of}
+use Rattle.build_plain.proofs.OwnTurns.{
+  known-of,
+  fits-of,
+  turn-of,
+  room-of,
+  own-of,
+  fits-walk,
+  fits-world,
+}
 use Rattle.engine_tests.specs.Trials.{IsAsking}
 use Rattle.engine_tests.proofs.Others.{asks-now}
 use Rattle.engine_tests.proofs.any_order.advance.Goals as goal
@@ -39,8 +47,48 @@ step-requires-clause-room g c =
     let next = c.args.next in
     room-of (m.world_of core.world) core.history.events core.table.finished next.id (seen_by m.world m.position m.asked m.learnt next.walk) next.answer c.requires.next c.event_count-number.ensures.few
 
-pub returns : goal.returns
-returns g c =
+pub step-requires-clause-place : goal.step-requires-clause-place
+step-requires-clause-place g c =
+    let m = g.W.Walker in
+    let core = c.args.core.now in
+    let next = c.args.next in
+    let place = c.args.place.now in
+    fits-walk (m.world_of core.world) core.history.events core.table.finished next.id
+    (seen_by m.world m.position m.asked m.learnt next.walk) next.answer c.requires.next
+    (m.Fits place) (g.met.W.Walker.fits_once place) c.requires.place
+
+pub returns-clause-place : goal.returns-clause-place
+returns-clause-place g c =
+    let m = g.W.Walker in
+    let core = c.args.core.now in
+    let next = c.args.next in
+    let place = c.step.new.place in
+    fits-world (m.world_of core.world) core.history.events core.table.finished next.id
+    (seen_by m.world m.position m.asked m.learnt next.walk) next.answer c.requires.next
+    (m.Fits place) (g.met.W.Walker.fits_once place) c.step.ensures.place
+
+pub returns-in_err-ask-clause-place : goal.returns-in_err-ask-clause-place
+returns-in_err-ask-clause-place g c =
+    let m = g.W.Walker in
+    let core = c.args.core.now in
+    let next = c.args.next in
+    let place = c.step.new.place in
+    fits-world (m.world_of core.world) core.history.events core.table.finished next.id
+    (seen_by m.world m.position m.asked m.learnt next.walk) next.answer c.requires.next
+    (m.Fits place) (g.met.W.Walker.fits_once place) c.step.ensures.place
+
+pub returns-in_err-push-clause-place : goal.returns-in_err-push-clause-place
+returns-in_err-push-clause-place g c =
+    let m = g.W.Walker in
+    let core = c.args.core.now in
+    let next = c.args.next in
+    let place = c.step.new.place in
+    fits-world (m.world_of core.world) core.history.events core.table.finished next.id
+    (seen_by m.world m.position m.asked m.learnt next.walk) next.answer c.requires.next
+    (m.Fits place) (g.met.W.Walker.fits_once place) c.step.ensures.place
+
+pub returns-clause-out : goal.returns-clause-out
+returns-clause-out g c =
     let m = g.W.Walker in
     let core = c.args.core.now in
     let next = c.args.next in

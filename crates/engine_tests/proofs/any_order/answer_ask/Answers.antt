@@ -8,9 +8,3 @@ result-requires-clause-asks g c =
     let m = g.W.Walker in
     let core = c.args.core.now in
     asks-of (m.world_of core.world) core.history.events core.table.finished c.args.id (seen_by m.world m.position m.asked m.learnt c.args.walk) _ c.requires.own (c.requires.asks ∙ c.in-Finished.is)
-
-pub done-left-requires-clause-asks : goal.done-left-requires-clause-asks
-done-left-requires-clause-asks g c =
-    let m = g.W.Walker in
-    let core = c.args.core.now in
-    asks-of (m.world_of core.world) core.history.events core.table.finished c.args.id (seen_by m.world m.position m.asked m.learnt c.args.walk) _ c.requires.own (c.requires.asks ∙ c.in-Done.is)

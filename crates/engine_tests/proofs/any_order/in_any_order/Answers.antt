@@ -1,6 +1,15 @@
+use Rattle.std.proofs.Common.{subst, sym}
+use Rattle.msb_instance.specs.Kept.{AreEvaluated}
 use Rattle.request_machine.specs.Worlds.{root_of, world_of}
 use Rattle.msb_outcomes.proofs.Beginning.{begins_there}
 use Rattle.engine_tests.proofs.any_order.in_any_order.Goals as goal
+
+pub built-requires-clause-place : goal.built-requires-clause-place
+built-requires-clause-place g c = (
+  c.in_ok-walk.ensures.world,
+  subst (AreEvaluated c.args.world.now.tree.files)
+      (sym c.new.ensures) tt,
+)
 
 pub built-requires-clause-begins : goal.built-requires-clause-begins
 built-requires-clause-begins g c =

@@ -1,8 +1,11 @@
 use denote.RattleType.{RattleType}
 use denote.Struct.Declared as Struct
 use denote.Param.Send.{IsSend, recorded_send, sendable, struct_send}
+use Rattle.std.proofs.Common.{All, subst, sym}
+use Rattle.msb_instance.specs.Kept.{AreEvaluated}
+use Rattle.request_machine.specs.Sites.{Suits}
 use Rattle.request_machine.specs.Worlds.{root_of, world_of}
-use Rattle.request_machine.proofs.Crossing.{Walk-send}
+use Rattle.request_machine.proofs.Crossing.{Site-send, Walk-send}
 use Rattle.msb_outcomes.proofs.Beginning.{begins_there}
 use Rattle.engine_tests.specs.contracts.refusing.Refusing as Refusing
 use Rattle.engine_tests.proofs.refusing.built_at.Goals as goal
@@ -10,8 +13,22 @@ use Rattle.engine_tests.proofs.refusing.built_at.Goals as goal
 Refusing-send : (W : RattleType) → IsSend W → IsSend (Refusing.the_row W)
 Refusing-send W s = recorded_send _ _ _ (Refusing.the_type W).to_one (struct_send (Struct.shape (Refusing.the_type W)) (s, (search sendable, tt)))
 
+pub sites_of-requires : goal.sites_of-requires
+sites_of-requires g c =
+    subst (AreEvaluated c.args.world.now.tree.files) (sym c.new.ensures) tt
+
 pub build_walk-requires-send-W : goal.build_walk-requires-send-W
 build_walk-requires-send-W g c κs within = let y = c.type_bounds.send-T in search (Refusing-send, Walk-send, sendable) depth 20
+
+pub build_walk-requires-send-W-Place : goal.build_walk-requires-send-W-Place
+build_walk-requires-send-W-Place g c κs within =
+    let y = c.type_bounds.send-T in search (Site-send, sendable) depth 20
+
+pub build_walk-requires-clause-fits : goal.build_walk-requires-clause-fits
+build_walk-requires-clause-fits g c κs within =
+    let tools = g.T.CountedTools.answer in
+    subst (λ w. All (λ site. Suits tools site.world.now site.instances w) c.in_ok-sites.sites.items)
+    (sym c.in_ok-walk.ensures.world) c.in_ok-sites.ensures.suit
 
 pub build_walk-requires-clause-begins : goal.build_walk-requires-clause-begins
 build_walk-requires-clause-begins g c κs within =

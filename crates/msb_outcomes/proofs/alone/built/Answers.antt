@@ -1,30 +1,21 @@
 use Rattle.std.proofs.Common.{IfOk, subst}
-use Rattle.task_trait.specs.declared.tools.ToolAnswer.{ToolAnswer}
-use Rattle.task_trait.specs.declared.tools.ToolInput.{ToolInput}
-use Rattle.build_meaning.specs.World.{World}
-use Rattle.request_machine.specs.Walk.{Site}
-use Rattle.request_machine.specs.Worlds.{root_of, world_of}
+use Rattle.build_outcome.specs.Outcomes.{IsOutcome}
 use Rattle.build_engine.specs.UsedFor.{IsUsedFor}
+use Rattle.build_world.specs.declared.world.World.{World as Given}
+use Rattle.request_machine.specs.Worlds.{world_of}
 use Rattle.msb_outcomes.specs.Calls.{as_uses}
-use Rattle.build_steady.proofs.Begun.{calls_begin}
-use Rattle.msb_outcomes.proofs.Beginning.{begins_there}
 use Rattle.msb_outcomes.proofs.alone.built.Goals as goal
 
-pub build_on_one-requires-clause-begins : goal.build_on_one-requires-clause-begins
-build_on_one-requires-clause-begins g c =
-    let tools = g.T.CountedTools.answer in
-    begins_there (world_of tools c.args.world.now) (world_of tools c.in_ok-walk.walk.request.world.now) (root_of c.args.world.now) c.in_ok-key.key _
-    c.in_ok-walk.ensures.begins c.in_ok-walk.ensures.world c.in_ok-key.ensures
+pub returns-clause-outcome : goal.returns-clause-outcome
+returns-clause-outcome g c =
+    subst (λ (given : Given). IfOk c.built_with.result
+    (λ o. ∥ IsOutcome (world_of g.T.CountedTools.answer given) c.args.low o ∥₁))
+    c.parts-world.ensures.world c.built_with.ensures.outcome
 
 pub returns-clause-used : goal.returns-clause-used
 returns-clause-used g c =
     let calls = g.T.CountedTools.calls in
-    subst (λ (w : World Site ToolInput ToolAnswer). IfOk c.build_on_one.result
-    (λ o. ∥ IsUsedFor w c.args.low o (as_uses (calls c.args.tools.now))
-    (as_uses (calls c.build_on_one.new.place)) ∥₁))
-    c.in_ok-walk.ensures.world c.build_on_one.ensures.used
-
-pub returns-clause-begun : goal.returns-clause-begun
-returns-clause-begun g c =
-    let calls = g.T.CountedTools.calls in
-    calls_begin (calls c.args.tools.now) (calls c.build_on_one.new.place) c.build_on_one.ensures.front
+    subst (λ (given : Given). IfOk c.built_with.result
+    (λ o. ∥ IsUsedFor (world_of g.T.CountedTools.answer given) c.args.low o
+    (as_uses (calls c.args.tools.now)) (as_uses (calls c.built_with.new.tools)) ∥₁))
+    c.parts-world.ensures.world c.built_with.ensures.used

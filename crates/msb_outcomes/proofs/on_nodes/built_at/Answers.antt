@@ -1,11 +1,23 @@
 use denote.Param.Send.{sendable}
+use Rattle.std.proofs.Common.{All, subst, sym}
+use Rattle.request_machine.specs.Sites.{Suits}
 use Rattle.request_machine.specs.Worlds.{root_of, world_of}
-use Rattle.request_machine.proofs.Crossing.{Walk-send}
+use Rattle.request_machine.proofs.Crossing.{Site-send, Walk-send}
 use Rattle.msb_outcomes.proofs.Beginning.{begins_there}
 use Rattle.msb_outcomes.proofs.on_nodes.built_at.Goals as goal
 
 pub build_on_many-requires-send-W : goal.build_on_many-requires-send-W
 build_on_many-requires-send-W g c κs within = let y = c.type_bounds.send-T in search (Walk-send, sendable) depth 20
+
+pub build_on_many-requires-send-W-Place : goal.build_on_many-requires-send-W-Place
+build_on_many-requires-send-W-Place g c κs within =
+    let y = c.type_bounds.send-T in search (Site-send, sendable) depth 20
+
+pub build_on_many-requires-clause-fits : goal.build_on_many-requires-clause-fits
+build_on_many-requires-clause-fits g c κs within =
+    let tools = g.T.CountedTools.answer in
+    subst (λ w. All (λ site. Suits tools site.world.now site.instances w) c.args.sites.items)
+    (sym c.in_ok-walk.ensures.world) c.requires.suit
 
 pub build_on_many-requires-clause-begins : goal.build_on_many-requires-clause-begins
 build_on_many-requires-clause-begins g c κs within =

@@ -1,7 +1,9 @@
-use Rattle.std.proofs.Common.{ℕ, IfOk, subst, sym}
+use Rattle.std.proofs.Common.{ℕ, ◌<◌, ◌≤◌, IfOk, subst, sym, ◌∙◌}
 use denote.Exit.{no}
 use denote.Param.Send.{arg_send, param_send}
 use Rattle.build_engine.specs.OnNodes.{IsOutcomeOn}
+use Rattle.build_outcome.specs.Outcomes.{IsOutcome}
+use Rattle.build_world.specs.declared.world.World.{World as Given}
 use Rattle.build_engine.proofs.Using.{each_on_one}
 use Rattle.request_machine.specs.Worlds.{world_of}
 use Rattle.task_trait.proofs.tools.Counted.TheSendSync as counted
@@ -9,7 +11,7 @@ use Rattle.msb_outcomes.proofs.on_nodes.built_on.Goals as goal
 
 pub returns-then-nodes-eq1-clause-nodes : goal.returns-then-nodes-eq1-clause-nodes
 returns-then-nodes-eq1-clause-nodes g c =
-    let given = world_of g.T.Tools.answer c.args.world.now in
+    let given = world_of g.T.Tools.answer c.args.given in
     subst (λ (nodes : ℕ). IfOk c.built.result (λ o. ∥ IsOutcomeOn given nodes c.args.low o ∥₁))
     (sym c.if-nodes-eq1.true)
     (each_on_one given c.args.low c.built.result _ _ c.built.ensures.used)
@@ -17,3 +19,23 @@ returns-then-nodes-eq1-clause-nodes g c =
 pub built_at-requires-send-T : goal.built_at-requires-send-T
 built_at-requires-send-T g c κs within =
     param_send _ _ (arg_send _ no _ (counted.the_send _ _ c.type_bounds.sync-T))
+
+pub returns-clause-outcome : goal.returns-clause-outcome
+returns-clause-outcome g c =
+    subst (λ (given : Given). IfOk c.built_at.result
+    (λ o. ∥ IsOutcome (world_of g.T.Tools.answer given) c.args.low o ∥₁))
+    c.parts-world.ensures.world c.built_at.ensures.outcome
+
+pub returns-clause-nodes : goal.returns-clause-nodes
+returns-clause-nodes g c =
+    subst (λ (given : Given). IfOk c.built_at.result
+    (λ o. ∥ IsOutcomeOn (world_of g.T.Tools.answer given) c.args.nodes c.args.low o ∥₁))
+    c.parts-world.ensures.world
+    (subst (λ nodes. IfOk c.built_at.result (λ o.
+    ∥ IsOutcomeOn (world_of g.T.Tools.answer c.parts-world.result.0) nodes c.args.low o ∥₁))
+    (c.in_ok-sites.ensures.count ∙ c.in_ok-counted.ensures) c.built_at.ensures.nodes)
+
+pub built_at-requires-clause-count : goal.built_at-requires-clause-count
+built_at-requires-clause-count g c κs within =
+    subst (λ n. (0 < n) × (n ≤ 64)) (sym (c.in_ok-sites.ensures.count ∙ c.in_ok-counted.ensures))
+    c.requires

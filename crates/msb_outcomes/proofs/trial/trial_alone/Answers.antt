@@ -1,8 +1,5 @@
-use Rattle.std.proofs.Common.{false}
 use Rattle.std.proofs.lemmas.Result.{IfOk-weaker}
-use Rattle.build_engine.proofs.Using.{comes_on_one}
-use Rattle.request_machine.specs.Worlds.{world_of}
-use Rattle.msb_outcomes.specs.Trials.{IsTold, IsTrial, no_tools}
+use Rattle.msb_outcomes.specs.Trials.{IsTold, IsTrial}
 use Rattle.msb_outcomes.proofs.trial.trial_alone.Goals as goal
 
 pub returns : goal.returns
@@ -14,8 +11,7 @@ returns c =
       given = c.in_ok-world.world;
       set = c.in_ok-world.ensures;
       one = one;
-      first = comes_on_one (world_of no_tools c.in_ok-world.world) false one _ _
-          c.in_ok-one.ensures.used;
+      first = c.in_ok-one.ensures.comes;
       other = other;
       second = c.in_ok-other.ensures.outcome;
       told = told;

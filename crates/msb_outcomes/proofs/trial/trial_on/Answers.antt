@@ -1,6 +1,7 @@
-use Rattle.std.proofs.Common.{false}
+use Rattle.std.proofs.Common.{false, subst}
 use Rattle.std.proofs.lemmas.Result.{IfOk-weaker}
-use Rattle.build_engine.proofs.Using.{comes_on_one}
+use Rattle.build_world.specs.declared.world.World.{World as Given}
+use Rattle.build_outcome.specs.Outcomes.{IsOutcome}
 use Rattle.request_machine.specs.Worlds.{world_of}
 use Rattle.msb_outcomes.specs.Trials.{IsTold, IsTrial, no_tools}
 use Rattle.msb_outcomes.proofs.trial.trial_on.Goals as goal
@@ -14,9 +15,9 @@ returns g c =
       given = c.in_ok-world.world;
       set = c.in_ok-world.ensures;
       one = one;
-      first = comes_on_one (world_of no_tools c.in_ok-world.world) false one _ _
-          c.in_ok-one.ensures.used;
+      first = c.in_ok-one.ensures.comes;
       other = other;
-      second = c.in_ok-other.ensures.outcome;
+      second = subst (λ (given : Given). ∥ IsOutcome (world_of no_tools given) false other ∥₁)
+          c.of_world-given.ensures c.in_ok-other.ensures.outcome;
       told = told;
     }) c.told.ensures

@@ -1,11 +1,12 @@
 use Rattle.std.proofs.Common.{◌≡◌, false, sym, ap, ◌∙◌}
 use Rattle.std.proofs.lemmas.Result.{IfOk-weaker}
 use Rattle.build_world.specs.Instances.{seen_instance}
+use Rattle.build_world.specs.declared.instance.Instance.{Instance as Made}
 use Rattle.target_order.specs.Left.{left}
 use Rattle.target_order.specs.Visit.{order}
 use Rattle.target_order.specs.declared.asks.OrderAnswer.TheVariants.{First}
 use Rattle.request_machine.specs.Begun.{StandsAt, StandsBy, left_by}
-use Rattle.request_machine.specs.Requests.{all_targets}
+use Rattle.request_machine.specs.Requests.{all_targets, has_no_targets}
 use Rattle.request_machine.specs.Walk.{nothing_ran, walk, walk_in, walk_unless}
 use Rattle.request_machine.specs.Worlds.{bodies_of, project_of}
 use Rattle.request_machine.specs.declared.standing.Standing.{Standing}
@@ -23,14 +24,22 @@ returns g c =
     let tree = left c.in_ok-order.order First in
     let now = c.go_on.new.order in
     let stand = c.in_ok-stand.stand in
+    let made = c.get-evaluated.result.now in
+    let is = c.get-evaluated.ensures in
     let begins : walk_in p key bodies journal ≡ walk p key bodies (order p.instance.rows (all_targets p.instance key)) (nothing_ran p) journal =
     ap (λ b. walk_unless p key bodies b journal)
-    (sym c.has_no_targets.ensures ∙ c.if-has_no_targets.false) in
-    let order_is : tree ≡ order p.instance.rows (all_targets p.instance key) = c.in_ok-order.ensures.order ∙ ap (order p.instance.rows) c.in_ok-targets.ensures in
+    (sym (ap (λ i. has_no_targets (seen_instance i) key) is)
+    ∙ (sym c.has_no_targets.ensures ∙ c.if-has_no_targets.false)) in
+    let order_is : tree ≡ order p.instance.rows (all_targets p.instance key) =
+    c.in_ok-order.ensures.order ∙ (ap (order made.rows) c.in_ok-targets.ensures
+    ∙ ap (λ i. let made = seen_instance i in order made.rows (all_targets made key)) is) in
+    let scope_is : s.scope ≡ p.instance.scope =
+    c.in_ok-copy.ensures ∙ ap (λ (i : Made). i.scope) is in
     let same : left_by p key bodies s now journal stand ≡ walk_in p key bodies journal =
     sym (next_left p key s journal tree stand now c.in_ok-stand.ensures bodies)
     ∙ (ap (λ t. walk p key bodies t s journal) order_is
-    ∙ (ap (λ scope. walk p key bodies (order p.instance.rows (all_targets p.instance key)) (record { scope = scope; returned = c.new.result }) journal) c.in_ok-copy.ensures
+    ∙ (ap (λ scope. walk p key bodies (order p.instance.rows (all_targets p.instance key))
+    (record { scope = scope; returned = c.new.result }) journal) scope_is
     ∙ (ap (λ returned. walk p key bodies (order p.instance.rows (all_targets p.instance key)) (record { scope = p.instance.scope; returned = returned }) journal) c.new.ensures ∙ sym begins))) in
     IfOk-weaker c.stage_by.result (StandsBy key p.instance s now stand) (StandsAt w key journal (walk_in p key bodies journal))
     (λ stage stands. tree_stands w key journal (left_by p key bodies s now journal stand) (walk_in p key bodies journal) stage same (stands w journal)) c.stage_by.ensures

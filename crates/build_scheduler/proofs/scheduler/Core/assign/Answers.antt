@@ -41,6 +41,7 @@ invariant_of-self g c =
       few = self.few;
       nested = self.nested;
       stops = ∣ none-stops (m.world_of self.world) _ c.requires.running ∣₁;
+      kept_so = self.kept_so;
       behind = behind-event (seen_by m.world m.position m.asked m.learnt) (m.world_of self.world) (Assign c.args.id c.args.node) self.legal legal c.push.ensures.events (kept-put self.slots.items (Assigned c.args.node) c.take_ready.ensures.is) self.behind;
     }
 

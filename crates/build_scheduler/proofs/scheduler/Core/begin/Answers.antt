@@ -7,6 +7,7 @@ use Rattle.build_scheduler.specs.Own.{seen_by}
 use Rattle.build_scheduler.proofs.Behind.{behind-event, behind-same, kept-same}
 use Rattle.build_scheduler.proofs.Claiming.{begun-shown, begun-out, shown-room, making-there}
 use Rattle.build_scheduler.proofs.LogRoom.{active-same}
+use Rattle.build_scheduler.proofs.Repeating.{kept-alike}
 use Rattle.build_scheduler.proofs.Rooms.{room-shown}
 use Rattle.build_scheduler.proofs.Stopping.{none-stops}
 use Rattle.build_scheduler.proofs.scheduler.Core.begin.Goals as goal
@@ -24,6 +25,8 @@ invariant_of-self-in-Break-branch-2 g c =
       few = self.few;
       nested = self.nested;
       stops = ∣ none-stops (m.world_of self.world) _ c.requires.running ∣₁;
+      kept_so = kept-alike (seen_by m.world m.position m.asked m.learnt) (m.world_of self.world)
+          c.in_err-begin.ensures.finished refl refl self.kept_so;
       behind = behind-same (seen_by m.world m.position m.asked m.learnt) (m.world_of self.world) c.in_ok-claimed.ensures.events refl self.behind;
     }
 
@@ -51,6 +54,8 @@ invariant_of-self-2 g c =
       few = self.few;
       nested = self.nested;
       stops = ∣ none-stops (m.world_of self.world) _ c.requires.running ∣₁;
+      kept_so = kept-alike (seen_by m.world m.position m.asked m.learnt) (m.world_of self.world)
+          c.in_ok-begin.ensures.finished refl refl self.kept_so;
       behind = behind-event (seen_by m.world m.position m.asked m.learnt) (m.world_of self.world) (Claim c.args.id c.args.run.now Go) self.legal legal
           (c.push.ensures.events ∙ (ap (λ es. es ++ Claim c.args.id c.in_ok-claimed.claimed Go ∷ []) c.in_ok-claimed.ensures.events ∙ ap (λ r. self.history.events ++ Claim c.args.id r Go ∷ []) c.in_ok-claimed.ensures.claimed)) (kept-same refl) self.behind;
     }
@@ -77,5 +82,6 @@ invariant_of-self g c =
       few = self.few;
       nested = self.nested;
       stops = ∣ none-stops (m.world_of self.world) _ c.requires.running ∣₁;
+      kept_so = self.kept_so;
       behind = behind-same (seen_by m.world m.position m.asked m.learnt) (m.world_of self.world) c.begin_room.ensures.events refl self.behind;
     }

@@ -3,6 +3,8 @@ use Rattle.std.proofs.Math.Logic.{∥∥₁_map}
 use Rattle.build_meaning.proofs.ListPlaces.{at-less}
 use Rattle.build_scheduler.specs.Dependents.{TellsDependent}
 use Rattle.build_scheduler.specs.Own.{seen_by}
+use Rattle.result_cache.proofs.RunTests.{clash}
+use Rattle.build_scheduler.proofs.FreeCalls.{begun-slot, free-closes}
 use Rattle.build_scheduler.proofs.Looking.{found-backward}
 use Rattle.build_scheduler.proofs.Waiting.{assigned-there, callers-there, circle-closed, circle-open, own-assigned, waiting-bounded, way-making}
 use Rattle.build_scheduler.proofs.scheduler.Core.closing_cycle.Goals as goal
@@ -57,3 +59,28 @@ returns-in_ok-runs-in-Some g c =
     let self = c.args.self.now in
     let n = subst (TellsDependent self.origins.items self.waiting.items c.args.id c.args.by) c.in-Some.is c.in_ok-find_dependent.ensures in
     circle-closed (seen_by m.world m.position m.asked m.learnt) (m.world_of self.world) c.args.id c.args.walk.now c.args.run.now c.args.by c.in-Some.dependent c.in_ok-runs-in-Some.field-0 self.legal self.indexed c.requires.own c.requires.asks c.requires.begun c.requires.unfinished n c.in_ok-runs-in-Some.ensures
+
+pub is_caller-requires : goal.is_caller-requires
+is_caller-requires g c =
+    let m = g.W.Walker in
+    let self = c.args.self.now in
+    let seen = seen_by m.world m.position m.asked m.learnt in
+    let w = m.world_of self.world in
+    assigned-there seen w c.args.id self.legal
+    (∥∥₁_map c.requires.own (λ o. own-assigned seen w c.args.id c.args.walk.now o))
+
+pub needs_nothing-requires : goal.needs_nothing-requires
+needs_nothing-requires g c =
+    let m = g.W.Walker in
+    let self = c.args.self.now in
+    begun-slot (seen_by m.world m.position m.asked m.learnt) (m.world_of self.world) self.legal
+    self.indexed c.args.run.now c.args.by c.requires.begun c.requires.unfinished
+
+pub returns-then-needs_nothing : goal.returns-then-needs_nothing
+returns-then-needs_nothing g c =
+    let m = g.W.Walker in
+    let self = c.args.self.now in
+    free-closes (seen_by m.world m.position m.asked m.learnt) (m.world_of self.world) self.legal
+    self.indexed c.args.id c.args.run.now c.args.by c.requires.begun c.requires.unfinished
+    (λ h. clash c.is_caller.result (c.is_caller.ensures h) c.if-not-is_caller.true)
+    (c.needs_nothing.ensures c.if-needs_nothing.true)

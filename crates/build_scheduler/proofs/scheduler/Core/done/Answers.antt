@@ -6,6 +6,7 @@ use Rattle.build_scheduler.specs.Own.{seen_by}
 use Rattle.build_scheduler.proofs.Behind.{behind-event, kept-put, kept-resumed}
 use Rattle.build_scheduler.proofs.Ending.{over-room, over-slot, over-there, root-zero, called-other-than_root, caller-open, caller-unlisted, ended-shown, resumed-shown, over-indexed}
 use Rattle.build_scheduler.proofs.Passing.{asks-same}
+use Rattle.build_scheduler.proofs.Repeating.{kept-fewer}
 use Rattle.build_scheduler.proofs.SlotNumbers.{resumed-indexed}
 use Rattle.build_scheduler.proofs.Stopping.{none-stops}
 use Rattle.build_scheduler.proofs.scheduler.Core.done.Goals as goal
@@ -60,6 +61,9 @@ invariant_of-self g c =
       few = self.few;
       nested = self.nested;
       stops = ∣ tt ∣₁;
+      kept_so = ∥∥₁_map self.kept_so (kept-fewer (seen_by m.world m.position m.asked m.learnt)
+          (m.world_of self.world) self.table.finished self.origins.items self.kept.ends.items
+          c.count_done.new.self.ends.items c.count_done.ensures);
       behind = behind-event (seen_by m.world m.position m.asked m.learnt) (m.world_of self.world) (Done c.args.id) self.legal legal c.push.ensures.events (kept-put self.slots.items Over c.put_slot.ensures) self.behind;
     }
 
@@ -116,6 +120,9 @@ invariant_of-self-in-Some g c =
       few = self.few;
       nested = self.nested;
       stops = ∣ none-stops (m.world_of self.world) _ running ∣₁;
+      kept_so = ∥∥₁_map self.kept_so (kept-fewer (seen_by m.world m.position m.asked m.learnt)
+          (m.world_of self.world) self.table.finished self.origins.items self.kept.ends.items
+          c.count_done.new.self.ends.items c.count_done.ensures);
       behind = behind-event (seen_by m.world m.position m.asked m.learnt) (m.world_of self.world) (Done c.args.id) self.legal legal c.push.ensures.events (kept-resumed self.slots.items c.put_slot.ensures c.resume.ensures) self.behind;
     }
 

@@ -8,6 +8,7 @@ use Rattle.build_scheduler.specs.Own.{seen_by}
 use Rattle.build_scheduler.proofs.Behind.{behind-event, kept-entered}
 use Rattle.build_scheduler.proofs.Entering.{absent-beyond, children-many, entered-counted, entered-indexed, entered-nested, entered-shown, slot-there, spare-room}
 use Rattle.build_scheduler.proofs.Refusing.{many-refused}
+use Rattle.build_scheduler.proofs.Repeating.{kept-entered as ends-entered}
 use Rattle.build_scheduler.proofs.Stopping.{none-stops}
 use Rattle.build_scheduler.proofs.scheduler.Core.enter.Goals as goal
 
@@ -73,5 +74,8 @@ invariant_of-self-in-Ok g c =
       few = c.in-Ok.ensures.1;
       nested = ∥∥₁_map self.nested (λ v. entered-nested seen c.args.id c.args.walk c.args.calls c.args.children c.requires.children e.origins v);
       stops = ∣ none-stops w _ c.requires.running ∣₁;
+      kept_so = ∥∥₁_map self.kept_so (ends-entered seen w self.table.finished self.origins.items
+          c.args.children.origins.items c.enter_all.new.origins.items self.kept.ends.items
+          c.count.new.self.ends.items e.origins c.count.ensures);
       behind = behind-event seen w (Request c.args.id c.args.calls) self.legal legal c.push.ensures.events (kept-entered e.slots) self.behind;
     }

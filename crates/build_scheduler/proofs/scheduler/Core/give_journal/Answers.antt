@@ -1,7 +1,8 @@
-use Rattle.std.proofs.Common.{subst, sym}
+use Rattle.std.proofs.Common.{refl, subst, sym}
 use Rattle.std.proofs.Math.Logic.{∥∥₁_elim, ∥∥₁_map}
 use Rattle.build_scheduler.specs.Learnt.{AreInOrder}
 use Rattle.build_scheduler.specs.Own.{seen_by}
+use Rattle.build_scheduler.proofs.HandedBack.{handed-back, none-first}
 use Rattle.build_scheduler.proofs.HistoryFacts.{in_order-prop, table_in_order}
 use Rattle.build_scheduler.proofs.Passing.{
   can-take,
@@ -40,7 +41,7 @@ invariant_of-self g c =
     let self = c.args.self.now in
     let seen = seen_by m.world m.position m.asked m.learnt in
     let w = m.world_of self.world in
-    let passed = c.pass_journal.ensures in
+    let passed = c.pass_journal.ensures.passed in
     record {
       legal = ∥∥₁_map self.legal (λ x. passed-shown seen w c.in-Some.caller passed x);
       indexed =
@@ -51,7 +52,25 @@ invariant_of-self g c =
       few = self.few;
       nested = self.nested;
       stops = self.stops;
+      kept_so = self.kept_so;
       behind =
           ∥∥₁_map self.behind (λ b. passed-behind seen self.table.finished c.in-Some.caller passed w
           self.history.events b);
     }
+
+pub returns-in-None-clause-left : goal.returns-in-None-clause-left
+returns-in-None-clause-left g c =
+    let m = g.W.Walker in
+    let self = c.args.self.now in (
+      refl,
+      none-first (seen_by m.world m.position m.asked m.learnt) (m.world_of self.world) c.args.id
+          c.in-None.ensures self.legal,
+    )
+
+pub returns-in-Some-clause-left : goal.returns-in-Some-clause-left
+returns-in-Some-clause-left g c =
+    let m = g.W.Walker in
+    let self = c.args.self.now in
+    handed-back (seen_by m.world m.position m.asked m.learnt) (m.world_of self.world) c.args.id
+    c.in-Some.caller c.args.walk c.pass_journal.result c.in-Some.ensures self.legal
+    c.pass_journal.ensures.left

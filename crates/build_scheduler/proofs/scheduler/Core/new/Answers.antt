@@ -6,6 +6,7 @@ use Rattle.build_scheduler.specs.Own.{seen_by}
 use Rattle.build_scheduler.proofs.Behind.{behind-start}
 use Rattle.build_scheduler.proofs.Beginning.{shown-start, indexed-start, counted-root, few-root}
 use Rattle.build_scheduler.proofs.Nesting.{nested-root}
+use Rattle.build_scheduler.proofs.Repeating.{none-kept}
 use Rattle.build_scheduler.proofs.scheduler.Core.new.Goals as goal
 
 pub invariant_of-result : goal.invariant_of-result
@@ -31,5 +32,6 @@ invariant_of-result g c =
       few = few-root c.args.root c.in_ok-instances.ensures;
       nested = ∣ nested-root c.args.root c.in_ok-origins.ensures ∣₁;
       stops = ∣ tt ∣₁;
+      kept_so = ∣ (λ kept i. absurd (none-kept _ kept c.in_ok-new.ensures i)) ∣₁;
       behind = ∣ behind-start (seen_by m.world m.position m.asked m.learnt) _ c.args.walk events c.in_ok-slots.ensures ∣₁;
     }

@@ -21,5 +21,6 @@ invariant_of-self g c =
       few = self.few;
       nested = self.nested;
       stops = room-stops w self.end set.events self.stops;
+      kept_so = self.kept_so;
       behind = behind-same seen w set.events refl self.behind;
     }

@@ -49,6 +49,7 @@ invariant_of-self g c =
       few = self.few;
       nested = self.nested;
       stops = ∣ none-stops w _ c.requires.running ∣₁;
+      kept_so = self.kept_so;
       behind = behind-event seen w (Claim c.args.id c.args.run.now Wait) self.legal legal
           (c.push.ensures.events ∙ (ap (λ es. es ++ Claim c.args.id c.in-Ok.claimed Wait ∷ []) c.in-Ok.ensures.events ∙ ap (λ r. self.history.events ++ Claim c.args.id r Wait ∷ []) c.in-Ok.ensures.run)) (kept-put self.slots.items (Waiting c.args.walk c.args.by) c.put_slot.ensures) self.behind;
     }
@@ -67,5 +68,6 @@ invariant_of-self-in-Err g c =
       few = self.few;
       nested = self.nested;
       stops = room-stops w self.end c.wait_room.ensures.events self.stops;
+      kept_so = self.kept_so;
       behind = behind-same seen w c.wait_room.ensures.events refl self.behind;
     }

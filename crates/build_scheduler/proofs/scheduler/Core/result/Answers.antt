@@ -1,9 +1,20 @@
 use Rattle.std.proofs.Common.{◌≡◌, ◌∷◌, ◌++◌, [], ◌∙◌, ap}
-use Rattle.std.proofs.Math.Logic.{∥∥₁_map₂}
+use Rattle.std.proofs.Math.Logic.{∥∥₁_elim, ∥∥₁_map₂, ∥∥₁_prop}
 use Rattle.build_meaning.specs.declared.event.Event.TheVariants.{Result}
 use Rattle.build_scheduler.specs.Own.{seen_by}
 use Rattle.build_scheduler.proofs.Behind.{behind-event, kept-woken}
-use Rattle.build_scheduler.proofs.Finishing.{finish-shown, finish-out, finishes-begun, finishes-room, finishes-there, finishes-slot, finishes-named, finishes-some}
+use Rattle.build_scheduler.proofs.Finishing.{
+  finish-new,
+  finish-shown,
+  finish-out,
+  finishes-begun,
+  finishes-room,
+  finishes-there,
+  finishes-slot,
+  finishes-named,
+  finishes-some,
+}
+use Rattle.build_scheduler.proofs.Repeating.{kept-finished}
 use Rattle.build_scheduler.proofs.Stopping.{none-stops}
 use Rattle.build_scheduler.proofs.scheduler.Core.result.Goals as goal
 
@@ -57,6 +68,15 @@ invariant_of-self g c =
       few = self.few;
       nested = self.nested;
       stops = ∣ none-stops (m.world_of self.world) _ c.requires.running ∣₁;
+      kept_so =
+          let seen = seen_by m.world m.position m.asked m.learnt in
+          let w = m.world_of self.world in
+          let made = c.args.made in
+          ∥∥₁_elim self.legal ∥∥₁_prop (λ x. ∥∥₁_map₂ c.requires.asks self.kept_so (λ a each.
+          kept-finished seen w self.table.finished (record { run = c.args.run.now; made = made })
+          c.finish.new.self.finished self.origins.items self.kept.ends.items
+          c.finish.ensures.finished
+          (finish-new seen w self.history self.history c.args.id c.args.run.now made a x) each));
       behind = behind-event (seen_by m.world m.position m.asked m.learnt) (m.world_of self.world) (Result c.args.id c.args.run.now) self.legal legal (c.push.ensures.events ∙ ap (λ r. self.history.events ++ Result c.args.id r ∷ []) named) (kept-woken self.slots.items c.wake.ensures.slots) self.behind;
     }
 

@@ -60,6 +60,7 @@ invariant_of-self g c =
       few = self.few;
       nested = self.nested;
       stops = ∣ none-stops w _ c.requires.running ∣₁;
+      kept_so = self.kept_so;
       behind = behind-event seen w (Retire id node) self.legal legal added.0
           (kept-put self.slots.items (Ready walk answer) is) self.behind;
     }
@@ -93,5 +94,6 @@ invariant_of-self-else-retire g c =
       few = self.few;
       nested = self.nested;
       stops = ∣ tt ∣₁;
+      kept_so = self.kept_so;
       behind = behind-same seen w kept.0 refl self.behind;
     }

@@ -15,5 +15,6 @@ invariant_of-self g c =
       few = self.few;
       nested = self.nested;
       stops = ∣ shows-stop (m.world_of self.world) self.history.events c.args.end c.requires.shown ∣₁;
+      kept_so = self.kept_so;
       behind = self.behind;
     }

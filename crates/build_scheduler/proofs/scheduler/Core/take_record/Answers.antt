@@ -26,6 +26,7 @@ invariant_of-self-2 g c =
       few = self.few;
       nested = self.nested;
       stops = ∣ none-stops (m.world_of self.world) _ c.requires.running ∣₁;
+      kept_so = self.kept_so;
       behind = behind-event (seen_by m.world m.position m.asked m.learnt) (m.world_of self.world) (Claim c.args.id c.args.run.now Use) self.legal legal
           (c.push.ensures.events ∙ (ap (λ es. es ++ Claim c.args.id c.in_ok-claimed.claimed Use ∷ []) c.in_ok-reserve.ensures.events ∙ ap (λ r. self.history.events ++ Claim c.args.id r Use ∷ []) c.in_ok-claimed.ensures)) (kept-same refl) self.behind;
     }
@@ -51,5 +52,6 @@ invariant_of-self g c =
       few = self.few;
       nested = self.nested;
       stops = ∣ none-stops (m.world_of self.world) _ c.requires.running ∣₁;
+      kept_so = self.kept_so;
       behind = behind-same (seen_by m.world m.position m.asked m.learnt) (m.world_of self.world) c.reserve.ensures.events refl self.behind;
     }

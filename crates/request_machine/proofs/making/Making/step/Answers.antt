@@ -1,6 +1,7 @@
 use Rattle.std.proofs.Common.{◌≡◌, sym, ap, ◌∙◌, subst, IfSome}
 use Rattle.std.proofs.lemmas.Result.{IfOk-weaker}
 use Rattle.build_world.specs.Instances.{seen_instance}
+use Rattle.build_world.specs.declared.instance.Instance.{Instance as Made}
 use Rattle.target_body.specs.Standings.{Goes, body_in, standing_in, target_named}
 use Rattle.request_machine.specs.Making.{IsStep, Plays}
 use Rattle.request_machine.specs.Runs.{run_in}
@@ -25,8 +26,15 @@ returns g c =
     let body = c.args.body in
     let then_body = c.advance.new.self in
     let ask = c.in_ok-ask.ask in
-    let goes = subst (λ id. IfSome (target_named targets id.target) (λ target. Goes answer id (body_in w id target) (standing_in w id target body) results before after (calls old) (calls new) ask (standing_in w id target then_body)))
-    c.requires.run c.in_ok-ask.ensures.goes in
+    let made = c.get-instance.result.now in
+    let goes = subst (λ (i : Made). IfSome (target_named (seen_instance i).targets run.target)
+    (λ target. Goes answer run (body_in w run target) (standing_in w run target body) results before
+    after (calls old) (calls new) ask (standing_in w run target then_body)))
+    c.get-instance.ensures
+    (subst (λ id. IfSome (target_named (seen_instance made).targets id.target)
+    (λ target. Goes answer id (body_in w id target) (standing_in w id target body) results before
+    after (calls old) (calls new) ask (standing_in w id target then_body)))
+    c.requires.run c.in_ok-ask.ensures.goes) in
     record {
       goes = IfOk-weaker c.stopped.result (IsStep run then_body then_log ask) (λ step. IfSome (target_named targets run.target) (λ target. Plays answer calls w run target (standing_in w run target body) results before after old new log step))
           (λ step is. all_play answer calls w run results before after old new log then_log body then_body ask step (target_named targets run.target)

@@ -9,7 +9,11 @@ use Rattle.request_machine.proofs.PlacesAnswered.{go_fits, results_wait, use_fit
 use Rattle.request_machine.proofs.request.Request.advance.Goals as goal
 
 pub begin-requires : goal.begin-requires
-begin-requires g c = subst (IsNext (has_begun c.args.self.now.stage)) c.in-First.is c.requires.turn
+begin-requires g c = record {
+  unbegun = subst (IsNext (has_begun c.args.self.now.stage)) c.in-First.is c.requires.turn;
+  world = c.requires.place.0;
+  kept = c.requires.place.1;
+}
 
 pub go-requires : goal.go-requires
 go-requires g c =

@@ -1,6 +1,15 @@
-use Rattle.std.proofs.Common.{[], refl, ap}
-use Rattle.request_machine.proofs.PlacesAnswered.{first_goes, first_used, fresh_begun}
+use Rattle.std.proofs.Common.{◌≡◌, [], sym, ap, ◌∙◌, subst}
+use Rattle.build_meaning.specs.World.{World}
+use Rattle.build_scheduler.specs.Position.{used_between}
+use Rattle.build_scheduler.specs.declared.walker.Answer.TheVariants.{First}
+use Rattle.task_trait.specs.declared.tools.ToolAnswer.{ToolAnswer}
+use Rattle.task_trait.specs.declared.tools.ToolInput.{ToolInput}
+use Rattle.request_machine.specs.Answered.{GoesOn}
 use Rattle.request_machine.specs.Positions.{position_of}
+use Rattle.request_machine.specs.Walk.{Site}
+use Rattle.request_machine.specs.Worlds.{world_of}
+use Rattle.request_machine.proofs.OtherWorlds.{stands_alike}
+use Rattle.request_machine.proofs.PlacesAnswered.{first_goes, first_used, fresh_begun}
 use Rattle.request_machine.proofs.PutBack.{unbegun_is}
 use Rattle.request_machine.proofs.request.Request.begin.Goals as goal
 
@@ -13,13 +22,32 @@ returns g c =
     let calls = g.T.CountedTools.calls in
     let r = c.args.self.now in
     let w = r.world.now in
+    let there = c.args.world.now in
+    let unbegun = c.requires.unbegun in
     let begun = c.in_ok-stage.field-0 in
     let e = c.in_ok-stage.ensures in
+    let same : world_of answer w ≡ world_of answer there = c.requires.world in
+    let alike =
+    stands_alike answer calls there w r.key r.journal r.runs r.stage (sym same) unbegun in
+    let new = position_of calls there r.key r.journal r.runs begun.stage in
     record {
-      goes = λ table. first_goes answer calls w r.key table r.journal r.runs r.stage begun.stage c.requires e.stands begun.ask e.asks;
-      used = first_used answer calls w r.key [] r.journal r.runs r.stage begun.stage c.requires e.stands;
+      kept = c.begun.ensures.kept;
+      goes = λ table. subst (λ p. GoesOn (world_of answer w) table p new First begun.ask) alike
+          (subst (λ (x : World Site ToolInput ToolAnswer). GoesOn x table
+          (position_of calls there r.key r.journal r.runs r.stage) new First begun.ask) (sym same)
+          (first_goes answer calls there r.key table r.journal r.runs r.stage begun.stage unbegun
+          e.stands begun.ask e.asks));
+      used = ap (λ p. used_between p.place new.place) (sym alike)
+          ∙ first_used answer calls there r.key [] r.journal r.runs r.stage begun.stage unbegun
+          e.stands;
       begun = fresh_begun begun.stage e.stands.fresh;
-      world = refl;
-      former = record { fits = tt; begun = c.requires; stood = ap (position_of calls w r.key r.journal r.runs) (unbegun_is r.stage c.requires) };
+      world = sym same;
+      former = record {
+        fits = tt;
+        begun = unbegun;
+        stood =
+            ap (position_of calls there r.key r.journal r.runs) (unbegun_is r.stage unbegun)
+            ∙ alike;
+      };
       err = tt;
     }

@@ -3,7 +3,6 @@ use Rattle.request_machine.specs.Begun.{has_begun}
 use Rattle.request_machine.specs.Former.{IsBefore}
 use Rattle.request_machine.specs.Replayed.{IsReplayed}
 use Rattle.request_machine.specs.WalkPosition.{request_position}
-use Rattle.request_machine.specs.Worlds.{world_of}
 use Rattle.request_machine.proofs.WalksAnswered.{begins_used, in_turn, one_more}
 use Rattle.request_machine.proofs.walk.WalkWalker.advance.Goals as goal
 
@@ -14,6 +13,7 @@ advance-requires g c =
       fits = c.requires.fits;
       turn = in_turn walk.asked (has_begun walk.request.stage) c.args.answer.now walk.begun c.requires.turn;
       known = walk.known;
+      place = c.requires.place;
     }
 
 pub invariant_of-self : goal.invariant_of-self
@@ -44,12 +44,16 @@ pub returns-in_err-ask-clause-stays : goal.returns-in_err-ask-clause-stays
 returns-in_err-ask-clause-stays g c = always c.from_residual.result _ (ap (request_position g.T.CountedTools.calls) c.in_err-ask.ensures.err)
 
 pub returns-in_err-ask-clause-used_err : goal.returns-in_err-ask-clause-used_err
-returns-in_err-ask-clause-used_err g c = always c.from_residual.result _ (begins_used (g.T.CountedTools.calls c.args.tools.now) (g.T.CountedTools.calls c.advance.new.tools) c.advance.ensures.tools)
+returns-in_err-ask-clause-used_err g c =
+    always c.from_residual.result _ (begins_used (g.T.CountedTools.calls c.args.site.now.tools.now)
+    (g.T.CountedTools.calls c.advance.new.site.tools.now) c.advance.ensures.tools)
 
 pub returns : goal.returns
 returns g c =
     let goes = c.in_ok-ask.ensures.goes in
     record {
+      place = c.advance.ensures.place;
+      lent = c.advance.ensures.lent;
       asks = goes.asks;
       goes_on = goes.goes_on;
       asked = refl;
@@ -58,6 +62,6 @@ returns g c =
       stays = tt;
       asked_err = tt;
       used_err = tt;
-      world = ap (λ world. world_of g.T.CountedTools.answer world.now) c.advance.ensures.world;
+      world = c.advance.ensures.world;
       learnt = refl;
     }

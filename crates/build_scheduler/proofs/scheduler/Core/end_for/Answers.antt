@@ -1,0 +1,69 @@
+use Rattle.std.proofs.Common.{◌∙◌, ◌≤◌, List, ap, drop, length, subst, sym}
+use Rattle.result_cache.specs.declared.run.RunId.{RunId}
+use Rattle.build_meaning.specs.Lists.{at}
+use Rattle.build_scheduler.specs.Kept.{used_in}
+use Rattle.build_scheduler.specs.Own.{seen_by}
+use Rattle.build_scheduler.proofs.Assigning.{listed-there}
+use Rattle.build_scheduler.proofs.OverAtOnce.{comes, ready-there, used-few, walk-asked, walk-over}
+use Rattle.build_scheduler.proofs.scheduler.Core.end_for.Goals as goal
+
+pub kept_for-requires : goal.kept_for-requires
+kept_for-requires g c =
+    let m = g.W.Walker in
+    let self = c.args.self.now in
+    record {
+      there = ready-there (seen_by m.world m.position m.asked m.learnt) (m.world_of self.world)
+          self.legal c.args.id c.requires.ready;
+    }
+
+pub left_of-left-requires-clause-ready : goal.left_of-left-requires-clause-ready
+left_of-left-requires-clause-ready g c =
+    let m = g.W.Walker in
+    let self = c.args.self.now in
+    (listed-there (seen_by m.world m.position m.asked m.learnt) (m.world_of self.world) c.args.id
+    self.legal self.indexed c.requires.ready).1
+
+pub left_of-left-requires-clause-few : goal.left_of-left-requires-clause-few
+left_of-left-requires-clause-few g c =
+    let m = g.W.Walker in
+    let self = c.args.self.now in
+    let seen = seen_by m.world m.position m.asked m.learnt in
+    subst (λ (runs : List RunId). used_in seen (at self.slots.items c.args.id) ≤ length runs)
+    (sym c.as_slice.ensures) (used-few seen (m.world_of self.world) self.legal
+    self.kept.ends.items c.args.id c.in-Some.kept.now self.kept_so c.requires.ready
+    c.in-Some.ensures)
+
+pub ended-requires-clause-asked : goal.ended-requires-clause-asked
+ended-requires-clause-asked g c =
+    let m = g.W.Walker in
+    let self = c.args.self.now in
+    walk-asked (seen_by m.world m.position m.asked m.learnt) (m.world_of self.world) self.legal
+    self.kept.ends.items c.args.id c.in-Some.kept.now self.kept_so c.requires.ready
+    c.in-Some.ensures
+
+pub ended-requires-clause-over : goal.ended-requires-clause-over
+ended-requires-clause-over g c =
+    let m = g.W.Walker in
+    let self = c.args.self.now in
+    walk-over (seen_by m.world m.position m.asked m.learnt) (m.world_of self.world) self.legal
+    self.kept.ends.items c.args.id c.in-Some.kept.now self.kept_so c.requires.ready
+    c.in-Some.ensures
+
+pub returns : goal.returns
+returns g c =
+    let m = g.W.Walker in
+    let self = c.args.self.now in
+    let seen = seen_by m.world m.position m.asked m.learnt in
+    comes seen (m.world_of self.world) self.legal self.kept.ends.items c.args.id
+    c.in-Some.kept.now self.kept_so c.requires.ready c.in-Some.ensures (record {
+      claims = c.in_ok-names.field-0;
+      told = c.in_ok-copy.field-0;
+      walk = c.in_ok-ended.field-0;
+    }) (c.in_ok-names.ensures ∙ (c.left_of-left.ensures
+    ∙ ap (drop (used_in seen (at self.slots.items c.args.id))) c.as_slice.ensures))
+    c.in_ok-copy.ensures (λ i. record {
+      world = c.in_ok-ended.ensures.world i;
+      position = c.in_ok-ended.ensures.position i;
+      asked = c.in_ok-ended.ensures.asked i;
+      learnt = c.in_ok-ended.ensures.learnt i;
+    })

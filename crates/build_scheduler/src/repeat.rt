@@ -1,0 +1,296 @@
+//! Requests that are over at once by what another request of the same key has given. (MSBuild task:
+//! a target is run once.)
+
+ghost use Rattle.std.specs.Prelude.{
+  ◌≡◌,
+  ◌+◌,
+  ◌≤◌,
+  ◌<◌,
+  ◌++◌,
+  ◌∷◌,
+  [],
+  None,
+  Some,
+  IfOk,
+  IfSome,
+  OnErr,
+  OnOk,
+  drop,
+  length,
+  map,
+  true,
+};
+ghost use Rattle.build_meaning.specs.declared.event.Event.TheVariants.{Assign};
+ghost use Rattle.build_meaning.specs.History.{AreOfNodes};
+ghost use Rattle.build_meaning.specs.Lists.{at};
+ghost use Rattle.build_history.specs.Repeated.{uses_of_all};
+ghost use Rattle.result_cache.specs.declared.request.RequestResult.{RequestResult as Told};
+ghost use Rattle.build_scheduler.specs.declared.walker.Ask.TheVariants.{Done as IsOver};
+ghost use Rattle.build_scheduler.specs.Kept.{
+  BeganWithNothing,
+  EndsAlike,
+  IsAtOnce,
+  IsRepeat,
+  IsRepeated,
+  KnowsNothing,
+  Serves,
+  used_in,
+  uses_one,
+};
+ghost use Rattle.build_scheduler.specs.Own.{IsOwn, seen_by};
+ghost use Rattle.build_scheduler.specs.Position.{ask_of};
+ghost use Rattle.build_scheduler.specs.Ready.{IsReady};
+ghost use Rattle.build_scheduler.specs.Shown.{is_ready};
+
+use crate::kept::Kept;
+use crate::log::Log;
+use crate::slot::Slot;
+use crate::{Answer, Core, Walker};
+use build_meaning::{ClaimKind, Event};
+use msb_values::{Copied, NoMemory};
+use result_cache::{RequestResult, RunId, RunRef};
+use std::alloc::Global;
+
+/// How a request ends that is over at once: the runs of which it uses the records, its result, and
+/// its walk, which is over.
+pub struct AtOnce<W> {
+    claims: Vec<RunId>,
+    told: RequestResult,
+    walk: W,
+}
+
+// A drop that is written out is proved here alone.
+impl<W: Drop> Drop for AtOnce<W> {
+    fn drop(self) {
+        let AtOnce {
+            claims: _,
+            told: _,
+            walk: _,
+        } = self;
+    }
+}
+
+impl<W: Drop> AtOnce<W> {
+    fn parts(self) -> (Vec<RunId>, RequestResult, W)
+        ensures claims { result.0 ≡ self.claims }
+        ensures told { result.1 ≡ self.told }
+        ensures walk { result.2 ≡ self.walk }
+    {
+        let AtOnce { claims, told, walk } = self;
+        (claims, told, walk)
+    }
+}
+
+impl<W: Walker> Core<W> {
+    /// Keeps how a request ends that is with a node and asks to be over, where it began with
+    /// nothing and another request of its instance is not done. Where there is no memory, nothing
+    /// is kept. (MSBuild task: a target is run once.)
+    pub fn keep(&mut self, id: u64, walk: &W, told: &RequestResult) -> Result<(), NoMemory>
+        requires own { ∥ IsOwn (W.world_of self.old.world) self.old.history.events
+            self.old.table.finished id (seen_by W.world W.position W.asked W.learnt walk.now) ∥₁ }
+        requires asks { ask_of (W.position walk.now) ≡ IsOver told.now }
+        ensures world { W.world_of self.new.world ≡ W.world_of self.old.world }
+        ensures history { self.new.history ≡ self.old.history }
+        ensures table { self.new.table ≡ self.old.table }
+        ensures end { self.new.end ≡ self.old.end }
+    {
+        if !self.is_wanted(id) {
+            return Ok(());
+        }
+        let kept = Kept {
+            id,
+            result: told.copy()?,
+            walk: walk.ended()?,
+        };
+        self.kept.put(kept);
+        Ok(())
+    }
+
+    /// Ends a ready request at once where another one has the same key and is over, and both began
+    /// with nothing: it is assigned, uses the records of the runs that are left to it, and is done
+    /// with the same result. Else the answer is false. After that, and where there is no memory, no
+    /// event has come. (MSBuild task: a target is run once.)
+    pub fn repeat(&mut self, id: u64, node: u32) -> Result<bool, NoMemory>
+        requires running { self.old.end ≡ None }
+        requires ready { ∥ IsReady (W.world_of self.old.world) self.old.history.events id ∥₁ }
+        ensures world { W.world_of self.new.world ≡ W.world_of self.old.world }
+        ensures table { self.new.table ≡ self.old.table }
+        ensures end { self.new.end ≡ self.old.end }
+        ensures nodes { self.new.history.nodes ≡ self.old.history.nodes }
+        ensures repeated { IfOk result (λ repeated. IsRepeated (W.world_of self.old.world)
+            self.old.table.finished self.old.history.events self.new.history.events id node
+            repeated) }
+        ensures err { OnErr result (self.new.history.events ≡ self.old.history.events) }
+    {
+        match self.end_for(id)? {
+            None => Ok(false),
+            Some(end) => {
+                self.end_at_once(id, node, end)?;
+                Ok(true)
+            }
+        }
+    }
+
+    /// How a ready request ends that is over at once, if it is one.
+    fn end_for(&self, id: u64) -> Result<Option<AtOnce<W>>, NoMemory>
+        requires ready { ∥ IsReady (W.world_of self.now.world) self.now.history.events id ∥₁ }
+        ensures { IfOk result (λ end. IfSome end (λ end.
+            ∥ IsAtOnce (seen_by W.world W.position W.asked W.learnt) (W.world_of self.now.world)
+            self.now.table.finished self.now.history.events id end ∥₁)) }
+    {
+        let Some(kept) = self.kept_for(id) else {
+            return Ok(None);
+        };
+        let alloc = *self.slots.allocator();
+        let left = left_of(&self.slots, id, kept.result.runs.as_slice());
+        Ok(Some(AtOnce {
+            claims: names(alloc, left)?,
+            told: kept.result.copy()?,
+            walk: kept.walk.ended()?,
+        }))
+    }
+
+    /// Ends a ready request at once. Where there is no memory, no event has come.
+    fn end_at_once(&mut self, id: u64, node: u32, end: AtOnce<W>) -> Result<(), NoMemory>
+        requires running { self.old.end ≡ None }
+        requires ready { ∥ IsReady (W.world_of self.old.world) self.old.history.events id ∥₁ }
+        requires comes { ∥ IsAtOnce (seen_by W.world W.position W.asked W.learnt)
+            (W.world_of self.old.world) self.old.table.finished self.old.history.events id end ∥₁ }
+        ensures world { W.world_of self.new.world ≡ W.world_of self.old.world }
+        ensures table { self.new.table ≡ self.old.table }
+        ensures end { self.new.end ≡ self.old.end }
+        ensures nodes { self.new.history.nodes ≡ self.old.history.nodes }
+        ensures repeated { OnOk result (∥ IsRepeat (W.world_of self.old.world)
+            self.old.table.finished self.old.history.events self.new.history.events id node ∥₁) }
+        ensures err { OnErr result (self.new.history.events ≡ self.old.history.events) }
+    {
+        let (claims, told, walk) = end.parts();
+        self.history.reserve(claims.len())?;
+        let _walk = self.use_all(id, node, claims);
+        let _left = self.done(id, walk, told);
+        Ok(())
+    }
+
+    /// How a request has ended that serves this one.
+    fn kept_for(&self, id: u64) -> Option<&Kept<W>>
+        requires there { id < length self.now.origins.items }
+        ensures { IfSome result (λ kept. Serves (seen_by W.world W.position W.asked W.learnt)
+            self.now.slots.items self.now.origins.items self.now.making.items
+            self.now.kept.ends.items
+            id kept.now) }
+    {
+        if self.making[id as usize].is_some() || !self.began_with_nothing(id) {
+            return None;
+        }
+        let kept = self.kept.find(id)?;
+        if self.origins[kept.id as usize].key == self.origins[id as usize].key {
+            Some(kept)
+        } else {
+            None
+        }
+    }
+
+    /// Assigns a ready request, which uses the records of these runs and then asks for nothing but
+    /// to be over. Its walk is handed out.
+    fn use_all(&mut self, id: u64, node: u32, claims: Vec<RunId>) -> W
+        requires running { self.old.end ≡ None }
+        requires ready { ∥ IsReady (W.world_of self.old.world) self.old.history.events id ∥₁ }
+        requires ends { ∥ EndsAlike (W.world_of self.old.world) self.old.history id node
+            claims.items ∥₁ }
+        ensures world { W.world_of self.new.world ≡ W.world_of self.old.world }
+        ensures history { self.new.history.events ≡
+            self.old.history.events ++ Assign id node ∷ uses_of_all id claims.items }
+        ensures nodes { self.new.history.nodes ≡ self.old.history.nodes }
+        ensures table { self.new.table ≡ self.old.table }
+        ensures end { self.new.end ≡ self.old.end }
+    {
+        let (walk, _answer) = self.assign(id, node);
+        push_uses(&mut self.history, id, claims);
+        walk
+    }
+
+    /// Whether another request may be served by the end of this one.
+    fn is_wanted(&self, id: u64) -> bool
+        requires there { id < length self.now.origins.items }
+        ensures { result ≡ true → BeganWithNothing (seen_by W.world W.position W.asked W.learnt)
+            self.now.slots.items self.now.origins.items id }
+    {
+        self.kept.is_wanted(id) && self.began_with_nothing(id)
+    }
+
+    /// Whether a request that is not over is called and began with an empty journal, which its
+    /// caller has.
+    fn began_with_nothing(&self, id: u64) -> bool
+        requires there { id < length self.now.origins.items }
+        ensures { result ≡ true → BeganWithNothing (seen_by W.world W.position W.asked W.learnt)
+            self.now.slots.items self.now.origins.items id }
+    {
+        match self.origins[id as usize].parent {
+            Some(caller) => knows_nothing(&self.slots[caller as usize]),
+            None => false,
+        }
+    }
+}
+
+/// Whether the journal of a caller is empty.
+fn knows_nothing<W: Walker>(slot: &Slot<W>) -> bool
+    ensures { result ≡ true →
+        KnowsNothing (seen_by W.world W.position W.asked W.learnt) (Some slot.now) }
+{
+    match slot {
+        Slot::Calling(calls) => calls.walk.knows_nothing(),
+        _ => false,
+    }
+}
+
+/// What is left to a ready request, which is between two runs, of all runs that it makes or uses.
+fn left_of<'a, W: Walker>(slots: &Vec<Slot<W>>, id: u64, runs: &'a [RunRef]) -> &'a [RunRef]
+    requires ready { is_ready (at slots.now.items id) ≡ true }
+    requires few { used_in (seen_by W.world W.position W.asked W.learnt) (at slots.now.items id)
+        ≤ length runs.now }
+    ensures { result.now ≡ drop (used_in (seen_by W.world W.position W.asked W.learnt)
+        (at slots.now.items id)) runs.now }
+{
+    match &slots[id as usize] {
+        Slot::Ready(walk, answer) => rest_of(&runs[walk.runs_used()..], answer),
+        _ => unreachable!(),
+    }
+}
+
+/// Without the run that a walk uses by its next answer, if it uses one.
+fn rest_of<'a>(runs: &'a [RunRef], answer: &Answer) -> &'a [RunRef]
+    requires { uses_one answer.now ≤ length runs.now }
+    ensures { result.now ≡ drop (uses_one answer.now) runs.now }
+{
+    match answer {
+        Answer::First => runs,
+        Answer::Go => runs,
+        Answer::Use => &runs[1..],
+        Answer::Results(_) => runs,
+    }
+}
+
+/// Copies of the names of runs.
+fn names(alloc: Global, runs: &[RunRef]) -> Result<Vec<RunId>, NoMemory>
+    ensures { IfOk result (λ names. names.items ≡ runs.now) }
+{
+    let mut all = Vec::with_capacity(alloc, runs.len())?;
+    for run in runs {
+        all.push(run.get().copy()?)?;
+    }
+    Ok(all)
+}
+
+/// Adds that a request uses the records of these runs, for which room was taken.
+fn push_uses(history: &mut Log, id: u64, claims: Vec<RunId>)
+    requires room { length claims.items ≤ history.old.room }
+    ensures events { history.new.events ≡ history.old.events ++ uses_of_all id claims.items }
+    ensures room { history.old.room ≡ history.new.room + length claims.items }
+    ensures nodes { history.new.nodes ≡ history.old.nodes }
+    ensures active { AreOfNodes history.old.nodes history.old.events →
+        AreOfNodes history.new.nodes history.new.events }
+{
+    for claimed in claims.into_iter() {
+        history.push(Event::Claim(id, claimed, ClaimKind::Use));
+    }
+}

@@ -1,0 +1,24 @@
+use Rattle.std.proofs.Common.{All, refl, rules, subst, sym, ◌∙◌}
+use Rattle.std.proofs.lemmas.List.Elements.{All-push}
+use Rattle.msb_instance.specs.Kept.{AreEvaluated}
+use Rattle.request_machine.specs.Sites.{Suits}
+use Rattle.request_machine.specs.Worlds.{world_of}
+use Rattle.msb_outcomes.proofs.on_nodes.sites_of.Goals as goal
+
+pub loop-lent-preserved : goal.loop-lent-preserved
+loop-lent-preserved g c =
+    let answer = g.T.CountedTools.answer in
+    let world = c.args.world.now in
+    record {
+      count = search rules;
+      kept = subst (AreEvaluated world.tree.files)
+          (sym (c.replace.ensures.after ∙ c.new.ensures)) tt;
+      suit = subst (All (λ site. Suits answer site.world.now site.instances
+          (world_of answer world))) (sym c.in_ok-push.ensures.items)
+          (All-push (λ site. Suits answer site.world.now site.instances (world_of answer world))
+          c.loop-lent.sites.items _ c.loop-lent.invariant.suit (
+            refl,
+            subst (AreEvaluated world.tree.files) (sym c.replace.ensures.value)
+                c.loop-lent.invariant.kept,
+          ));
+    }
