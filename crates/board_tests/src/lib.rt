@@ -1,4 +1,5 @@
-//! Small callers of `turn_board`, and its tests: nodes that fill one list in turns, each in a thread of its own.
+//! Small callers of `turn_board`, and its tests: nodes that fill one list in turns, each in a
+//! thread of its own.
 #![tactic(auto)]
 
 mod nodes;

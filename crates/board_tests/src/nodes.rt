@@ -1,4 +1,16 @@
-ghost use Rattle.std.specs.Prelude.{◌≡◌, [], All, vec_capacity, ◌+◌, ◌-◌, ◌<◌, ◌≤◌, false, vec_len, length};
+ghost use Rattle.std.specs.Prelude.{
+  ◌≡◌,
+  [],
+  All,
+  vec_capacity,
+  ◌+◌,
+  ◌-◌,
+  ◌<◌,
+  ◌≤◌,
+  false,
+  vec_len,
+  length,
+};
 ghost use Rattle.board_tests.specs.Ready.{IsReady};
 
 use crate::turn_list::Turn;
@@ -25,7 +37,8 @@ fn take_turn(board: &Board<TurnList>, seat: &mut Seat<TurnList>, node: u64, orde
     turn
 }
 
-/// Takes turns until the list is full. A node that adds an entry, or leaves, wakes one that sleeps, so all leave.
+/// Takes turns until the list is full. A node that adds an entry, or leaves, wakes one that sleeps,
+/// so all leave.
 fn work<R: Wait>(
     rt: &R,
     board: &Board<TurnList>,
@@ -92,7 +105,8 @@ fn join_all(board: &Board<TurnList>, seat: &mut Seat<TurnList>, mut all: Vec<Sea
     requires board { seat.old.board ≡ board.now }
     requires home { seat.old.has_state ≡ false }
     requires ready { All (IsReady board.now) all.items }
-    ensures kept { (seat.new.board ≡ seat.old.board) × (seat.new.world ≡ seat.old.world) × (seat.new.has_state ≡ false) }
+    ensures kept { (seat.new.board ≡ seat.old.board) × (seat.new.world ≡ seat.old.world)
+        × (seat.new.has_state ≡ false) }
     ensures share { seat.new.share ≡ seat.old.share + vec_len all }
 {
     while let Some(other) = all.pop() {

@@ -1,4 +1,16 @@
-ghost use Rattle.std.specs.Prelude.{◌≡◌, ◌<◌, ◌≤◌, ◌^◌, ◌++◌, ◌∷◌, [], false, vec_len, vec_capacity, IfOk};
+ghost use Rattle.std.specs.Prelude.{
+  ◌≡◌,
+  ◌<◌,
+  ◌≤◌,
+  ◌^◌,
+  ◌++◌,
+  ◌∷◌,
+  [],
+  false,
+  vec_len,
+  vec_capacity,
+  IfOk,
+};
 ghost use mathlib.Core.List.{IsPrefix};
 
 use std::alloc::{AllocError, Global};

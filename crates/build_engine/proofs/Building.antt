@@ -1,5 +1,26 @@
 -- A build of a world, from its first state to its outcome.
-use Rattle.std.proofs.Common.{◌≡◌, ◌⊎◌, ℕ, zero, suc, List, [], Bool, Option, None, Some, Result, Ok, Err, IfOk, inl, inr, ap, subst, ◌∙◌}
+use Rattle.std.proofs.Common.{
+  ◌≡◌,
+  ◌⊎◌,
+  ℕ,
+  zero,
+  suc,
+  List,
+  [],
+  Bool,
+  Option,
+  None,
+  Some,
+  Result,
+  Ok,
+  Err,
+  IfOk,
+  inl,
+  inr,
+  ap,
+  subst,
+  ◌∙◌,
+}
 use Rattle.std.proofs.Math.Logic.{∥∥₁_elim, ∥∥₁_map₂, ∥∥₁_prop}
 use Rattle.msb_values.specs.declared.errors.NoMemory.{NoMemory}
 use Rattle.build_meaning.specs.declared.event.Event.{Event}
@@ -35,11 +56,16 @@ module _ {P I A : Type 0} (w : World P I A) where
   none_at_first id h = ∥∥₁_elim h (λ p q. absurd p) (first-assigned id)
 
   -- what has come of a legal history is an outcome
-  pub outcome_is : (low : Bool) (events : List Event) (end : Option End) (outcome : Outcome) → ∥ IsLegal w events ∥₁ → ∥ IsOutcomeAt w low events end outcome ∥₁ → ∥ IsOutcome w low outcome ∥₁
+  pub outcome_is : (low : Bool) (events : List Event) (end : Option End) (outcome : Outcome)
+      → ∥ IsLegal w events ∥₁ → ∥ IsOutcomeAt w low events end outcome ∥₁
+      → ∥ IsOutcome w low outcome ∥₁
   outcome_is low events end outcome legal is =
-      ∥∥₁_map₂ legal is (λ s x. record { events = events; state = s.0; end = end; history = s.1; is = x })
+      ∥∥₁_map₂ legal is
+      (λ s x. record { events = events; state = s.0; end = end; history = s.1; is = x })
 
-  pub outcomes_are : (low : Bool) (events : List Event) (end : Option End) (made : Result Outcome NoMemory) → ∥ IsLegal w events ∥₁ → IfOk made (λ outcome. ∥ IsOutcomeAt w low events end outcome ∥₁)
+  pub outcomes_are : (low : Bool) (events : List Event) (end : Option End)
+      (made : Result Outcome NoMemory) → ∥ IsLegal w events ∥₁
+      → IfOk made (λ outcome. ∥ IsOutcomeAt w low events end outcome ∥₁)
       → IfOk made (λ outcome. ∥ IsOutcome w low outcome ∥₁)
   outcomes_are low events end (Ok outcome) legal is = outcome_is low events end outcome legal is
   outcomes_are low events end (Err none) legal is = tt
@@ -56,7 +82,9 @@ module _ {P I A : Type 0} (low : Bool) (events : List Event) (end : Option End) 
 -- what has come of a core whose world is that of a walk
 pub outcome_of_core : {P I A : Type 0} (w v u : World P I A) (low : Bool) (events : List Event)
     (end : Option End) (made : Result Outcome NoMemory) →
-    v ≡ w → ∥ u ≡ v ∥₁ → ∥ IsLegal v events ∥₁ → IfOk made (λ o. ∥ IsOutcomeAt u low events end o ∥₁) → IfOk made (λ o. ∥ IsOutcome w low o ∥₁)
+    v ≡ w → ∥ u ≡ v ∥₁ → ∥ IsLegal v events ∥₁
+    → IfOk made (λ o. ∥ IsOutcomeAt u low events end o ∥₁)
+    → IfOk made (λ o. ∥ IsOutcome w low o ∥₁)
 outcome_of_core {P} {I} {A} w v u low events end made of same legal is =
     subst (λ (x : World P I A). IfOk made (λ o. ∥ IsOutcome x low o ∥₁)) of
     (outcomes_in low events end v u made same legal is)
@@ -67,6 +95,8 @@ known_status status (inl zero_is) = inl (inl zero_is)
 known_status status (inr (inl one_is)) = inl (inr one_is)
 known_status status (inr (inr four_is)) = inr (inr four_is)
 
-pub known_statuses : (made : Result Outcome NoMemory) → IfOk made (λ outcome. IsStatus outcome.status) → IfOk made (λ outcome. IsCompletion outcome.status ⊎ IsRefusal outcome.status)
+pub known_statuses : (made : Result Outcome NoMemory)
+    → IfOk made (λ outcome. IsStatus outcome.status)
+    → IfOk made (λ outcome. IsCompletion outcome.status ⊎ IsRefusal outcome.status)
 known_statuses (Ok outcome) is = known_status outcome.status is
 known_statuses (Err none) is = tt

@@ -16,7 +16,9 @@ module _ {P I A : Type 0} (nodes : ℕ) (low : Bool) (events : List Event) (end 
   outcome_on : (w : World P I A) (outcome : Outcome) → ∥ IsLegal w events ∥₁ →
       ∥ IsOutcomeAt w low events end outcome ∥₁ → ∥ IsOutcomeOn w nodes low outcome ∥₁
   outcome_on w outcome legal is =
-      ∥∥₁_map₂ legal is (λ s x. record { events = events; state = s.0; end = end; history = s.1; few = few; is = x })
+      ∥∥₁_map₂ legal is
+      (λ s x.
+      record { events = events; state = s.0; end = end; history = s.1; few = few; is = x })
 
   outcomes_on : (v u : World P I A) (made : Result Outcome NoMemory) → ∥ u ≡ v ∥₁ →
       ∥ IsLegal v events ∥₁ → IfOk made (λ o. ∥ IsOutcomeAt u low events end o ∥₁) →
@@ -29,7 +31,9 @@ module _ {P I A : Type 0} (nodes : ℕ) (low : Bool) (events : List Event) (end 
 -- what has come of a core whose world is that of a walk
 pub outcome_on_core : {P I A : Type 0} (w v u : World P I A) (nodes : ℕ) (low : Bool)
     (events : List Event) (end : Option End) (made : Result Outcome NoMemory) →
-    v ≡ w → ∥ u ≡ v ∥₁ → ∥ IsLegal v events ∥₁ → AreOfNodes nodes events → IfOk made (λ o. ∥ IsOutcomeAt u low events end o ∥₁) → IfOk made (λ o. ∥ IsOutcomeOn w nodes low o ∥₁)
+    v ≡ w → ∥ u ≡ v ∥₁ → ∥ IsLegal v events ∥₁ → AreOfNodes nodes events
+    → IfOk made (λ o. ∥ IsOutcomeAt u low events end o ∥₁)
+    → IfOk made (λ o. ∥ IsOutcomeOn w nodes low o ∥₁)
 outcome_on_core {P} {I} {A} w v u nodes low events end made of same legal few is =
     subst (λ (x : World P I A). IfOk made (λ o. ∥ IsOutcomeOn x nodes low o ∥₁)) of
     (outcomes_on nodes low events end few v u made same legal is)

@@ -1,7 +1,8 @@
 -- The statuses of an outcome. (MSBuild command-line reference)
 use Rattle.std.specs.Prelude.{◌≡◌, ◌⊎◌, ℕ}
 
--- the status where the work was done, or the request failed: the files are written, and then the text is printed
+-- the status where the work was done, or the request failed: the files are written, and then the
+-- text is printed
 abbrev pub IsCompletion : ℕ → Type 0
 IsCompletion status = (status ≡ 0) ⊎ (status ≡ 1)
 

@@ -14,7 +14,8 @@ use Rattle.build_outcome.specs.declared.outcome.Outcome.{Outcome}
 
 -- the legal history of one node leads to the outcome: each time that no request is with the node,
 -- it takes the least one that is ready
-pub record IsOutcomeOnOne {P I A : Type 0} (w : World P I A) (low : Bool) (outcome : Outcome) : Type 0
+pub record IsOutcomeOnOne {P I A : Type 0} (w : World P I A) (low : Bool) (outcome : Outcome) : Type
+    0
   where
     pub events : List Event
     pub state : State P I A

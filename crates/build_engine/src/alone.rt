@@ -14,10 +14,10 @@ use msb_values::NoMemory;
 use result_cache::RequestKey;
 use std::alloc::Global;
 
-/// Builds the request of a walk that had no answer yet, on one node, and tells what the build prints
-/// and writes. The build's history takes the least ready request each time, and the tools at the
-/// place are used as it has it; after want of memory their uses begin with those of before. (MSBuild
-/// command-line reference, -maxCpuCount.)
+/// Builds the request of a walk that had no answer yet, on one node, and tells what the build
+/// prints and writes. The build's history takes the least ready request each time, and the tools at
+/// the place are used as it has it; after want of memory their uses begin with those of before.
+/// (MSBuild command-line reference, -maxCpuCount.)
 pub fn build_on_one<W: Walker>(
     alloc: Global,
     key: RequestKey,
@@ -32,7 +32,8 @@ pub fn build_on_one<W: Walker>(
     requires place { W.Fits place.old (W.world walk) }
     ensures outcome { IfOk result (λ o. ∥ IsOutcome (W.world walk) low o ∥₁) }
     ensures status { IfOk result (λ o. IsCompletion o.status ⊎ IsRefusal o.status) }
-    ensures used { IfOk result (λ o. ∥ IsUsedFor (W.world walk) low o (W.used place.old) (W.used place.new) ∥₁) }
+    ensures used { IfOk result
+        (λ o. ∥ IsUsedFor (W.world walk) low o (W.used place.old) (W.used place.new) ∥₁) }
     ensures front { IsPrefix (W.used place.old) (W.used place.new) }
     ensures place { W.Fits place.new (W.world walk) }
     ensures lent { W.lent place.new ≡ W.lent place.old }

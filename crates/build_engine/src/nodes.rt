@@ -15,9 +15,9 @@ use std::alloc::Global;
 use std::sync::Wait;
 use std::thread::Threads;
 
-/// Builds the request of a walk that had no answer yet, on a node for each place, of which there are 1
-/// to 64, and tells what the build prints and writes. Where a node wants memory, it retires and another
-/// one goes on; one at least stays. (MSBuild command-line reference, -maxCpuCount.)
+/// Builds the request of a walk that had no answer yet, on a node for each place, of which there
+/// are 1 to 64, and tells what the build prints and writes. Where a node wants memory, it retires
+/// and another one goes on; one at least stays. (MSBuild command-line reference, -maxCpuCount.)
 pub fn build_on_many<R: Threads + Wait + Sync, W: Walker + Send>(
     rt: &R,
     alloc: Global,

@@ -1,5 +1,33 @@
 -- What an event does to the bodies that requests are in.
-use Rattle.std.proofs.Common.{◌≡◌, ◌⊎◌, inl, inr, ℕ, ◌&&◌, ◌||◌, ◌==◌, Bool, true, false, List, [], ◌∷◌, ◌++◌, length, map, Option, None, Some, refl, ap, sym, ◌∙◌, subst, append-nil, append_assoc}
+use Rattle.std.proofs.Common.{
+  ◌≡◌,
+  ◌⊎◌,
+  inl,
+  inr,
+  ℕ,
+  ◌&&◌,
+  ◌||◌,
+  ◌==◌,
+  Bool,
+  true,
+  false,
+  List,
+  [],
+  ◌∷◌,
+  ◌++◌,
+  length,
+  map,
+  Option,
+  None,
+  Some,
+  refl,
+  ap,
+  sym,
+  ◌∙◌,
+  subst,
+  append-nil,
+  append_assoc,
+}
 use Rattle.msb_laws.specs.Asking.{and_then}
 use Rattle.msb_laws.specs.Traverse.{traverse}
 use Rattle.result_cache.specs.declared.run.RunId.{RunId}
@@ -12,29 +40,96 @@ use Rattle.result_cache.specs.Table.{FinishedRun, Records, found, is_begun}
 use Rattle.result_cache.specs.Replay.{replay, replay_all}
 use Rattle.result_cache.proofs.RunTests.{and_then-some}
 use Rattle.build_meaning.specs.declared.event.Event.{Event}
-use Rattle.build_meaning.specs.declared.event.Event.TheVariants.{Assign, Claim, Request, Result, Done, Retire}
+use Rattle.build_meaning.specs.declared.event.Event.TheVariants.{
+  Assign,
+  Claim,
+  Request,
+  Result,
+  Done,
+  Retire,
+}
 use Rattle.build_meaning.specs.declared.event.ClaimKind.{ClaimKind}
 use Rattle.build_meaning.specs.declared.event.ClaimKind.TheVariants.{Go, Use, Wait}
 use Rattle.build_meaning.specs.Lists.{at, put, numbered_from}
 use Rattle.build_meaning.specs.World.{World}
 use Rattle.build_meaning.specs.Walk.{Walk, gives, wants, Body, makes, does, uses, calls}
-use Rattle.build_meaning.specs.SoFar.{ToolUse, SoFar, nothing_yet, with_act, with_tool, with_calls, runs_of, recorded, result_of}
+use Rattle.build_meaning.specs.SoFar.{
+  ToolUse,
+  SoFar,
+  nothing_yet,
+  with_act,
+  with_tool,
+  with_calls,
+  runs_of,
+  recorded,
+  result_of,
+}
 use Rattle.build_meaning.specs.Stop.{Stop, ends, asks, run_on}
-use Rattle.build_meaning.specs.State.{Within, walking, within, Status, ready, assigned, waits, calling, done, Origin, RequestState, ToolsUsed, State, with_request, new_request}
+use Rattle.build_meaning.specs.State.{
+  Within,
+  walking,
+  within,
+  Status,
+  ready,
+  assigned,
+  waits,
+  calling,
+  done,
+  Origin,
+  RequestState,
+  ToolsUsed,
+  State,
+  with_request,
+  new_request,
+}
 use Rattle.build_meaning.specs.Cycle.{is_in_cycle}
-use Rattle.build_meaning.specs.Step.{only_if, whose, in_body, goes_on, waiting, may_wait, claimed, with_children, is_within_limits, woken_if, woken_at, woken, finished, results_of, answered, resume_at, resume_caller, step_of, step}
-use Rattle.build_meaning.proofs.ListPlaces.{at-put, at-put_same, at-put_else, at-front, at-append, at-map, at-traverse, traverse-at}
+use Rattle.build_meaning.specs.Step.{
+  only_if,
+  whose,
+  in_body,
+  goes_on,
+  waiting,
+  may_wait,
+  claimed,
+  with_children,
+  is_within_limits,
+  woken_if,
+  woken_at,
+  woken,
+  finished,
+  results_of,
+  answered,
+  resume_at,
+  resume_caller,
+  step_of,
+  step,
+}
+use Rattle.build_meaning.proofs.ListPlaces.{
+  at-put,
+  at-put_same,
+  at-put_else,
+  at-front,
+  at-append,
+  at-map,
+  at-traverse,
+  traverse-at,
+}
 use Rattle.build_meaning.proofs.EventsKeepLawful.{only_if-some, unless-some, some-is, request_of}
 use Rattle.build_meaning.proofs.RetiredRequests.{IsRetire}
 use Rattle.build_history.specs.Uses.{body_at}
 
 -- tools are only added to those that a body has used
-pub run_on-uses : {I A : Type 0} (tools : List ℕ → I → A) (r : RunId) (b : Body I A) (j : Journal) (so_far : SoFar I) → (more : List (ToolUse I)) × ((run_on tools r b j so_far).so_far.tools ≡ so_far.tools ++ more)
+pub run_on-uses : {I A : Type 0} (tools : List ℕ → I → A) (r : RunId) (b : Body I A) (j : Journal)
+    (so_far : SoFar I) → (more : List (ToolUse I))
+    × ((run_on tools r b j so_far).so_far.tools ≡ so_far.tools ++ more)
 run_on-uses tools r (makes outcome) j so_far = ([], sym (append-nil so_far.tools))
 run_on-uses tools r (does p go) j so_far = run_on-uses tools r (go _) _ (with_act so_far p)
 run_on-uses tools r (uses name input go) j so_far =
-    let y = run_on-uses tools r (go (tools name input)) j (with_tool so_far name input) in
-    (record { name = name; input = input } ∷ y.0, y.1 ∙ append_assoc so_far.tools (record { name = name; input = input } ∷ []) y.0)
+    let y = run_on-uses tools r (go (tools name input)) j (with_tool so_far name input) in (
+      record { name = name; input = input } ∷ y.0,
+      y.1
+          ∙ append_assoc so_far.tools (record { name = name; input = input } ∷ []) y.0,
+    )
 run_on-uses tools r (calls key keys go) j so_far = ([], sym (append-nil so_far.tools))
 
 -- the event begins a run
@@ -67,7 +162,8 @@ module _ {P I A : Type 0} where
   abbrev pub Other : State P I A → ℕ → RequestState P I A → Type 0
   Other s n b = (at s.requests n ≡ Some b) ⊎ ((body_at b.status ≡ None) ⊎ Resumed s n b)
 
-  -- the request that the event is about: it is in no body; it is in the body that it was in; it begins a body; or its body is finished
+  -- the request that the event is about: it is in no body; it is in the body that it was in; it
+  -- begins a body; or its body is finished
   pub data Own (s t : State P I A) (event : Event) (b : RequestState P I A) : Type 0 where
     rests : body_at b.status ≡ None → t.tools_used ≡ s.tools_used → Own s t event b
     goes : (q : RequestState P I A) → at s.requests (whose event) ≡ Some q →
@@ -91,7 +187,8 @@ module _ {P I A : Type 0} where
   put-others : (s : State P I A) (id : ℕ) (z : RequestState P I A) (n : ℕ)
       (b : RequestState P I A) → (n ≡ id → ⊥) → at (put s.requests id z) n ≡ Some b →
       at s.requests n ≡ Some b
-  put-others s id z n b d h = elim (at-put s.requests id z n b h) [ inl x ↦ absurd (d x.0) | inr y ↦ y.1 ]
+  put-others s id z n b d h = elim (at-put s.requests id z n b h)
+      [ inl x ↦ absurd (d x.0) | inr y ↦ y.1 ]
 
   -- one request is put
   put-moved : (s t : State P I A) (event : Event) (q z : RequestState P I A) →
@@ -118,7 +215,8 @@ module _ {P I A : Type 0} (w : World P I A) where
   claimed-moved : (s t : State P I A) (id m : ℕ) (o : Origin) (j : Journal) (runs : List RunId)
       (claims : RunId) (r : RunId) (b : Body I A) (go : Record → Journal → Walk P I A)
       (kind : ClaimKind) (q : RequestState P I A) →
-      at s.requests id ≡ Some q → body_at q.status ≡ None → claimed w s id m o j runs r b go kind ≡ Some t → Moved s t (Claim id claims kind)
+      at s.requests id ≡ Some q → body_at q.status ≡ None
+      → claimed w s id m o j runs r b go kind ≡ Some t → Moved s t (Claim id claims kind)
   claimed-moved s t id m o j runs claims r b go Go q e none h =
       let z : RequestState P I A =
       in_body w (assigned m) o runs r go (run_on w.tools r b j nothing_yet) in
@@ -132,23 +230,34 @@ module _ {P I A : Type 0} (w : World P I A) where
         tools_used = s.tools_used;
       } in
       let x = unless-some (is_begun r s.begun) next t h in
-      moved-same s next t (Claim id claims Go) (put-moved s next (Claim id claims Go) q z e refl (λ a. a)
-      (begins q (record { run = r; tools = (run_on w.tools r b j nothing_yet).so_far.tools }) tt e none refl x.0 refl)
+      moved-same s next t (Claim id claims Go)
+      (put-moved s next (Claim id claims Go) q z e refl (λ a. a)
+      (begins q (record { run = r; tools = (run_on w.tools r b j nothing_yet).so_far.tools }) tt e
+      none refl x.0 refl)
       (λ r1 g. older-begun (same_run r r1) (is_begun r1 s.begun) g)) x.1
   claimed-moved s t id m o j runs claims r b go Use q e none h =
-      let x = and_then-some (found s.table r) (λ made. and_then (replay s.table r j) (λ next. Some (with_request s id (goes_on w (assigned m) o runs r go made next)))) t h in
-      let y = and_then-some (replay s.table r j) (λ next. Some (with_request s id (goes_on w (assigned m) o runs r go x.0 next))) t x.2 in
+      let x = and_then-some (found s.table r)
+      (λ made. and_then (replay s.table r j)
+      (λ next. Some (with_request s id (goes_on w (assigned m) o runs r go made next)))) t h in
+      let y = and_then-some (replay s.table r j)
+      (λ next. Some (with_request s id (goes_on w (assigned m) o runs r go x.0 next))) t x.2 in
       let z : RequestState P I A = goes_on w (assigned m) o runs r go x.0 y.0 in
-      moved-same s (with_request s id z) t (Claim id claims Use) (put-moved s (with_request s id z) (Claim id claims Use) q z e refl (λ a. a) (rests refl refl) (λ r1 g. g)) (some-is (with_request s id z) t y.2)
+      moved-same s (with_request s id z) t (Claim id claims Use)
+      (put-moved s (with_request s id z) (Claim id claims Use) q z e refl (λ a. a)
+      (rests refl refl) (λ r1 g. g)) (some-is (with_request s id z) t y.2)
   claimed-moved s t id m o j runs claims r b go Wait q e none h =
       let next : State P I A = waiting w s id o j runs r b go in
-      let x = only_if-some (may_wait w (is_begun r s.begun) (found s.table r) (is_in_cycle next r)) next t h in
-      moved-same s next t (Claim id claims Wait) (put-moved s next (Claim id claims Wait) q (request_of o j runs (waits r b go)) e refl (λ a. a) (rests refl refl) (λ r1 g. g)) x.1
+      let x = only_if-some (may_wait w (is_begun r s.begun) (found s.table r) (is_in_cycle next r))
+      next t h in
+      moved-same s next t (Claim id claims Wait)
+      (put-moved s next (Claim id claims Wait) q (request_of o j runs (waits r b go)) e refl
+      (λ a. a) (rests refl refl) (λ r1 g. g)) x.1
 
   called-moved : (s t : State P I A) (id m : ℕ) (asked : List RequestKey) (o : Origin) (j : Journal)
       (runs : List RunId) (keys : List RequestKey) (x : Within P I A) (stop : Stop I A)
       (go : List RequestResult → Journal → Body I A) →
-      at s.requests id ≡ Some (request_of o j runs (assigned m (within x stop))) → with_children w s id o j runs keys x go ≡ t → Moved s t (Request id asked)
+      at s.requests id ≡ Some (request_of o j runs (assigned m (within x stop)))
+      → with_children w s id o j runs keys x go ≡ t → Moved s t (Request id asked)
   called-moved s t id m asked o j runs keys x stop go e h =
       let q : RequestState P I A = request_of o j runs (assigned m (within x stop)) in
       let z : RequestState P I A =
@@ -174,9 +283,11 @@ module _ {P I A : Type 0} (w : World P I A) where
       (q ≡ z) ⊎ (body_at z.status ≡ None)
   woken-others table r m q z (waits wanted b go) e h = by_test (same_run wanted r) h
     where
-      by_test : (t : Bool) → woken_if w t table q m wanted go ≡ Some z → (q ≡ z) ⊎ (body_at z.status ≡ None)
+      by_test : (t : Bool) → woken_if w t table q m wanted go ≡ Some z
+          → (q ≡ z) ⊎ (body_at z.status ≡ None)
       by_test true h =
-          let y = and_then-some (replay table wanted q.journal) (λ next. Some (goes_on w ready q.origin q.runs wanted go m next)) z h in
+          let y = and_then-some (replay table wanted q.journal)
+          (λ next. Some (goes_on w ready q.origin q.runs wanted go m next)) z h in
           inr (ap (λ (a : RequestState P I A). body_at a.status)
           (sym (some-is (goes_on w ready q.origin q.runs wanted go m y.0) z y.2)))
       by_test false h = inl (some-is q z h)
@@ -187,7 +298,8 @@ module _ {P I A : Type 0} (w : World P I A) where
 
   finished-moved : (s t : State P I A) (id m : ℕ) (run : RunId) (o : Origin) (j : Journal)
       (runs : List RunId) (x : Within P I A) (stop : Stop I A) (made : Record) →
-      at s.requests id ≡ Some (request_of o j runs (assigned m (within x stop))) → finished w s id m o j runs x made ≡ Some t → Moved s t (Result id run)
+      at s.requests id ≡ Some (request_of o j runs (assigned m (within x stop)))
+      → finished w s id m o j runs x made ≡ Some t → Moved s t (Result id run)
   finished-moved s t id m run o j runs x stop made e h =
       let f : FinishedRun = record { run = x.run; made = made } in
       let q : RequestState P I A = request_of o j runs (assigned m (within x stop)) in
@@ -195,14 +307,24 @@ module _ {P I A : Type 0} (w : World P I A) where
       let z : RequestState P I A =
       goes_on w (assigned m) o runs x.run x.go made (add j (ended x.run made)) in
       let wakes = woken w (f ∷ s.table) x.run made in
-      let u = and_then-some (traverse wakes (put s.requests id z)) (λ requests. Some (record { requests = requests; begun = s.begun; table = f ∷ s.table; tools_used = used ∷ s.tools_used })) t h in
+      let u = and_then-some (traverse wakes (put s.requests id z))
+      (λ requests.
+      Some
+      (record {
+        requests = requests;
+        begun = s.begun;
+        table = f ∷ s.table;
+        tools_used = used
+            ∷ s.tools_used;
+      })) t h in
       let last : State P I A = record {
         requests = u.0;
         begun = s.begun;
         table = f ∷ s.table;
         tools_used = used ∷ s.tools_used;
       } in
-      let here = traverse-at wakes (put s.requests id z) u.0 u.1 id z (at-put_same s.requests id q z e) in
+      let here = traverse-at wakes (put s.requests id z) u.0 u.1 id z
+      (at-put_same s.requests id q z e) in
       moved-same s last t (Result id run) (record {
         mine = z;
         there = here.1 ∙ sym here.2;
@@ -221,13 +343,22 @@ module _ {P I A : Type 0} (w : World P I A) where
   answered-moved : (s m t : State P I A) (event : Event) (a : ℕ) (c : RequestState P I A)
       (keys : List RequestKey) (ids : List ℕ) (x : Within P I A) (go : List RequestResult →
       Journal → Body I A) → Moved s m event →
-      (a ≡ whose event → ⊥) → at s.requests a ≡ Some c → at m.requests a ≡ Some c → c.status ≡ calling keys ids x go → (o : Option (List RequestResult)) → answered w m a c.origin c.journal c.runs keys x go o ≡ Some t → Moved s t event
-  answered-moved s m t event a c keys ids x go v d es em p None h = moved-same s m t event v (some-is m t h)
+      (a ≡ whose event → ⊥) → at s.requests a ≡ Some c → at m.requests a ≡ Some c
+      → c.status ≡ calling keys ids x go → (o : Option (List RequestResult))
+      → answered w m a c.origin c.journal c.runs keys x go o ≡ Some t → Moved s t event
+  answered-moved s m t event a c keys ids x go v d es em p None h = moved-same s m t event v
+      (some-is m t h)
   answered-moved s m t event a c keys ids x go v d es em p (Some results) h =
-      let y = and_then-some (replay_all m.table (runs_of results) c.journal) (λ next. Some (with_request m a (in_body w ready c.origin c.runs x.run x.go (run_on w.tools x.run (go results next) next (with_calls x.so_far keys results))))) t h in
+      let y = and_then-some (replay_all m.table (runs_of results) c.journal)
+      (λ next.
+      Some
+      (with_request m a
+      (in_body w ready c.origin c.runs x.run x.go
+      (run_on w.tools x.run (go results next) next (with_calls x.so_far keys results))))) t h in
       let after = run_on w.tools x.run (go results y.0) y.0 (with_calls x.so_far keys results) in
       let z : RequestState P I A = in_body w ready c.origin c.runs x.run x.go after in
-      let more = run_on-uses w.tools x.run (go results y.0) y.0 (with_calls x.so_far keys results) in
+      let more = run_on-uses w.tools x.run (go results y.0) y.0 (with_calls x.so_far keys results)
+      in
       moved-same s (with_request m a z) t event (record {
         mine = v.mine;
         there = at-put_else m.requests a z (whose event) (λ e. d (sym e)) ∙ v.there;
@@ -267,19 +398,26 @@ module _ {P I A : Type 0} (w : World P I A) where
       Moved s t event
   step_of-moved s t (Assign id m) o j runs (ready a) e h =
       let z : RequestState P I A = request_of o j runs (assigned m a) in
-      moved-same s (with_request s id z) t (Assign id m) (put-moved s (with_request s id z) (Assign id m) (request_of o j runs (ready a)) z e refl (λ a. a) (goes (request_of o j runs (ready a)) e refl refl) (λ r1 g. g)) (some-is (with_request s id z) t h)
+      moved-same s (with_request s id z) t (Assign id m)
+      (put-moved s (with_request s id z) (Assign id m) (request_of o j runs (ready a)) z e refl
+      (λ a. a) (goes (request_of o j runs (ready a)) e refl refl) (λ r1 g. g))
+      (some-is (with_request s id z) t h)
   step_of-moved s t (Assign id m) o j runs _ e h = absurd (cc)
   step_of-moved s t (Claim id run kind) o j runs (assigned m (walking (wants site r b go))) e h =
-      let x = and_then-some (only_if (same_run r run) r) (λ run. claimed w s id m o j runs run b go kind) t h in
+      let x = and_then-some (only_if (same_run r run) r)
+      (λ run. claimed w s id m o j runs run b go kind) t h in
       claimed-moved s t id m o j runs run x.0 b go kind (request_of o j runs
       (assigned m (walking (wants site r b go)))) e refl x.2
   step_of-moved s t (Claim id run kind) o j runs _ e h = absurd (cc)
   step_of-moved s t (Request id keys) o j runs (assigned m (within x (asks key more go))) e h =
-      let y = only_if-some (same_keys (key ∷ more) keys && is_within_limits w s (x.run ∷ o.path) (key ∷ more)) (with_children w s id o j runs (key ∷ more) x go) t h in
+      let y = only_if-some (same_keys (key ∷ more) keys
+      && is_within_limits w s (x.run ∷ o.path) (key ∷ more))
+      (with_children w s id o j runs (key ∷ more) x go) t h in
       called-moved s t id m keys o j runs (key ∷ more) x (asks key more go) go e y.1
   step_of-moved s t (Request id keys) o j runs _ e h = absurd (cc)
   step_of-moved s t (Result id run) o j runs (assigned m (within x (ends outcome))) e h =
-      let y = and_then-some (only_if (same_run x.run run) x) (λ x. finished w s id m o j runs x (recorded outcome x.so_far.segments)) t h in
+      let y = and_then-some (only_if (same_run x.run run) x)
+      (λ x. finished w s id m o j runs x (recorded outcome x.so_far.segments)) t h in
       let p : x ≡ y.0 = (only_if-some (same_run x.run run) x y.0 y.1).1 in
       finished-moved s t id m run o j runs x (ends outcome) (recorded outcome x.so_far.segments) e
       (subst (λ (a : Within P I A). finished w s id m o j runs a
@@ -289,14 +427,17 @@ module _ {P I A : Type 0} (w : World P I A) where
       let q : RequestState P I A = request_of o j runs (assigned m (walking (gives reply))) in
       let z : RequestState P I A = request_of o j runs (done (result_of reply runs)) in
       let over : State P I A = with_request s id z in
-      caller-moved s over t (Done id) z o.parent (put-moved s over (Done id) q z e refl (λ a. a) (rests refl refl) (λ r1 g. g)) refl refl h
+      caller-moved s over t (Done id) z o.parent
+      (put-moved s over (Done id) q z e refl (λ a. a) (rests refl refl) (λ r1 g. g)) refl refl h
     where
       resumed-moved : (s m t : State P I A) (event : Event) (a : ℕ) (z c : RequestState P I A)
           (u : Status P I A) → Moved s m event → m.requests ≡ put s.requests (whose event) z →
           (a ≡ whose event → ⊥) → at m.requests a ≡ Some c → c.status ≡ u →
           resume_at w m a c u ≡ Some t → Moved s t event
       resumed-moved s m t event a z c (calling keys ids x go) v f d e p h =
-          answered-moved s m t event a c keys ids x go v d (put-others s (whose event) z a c d (sym (ap (λ rs. at rs a) f) ∙ e)) e p (results_of w m.requests ids) h
+          answered-moved s m t event a c keys ids x go v d
+          (put-others s (whose event) z a c d (sym (ap (λ rs. at rs a) f) ∙ e)) e p
+          (results_of w m.requests ids) h
       resumed-moved s m t event a z c _ v f d e p h = absurd (cc)
 
       over-calls : (m t : State P I A) (a : ℕ) (z : RequestState P I A) (u : Status P I A) →
@@ -321,7 +462,9 @@ module _ {P I A : Type 0} (w : World P I A) where
   step_of-moved s t (Retire id node) o j runs (assigned by a) e h =
       let q : RequestState P I A = request_of o j runs (assigned by a) in
       let z : RequestState P I A = request_of o j runs (ready a) in
-      moved-same s (with_request s id z) t (Retire id node) (put-moved s (with_request s id z) (Retire id node) q z e refl (λ r. tt) (goes q e refl refl) (λ r1 g. g))
+      moved-same s (with_request s id z) t (Retire id node)
+      (put-moved s (with_request s id z) (Retire id node) q z e refl (λ r. tt)
+      (goes q e refl refl) (λ r1 g. g))
       (only_if-some (by == node) (with_request s id z) t h).1
   step_of-moved s t (Retire id node) o j runs _ e h = absurd (cc)
 

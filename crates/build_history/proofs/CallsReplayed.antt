@@ -161,7 +161,8 @@ module _ {P I A : Type 0} where
   awaited (done result) id i = absurd i
 
   -- one request is put
-  put-calls : (s t : State P I A) (id : ℕ) (q z b : RequestState P I A) → at s.requests id ≡ Some q →
+  put-calls : (s t : State P I A) (id : ℕ) (q z b : RequestState P I A) → at s.requests id ≡ Some q
+      →
       t.requests ≡ put s.requests id z → CallsFrom (length s.requests) z.status →
       at t.requests id ≡ Some b → CallsFrom (length s.requests) b.status
   put-calls s t id q z b e m c h =
@@ -289,7 +290,8 @@ module _ {P I A : Type 0} (w : World P I A) where
       put-calls s t id (request_of o j runs (ready a)) z b e
       (same-requests (with_request s id z) t h) tt at_b
   own-calls s t (Assign id m) o j runs _ b e h at_b = absurd (cc)
-  own-calls s t (Claim id run kind) o j runs (assigned m (walking (wants site r body go))) b e h at_b =
+  own-calls s t (Claim id run kind) o j runs (assigned m (walking (wants site r body go))) b e h
+      at_b =
       let x = and_then-some (only_if (same_run r run) r)
       (λ run. claimed w s id m o j runs run body go kind) t h in
       claimed-calls s t id m o j runs x.0 body go kind
@@ -400,7 +402,8 @@ module _ {P I A : Type 0} (w : World P I A) where
       (says-new y.0) z.1 z.2 in
       all-from events y.0 t (step-lawful w s event y.0 l y.1) n y.2
 
-pub calls_are_replayed : {P I A : Type 0} (w : World P I A) (events : List Event) (s : State P I A) →
+pub calls_are_replayed : {P I A : Type 0} (w : World P I A) (events : List Event) (s : State P I A)
+    →
     IsHistory w events s → (caller id : ℕ) (q call : RequestState P I A) →
     at s.requests caller ≡ Some q → AwaitsCall id q.status → at s.requests id ≡ Some call →
     IsInNoBody call.status → replay_all s.table call.runs q.journal ≡ Some call.journal

@@ -1,5 +1,32 @@
--- Each event keeps that the journal of a request is its first one with its runs replayed by the table.
-use Rattle.std.proofs.Common.{◌≡◌, ℕ, ◌+◌, ◌<◌, ◌==◌, Bool, true, false, ◌&&◌, inl, inr, List, ◌∷◌, ◌++◌, length, map, Option, None, Some, refl, ap, sym, ◌∙◌, subst, arith}
+-- Each event keeps that the journal of a request is its first one with its runs replayed by the
+-- table.
+use Rattle.std.proofs.Common.{
+  ◌≡◌,
+  ℕ,
+  ◌+◌,
+  ◌<◌,
+  ◌==◌,
+  Bool,
+  true,
+  false,
+  ◌&&◌,
+  inl,
+  inr,
+  List,
+  ◌∷◌,
+  ◌++◌,
+  length,
+  map,
+  Option,
+  None,
+  Some,
+  refl,
+  ap,
+  sym,
+  ◌∙◌,
+  subst,
+  arith,
+}
 use Rattle.msb_laws.specs.Asking.{and_then}
 use Rattle.msb_laws.specs.Traverse.{traverse}
 use Rattle.result_cache.specs.declared.run.RunId.{RunId}
@@ -8,7 +35,14 @@ use Rattle.result_cache.specs.declared.request.RequestResult.{RequestResult}
 use Rattle.result_cache.specs.declared.record.Record.{Record}
 use Rattle.result_cache.specs.Same.{same_run, same_keys}
 use Rattle.build_meaning.specs.declared.event.Event.{Event}
-use Rattle.build_meaning.specs.declared.event.Event.TheVariants.{Assign, Claim, Request, Result, Done, Retire}
+use Rattle.build_meaning.specs.declared.event.Event.TheVariants.{
+  Assign,
+  Claim,
+  Request,
+  Result,
+  Done,
+  Retire,
+}
 use Rattle.build_meaning.specs.declared.event.ClaimKind.{ClaimKind}
 use Rattle.build_meaning.specs.declared.event.ClaimKind.TheVariants.{Go, Use, Wait}
 use Rattle.build_meaning.specs.Lists.{at, put, numbered_from}
@@ -19,26 +53,98 @@ use Rattle.build_meaning.specs.World.{World}
 use Rattle.build_meaning.specs.Walk.{Walk, gives, wants, Body, Outcome}
 use Rattle.build_meaning.specs.SoFar.{nothing_yet, with_calls, recorded, result_of, runs_of}
 use Rattle.build_meaning.specs.Stop.{ends, asks, run_on}
-use Rattle.build_meaning.specs.State.{Within, Place, walking, within, Status, ready, assigned, waits, calling, done, Origin, RequestState, State, with_request, new_request}
+use Rattle.build_meaning.specs.State.{
+  Within,
+  Place,
+  walking,
+  within,
+  Status,
+  ready,
+  assigned,
+  waits,
+  calling,
+  done,
+  Origin,
+  RequestState,
+  State,
+  with_request,
+  new_request,
+}
 use Rattle.build_meaning.specs.Cycle.{is_in_cycle}
-use Rattle.build_meaning.specs.Step.{only_if, assign_at, in_body, goes_on, waiting, may_wait, claimed, claim_at, with_children, is_within_limits, request_at, woken_if, woken_at, woken, finished, result_at, result_in, results_of, answered, resume_at, resume_caller, done_at, retire_at, whose, step_of}
+use Rattle.build_meaning.specs.Step.{
+  only_if,
+  assign_at,
+  in_body,
+  goes_on,
+  waiting,
+  may_wait,
+  claimed,
+  claim_at,
+  with_children,
+  is_within_limits,
+  request_at,
+  woken_if,
+  woken_at,
+  woken,
+  finished,
+  result_at,
+  result_in,
+  results_of,
+  answered,
+  resume_at,
+  resume_caller,
+  done_at,
+  retire_at,
+  whose,
+  step_of,
+}
 use Rattle.result_cache.proofs.RunTests.{and_then-some}
 use Rattle.result_cache.proofs.ReplayRelation.{new, Reps, none, reps-map, Recorded}
 use Rattle.build_meaning.proofs.BuildingReplays.{reps-run, reps-calls}
-use Rattle.build_meaning.proofs.ListPlaces.{at-put, at-put_same, at-append, at-front, at-map, at-traverse, traverse-length, put-length, at-less}
-use Rattle.build_meaning.proofs.LawfulStates.{IsOnce, found-newest, found-grows, replay-rep, replay_all-reps, Lawful}
-use Rattle.build_meaning.proofs.EventsKeepLawful.{only_if-some, unless-some, some-is, run_on-reps, request_of, unbegun-unfinished, unfinished-fresh, put-lawful}
+use Rattle.build_meaning.proofs.ListPlaces.{
+  at-put,
+  at-put_same,
+  at-append,
+  at-front,
+  at-map,
+  at-traverse,
+  traverse-length,
+  put-length,
+  at-less,
+}
+use Rattle.build_meaning.proofs.LawfulStates.{
+  IsOnce,
+  found-newest,
+  found-grows,
+  replay-rep,
+  replay_all-reps,
+  Lawful,
+}
+use Rattle.build_meaning.proofs.EventsKeepLawful.{
+  only_if-some,
+  unless-some,
+  some-is,
+  run_on-reps,
+  request_of,
+  unbegun-unfinished,
+  unfinished-fresh,
+  put-lawful,
+}
 use Rattle.build_history.specs.Began.{GivesJournal}
 
 -- the runs, replayed from the first journal, give this one
 abbrev pub Ran : Records → Journal → List RunId → Journal → Type 0
 Ran table base runs j = Reps (Recorded table) (map replays_run runs) base j
 
-reps-more : (table : Records) (f : FinishedRun) → found table f.run ≡ None → (items : List Effect) (j k : Journal) → Reps (Recorded table) items j k → Reps (Recorded (f ∷ table)) items j k
-reps-more table f n items j k d = reps-map (Recorded table) (Recorded (f ∷ table)) (found-grows table f n) d
+reps-more : (table : Records) (f : FinishedRun) → found table f.run ≡ None
+    → (items : List Effect) (j k : Journal) → Reps (Recorded table) items j k
+    → Reps (Recorded (f ∷ table)) items j k
+reps-more table f n items j k d = reps-map (Recorded table) (Recorded (f ∷ table))
+    (found-grows table f n) d
 
 module _ {P I A : Type 0} where
-  -- a body was begun with the journal of the runs before it, and its journal is that one with what it has done so far
+  -- a body was begun with the journal of the runs before it, and its journal is that one with what
+  -- it has done so far
   pub record RanInto (table : Records) (base : Journal) (runs : List RunId) (j : Journal)
       (x : Within P I A) : Type 0 where
     pub from : Journal
@@ -82,7 +188,8 @@ module _ {P I A : Type 0} where
     status-more runs j (assigned node p) v = place-more runs j p v
     status-more runs j (waits r b go) v = reps-more table f n (map replays_run runs) base j v
     status-more runs j (calling keys ids x go) v = into-more runs j x v
-    status-more runs j (done result) v = (v.0, reps-more table f n (map replays_run runs) base j v.1)
+    status-more runs j (done result) v =
+        (v.0, reps-more table f n (map replays_run runs) base j v.1)
 
 module _ {P I A : Type 0} (B : ℕ → Origin → Journal → Type 0) where
   -- a request began with a journal, as B says, and has its runs from there
@@ -98,16 +205,27 @@ module _ {P I A : Type 0} (B : ℕ → Origin → Journal → Type 0) where
   each-more : (table : Records) (f : FinishedRun) → found table f.run ≡ None →
       (requests : List (RequestState P I A)) → EachRan table requests → EachRan (f ∷ table) requests
   each-more table f n requests v id q e =
-      let x = v id q e in record { base = x.base; began = x.began; ran = status-more table f n x.base q.runs q.journal q.status x.ran }
+      let x = v id q e in record {
+        base = x.base;
+        began = x.began;
+        ran = status-more table f n x.base q.runs q.journal
+            q.status x.ran;
+      }
 
   -- one request changes
   put-ran : (table : Records) (requests : List (RequestState P I A)) (id : ℕ)
       (q z : RequestState P I A) → at requests id ≡ Some q → z.origin ≡ q.origin →
-      ((base : Journal) → RequestRan table base q → RequestRan table base z) → EachRan table requests → EachRan table (put requests id z)
+      ((base : Journal) → RequestRan table base q → RequestRan table base z)
+      → EachRan table requests → EachRan table (put requests id z)
   put-ran table requests id q z e o f v k y h = elim (at-put requests id z k y h) [
     | inl p ↦
         let x = v id q e in
-        let here : RanFrom table id z = record { base = x.base; began = subst (λ (a : Origin). B id a x.base) (sym o) x.began; ran = f x.base x.ran } in
+        let here : RanFrom table id z = record {
+          base = x.base;
+          began = subst (λ (a : Origin). B id a x.base) (sym o) x.began;
+          ran = f
+              x.base x.ran;
+        } in
         subst (λ (a : RequestState P I A). RanFrom table k a) p.1
         (subst (λ (n : ℕ). RanFrom table n z) (sym p.0) here)
     | inr p ↦ v k y p.1
@@ -122,12 +240,14 @@ module _ {P I A : Type 0} (w : World P I A) (B : ℕ → Origin → Journal → 
 
   -- B says so of the requests that are made now
   abbrev pub SaysNew : State P I A → Type 0
-  SaysNew t = (id : ℕ) (origin : Origin) (base : Journal) → (id ≡ 0 → ⊥) → at t.requests id ≡ Some (new_request w origin.parent origin.path base origin.key) →
+  SaysNew t = (id : ℕ) (origin : Origin) (base : Journal) → (id ≡ 0 → ⊥)
+      → at t.requests id ≡ Some (new_request w origin.parent origin.path base origin.key) →
       GivesJournal t origin.parent base → B id origin base
 
   assign-ran : (s : State P I A) (id node : ℕ) (o : Origin) (j : Journal) (runs : List RunId)
       (st : Status P I A) (t : State P I A) → AllRan s →
-      at s.requests id ≡ Some (request_of o j runs st) → assign_at w s id node o j runs st ≡ Some t → AllRan t
+      at s.requests id ≡ Some (request_of o j runs st) → assign_at w s id node o j runs st ≡ Some t
+      → AllRan t
   assign-ran s id node o j runs (ready p) t v e h =
       let z : RequestState P I A = request_of o j runs (assigned node p) in
       subst (λ (u : State P I A). AllRan u) (some-is (with_request s id z) t h)
@@ -136,7 +256,8 @@ module _ {P I A : Type 0} (w : World P I A) (B : ℕ → Origin → Journal → 
 
   retire-ran : (s : State P I A) (id node : ℕ) (o : Origin) (j : Journal) (runs : List RunId)
       (st : Status P I A) (t : State P I A) → AllRan s →
-      at s.requests id ≡ Some (request_of o j runs st) → retire_at w s id node o j runs st ≡ Some t → AllRan t
+      at s.requests id ≡ Some (request_of o j runs st) → retire_at w s id node o j runs st ≡ Some t
+      → AllRan t
   retire-ran s id node o j runs (assigned by p) t v e h =
       let z : RequestState P I A = request_of o j runs (ready p) in
       subst (λ (u : State P I A). AllRan u) (only_if-some (by == node) (with_request s id z) t h).1
@@ -154,13 +275,33 @@ module _ {P I A : Type 0} (w : World P I A) (B : ℕ → Origin → Journal → 
       request_of o j runs (assigned node (walking (wants site r b go))) in
       let z : RequestState P I A =
       in_body w (assigned node) o runs r go (run_on w.tools r b j nothing_yet) in
-      let x = unless-some (is_begun r s.begun) (record { requests = put s.requests id z; begun = record { run = r; by = id } ∷ s.begun; table = s.table; tools_used = s.tools_used }) t h in
-      let fresh = unfinished-fresh w s.table j runs r (l.each id q e).journal (unbegun-unfinished w s l r x.0) in
+      let x = unless-some (is_begun r s.begun)
+      (record {
+        requests = put s.requests id z;
+        begun = record { run = r; by = id }
+            ∷ s.begun;
+        table = s.table;
+        tools_used = s.tools_used;
+      }) t h in
+      let fresh = unfinished-fresh w s.table j runs r (l.each id q e).journal
+      (unbegun-unfinished w s l r x.0) in
       subst (λ (u : State P I A). AllRan u) x.1 (put-ran B s.table s.requests id q z e refl
-      (λ base d. record { from = j; ran = d; fresh = fresh; so_far = run_on-reps (Recorded s.table) w.tools r b j j nothing_yet none }) v)
+      (λ base d.
+      record {
+        from = j;
+        ran = d;
+        fresh = fresh;
+        so_far = run_on-reps (Recorded s.table) w.tools r b j
+            j nothing_yet none;
+      }) v)
   claimed-ran s id node o j runs site r b go Use t l v e h =
-      let x = and_then-some (found s.table r) (λ made. and_then (replay s.table r j) (λ next. Some (with_request s id (goes_on w (assigned node) o runs r go made next)))) t h in
-      let y = and_then-some (replay s.table r j) (λ next. Some (with_request s id (goes_on w (assigned node) o runs r go x.0 next))) t x.2 in
+      let x = and_then-some (found s.table r)
+      (λ made. and_then (replay s.table r j)
+      (λ next. Some (with_request s id (goes_on w (assigned node) o runs r go made next)))) t h
+      in
+      let y = and_then-some (replay s.table r j)
+      (λ next. Some (with_request s id (goes_on w (assigned node) o runs r go x.0 next))) t x.2
+      in
       let z : RequestState P I A = goes_on w (assigned node) o runs r go x.0 y.0 in
       subst (λ (u : State P I A). AllRan u) (some-is (with_request s id z) t y.2)
       (put-ran B s.table s.requests id (request_of o j runs
@@ -168,7 +309,8 @@ module _ {P I A : Type 0} (w : World P I A) (B : ℕ → Origin → Journal → 
       (replay-rep s.table l.once r j y.0 y.1)) v)
   claimed-ran s id node o j runs site r b go Wait t l v e h =
       let next : State P I A = waiting w s id o j runs r b go in
-      let x = only_if-some (may_wait w (is_begun r s.begun) (found s.table r) (is_in_cycle next r)) next t h in
+      let x = only_if-some (may_wait w (is_begun r s.begun) (found s.table r) (is_in_cycle next r))
+      next t h in
       subst (λ (u : State P I A). AllRan u) x.1
       (put-ran B s.table s.requests id (request_of o j runs
       (assigned node (walking (wants site r b go)))) (request_of o j runs (waits r b go)) e refl
@@ -176,9 +318,11 @@ module _ {P I A : Type 0} (w : World P I A) (B : ℕ → Origin → Journal → 
 
   claim-ran : (s : State P I A) (id : ℕ) (run : RunId) (kind : ClaimKind) (o : Origin) (j : Journal)
       (runs : List RunId) (st : Status P I A) (t : State P I A) → Lawful s → AllRan s →
-      at s.requests id ≡ Some (request_of o j runs st) → claim_at w s id run kind o j runs st ≡ Some t → AllRan t
+      at s.requests id ≡ Some (request_of o j runs st)
+      → claim_at w s id run kind o j runs st ≡ Some t → AllRan t
   claim-ran s id run kind o j runs (assigned node (walking (wants site r b go))) t l v e h =
-      let x = and_then-some (only_if (same_run r run) r) (λ run. claimed w s id node o j runs run b go kind) t h in
+      let x = and_then-some (only_if (same_run r run) r)
+      (λ run. claimed w s id node o j runs run b go kind) t h in
       let y : r ≡ x.0 = (only_if-some (same_run r run) r x.0 x.1).1 in
       claimed-ran s id node o j runs site r b go kind t l v e
       (subst (λ n. claimed w s id node o j runs n b go kind ≡ Some t) (sym y) x.2)
@@ -188,8 +332,12 @@ module _ {P I A : Type 0} (w : World P I A) (B : ℕ → Origin → Journal → 
   children-ran : (s : State P I A) (id : ℕ) (q : RequestState P I A) (o : Origin) (j : Journal)
       (runs : List RunId) (keys : List RequestKey) (x : Within P I A) (go : List RequestResult →
       Journal → Body I A) →
-      at s.requests id ≡ Some q → AllRan (with_request s id (request_of o j runs (calling keys (numbered_from (length s.requests) keys) x go))) →
-      SaysNew (with_children w s id o j runs keys x go) → AllRan (with_children w s id o j runs keys x go)
+      at s.requests id ≡ Some q
+      → AllRan
+      (with_request s id
+      (request_of o j runs (calling keys (numbered_from (length s.requests) keys) x go))) →
+      SaysNew (with_children w s id o j runs keys x go)
+      → AllRan (with_children w s id o j runs keys x go)
   children-ran s id q o j runs keys x go e v new_so k y h =
       let z : RequestState P I A =
       request_of o j runs (calling keys (numbered_from (length s.requests) keys) x go) in
@@ -200,11 +348,19 @@ module _ {P I A : Type 0} (w : World P I A) (B : ℕ → Origin → Journal → 
         | inr a ↦
             let c = at-map (new_request w (Some id) path j) keys a.0 y a.1 in
             let origin : Origin = record { key = c.0; parent = Some id; path = path } in
-            let late : k ≡ 0 → ⊥ = behind k (length (put s.requests id z)) a.0 id a.2 (subst (λ n. id < n) (sym (put-length s.requests id z)) (at-less s.requests id q e)) in
-            let here : at (put s.requests id z ++ kids) k ≡ Some (new_request w (Some id) path j c.0) = h ∙ ap Some (sym c.2) in
+            let late : k ≡ 0
+            → ⊥ = behind k (length (put s.requests id z)) a.0 id a.2
+            (subst (λ n. id < n) (sym (put-length s.requests id z)) (at-less s.requests id q e))
+            in
+            let here : at (put s.requests id z ++ kids) k
+            ≡ Some (new_request w (Some id) path j c.0) = h ∙ ap Some (sym c.2) in
             let made : RanFrom B s.table k (new_request w (Some id) path j c.0) = record {
               base = j;
-              began = new_so k origin j late here (z, at-front (put s.requests id z) kids id z (at-put_same s.requests id q z e), refl);
+              began = new_so k origin j late here (
+                z,
+                at-front (put s.requests id z) kids id z (at-put_same s.requests id q z e),
+                refl,
+              );
               ran = none;
             } in
             subst (λ (u : RequestState P I A). RanFrom B s.table k u) c.2 made
@@ -212,9 +368,12 @@ module _ {P I A : Type 0} (w : World P I A) (B : ℕ → Origin → Journal → 
 
   request-ran : (s : State P I A) (id : ℕ) (keys : List RequestKey) (o : Origin) (j : Journal)
       (runs : List RunId) (st : Status P I A) (t : State P I A) → AllRan s → SaysNew t →
-      at s.requests id ≡ Some (request_of o j runs st) → request_at w s id keys o j runs st ≡ Some t → AllRan t
+      at s.requests id ≡ Some (request_of o j runs st) → request_at w s id keys o j runs st ≡ Some t
+      → AllRan t
   request-ran s id keys o j runs (assigned node (within x (asks key more go))) t v new_so e h =
-      let y = only_if-some (same_keys (key ∷ more) keys && is_within_limits w s (x.run ∷ o.path) (key ∷ more)) (with_children w s id o j runs (key ∷ more) x go) t h in
+      let y = only_if-some (same_keys (key ∷ more) keys
+      && is_within_limits w s (x.run ∷ o.path) (key ∷ more))
+      (with_children w s id o j runs (key ∷ more) x go) t h in
       let q : RequestState P I A =
       request_of o j runs (assigned node (within x (asks key more go))) in
       let z : RequestState P I A = request_of o j runs (calling (key ∷ more)
@@ -237,16 +396,23 @@ module _ {P I A : Type 0} (w : World P I A) (B : ℕ → Origin → Journal → 
       by_test : (y : Bool) → woken_if w y table q m wanted go ≡ Some t → RanFrom B table id t
       by_test false h = subst (λ (u : RequestState P I A). RanFrom B table id u) (some-is q t h) v
       by_test true h =
-          let x = and_then-some (replay table wanted q.journal) (λ next. Some (goes_on w ready q.origin q.runs wanted go m next)) t h in
+          let x = and_then-some (replay table wanted q.journal)
+          (λ next. Some (goes_on w ready q.origin q.runs wanted go m next)) t h in
           let z : RequestState P I A = goes_on w ready q.origin q.runs wanted go m x.0 in
-          let here : RanFrom B table id z = record { base = v.base; began = v.began; ran = reps-run q.runs wanted before (replay-rep table once wanted q.journal x.0 x.1) } in
+          let here : RanFrom B table id z = record {
+            base = v.base;
+            began = v.began;
+            ran = reps-run q.runs wanted before
+                (replay-rep table once wanted q.journal x.0 x.1);
+          } in
           subst (λ (u : RequestState P I A). RanFrom B table id u) (some-is z t x.2) here
   woken-ran table once r m id q t v _ e h =
       subst (λ (u : RequestState P I A). RanFrom B table id u) (some-is q t h) v
 
   finished-ran : (s : State P I A) (id node : ℕ) (o : Origin) (j : Journal) (runs : List RunId)
       (x : Within P I A) (outcome : Outcome) (t : State P I A) → Lawful s → AllRan s →
-      at s.requests id ≡ Some (request_of o j runs (assigned node (within x (ends outcome)))) → finished w s id node o j runs x (recorded outcome x.so_far.segments) ≡ Some t → AllRan t
+      at s.requests id ≡ Some (request_of o j runs (assigned node (within x (ends outcome))))
+      → finished w s id node o j runs x (recorded outcome x.so_far.segments) ≡ Some t → AllRan t
   finished-ran s id node o j runs x outcome t l v e h =
       let m : Record = recorded outcome x.so_far.segments in
       let f : FinishedRun = record { run = x.run; made = m } in
@@ -255,24 +421,38 @@ module _ {P I A : Type 0} (w : World P I A) (B : ℕ → Origin → Journal → 
       goes_on w (assigned node) o runs x.run x.go m (add j (ended x.run m)) in
       let body = (l.each id q e).status in
       let n : found s.table x.run ≡ None = body.1.unfinished in
-      let u = and_then-some (traverse (woken w (f ∷ s.table) x.run m) (put s.requests id z)) (λ requests. Some (record { requests = requests; begun = s.begun; table = f ∷ s.table; tools_used = record { run = x.run; tools = x.so_far.tools } ∷ s.tools_used })) t h in
+      let u = and_then-some (traverse (woken w (f ∷ s.table) x.run m) (put s.requests id z))
+      (λ requests.
+      Some
+      (record {
+        requests = requests;
+        begun = s.begun;
+        table = f
+            ∷ s.table;
+        tools_used = record { run = x.run; tools = x.so_far.tools } ∷ s.tools_used;
+      }))
+      t h in
       let last : State P I A = record {
         requests = u.0;
         begun = s.begun;
         table = f ∷ s.table;
         tools_used = record { run = x.run; tools = x.so_far.tools } ∷ s.tools_used;
       } in
-      let p : EachRan B (f ∷ s.table) (put s.requests id z) = put-ran B (f ∷ s.table) s.requests id q z e refl
-      (λ base d. reps-run runs x.run d.ran (new d.fresh (found-newest s.table f) d.so_far)) (each-more B s.table f n s.requests v) in
+      let p : EachRan B (f ∷ s.table) (put s.requests id z) = put-ran B (f ∷ s.table) s.requests id
+      q z e refl
+      (λ base d. reps-run runs x.run d.ran (new d.fresh (found-newest s.table f) d.so_far))
+      (each-more B s.table f n s.requests v) in
       subst (λ (u : State P I A). AllRan u) (some-is last t u.2) (λ k y a.
       let g = at-traverse (woken w (f ∷ s.table) x.run m) (put s.requests id z) u.0 u.1 k y a in
       woken-ran (f ∷ s.table) (n, l.once) x.run m k g.0 y (p k g.0 g.1) g.0.status refl g.2)
 
   finish-ran : (s : State P I A) (id : ℕ) (run : RunId) (o : Origin) (j : Journal)
       (runs : List RunId) (st : Status P I A) (t : State P I A) → Lawful s → AllRan s →
-      at s.requests id ≡ Some (request_of o j runs st) → result_at w s id run o j runs st ≡ Some t → AllRan t
+      at s.requests id ≡ Some (request_of o j runs st) → result_at w s id run o j runs st ≡ Some t
+      → AllRan t
   finish-ran s id run o j runs (assigned node (within x (ends outcome))) t l v e h =
-      let y = and_then-some (only_if (same_run x.run run) x) (λ x. finished w s id node o j runs x (recorded outcome x.so_far.segments)) t h in
+      let y = and_then-some (only_if (same_run x.run run) x)
+      (λ x. finished w s id node o j runs x (recorded outcome x.so_far.segments)) t h in
       let p : x ≡ y.0 = (only_if-some (same_run x.run run) x y.0 y.1).1 in
       finished-ran s id node o j runs x outcome t l v e
       (subst (λ (a : Within P I A). finished w s id node o j runs a
@@ -283,24 +463,35 @@ module _ {P I A : Type 0} (w : World P I A) (B : ℕ → Origin → Journal → 
   answered-ran : (s : State P I A) (id : ℕ) (o : Origin) (j : Journal) (runs : List RunId)
       (keys : List RequestKey) (ids : List ℕ) (x : Within P I A) (go : List RequestResult →
       Journal → Body I A) (t : State P I A) → Lawful s → AllRan s →
-      at s.requests id ≡ Some (request_of o j runs (calling keys ids x go)) → (replies : Option (List RequestResult)) → results_of w s.requests ids ≡ replies → answered w s id o j runs keys x go replies ≡ Some t → AllRan t
+      at s.requests id ≡ Some (request_of o j runs (calling keys ids x go))
+      → (replies : Option (List RequestResult)) → results_of w s.requests ids ≡ replies
+      → answered w s id o j runs keys x go replies ≡ Some t → AllRan t
   answered-ran s id o j runs keys ids x go t l v e None g h =
       subst (λ (u : State P I A). AllRan u) (some-is s t h) v
   answered-ran s id o j runs keys ids x go t l v e (Some results) g h =
       let q : RequestState P I A = request_of o j runs (calling keys ids x go) in
       let lq = (l.each id q e).status in
-      let y = and_then-some (replay_all s.table (runs_of results) j) (λ next. Some (with_request s id (in_body w ready o runs x.run x.go (run_on w.tools x.run (go results next) next (with_calls x.so_far keys results))))) t h in
+      let y = and_then-some (replay_all s.table (runs_of results) j)
+      (λ next.
+      Some
+      (with_request s id
+      (in_body w ready o runs x.run x.go
+      (run_on w.tools x.run (go results next) next (with_calls x.so_far keys results))))) t h in
       let d = replay_all-reps s.table l.once (runs_of results) j y.0 y.1 in
       let z : RequestState P I A = in_body w ready o runs x.run x.go (run_on w.tools x.run
       (go results y.0) y.0 (with_calls x.so_far keys results)) in
-      let many : length keys ≡ length results = lq.1 ∙ traverse-length (λ id. and_then (at s.requests id) (λ q. result_in w q.status)) ids results g in
+      let many : length keys ≡ length results = lq.1
+      ∙ traverse-length (λ id. and_then (at s.requests id) (λ q. result_in w q.status)) ids
+      results g in
       subst (λ (u : State P I A). AllRan u) (some-is (with_request s id z) t y.2)
       (put-ran B s.table s.requests id q z e refl
       (λ base c. record {
         from = c.from;
         ran = c.ran;
         fresh = c.fresh;
-        so_far = run_on-reps (Recorded s.table) w.tools x.run (go results y.0) c.from y.0 (with_calls x.so_far keys results) (reps-calls x.run x.so_far keys results many c.so_far d);
+        so_far = run_on-reps (Recorded s.table) w.tools x.run (go results y.0) c.from y.0
+            (with_calls x.so_far keys results)
+            (reps-calls x.run x.so_far keys results many c.so_far d);
       }) v)
 
   back_at-ran : (s : State P I A) (id : ℕ) (q : RequestState P I A) (st : Status P I A)
@@ -321,21 +512,29 @@ module _ {P I A : Type 0} (w : World P I A) (B : ℕ → Origin → Journal → 
 
   done-ran : (s : State P I A) (id : ℕ) (o : Origin) (j : Journal) (runs : List RunId)
       (st : Status P I A) (t : State P I A) → Lawful s → AllRan s →
-      at s.requests id ≡ Some (request_of o j runs st) → done_at w s id o j runs st ≡ Some t → AllRan t
+      at s.requests id ≡ Some (request_of o j runs st) → done_at w s id o j runs st ≡ Some t
+      → AllRan t
   done-ran s id o j runs (assigned node (walking (gives reply))) t l v e h =
       let q : RequestState P I A = request_of o j runs (assigned node (walking (gives reply))) in
       let z : RequestState P I A = request_of o j runs (done (result_of reply runs)) in
       let lq = l.each id q e in
-      let zl : Lawful (with_request s id z) = put-lawful s id z l (record { journal = lq.journal; status = lq.journal.runs_in }) in
-      back_to-ran (with_request s id z) o.parent t zl (put-ran B s.table s.requests id q z e refl (λ base d. (refl, d)) v) h
+      let zl : Lawful (with_request s id z) = put-lawful s id z l
+      (record { journal = lq.journal; status = lq.journal.runs_in }) in
+      back_to-ran (with_request s id z) o.parent t zl
+      (put-ran B s.table s.requests id q z e refl (λ base d. (refl, d)) v) h
   done-ran s id o j runs _ t l v e h = absurd (cc)
 
   pub step_of-ran : (s : State P I A) (event : Event) (q : RequestState P I A) (t : State P I A) →
       Lawful s → AllRan s → SaysNew t → at s.requests (whose event) ≡ Some q →
       step_of w s event q ≡ Some t → AllRan t
-  step_of-ran s (Assign id node) q t l v n e h = assign-ran s id node q.origin q.journal q.runs q.status t v e h
-  step_of-ran s (Claim id run kind) q t l v n e h = claim-ran s id run kind q.origin q.journal q.runs q.status t l v e h
-  step_of-ran s (Request id keys) q t l v n e h = request-ran s id keys q.origin q.journal q.runs q.status t v n e h
-  step_of-ran s (Result id run) q t l v n e h = finish-ran s id run q.origin q.journal q.runs q.status t l v e h
+  step_of-ran s (Assign id node) q t l v n e h = assign-ran s id node q.origin q.journal q.runs
+      q.status t v e h
+  step_of-ran s (Claim id run kind) q t l v n e h = claim-ran s id run kind q.origin q.journal
+      q.runs q.status t l v e h
+  step_of-ran s (Request id keys) q t l v n e h = request-ran s id keys q.origin q.journal q.runs
+      q.status t v n e h
+  step_of-ran s (Result id run) q t l v n e h = finish-ran s id run q.origin q.journal q.runs
+      q.status t l v e h
   step_of-ran s (Done id) q t l v n e h = done-ran s id q.origin q.journal q.runs q.status t l v e h
-  step_of-ran s (Retire id node) q t l v n e h = retire-ran s id node q.origin q.journal q.runs q.status t v e h
+  step_of-ran s (Retire id node) q t l v n e h = retire-ran s id node q.origin q.journal q.runs
+      q.status t v e h

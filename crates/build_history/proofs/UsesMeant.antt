@@ -1,5 +1,21 @@
--- Where the root of a history of a whole and steady world is done, tools were used as the meaning uses them.
-use Rattle.std.proofs.Common.{◌≡◌, inl, inr, true, List, map, Option, None, Some, refl, ap, sym, ◌∙◌, subst}
+-- Where the root of a history of a whole and steady world is done, tools were used as the meaning
+-- uses them.
+use Rattle.std.proofs.Common.{
+  ◌≡◌,
+  inl,
+  inr,
+  true,
+  List,
+  map,
+  Option,
+  None,
+  Some,
+  refl,
+  ap,
+  sym,
+  ◌∙◌,
+  subst,
+}
 use Rattle.result_cache.specs.declared.run.RunId.{RunId}
 use Rattle.result_cache.specs.declared.request.RequestResult.{RequestResult}
 use Rattle.result_cache.specs.declared.record.Record.{Record}
@@ -12,7 +28,19 @@ use Rattle.build_meaning.specs.World.{World}
 use Rattle.build_meaning.specs.Meaning.{built, Given}
 use Rattle.build_meaning.specs.Demand.{IsWhole, IsSteady}
 use Rattle.build_meaning.specs.Sound.{IsMade}
-use Rattle.build_meaning.specs.State.{walking, within, Status, ready, assigned, waits, calling, done, ToolsUsed, State, start}
+use Rattle.build_meaning.specs.State.{
+  walking,
+  within,
+  Status,
+  ready,
+  assigned,
+  waits,
+  calling,
+  done,
+  ToolsUsed,
+  State,
+  start,
+}
 use Rattle.build_meaning.specs.History.{IsHistory, EndsWith}
 use Rattle.build_meaning.specs.Stands.{Contained, Goal, Stands, StandsAt}
 use Rattle.build_meaning.proofs.LawfulStates.{in-found}
@@ -48,22 +76,27 @@ module _ {P I A : Type 0} (w : World P I A) (out : Given P I RequestResult) wher
 
   module _ (whole : IsWhole w out) (steady : IsSteady out.demand) (events : List Event)
       (s : State P I A) (h : IsHistory w events s) where
-    begun-built : (r : RunId) → is_begun r s.begun ≡ true → (o : Option Record) → found s.table r ≡ o → Has r
+    begun-built : (r : RunId) → is_begun r s.begun ≡ true → (o : Option Record)
+        → found s.table r ≡ o → Has r
     begun-built r b (Some made) e = (made, (agrees w out whole steady events s h).occurs r made e)
     begun-built r b None e =
-        let k = (all-kindred w events (start w) s (start-lawful w) (start-kindred w) h).free.working r (b, e) in
+        let k = (all-kindred w events (start w) s (start-lawful w) (start-kindred w) h).free.working
+        r (b, e) in
         let q = at-kins s.requests k.0 k.1 k.2 in
         let v = stands_so w out whole steady events s h in
         let g = Paired-some (Stands w (Contained out) v.0) s.requests v.0 k.0 q.0 v.1.each q.1 in
-        inside-built v.0 q.0.origin.path q.0.journal q.0.runs q.0.status g.0 r g.1.stands (ap (λ a. a.inside) q.2 ∙ k.3)
+        inside-built v.0 q.0.origin.path q.0.journal q.0.runs q.0.status g.0 r g.1.stands
+        (ap (λ a. a.inside) q.2 ∙ k.3)
 
     use-built : (u : RunUse I) → In u (uses_in w events) → Has u.run
     use-built u i = elim (tells (is_begun u.run s.begun)) [
       | inl b ↦ begun-built u.run b (found s.table u.run) refl
-      | inr n ↦ absurd (uses_of-none (uses_in w events) u i ((history-told w events s h).unbegun u.run n))
+      | inr n ↦ absurd
+          (uses_of-none (uses_in w events) u i ((history-told w events s h).unbegun u.run n))
     ]
 
-    pub are-meant : (result : RequestResult) (journal : Journal) → EndsWith s result journal → AreMeant out (uses_in w events)
+    pub are-meant : (result : RequestResult) (journal : Journal) → EndsWith s result journal
+        → AreMeant out (uses_in w events)
     are-meant result journal end =
         let a = agrees w out whole steady events s h in
         let c = complete w out whole steady events s h result journal end in
@@ -72,13 +105,17 @@ module _ {P I A : Type 0} (w : World P I A) (out : Given P I RequestResult) wher
           each = use-built;
           once = λ r m i.
               let f : found s.table r ≡ Some m = c.all r m i in
-              let named : In r (map (λ (t : ToolsUsed I). t.run) s.tools_used) = subst (λ rs. In r rs) (sym c.tools_used) (in-map (λ (f : FinishedRun). f.run) (record { run = r; made = m }) s.table (in-found s.table r m f)) in
+              let named : In r (map (λ (t : ToolsUsed I). t.run) s.tools_used) = subst
+              (λ rs. In r rs) (sym c.tools_used)
+              (in-map (λ (f : FinishedRun). f.run) (record { run = r; made = m }) s.table
+              (in-found s.table r m f)) in
               let t = in-mapped (λ (t : ToolsUsed I). t.run) s.tools_used r named in
               let b = a.tools t.0 t.1 in
               let mine : In (built b.0 r b.1 b.2 t.0.tools) out.demand =
               subst (λ x. In (built b.0 x b.1 b.2 t.0.tools) out.demand) t.2 b.3 in
               let made_is : b.2 ≡ m = a.every r m b.2 f (b.0, b.1, (t.0.tools, mine)) in
-              let tools_are : t.0.tools ≡ uses_of r (uses_in w events) = sym (told.finished t.0 t.1) ∙ ap (λ x. uses_of x (uses_in w events)) t.2 in (
+              let tools_are : t.0.tools ≡ uses_of r (uses_in w events) = sym (told.finished t.0 t.1)
+              ∙ ap (λ x. uses_of x (uses_in w events)) t.2 in (
                 b.0,
                 b.1,
                 subst (λ ts. In (built b.0 r b.1 m ts) out.demand) tools_are
@@ -91,5 +128,6 @@ module _ {P I A : Type 0} (w : World P I A) (out : Given P I RequestResult) wher
 pub tools_are_used_as_meant : {P I A : Type 0} (w : World P I A) (out : Given P I RequestResult) →
     IsWhole w out → IsSteady out.demand → (events : List Event) (s : State P I A) →
     IsHistory w events s →
-    (result : RequestResult) (journal : Journal) → EndsWith s result journal → AreMeant out (uses_in w events)
+    (result : RequestResult) (journal : Journal) → EndsWith s result journal
+    → AreMeant out (uses_in w events)
 tools_are_used_as_meant = are-meant

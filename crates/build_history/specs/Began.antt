@@ -5,7 +5,21 @@ use Rattle.build_meaning.specs.Lists.{at}
 use Rattle.result_cache.specs.Journal.{Journal}
 use Rattle.result_cache.specs.Lists.{In}
 use Rattle.build_meaning.specs.World.{World}
-use Rattle.build_meaning.specs.State.{Place, walking, within, Status, ready, assigned, waits, calling, done, Origin, RequestState, State, new_request}
+use Rattle.build_meaning.specs.State.{
+  Place,
+  walking,
+  within,
+  Status,
+  ready,
+  assigned,
+  waits,
+  calling,
+  done,
+  Origin,
+  RequestState,
+  State,
+  new_request,
+}
 use Rattle.build_meaning.specs.History.{IsHistory}
 
 module _ {P I A : Type 0} where
@@ -33,7 +47,8 @@ module _ {P I A : Type 0} where
   AwaitsCall id (calling keys ids x go) = In id ids
   AwaitsCall id status = ⊥
 
--- after the first of the events the request was there as it is made, at its beginning with this journal
+-- after the first of the events the request was there as it is made, at its beginning with this
+-- journal
 pub record BeganWith {P I A : Type 0} (w : World P I A) (events : List Event) (id : ℕ)
     (origin : Origin) (base : Journal) : Type 0 where
   pub before : List Event

@@ -1,5 +1,5 @@
--- The places that the meaning of a world passes: where its requests stand between their runs and in bodies, and with which
--- journals. (MSBuild task; Target build order)
+-- The places that the meaning of a world passes: where its requests stand between their runs and in
+-- bodies, and with which journals. (MSBuild task; Target build order)
 use Rattle.std.specs.Prelude.{ℕ, suc, ◌≡◌, ◌+◌, false, List, [], ◌∷◌, ◌++◌, length, None, Some}
 use Rattle.result_cache.specs.declared.run.RunId.{RunId}
 use Rattle.result_cache.specs.declared.request.RequestKey.{RequestKey}
@@ -13,10 +13,21 @@ use Rattle.build_meaning.specs.Walk.{Walk, gives, wants, Body, Outcome, Reply}
 use Rattle.build_meaning.specs.SoFar.{nothing_yet, with_calls, recorded, result_of}
 use Rattle.build_meaning.specs.Stop.{Stopped, ends, asks, run_on}
 use Rattle.build_meaning.specs.Meaning.{Given, deepest, at_once, request}
-use Rattle.build_meaning.specs.State.{Within, Place, walking, within, Status, ready, assigned, waits, calling, done}
+use Rattle.build_meaning.specs.State.{
+  Within,
+  Place,
+  walking,
+  within,
+  Status,
+  ready,
+  assigned,
+  waits,
+  calling,
+  done,
+}
 
--- a request of the meaning: its key, the runs in whose bodies it is called, the last one first, and the journal with which it
--- begins
+-- a request of the meaning: its key, the runs in whose bodies it is called, the last one first, and
+-- the journal with which it begins
 pub record Called : Type 0 where
   pub key : RequestKey
   pub path : List RunId
@@ -41,18 +52,21 @@ record_at_end x outcome = recorded outcome x.so_far.segments
 pub data Passes {P I A : Type 0} (w : World P I A) : Called → List RunId → Journal → Place P I A →
     Type 0 where
   -- the root begins with nothing known
-  root : Passes w (record { key = w.root; path = []; base = [] }) [] [] (walking (w.walks w.root []))
+  root : Passes w (record { key = w.root; path = []; base = [] }) [] []
+      (walking (w.walks w.root []))
   -- each call begins with its caller's journal
   call : {q : Called} {runs : List RunId} {j : Journal} {x : Within P I A} {first : RequestKey}
       {more : List RequestKey} {go : List RequestResult → Journal → Body I A} (key : RequestKey) →
       Passes w q runs j (within x (asks first more go)) → In key (first ∷ more) →
-      Passes w (record { key = key; path = x.run ∷ q.path; base = j }) [] j (walking (w.walks key j))
+      Passes w (record { key = key; path = x.run ∷ q.path; base = j }) [] j
+      (walking (w.walks key j))
   -- a run that has ended in the journal has its record from there
   known : {q : Called} {runs : List RunId} {j : Journal} {site : P} {r : RunId} {b : Body I A}
       {go : Record → Journal → Walk P I A} (made : Record) →
       Passes w q runs j (walking (wants site r b go)) → record_of j r ≡ Some made →
       Passes w q (runs ++ r ∷ []) j (walking (go made j))
-  -- any other run is made, unless it is one of those in whose bodies the request is called; its body goes on until it stops
+  -- any other run is made, unless it is one of those in whose bodies the request is called; its
+  -- body goes on until it stops
   enters : {q : Called} {runs : List RunId} {j : Journal} {site : P} {r : RunId} {b : Body I A}
       {go : Record → Journal → Walk P I A} →
       Passes w q runs j (walking (wants site r b go)) → record_of j r ≡ None →
@@ -73,8 +87,8 @@ pub data Passes {P I A : Type 0} (w : World P I A) : Called → List RunId → J
       Passes w q (runs ++ x.run ∷ []) (add j (ended x.run (record_at_end x outcome)))
       (walking (x.go (record_at_end x outcome) (add j (ended x.run (record_at_end x outcome)))))
 
--- the meaning passes where a request stands: its place, wherever it goes on from there; the run that it waits for; its calls; its
--- end
+-- the meaning passes where a request stands: its place, wherever it goes on from there; the run
+-- that it waits for; its calls; its end
 abbrev pub PassesAt : {P I A : Type 0} → World P I A → Called → List RunId → Journal →
     Status P I A → Type 0
 PassesAt w q runs j (ready place) = Passes w q runs j place

@@ -1,5 +1,20 @@
 -- Which tools the bodies of a history use, in order. (Target element; Task element)
-use Rattle.std.specs.Prelude.{◌≡◌, Bool, true, false, List, [], ◌∷◌, ◌++◌, length, drop, map, Option, None, Some}
+use Rattle.std.specs.Prelude.{
+  ◌≡◌,
+  Bool,
+  true,
+  false,
+  List,
+  [],
+  ◌∷◌,
+  ◌++◌,
+  length,
+  drop,
+  map,
+  Option,
+  None,
+  Some,
+}
 use Rattle.result_cache.specs.declared.run.RunId.{RunId}
 use Rattle.result_cache.specs.declared.request.RequestResult.{RequestResult}
 use Rattle.result_cache.specs.declared.record.Record.{Record}
@@ -13,7 +28,21 @@ use Rattle.build_meaning.specs.SoFar.{ToolUse}
 use Rattle.build_meaning.specs.Meaning.{built, Given}
 use Rattle.build_meaning.specs.Demand.{IsSingle}
 use Rattle.build_meaning.specs.Sound.{IsMade}
-use Rattle.build_meaning.specs.State.{Place, walking, within, Status, ready, assigned, waits, calling, done, RequestState, ToolsUsed, State, start}
+use Rattle.build_meaning.specs.State.{
+  Place,
+  walking,
+  within,
+  Status,
+  ready,
+  assigned,
+  waits,
+  calling,
+  done,
+  RequestState,
+  ToolsUsed,
+  State,
+  start,
+}
 use Rattle.build_meaning.specs.Step.{whose, step}
 
 -- a use of a tool in the body of this run
@@ -67,19 +96,22 @@ and_on uses None next = uses
 and_on uses (Some s) next = next s
 
 module _ {P I A : Type 0} (w : World P I A) where
-  -- these uses, and those of some events from a state on. A request that its caller's results have made ready hasn't gone on yet, whatever its
-  -- state says: so what its body uses comes with its own next event
+  -- these uses, and those of some events from a state on. A request that its caller's results have
+  -- made ready hasn't gone on yet, whatever its state says: so what its body uses comes with its
+  -- own next event
   abbrev pub uses_from : List (RunUse I) → State P I A → List Event → List (RunUse I)
   uses_from uses s [] = uses
   uses_from uses s (event ∷ events) =
-      and_on uses (step w s event) (λ next. uses_from (uses ++ new_uses uses (body_of (at next.requests (whose event)))) next events)
+      and_on uses (step w s event)
+      (λ next. uses_from (uses ++ new_uses uses (body_of (at next.requests (whose event)))) next
+      events)
 
   -- the uses of a history
   abbrev pub uses_in : List Event → List (RunUse I)
   uses_in events = uses_from [] (start w) events
 
--- the uses are those of the meaning: each is of one of its runs, and each run's are those of one of its bodies; where no calls are made at once, of
--- its only one
+-- the uses are those of the meaning: each is of one of its runs, and each run's are those of one of
+-- its bodies; where no calls are made at once, of its only one
 pub record AreMeant {P I : Type 0} (out : Given P I RequestResult)
     (uses : List (RunUse I)) : Type 0 where
   pub each : (u : RunUse I) → In u uses → (made : Record) × IsMade out.demand u.run made

@@ -1,7 +1,8 @@
-//! What the journals of a history have to do with its table: they are got from it by replaying runs. And which tools its
-//! runs have used. (MSBuild task; Target element.)
+//! What the journals of a history have to do with its table: they are got from it by replaying
+//! runs. And which tools its runs have used. (MSBuild task; Target element.)
 //!
-//! The functions here are laws: they run no code, and their contracts are what is proved, of every world and history.
+//! The functions here are laws: they run no code, and their contracts are what is proved, of every
+//! world and history.
 #![tactic(auto)]
 
 mod places;

@@ -1,4 +1,5 @@
-//! Each request of a history stands where the meaning of its world passes. (MSBuild task; Target build order.)
+//! Each request of a history stands where the meaning of its world passes. (MSBuild task; Target
+//! build order.)
 
 ghost use Rattle.std.specs.Prelude.{◌≡◌, ◌+◌, ℕ, suc, List, length, Some};
 ghost use Rattle.result_cache.specs.declared.request.RequestResult.{RequestResult};
@@ -15,8 +16,9 @@ ghost use Rattle.build_meaning.specs.History.{IsHistory};
 ghost use Rattle.build_history.specs.Began.{BeganWith};
 ghost use Rattle.build_history.specs.Places.{Called, Passes, PassesAt};
 
-/// What the recursion of the meaning gives from a place that it passes on is what it gives for the whole request there: a
-/// request that the meaning passes at its end has there the result and the journal that the recursion gives for it.
+/// What the recursion of the meaning gives from a place that it passes on is what it gives for the
+/// whole request there: a request that the meaning passes at its end has there the result and the
+/// journal that the recursion gives for it.
 pub fn places_are_the_meanings<P, I, A>()
     ensures { (w : World P I A) (q : Called) (runs : List RunId) (j : Journal) (x : Walk P I A) →
         Passes w q runs j (walking x) → (depth : ℕ) → depth + suc (length q.path) ≡ deepest →
@@ -25,13 +27,15 @@ pub fn places_are_the_meanings<P, I, A>()
         × (whole.value ≡ rest.value) × (whole.journal ≡ rest.journal) }
 {}
 
-/// In every legal history of a whole and steady world each request is at a place of the meaning: it began with a journal of its
-/// caller, and has there the journal that the meaning has at that place. So it has the meaning's scope there, too.
+/// In every legal history of a whole and steady world each request is at a place of the meaning: it
+/// began with a journal of its caller, and has there the journal that the meaning has at that
+/// place. So it has the meaning's scope there, too.
 pub fn journals_are_meant<P, I, A>()
     ensures { (w : World P I A) (out : Given P I RequestResult) → IsWhole w out →
         IsSteady out.demand →
         (events : List Event) (s : State P I A) → IsHistory w events s →
         (id : ℕ) (q : RequestState P I A) →
         at s.requests id ≡ Some q → (base : Journal) × BeganWith w events id q.origin base ×
-        PassesAt w (record { key = q.origin.key; path = q.origin.path; base = base }) q.runs q.journal q.status }
+        PassesAt w (record { key = q.origin.key; path = q.origin.path; base = base }) q.runs
+        q.journal q.status }
 {}

@@ -19,8 +19,9 @@ pub fn runs_use_tools_once<P, I, A>()
         uses_of t.run (uses_in w events) ≡ t.tools }
 {}
 
-/// Where the root of a history of a whole and steady world is done, tools were used as the meaning uses them: those of each
-/// run as in one of its bodies, and where no calls are made at once as often as there.
+/// Where the root of a history of a whole and steady world is done, tools were used as the meaning
+/// uses them: those of each run as in one of its bodies, and where no calls are made at once as
+/// often as there.
 pub fn tools_are_used_as_meant<P, I, A>()
     ensures { (w : World P I A) (out : Given P I RequestResult) → IsWhole w out →
         IsSteady out.demand →

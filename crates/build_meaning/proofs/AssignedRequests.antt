@@ -1,5 +1,23 @@
 -- A request that is with a node stays as it is through the events of others.
-use Rattle.std.proofs.Common.{◌≡◌, ℕ, ◌&&◌, ◌==◌, List, [], ◌∷◌, length, map, Option, None, Some, refl, ap, sym, ◌∙◌, subst}
+use Rattle.std.proofs.Common.{
+  ◌≡◌,
+  ℕ,
+  ◌&&◌,
+  ◌==◌,
+  List,
+  [],
+  ◌∷◌,
+  length,
+  map,
+  Option,
+  None,
+  Some,
+  refl,
+  ap,
+  sym,
+  ◌∙◌,
+  subst,
+}
 use Rattle.msb_laws.specs.Asking.{and_then}
 use Rattle.msb_laws.specs.Traverse.{traverse}
 use Rattle.result_cache.specs.declared.run.RunId.{RunId}
@@ -7,7 +25,14 @@ use Rattle.result_cache.specs.declared.request.RequestResult.{RequestResult}
 use Rattle.result_cache.specs.declared.record.Record.{Record}
 use Rattle.result_cache.specs.Same.{same_run, same_keys}
 use Rattle.build_meaning.specs.declared.event.Event.{Event}
-use Rattle.build_meaning.specs.declared.event.Event.TheVariants.{Assign, Claim, Request, Result, Done, Retire}
+use Rattle.build_meaning.specs.declared.event.Event.TheVariants.{
+  Assign,
+  Claim,
+  Request,
+  Result,
+  Done,
+  Retire,
+}
 use Rattle.build_meaning.specs.declared.event.ClaimKind.{ClaimKind}
 use Rattle.build_meaning.specs.declared.event.ClaimKind.TheVariants.{Go, Use, Wait}
 use Rattle.build_meaning.specs.Lists.{at, put, numbered_from}
@@ -18,9 +43,45 @@ use Rattle.build_meaning.specs.World.{World}
 use Rattle.build_meaning.specs.Walk.{Walk, gives, wants, Body}
 use Rattle.build_meaning.specs.SoFar.{nothing_yet, with_calls, runs_of, recorded, result_of}
 use Rattle.build_meaning.specs.Stop.{ends, asks, run_on}
-use Rattle.build_meaning.specs.State.{Within, Place, walking, within, Status, ready, assigned, waits, calling, done, Origin, RequestState, State, with_request, new_request}
+use Rattle.build_meaning.specs.State.{
+  Within,
+  Place,
+  walking,
+  within,
+  Status,
+  ready,
+  assigned,
+  waits,
+  calling,
+  done,
+  Origin,
+  RequestState,
+  State,
+  with_request,
+  new_request,
+}
 use Rattle.build_meaning.specs.Cycle.{is_in_cycle}
-use Rattle.build_meaning.specs.Step.{only_if, whose, in_body, goes_on, waiting, may_wait, claimed, with_children, is_within_limits, woken_at, woken, finished, results_of, answered, resume_at, resume_caller, step_of, step, after_all}
+use Rattle.build_meaning.specs.Step.{
+  only_if,
+  whose,
+  in_body,
+  goes_on,
+  waiting,
+  may_wait,
+  claimed,
+  with_children,
+  is_within_limits,
+  woken_at,
+  woken,
+  finished,
+  results_of,
+  answered,
+  resume_at,
+  resume_caller,
+  step_of,
+  step,
+  after_all,
+}
 use Rattle.build_meaning.specs.History.{AreOfOthers}
 use Rattle.result_cache.proofs.RunTests.{and_then-some}
 use Rattle.build_meaning.proofs.ListPlaces.{at-put_other, at-front, traverse-at}
@@ -44,17 +105,31 @@ module _ {P I A : Type 0} (w : World P I A) (id node : ℕ) (q : RequestState P 
   claimed-there s t other m o j runs r b go Go n e h =
       let z : RequestState P I A =
       in_body w (assigned m) o runs r go (run_on w.tools r b j nothing_yet) in
-      let x = unless-some (is_begun r s.begun) (record { requests = put s.requests other z; begun = record { run = r; by = other } ∷ s.begun; table = s.table; tools_used = s.tools_used }) t h in
+      let x = unless-some (is_begun r s.begun)
+      (record {
+        requests = put s.requests other z;
+        begun = record { run = r; by = other }
+            ∷ s.begun;
+        table = s.table;
+        tools_used = s.tools_used;
+      }) t h in
       subst (λ (u : State P I A). There u) x.1 (at-put_other s.requests other z id q
       (λ d. n (sym d)) e)
   claimed-there s t other m o j runs r b go Use n e h =
-      let x = and_then-some (found s.table r) (λ made. and_then (replay s.table r j) (λ next. Some (with_request s other (goes_on w (assigned m) o runs r go made next)))) t h in
-      let y = and_then-some (replay s.table r j) (λ next. Some (with_request s other (goes_on w (assigned m) o runs r go x.0 next))) t x.2 in
+      let x = and_then-some (found s.table r)
+      (λ made. and_then (replay s.table r j)
+      (λ next. Some (with_request s other (goes_on w (assigned m) o runs r go made next)))) t h
+      in
+      let y = and_then-some (replay s.table r j)
+      (λ next. Some (with_request s other (goes_on w (assigned m) o runs r go x.0 next))) t x.2
+      in
       let z : RequestState P I A = goes_on w (assigned m) o runs r go x.0 y.0 in
       put-there s t other z n e (some-is (with_request s other z) t y.2)
   claimed-there s t other m o j runs r b go Wait n e h =
       let next : State P I A = waiting w s other o j runs r b go in
-      put-there s t other (request_of o j runs (waits r b go)) n e (only_if-some (may_wait w (is_begun r s.begun) (found s.table r) (is_in_cycle next r)) next t h).1
+      put-there s t other (request_of o j runs (waits r b go)) n e
+      (only_if-some (may_wait w (is_begun r s.begun) (found s.table r) (is_in_cycle next r))
+      next t h).1
 
   woken-there : (table : Records) (r : RunId) (m : Record) (z : RequestState P I A)
       (u : Status P I A) → q.status ≡ u → u ≡ assigned node p → woken_at w table r m q u ≡ Some z →
@@ -71,14 +146,22 @@ module _ {P I A : Type 0} (w : World P I A) (id node : ℕ) (q : RequestState P 
     where
       not_it : a ≡ id → ⊥
       not_it d =
-          let same : c ≡ q = same_some (at s.requests a) c q f (subst (λ k. at s.requests k ≡ Some q) (sym d) e) in
+          let same : c ≡ q = same_some (at s.requests a) c q f
+          (subst (λ k. at s.requests k ≡ Some q) (sym d) e) in
           let clash : calling keys ids x go ≡ assigned node p =
           sym g ∙ (ap (λ (y : RequestState P I A). y.status) same ∙ st) in cc
 
-      by_results : (o : Option (List RequestResult)) → answered w s a c.origin c.journal c.runs keys x go o ≡ Some t → There t
+      by_results : (o : Option (List RequestResult))
+          → answered w s a c.origin c.journal c.runs keys x go o ≡ Some t → There t
       by_results None h = subst (λ (v : State P I A). There v) (some-is s t h) e
       by_results (Some results) h =
-          let y = and_then-some (replay_all s.table (runs_of results) c.journal) (λ next. Some (with_request s a (in_body w ready c.origin c.runs x.run x.go (run_on w.tools x.run (go results next) next (with_calls x.so_far keys results))))) t h in
+          let y = and_then-some (replay_all s.table (runs_of results) c.journal)
+          (λ next.
+          Some
+          (with_request s a
+          (in_body w ready c.origin c.runs x.run x.go
+          (run_on w.tools x.run (go results next) next (with_calls x.so_far keys results))))) t
+          h in
           let z : RequestState P I A = in_body w ready c.origin c.runs x.run x.go
           (run_on w.tools x.run (go results y.0) y.0 (with_calls x.so_far keys results)) in
           put-there s t a z not_it e (some-is (with_request s a z) t y.2)
@@ -98,32 +181,48 @@ module _ {P I A : Type 0} (w : World P I A) (id node : ℕ) (q : RequestState P 
       let f : FinishedRun = record { run = x.run; made = made } in
       let z : RequestState P I A =
       goes_on w (assigned m) o runs x.run x.go made (add j (ended x.run made)) in
-      let u = and_then-some (traverse (woken w (f ∷ s.table) x.run made) (put s.requests other z)) (λ requests. Some (record { requests = requests; begun = s.begun; table = f ∷ s.table; tools_used = record { run = x.run; tools = x.so_far.tools } ∷ s.tools_used })) t h in
+      let u = and_then-some (traverse (woken w (f ∷ s.table) x.run made) (put s.requests other z))
+      (λ requests.
+      Some
+      (record {
+        requests = requests;
+        begun = s.begun;
+        table = f
+            ∷ s.table;
+        tools_used = record { run = x.run; tools = x.so_far.tools } ∷ s.tools_used;
+      }))
+      t h in
       let last : State P I A = record {
         requests = u.0;
         begun = s.begun;
         table = f ∷ s.table;
         tools_used = record { run = x.run; tools = x.so_far.tools } ∷ s.tools_used;
       } in
-      let y = traverse-at (woken w (f ∷ s.table) x.run made) (put s.requests other z) u.0 u.1 id q (at-put_other s.requests other z id q (λ d. n (sym d)) e) in
+      let y = traverse-at (woken w (f ∷ s.table) x.run made) (put s.requests other z) u.0 u.1 id q
+      (at-put_other s.requests other z id q (λ d. n (sym d)) e) in
       subst (λ (v : State P I A). There v) (some-is last t u.2)
       (y.1 ∙ ap Some (woken-there (f ∷ s.table) x.run made y.0 q.status refl st y.2))
 
   step_of-there : (s t : State P I A) (event : Event) (o : Origin) (j : Journal) (runs : List RunId)
       (u : Status P I A) → (whose event ≡ id → ⊥) → There s →
       step_of w s event (request_of o j runs u) ≡ Some t → There t
-  step_of-there s t (Assign other m) o j runs (ready a) n e h = put-there s t other (request_of o j runs (assigned m a)) n e (some-is (with_request s other (request_of o j runs (assigned m a))) t h)
+  step_of-there s t (Assign other m) o j runs (ready a) n e h = put-there s t other
+      (request_of o j runs (assigned m a)) n e
+      (some-is (with_request s other (request_of o j runs (assigned m a))) t h)
   step_of-there s t (Assign other m) o j runs (assigned k a) n e h = absurd (cc)
   step_of-there s t (Assign other m) o j runs (waits a b c) n e h = absurd (cc)
   step_of-there s t (Assign other m) o j runs (calling a b c d) n e h = absurd (cc)
   step_of-there s t (Assign other m) o j runs (done a) n e h = absurd (cc)
   step_of-there s t (Claim other run kind) o j runs (assigned m (walking (wants site r b go))) n e
       h =
-      let x = and_then-some (only_if (same_run r run) r) (λ run. claimed w s other m o j runs run b go kind) t h in
+      let x = and_then-some (only_if (same_run r run) r)
+      (λ run. claimed w s other m o j runs run b go kind) t h in
       claimed-there s t other m o j runs x.0 b go kind n e x.2
   step_of-there s t (Claim other run kind) o j runs _ n e h = absurd (cc)
   step_of-there s t (Request other keys) o j runs (assigned m (within x (asks key more go))) n e h =
-      let y = only_if-some (same_keys (key ∷ more) keys && is_within_limits w s (x.run ∷ o.path) (key ∷ more)) (with_children w s other o j runs (key ∷ more) x go) t h in
+      let y = only_if-some (same_keys (key ∷ more) keys
+      && is_within_limits w s (x.run ∷ o.path) (key ∷ more))
+      (with_children w s other o j runs (key ∷ more) x go) t h in
       let z : RequestState P I A = request_of o j runs (calling (key ∷ more)
       (numbered_from (length s.requests) (key ∷ more)) x go) in
       subst (λ (v : State P I A). There v) y.1 (at-front (put s.requests other z)
@@ -131,12 +230,14 @@ module _ {P I A : Type 0} (w : World P I A) (id node : ℕ) (q : RequestState P 
       (at-put_other s.requests other z id q (λ d. n (sym d)) e))
   step_of-there s t (Request other keys) o j runs _ n e h = absurd (cc)
   step_of-there s t (Result other run) o j runs (assigned m (within x (ends outcome))) n e h =
-      let y = and_then-some (only_if (same_run x.run run) x) (λ x. finished w s other m o j runs x (recorded outcome x.so_far.segments)) t h in
+      let y = and_then-some (only_if (same_run x.run run) x)
+      (λ x. finished w s other m o j runs x (recorded outcome x.so_far.segments)) t h in
       finished-there s t other m o j runs y.0 (recorded outcome y.0.so_far.segments) n e y.2
   step_of-there s t (Result other run) o j runs _ n e h = absurd (cc)
   step_of-there s t (Done other) o j runs (assigned m (walking (gives reply))) n e h =
       let z : RequestState P I A = request_of o j runs (done (result_of reply runs)) in
-      back_to-there (with_request s other z) t o.parent (put-there s (with_request s other z) other z n e refl) h
+      back_to-there (with_request s other z) t o.parent
+      (put-there s (with_request s other z) other z n e refl) h
   step_of-there s t (Done other) o j runs _ n e h = absurd (cc)
   step_of-there s t (Retire other m) o j runs (assigned k a) n e h =
       let z : RequestState P I A = request_of o j runs (ready a) in put-there s t other z n e
@@ -149,7 +250,8 @@ module _ {P I A : Type 0} (w : World P I A) (id node : ℕ) (q : RequestState P 
   all-there (event ∷ events) s t n e h =
       let y = and_then-some (step w s event) (λ next. after_all w next events) t h in
       let z = and_then-some (at s.requests (whose event)) (step_of w s event) y.0 y.1 in
-      all-there events y.0 t n.1 (step_of-there s y.0 event z.0.origin z.0.journal z.0.runs z.0.status n.0 e z.2) y.2
+      all-there events y.0 t n.1
+      (step_of-there s y.0 event z.0.origin z.0.journal z.0.runs z.0.status n.0 e z.2) y.2
 
 pub stays : {P I A : Type 0} (w : World P I A) (s t : State P I A) (events : List Event)
     (id node : ℕ) (q : RequestState P I A) (p : Place P I A) → at s.requests id ≡ Some q →

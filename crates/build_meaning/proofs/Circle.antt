@@ -1,4 +1,5 @@
--- The world whose three projects call each other: it has no meaning, and the claim that closes the circle is refused.
+-- The world whose three projects call each other: it has no meaning, and the claim that closes the
+-- circle is refused.
 use Rattle.std.proofs.Common.{◌≡◌, [], ◌∷◌, None, Some, refl}
 use Rattle.result_cache.specs.Same.{same_run, same_instance, same_key}
 use Rattle.build_meaning.specs.Meaning.{deepest, most_instances, meaning}

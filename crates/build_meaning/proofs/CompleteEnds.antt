@@ -1,4 +1,5 @@
--- Where the root of a history of a whole and steady world is done, all runs of the meaning are finished.
+-- Where the root of a history of a whole and steady world is done, all runs of the meaning are
+-- finished.
 use Rattle.std.proofs.Common.{◌≡◌, List, Some, refl, ap, sym, ◌∙◌, subst}
 use Rattle.result_cache.specs.declared.run.RunId.{RunId}
 use Rattle.result_cache.specs.declared.request.RequestResult.{RequestResult}
@@ -57,5 +58,7 @@ module _ {P I A : Type 0} (w : World P I A) (out : Given P I RequestResult) (who
         let same : tools ≡ t.0.tools =
         (made-once out.demand ((meaning-extends w out whole.means).once single) site b.0 r from b.1
         m b.2 tools t.0.tools i there).1 in
-        subst (λ (x : ToolsUsed I). In x s.tools_used) (ap (λ x. record { run = x; tools = t.0.tools }) t.2 ∙ ap (λ y. record { run = r; tools = y }) (sym same)) t.1;
+        subst (λ (x : ToolsUsed I). In x s.tools_used)
+        (ap (λ x. record { run = x; tools = t.0.tools }) t.2
+        ∙ ap (λ y. record { run = r; tools = y }) (sym same)) t.1;
   }

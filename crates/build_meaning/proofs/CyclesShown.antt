@@ -1,5 +1,20 @@
 -- The test of a cycle holds exactly where a cycle can be shown.
-use Rattle.std.proofs.Common.{◌≡◌, inl, inr, ℕ, true, List, [], ◌∷◌, length, None, Some, ap, ◌∙◌, subst}
+use Rattle.std.proofs.Common.{
+  ◌≡◌,
+  inl,
+  inr,
+  ℕ,
+  true,
+  List,
+  [],
+  ◌∷◌,
+  length,
+  None,
+  Some,
+  ap,
+  ◌∙◌,
+  subst,
+}
 use Rattle.std.specs.Bool.{Decides}
 use Rattle.result_cache.specs.declared.run.RunId.{RunId}
 use Rattle.result_cache.specs.declared.request.RequestKey.{RequestKey}
@@ -11,7 +26,17 @@ use Rattle.result_cache.specs.Journal.{Journal}
 use Rattle.result_cache.specs.Table.{Records, found, BegunRun, is_begun}
 use Rattle.build_meaning.specs.World.{World}
 use Rattle.build_meaning.specs.Walk.{Walk, wants, Body}
-use Rattle.build_meaning.specs.State.{Within, walking, Status, assigned, waits, calling, RequestState, State, start}
+use Rattle.build_meaning.specs.State.{
+  Within,
+  walking,
+  Status,
+  assigned,
+  waits,
+  calling,
+  RequestState,
+  State,
+  start,
+}
 use Rattle.build_meaning.specs.Cycle.{Needs, IsChain, ShowsCycle, is_in_cycle}
 use Rattle.build_meaning.specs.Step.{waiting}
 use Rattle.build_meaning.specs.History.{IsHistory}
@@ -35,19 +60,27 @@ module _ {P I A : Type 0} where
 
   shown : (w : World P I A) (s : State P I A) → Lawful s → (r : RunId) → Decides (is_in_cycle s r)
       (ShowsCycle s r)
-  shown w s v r = ((λ h. path-chain s (leads-path s (length s.begun) r r h)), λ c. circle-tested w s v r (chain-path s r r c.0 c.1))
+  shown w s v r = (
+    (λ h. path-chain s (leads-path s (length s.begun) r r h)),
+    λ c.
+        circle-tested w s v r (chain-path s r r c.0 c.1),
+  )
 
-  -- where a request wants a run that is begun and not finished, the test tells whether its wait would close a cycle
+  -- where a request wants a run that is begun and not finished, the test tells whether its wait
+  -- would close a cycle
   pub cycles_are_shown : (w : World P I A) (events : List Event) (s : State P I A) →
       IsHistory w events s → (id node : ℕ) (q : RequestState P I A) (site : P) (run : RunId)
       (b : Body I A) (go : Record → Journal → Walk P I A) →
       at s.requests id ≡ Some q → q.status ≡ assigned node (walking (wants site run b go)) →
       is_begun run s.begun ≡ true → found s.table run ≡ None →
-      Decides (is_in_cycle (waiting w s id q.origin q.journal q.runs run b go) run) (ShowsCycle (waiting w s id q.origin q.journal q.runs run b go) run)
+      Decides (is_in_cycle (waiting w s id q.origin q.journal q.runs run b go) run)
+      (ShowsCycle (waiting w s id q.origin q.journal q.runs run b go) run)
   cycles_are_shown w events s h id node q site run b go e st begun none =
       let v = all-lawful w events (start w) s (start-lawful w) h in
       let l = v.each id q e in
-      shown w (waiting w s id q.origin q.journal q.runs run b go) (put-lawful s id (request_of q.origin q.journal q.runs (waits run b go)) v (record { journal = l.journal; status = (begun, none) })) run
+      shown w (waiting w s id q.origin q.journal q.runs run b go)
+      (put-lawful s id (request_of q.origin q.journal q.runs (waits run b go)) v
+      (record { journal = l.journal; status = (begun, none) })) run
 
   status-open : (begun : List BegunRun) (table : Records) (id : ℕ) (j : Journal) (st : Status P I A)
       (keys : List RequestKey) (ids : List ℕ) (x : Within P I A) (go : List RequestResult →
@@ -61,17 +94,22 @@ module _ {P I A : Type 0} where
   pub cycles_need_open : (w : World P I A) (events : List Event) (s : State P I A) →
       IsHistory w events s → (id : ℕ) (q : RequestState P I A) (run : RunId) (b : Body I A)
       (go : Record → Journal → Walk P I A) →
-      is_in_cycle (waiting w s id q.origin q.journal q.runs run b go) run ≡ true → (is_begun run s.begun ≡ true) × (found s.table run ≡ None)
+      is_in_cycle (waiting w s id q.origin q.journal q.runs run b go) run ≡ true
+      → (is_begun run s.begun ≡ true) × (found s.table run ≡ None)
   cycles_need_open w events s h id q run b go c =
       let v = all-lawful w events (start w) s (start-lawful w) h in
       let next : State P I A = waiting w s id q.origin q.journal q.runs run b go in
-      let n = need next run (path-first (leads-path next (length s.begun) run run c)).0 (path-first (leads-path next (length s.begun) run run c)).1 in
-      elim (at-put s.requests id (request_of q.origin q.journal q.runs (waits run b go)) n.caller n.req n.req_at) [
+      let n = need next run (path-first (leads-path next (length s.begun) run run c)).0
+      (path-first (leads-path next (length s.begun) run run c)).1 in
+      elim
+      (at-put s.requests id (request_of q.origin q.journal q.runs (waits run b go)) n.caller
+      n.req n.req_at) [
         | inl p ↦
             absurd (waits-calls run b go n.keys n.ids n.x n.go
             (ap (λ (u : RequestState P I A). u.status) p.1 ∙ n.calls_so))
         | inr p ↦
-            let o = status-open s.begun s.table n.caller n.req.journal n.req.status n.keys n.ids n.x n.go (v.each n.caller n.req p.1).status n.calls_so in
+            let o = status-open s.begun s.table n.caller n.req.journal n.req.status n.keys n.ids n.x
+            n.go (v.each n.caller n.req p.1).status n.calls_so in
             subst (λ r. (is_begun r s.begun ≡ true) × (found s.table r ≡ None)) n.is_run o
       ]
     where

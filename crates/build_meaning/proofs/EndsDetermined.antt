@@ -23,7 +23,9 @@ carried out s t a c r m f = c.all r m (a.occurs r m f)
 
 pub ends : {P I A : Type 0} (w : World P I A) (out : Given P I RequestResult) → IsWhole w out →
     IsSteady out.demand → (events others : List Event) (s t : State P I A) →
-    IsHistory w events s → IsHistory w others t → (result other : RequestResult) (journal last : Journal) → EndsWith s result journal → EndsWith t other last →
+    IsHistory w events s → IsHistory w others t
+    → (result other : RequestResult) (journal last : Journal) → EndsWith s result journal
+    → EndsWith t other last →
     (result ≡ other) × (journal ≡ last) × SameRecords s.table t.table
 ends {P} {I} {A} w out whole steady events others s t h g result other journal last x y =
     let a = agrees w out whole steady events s h in
@@ -37,7 +39,8 @@ ends {P} {I} {A} w out whole steady events others s t h g result other journal l
           (carried out t s b (complete w out whole steady events s h result journal x) r),
     )
   where
-    same : (r : RunId) (o p : Option Record) → ((m : Record) → o ≡ Some m → p ≡ Some m) → ((m : Record) → p ≡ Some m → o ≡ Some m) → o ≡ p
+    same : (r : RunId) (o p : Option Record) → ((m : Record) → o ≡ Some m → p ≡ Some m)
+        → ((m : Record) → p ≡ Some m → o ≡ Some m) → o ≡ p
     same r None None f g = refl
     same r None (Some m) f g = g m refl
     same r (Some m) p f g = sym (f m refl)

@@ -23,7 +23,8 @@ one_made out steady r m n p q = steady r m n p q
 pub stands : {P I A : Type 0} (w : World P I A) (out : Given P I RequestResult) → IsWhole w out →
     (steady : IsSteady out.demand) → (events : List Event) (s : State P I A) →
     IsHistory w events s →
-    Keeps w (Contained out) (one_made out steady) (record { res = out.value; journal = out.journal }) s
+    Keeps w (Contained out) (one_made out steady)
+    (record { res = out.value; journal = out.journal }) s
 stands w out whole steady events s h =
     let x = meaning-sound w (Contained out) out whole.means (λ e i. i) in
     history-stands w (Contained out) (one_made out steady) out.value out.journal x.0 x.2 events s h
@@ -39,7 +40,9 @@ agrees {P} {I} {A} w out whole steady events s h =
       every = λ r m n e i. steady r n m i (v.known r m e);
       tools = v.tools_used;
       root = λ res j x.
-          let y = root x.root res (Paired-at (Stands w (Contained out) k.0) s.requests k.0 0 x.root (record { res = out.value; journal = out.journal }) v.each x.there k.2) x.over in
+          let y = root x.root res
+          (Paired-at (Stands w (Contained out) k.0) s.requests k.0 0 x.root
+          (record { res = out.value; journal = out.journal }) v.each x.there k.2) x.over in
           (y.0, sym x.knows ∙ y.1);
     }
   where
@@ -48,10 +51,14 @@ agrees {P} {I} {A} w out whole steady events s h =
         q.status ≡ done res →
         (res ≡ out.value) × (q.journal ≡ out.journal)
     root {goals} q res x d =
-        let y : (out.value ≡ res) × (out.journal ≡ q.journal) = subst (λ st. StandsAt w (Contained out) goals q.origin.path q.journal q.runs st (record { res = out.value; journal = out.journal })) d x.stands in
+        let y : (out.value ≡ res)
+        × (out.journal ≡ q.journal) = subst
+        (λ st. StandsAt w (Contained out) goals q.origin.path q.journal q.runs st
+        (record { res = out.value; journal = out.journal })) d x.stands in
         (sym y.0, sym y.1)
 
 pub stands_so : {P I A : Type 0} (w : World P I A) (out : Given P I RequestResult) → IsWhole w out →
     IsSteady out.demand → (events : List Event) (s : State P I A) → IsHistory w events s →
     (goals : List Goal) × StandsInMeaning w out s goals
-stands_so w out whole steady events s h = let k = stands w out whole steady events s h in (k.0, record { each = k.1.each; root = k.2 })
+stands_so w out whole steady events s h = let k = stands w out whole steady events s h
+    in (k.0, record { each = k.1.each; root = k.2 })

@@ -1,5 +1,29 @@
 -- What the recursion by depth gives has a derivation.
-use Rattle.std.proofs.Common.{◌≡◌, ℕ, zero, suc, ◌+◌, Bool, true, false, inl, inr, List, [], ◌∷◌, ◌++◌, length, Option, None, Some, refl, sym, ◌∙◌, subst, arith}
+use Rattle.std.proofs.Common.{
+  ◌≡◌,
+  ℕ,
+  zero,
+  suc,
+  ◌+◌,
+  Bool,
+  true,
+  false,
+  inl,
+  inr,
+  List,
+  [],
+  ◌∷◌,
+  ◌++◌,
+  length,
+  Option,
+  None,
+  Some,
+  refl,
+  sym,
+  ◌∙◌,
+  subst,
+  arith,
+}
 use Rattle.std.specs.Prelude.{nat_lt}
 use Rattle.std.proofs.lemmas.Bool.{lt-ltb}
 use Rattle.msb_laws.specs.Asking.{and_then}
@@ -11,7 +35,15 @@ use Rattle.result_cache.specs.Lists.{In}
 use Rattle.result_cache.specs.Journal.{Journal, acted, ended, add, merge, record_of}
 use Rattle.build_meaning.specs.World.{World}
 use Rattle.build_meaning.specs.Walk.{Walk, gives, wants, Body, makes, does, uses, calls}
-use Rattle.build_meaning.specs.SoFar.{SoFar, nothing_yet, with_act, with_tool, with_calls, recorded, result_of}
+use Rattle.build_meaning.specs.SoFar.{
+  SoFar,
+  nothing_yet,
+  with_act,
+  with_tool,
+  with_calls,
+  recorded,
+  result_of,
+}
 use Rattle.build_meaning.specs.Meaning.{
   Demanded,
   requested,
@@ -34,7 +66,20 @@ use Rattle.build_meaning.specs.Meaning.{
 use Rattle.result_cache.specs.Same.{is_in}
 use Rattle.result_cache.proofs.RunTests.{is_in-true, and_then-some}
 use Rattle.result_cache.proofs.JournalEntries.{had-none}
-use Rattle.build_meaning.specs.Derived.{OfWalk, over, used, made, OfBody, ended_so, acted_one, used_tool, called_all, OfCalls, no_calls, one_call}
+use Rattle.build_meaning.specs.Derived.{
+  OfWalk,
+  over,
+  used,
+  made,
+  OfBody,
+  ended_so,
+  acted_one,
+  used_tool,
+  called_all,
+  OfCalls,
+  no_calls,
+  one_call,
+}
 
 pub in-left : {X : Type 0} (a : X) (xs ys : List X) → In a xs → In a (xs ++ ys)
 in-left a [] ys i = absurd i
@@ -50,9 +95,16 @@ pub followed-some : {P I S T : Type 0} (first : Option (Given P I S)) (next : S 
     (x : Given P I S) × (y : Given P I T) × (first ≡ Some x) × (next x.value x.journal ≡ Some y)
     × (after x.demand y ≡ z)
 followed-some first next z h =
-    let u = and_then-some first (λ x. and_then (next x.value x.journal) (λ y. Some (after x.demand y))) z h in
-    let v = and_then-some (next u.0.value u.0.journal) (λ y. Some (after u.0.demand y)) z u.2 in
-    (u.0, v.0, u.1, v.1, let e : Some (after u.0.demand v.0) ≡ Some z = v.2 in let q : after u.0.demand v.0 ≡ z = cc in q)
+    let u = and_then-some first
+    (λ x. and_then (next x.value x.journal) (λ y. Some (after x.demand y))) z h in
+    let v = and_then-some (next u.0.value u.0.journal) (λ y. Some (after u.0.demand y)) z u.2 in (
+      u.0,
+      v.0,
+      u.1,
+      v.1,
+      let e : Some (after u.0.demand v.0)
+          ≡ Some z = v.2 in let q : after u.0.demand v.0 ≡ z = cc in q,
+    )
 
 less : (d n m : ℕ) → suc d + n ≡ m → nat_lt n m ≡ true
 less d n m h = lt-ltb n m (omega arith)
@@ -67,7 +119,8 @@ module _ {P I A : Type 0} (w : World P I A) (D : Demanded P I → Type 0) where
   -- each part is contained
   follows : {S T : Type 0} (first : Option (Given P I S)) (next : S → Journal → Option
       (Given P I T)) (R : S → Journal → Type 0) (Q : T → Journal → Type 0) →
-      GivesAll first R → ((x : S) (j : Journal) → R x j → GivesAll (next x j) Q) → GivesAll (followed first next) Q
+      GivesAll first R → ((x : S) (j : Journal) → R x j → GivesAll (next x j) Q)
+      → GivesAll (followed first next) Q
   follows first next R Q f g z h all =
       let u = followed-some first next z h in
       let e : AllIn (u.0.demand ++ u.1.demand) =
@@ -95,7 +148,8 @@ module _ {P I A : Type 0} (w : World P I A) (D : Demanded P I → Type 0) where
 
   -- a request of this key on this path
   abbrev pub Asked : List RunId → Journal → RequestKey → RequestResult → Journal → Type 0
-  Asked path j key res k = D (requested key) × (nat_lt (length path) deepest ≡ true) × OfWalk w D path j [] (w.walks key j) res k
+  Asked path j key res k = D (requested key) × (nat_lt (length path) deepest ≡ true)
+      × OfWalk w D path j [] (w.walks key j) res k
 
   abbrev pub Sound : (List RunId → Journal → RequestKey → Option (Given P I RequestResult)) →
       List RunId → Type 0
@@ -126,12 +180,19 @@ module _ {P I A : Type 0} (w : World P I A) (D : Demanded P I → Type 0) where
       (so_far : SoFar I) →
       GivesAll (body w (ask path) r b j so_far) (λ m k. OfBody w D path r j so_far b m.0 m.1 k)
   body-sound ask path s r (makes outcome) j so_far =
-      pure (recorded outcome so_far.segments, so_far.tools) j [] (λ m k. OfBody w D path r j so_far (makes outcome) m.0 m.1 k) (λ n. ended_so)
+      pure (recorded outcome so_far.segments, so_far.tools) j []
+      (λ m k. OfBody w D path r j so_far (makes outcome) m.0 m.1 k) (λ n. ended_so)
   body-sound ask path s r (does p go) j so_far = λ x h all.
-      acted_one (body-sound ask path s r (go (add j (acted r (length so_far.segments) p))) (add j (acted r (length so_far.segments) p)) (with_act so_far p) x h all)
-  body-sound ask path s r (uses name input go) j so_far = λ x h all. used_tool (body-sound ask path s r (go (w.tools name input)) j (with_tool so_far name input) x h all)
+      acted_one
+      (body-sound ask path s r (go (add j (acted r (length so_far.segments) p)))
+      (add j (acted r (length so_far.segments) p)) (with_act so_far p) x h all)
+  body-sound ask path s r (uses name input go) j so_far = λ x h all.
+      used_tool
+      (body-sound ask path s r (go (w.tools name input)) j (with_tool so_far name input) x h all)
   body-sound ask path s r (calls key keys go) j so_far =
-      follows (containing (together (key ∷ keys)) (at_once w (ask path) j j (key ∷ keys))) (λ results next. body w (ask path) r (go results next) next (with_calls so_far (key ∷ keys) results))
+      follows (containing (together (key ∷ keys)) (at_once w (ask path) j j (key ∷ keys)))
+      (λ results next. body w (ask path) r (go results next) next
+      (with_calls so_far (key ∷ keys) results))
       (λ results i. D (together (key ∷ keys)) × OfCalls w D path j j (key ∷ keys) results i)
       (λ m k. OfBody w D path r j so_far (calls key keys go) m.0 m.1 k)
       (contains (together (key ∷ keys)) (at_once w (ask path) j j (key ∷ keys))
@@ -148,12 +209,16 @@ module _ {P I A : Type 0} (w : World P I A) (D : Demanded P I → Type 0) where
       (path : List RunId) → ((r : RunId) → Sound ask (r ∷ path)) →
       (x : Walk P I A) (j : Journal) (runs : List RunId) →
       GivesAll (walk w ask path x j runs) (OfWalk w D path j runs x)
-  walk-sound ask path s (gives reply) j runs = pure (result_of reply runs) j [] (OfWalk w D path j runs (gives reply)) (λ n. over)
+  walk-sound ask path s (gives reply) j runs = pure (result_of reply runs) j []
+      (OfWalk w D path j runs (gives reply)) (λ n. over)
   walk-sound ask path s (wants site r b go) j runs =
-      f (record_of j r) refl (is_in r path) refl (λ m k. walk-sound ask path s (go m k) k (runs ++ r ∷ []))
+      f (record_of j r) refl (is_in r path) refl
+      (λ m k. walk-sound ask path s (go m k) k (runs ++ r ∷ []))
     where
       f : (o : Option Record) → record_of j r ≡ o → (p : Bool) → is_in r path ≡ p →
-          ((m : Record) (k : Journal) → GivesAll (walk w ask path (go m k) k (runs ++ r ∷ [])) (OfWalk w D path k (runs ++ r ∷ []) (go m k))) →
+          ((m : Record) (k : Journal)
+          → GivesAll (walk w ask path (go m k) k (runs ++ r ∷ []))
+          (OfWalk w D path k (runs ++ r ∷ []) (go m k))) →
           GivesAll (wanted w o p (body w (ask (r ∷ path)) r b j nothing_yet) site r j
           (λ m k. walk w ask path (go m k) k (runs ++ r ∷ [])))
           (OfWalk w D path j runs (wants site r b go))
@@ -167,13 +232,22 @@ module _ {P I A : Type 0} (w : World P I A) (D : Demanded P I → Type 0) where
           (λ m i of. contains (built site r j m.0 m.1)
           (walk w ask path (go m.0 (add i (ended r m.0))) (add i (ended r m.0)) (runs ++ r ∷ []))
           (OfWalk w D path j runs (wants site r b go))
-          (λ d x h all. made (λ i. let z : true ≡ false = sym (is_in-true r path i) ∙ t in absurd (cc)) (had-none j r e) of d (ih m.0 (add i (ended r m.0)) x h all)))
+          (λ d x h all.
+          made (λ i. let z : true ≡ false = sym (is_in-true r path i) ∙ t in absurd (cc))
+          (had-none j r e) of d (ih m.0 (add i (ended r m.0)) x h all)))
 
-  pub request-sound : (d : ℕ) (path : List RunId) → d + length path ≡ deepest → Sound (request w d) path
+  pub request-sound : (d : ℕ) (path : List RunId) → d + length path ≡ deepest
+      → Sound (request w d) path
   request-sound zero path h j key = λ x g all. absurd (cc)
   request-sound (suc d) path h j key =
       contains (requested key) (walk w (request w d) path (w.walks key j) j []) (Asked path j key)
-      (λ k x g all. (k, less d (length path) deepest h, walk-sound (request w d) path (λ r. request-sound d (r ∷ path) (more d (length path) deepest h)) (w.walks key j) j [] x g all))
+      (λ k x g all. (
+        k,
+        less d (length path) deepest h,
+        walk-sound (request w d) path
+            (λ r. request-sound d (r ∷ path) (more d (length path) deepest h)) (w.walks key j) j [] x
+            g all,
+      ))
     where
       more : (d n m : ℕ) → suc d + n ≡ m → d + suc n ≡ m
       more d n m h = omega arith

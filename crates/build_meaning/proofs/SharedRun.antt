@@ -1,5 +1,22 @@
 -- The world whose two calls want one run: it is whole and steady, and its history computes.
-use Rattle.std.proofs.Common.{◌≡◌, ◌≤◌, ℕ, ◌⊎◌, inl, inr, List, [], ◌∷◌, length, Some, refl, ap, sym, ◌∙◌, arith}
+use Rattle.std.proofs.Common.{
+  ◌≡◌,
+  ◌≤◌,
+  ℕ,
+  ◌⊎◌,
+  inl,
+  inr,
+  List,
+  [],
+  ◌∷◌,
+  length,
+  Some,
+  refl,
+  ap,
+  sym,
+  ◌∙◌,
+  arith,
+}
 use Rattle.result_cache.specs.declared.run.RunId.{RunId}
 use Rattle.result_cache.specs.declared.record.Record.{Record}
 use Rattle.result_cache.specs.Lists.{In}
@@ -8,7 +25,16 @@ use Rattle.result_cache.specs.Same.{same_run, same_instance, same_key}
 use Rattle.build_meaning.specs.SoFar.{ToolUse}
 use Rattle.build_meaning.specs.Meaning.{built, deepest, most_instances, meaning}
 use Rattle.build_meaning.specs.Demand.{IsWhole, IsSteady, distinct, instances}
-use Rattle.build_meaning.specs.SharedRun.{run_of, shared_run, child_record, root_record, child_journal, root_journal, given, ends_so}
+use Rattle.build_meaning.specs.SharedRun.{
+  run_of,
+  shared_run,
+  child_record,
+  root_record,
+  child_journal,
+  root_journal,
+  given,
+  ends_so,
+}
 
 means : meaning shared_run ≡ Some given
 unfolding same_run same_instance deepest
@@ -21,7 +47,8 @@ few = omega arith
 pub whole : IsWhole shared_run given
 whole = record { means = means; few = few }
 
-pub history : ends_so ≡ Some (run_of 0 ∷ run_of 1 ∷ [], root_journal ∷ child_journal ∷ child_journal ∷ [])
+pub history : ends_so
+    ≡ Some (run_of 0 ∷ run_of 1 ∷ [], root_journal ∷ child_journal ∷ child_journal ∷ [])
 unfolding same_run same_instance same_key deepest most_instances
 history = refl
 
@@ -43,7 +70,8 @@ one_of site run from made tools (inr (inr (inr (inr (inr (inr (inr (inr (inl e))
 one_of site run from made tools (inr (inr (inr (inr (inr (inr (inr (inr (inr i))))))))) = absurd i
 
 differ : run_of 1 ≡ run_of 0 → ⊥
-differ h = let e : ◌≡◌ {A = List ℕ} (1 ∷ []) (0 ∷ []) = ap (λ (r : RunId). r.instance.path) h in let n : ◌≡◌ {A = ℕ} 1 0 = cc in absurd (zero_one n)
+differ h = let e : ◌≡◌ {A = List ℕ} (1 ∷ []) (0 ∷ []) = ap (λ (r : RunId). r.instance.path) h
+    in let n : ◌≡◌ {A = ℕ} 1 0 = cc in absurd (zero_one n)
   where
     zero_one : ◌≡◌ {A = ℕ} 1 0 → ⊥
     zero_one h = omega arith

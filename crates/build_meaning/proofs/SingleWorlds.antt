@@ -1,4 +1,5 @@
--- All runs that the meaning makes end in its journal; and where no calls are made at once, each is made once.
+-- All runs that the meaning makes end in its journal; and where no calls are made at once, each is
+-- made once.
 use Rattle.std.proofs.Common.{
   ◌≡◌,
   ℕ,
@@ -32,10 +33,30 @@ use Rattle.result_cache.specs.declared.request.RequestKey.{RequestKey}
 use Rattle.result_cache.specs.declared.request.RequestResult.{RequestResult}
 use Rattle.result_cache.specs.declared.record.Record.{Record}
 use Rattle.result_cache.specs.Lists.{In}
-use Rattle.result_cache.specs.Journal.{Entry, Journal, Mark, end_of, acted, ended, has, add, merge, record_of}
+use Rattle.result_cache.specs.Journal.{
+  Entry,
+  Journal,
+  Mark,
+  end_of,
+  acted,
+  ended,
+  has,
+  add,
+  merge,
+  record_of,
+}
 use Rattle.build_meaning.specs.World.{World}
 use Rattle.build_meaning.specs.Walk.{Walk, gives, wants, Body, makes, does, uses, calls}
-use Rattle.build_meaning.specs.SoFar.{ToolUse, SoFar, nothing_yet, with_act, with_tool, with_calls, recorded, result_of}
+use Rattle.build_meaning.specs.SoFar.{
+  ToolUse,
+  SoFar,
+  nothing_yet,
+  with_act,
+  with_tool,
+  with_calls,
+  recorded,
+  result_of,
+}
 use Rattle.build_meaning.specs.Meaning.{
   Demanded,
   requested,
@@ -60,14 +81,23 @@ use Rattle.build_meaning.specs.Demand.{built_runs, IsSingle, IsSteady}
 use Rattle.build_meaning.specs.Sound.{IsMade}
 use Rattle.build_meaning.specs.Orderly.{AreDistinct}
 use Rattle.result_cache.proofs.RunTests.{clash, tells, is_in-true, in-is_in}
-use Rattle.result_cache.proofs.JournalEntries.{had-none, Has, has-add, has-added, has-merge_left, has-merge_right}
+use Rattle.result_cache.proofs.JournalEntries.{
+  had-none,
+  Has,
+  has-add,
+  has-added,
+  has-merge_left,
+  has-merge_right,
+}
 use Rattle.build_meaning.proofs.MeaningDerived.{in-left, in-right, followed-some}
 use Rattle.build_meaning.proofs.NeedsOfRuns.{in-append}
 
-absent : (s : Mark) (j k : Journal) → ((t : Mark) → Has t j → Has t k) → has s k ≡ false → has s j ≡ false
+absent : (s : Mark) (j k : Journal) → ((t : Mark) → Has t j → Has t k) → has s k ≡ false
+    → has s j ≡ false
 absent s j k f n = elim (tells (has s j)) [ inl h ↦ absurd (clash (has s k) (f s h) n) | inr h ↦ h ]
 
-distinct-append : (xs ys : List RunId) → AreDistinct xs → AreDistinct ys → ((r : RunId) → In r xs → In r ys → ⊥) → AreDistinct (xs ++ ys)
+distinct-append : (xs ys : List RunId) → AreDistinct xs → AreDistinct ys
+    → ((r : RunId) → In r xs → In r ys → ⊥) → AreDistinct (xs ++ ys)
 distinct-append [] ys d e f = e
 distinct-append (x ∷ xs) ys d e f = (
   elim (tells (is_in x (xs ++ ys))) [
@@ -204,7 +234,9 @@ module _ {P I : Type 0} where
       | inl p ↦ let x = a.fresh r m p in (x.0, b.grows (end_of r) x.1, x.2)
       | inr p ↦ let x = b.fresh r m p in (absent (end_of r) j k a.grows x.0, x.1, x.2)
     ];
-    once = λ s. subst AreDistinct (sym (built_runs-append xs ys)) (distinct-append (built_runs xs) (built_runs ys) (a.once (single-left xs ys s)) (b.once (single-right xs ys s))
+    once = λ s. subst AreDistinct (sym (built_runs-append xs ys))
+        (distinct-append (built_runs xs) (built_runs ys) (a.once (single-left xs ys s))
+        (b.once (single-right xs ys s))
         (λ r p q.
         let x = run-built r xs p in let y = run-built r ys q in
         clash (has (end_of r) k) (a.fresh r x.0 x.1).1 (b.fresh r y.0 y.1).0));
@@ -368,17 +400,28 @@ module _ {P I A : Type 0} (w : World P I A) where
           some : (n : ℕ) → suc n ≡ 0 → ⊥
           some n h = omega arith
 
-  body-extends : (ask : Ask) (path : List RunId) → Fine ask path → (r : RunId) (b : Body I A) (j : Journal) (so_far : SoFar I) → GivesSo (body w (ask path) r b j so_far) (Extends path j)
-  body-extends ask path f r (makes outcome) j so_far = so (recorded outcome so_far.segments, so_far.tools) j [] (Extends path j) (nothing-new path j)
+  body-extends : (ask : Ask) (path : List RunId) → Fine ask path
+      → (r : RunId) (b : Body I A) (j : Journal) (so_far : SoFar I)
+      → GivesSo (body w (ask path) r b j so_far) (Extends path j)
+  body-extends ask path f r (makes outcome) j so_far = so
+      (recorded outcome so_far.segments, so_far.tools) j [] (Extends path j) (nothing-new path j)
   body-extends ask path f r (does p go) j so_far = λ x h.
-      one-after path j (add j (acted r (length so_far.segments) p)) x.journal [] x.demand (has-acted path j (acted r (length so_far.segments) p))
-      (body-extends ask path f r (go (add j (acted r (length so_far.segments) p))) (add j (acted r (length so_far.segments) p)) (with_act so_far p) x h)
-  body-extends ask path f r (uses name input go) j so_far = body-extends ask path f r (go (w.tools name input)) j (with_tool so_far name input)
+      one-after path j (add j (acted r (length so_far.segments) p)) x.journal [] x.demand
+      (has-acted path j (acted r (length so_far.segments) p))
+      (body-extends ask path f r (go (add j (acted r (length so_far.segments) p)))
+      (add j (acted r (length so_far.segments) p)) (with_act so_far p) x h)
+  body-extends ask path f r (uses name input go) j so_far = body-extends ask path f r
+      (go (w.tools name input)) j (with_tool so_far name input)
   body-extends ask path f r (calls key keys go) j so_far =
-      follows (containing (together (key ∷ keys)) (at_once w (ask path) j j (key ∷ keys))) (λ results next. body w (ask path) r (go results next) next (with_calls so_far (key ∷ keys) results))
+      follows (containing (together (key ∷ keys)) (at_once w (ask path) j j (key ∷ keys)))
+      (λ results next. body w (ask path) r (go results next) next
+      (with_calls so_far (key ∷ keys) results))
       (Extends path j) (Extends path j)
-      (contains (together (key ∷ keys)) (at_once w (ask path) j j (key ∷ keys)) (Joins path j j (key ∷ keys)) (Extends path j) (at_once-joins ask path f j j (key ∷ keys)) (λ k xs y. first k xs y))
-      (λ results i xs x y h. one-after path j i y.journal xs y.demand x (body-extends ask path f r (go results i) i (with_calls so_far (key ∷ keys) results) y h))
+      (contains (together (key ∷ keys)) (at_once w (ask path) j j (key ∷ keys))
+      (Joins path j j (key ∷ keys)) (Extends path j) (at_once-joins ask path f j j (key ∷ keys))
+      (λ k xs y. first k xs y))
+      (λ results i xs x y h. one-after path j i y.journal xs y.demand x
+      (body-extends ask path f r (go results i) i (with_calls so_far (key ∷ keys) results) y h))
     where
       first : (k : Journal) (xs : List (Demanded P I)) → Joins path j j (key ∷ keys) k xs →
           Extends path j k (together (key ∷ keys) ∷ xs)
@@ -394,12 +437,15 @@ module _ {P I A : Type 0} (w : World P I A) where
   walk-extends : (ask : Ask) (path : List RunId) → ((r : RunId) → Fine ask (r ∷ path)) →
       (x : Walk P I A) (j : Journal) (runs : List RunId) → GivesSo (walk w ask path x j runs)
       (Extends path j)
-  walk-extends ask path f (gives reply) j runs = so (result_of reply runs) j [] (Extends path j) (nothing-new path j)
+  walk-extends ask path f (gives reply) j runs = so (result_of reply runs) j [] (Extends path j)
+      (nothing-new path j)
   walk-extends ask path f (wants site r b go) j runs =
       g (record_of j r) refl (is_in r path) refl (λ m k. walk-extends ask path f (go m k) k
       (runs ++ r ∷ []))
     where
-      g : (o : Option Record) → record_of j r ≡ o → (p : Bool) → is_in r path ≡ p → ((m : Record) (k : Journal) → GivesSo (walk w ask path (go m k) k (runs ++ r ∷ [])) (Extends path k)) →
+      g : (o : Option Record) → record_of j r ≡ o → (p : Bool) → is_in r path ≡ p
+          → ((m : Record) (k : Journal)
+          → GivesSo (walk w ask path (go m k) k (runs ++ r ∷ [])) (Extends path k)) →
           GivesSo (wanted w o p (body w (ask (r ∷ path)) r b j nothing_yet) site r j
           (λ m k. walk w ask path (go m k) k (runs ++ r ∷ []))) (Extends path j)
       g (Some m) e p t ih = ih m j
@@ -422,7 +468,9 @@ module _ {P I A : Type 0} (w : World P I A) where
   request-extends : (d : ℕ) (path : List RunId) → Fine (request w d) path
   request-extends zero path j key = λ x h. absurd (cc)
   request-extends (suc d) path j key =
-      contains (requested key) (walk w (request w d) path (w.walks key j) j []) (Extends path j) (Extends path j) (walk-extends (request w d) path (λ r. request-extends d (r ∷ path)) (w.walks key j) j [])
+      contains (requested key) (walk w (request w d) path (w.walks key j) j []) (Extends path j)
+      (Extends path j)
+      (walk-extends (request w d) path (λ r. request-extends d (r ∷ path)) (w.walks key j) j [])
       (λ k xs x. asked-first path j k key xs x)
 
   pub meaning-extends : (out : Given P I RequestResult) → meaning w ≡ Some out →

@@ -1,4 +1,5 @@
--- The world that is whole but not steady: its meaning makes one run with two records, and two histories leave different files.
+-- The world that is whole but not steady: its meaning makes one run with two records, and two
+-- histories leave different files.
 use Rattle.std.proofs.Common.{◌≡◌, ◌≤◌, ℕ, inl, inr, List, [], ◌∷◌, length, Some, refl, ap, arith}
 use Rattle.std.specs.Prelude.{unwrap_or}
 use Rattle.msb_values.specs.Acts.{act_bytes}

@@ -14,8 +14,9 @@ use Rattle.build_meaning.specs.State.{ToolsUsed, State}
 use Rattle.build_meaning.specs.History.{EndsWith}
 use Rattle.build_meaning.specs.Orderly.{AreDistinct}
 
--- each record of the table is that of every body of its run in the meaning, and there is such a body; the tools of a finished run were used as
--- by one of these bodies; and a root that is done has the meaning's result and journal
+-- each record of the table is that of every body of its run in the meaning, and there is such a
+-- body; the tools of a finished run were used as by one of these bodies; and a root that is done
+-- has the meaning's result and journal
 pub record Agrees {P I A : Type 0} (out : Given P I RequestResult) (s : State P I A)
     : Type 0 where
   pub occurs : (run : RunId) (made : Record) → found s.table run ≡ Some made →
@@ -25,15 +26,17 @@ pub record Agrees {P I A : Type 0} (out : Given P I RequestResult) (s : State P 
   pub tools : (t : ToolsUsed I) → In t s.tools_used →
       (site : P) × (from : Journal) × (made : Record)
       × In (built site t.run from made t.tools) out.demand
-  pub root : (result : RequestResult) (journal : Journal) → EndsWith s result journal → (result ≡ out.value) × (journal ≡ out.journal)
+  pub root : (result : RequestResult) (journal : Journal) → EndsWith s result journal
+      → (result ≡ out.value) × (journal ≡ out.journal)
 
--- all runs of the meaning are finished; of each finished run it is told how its body used tools; and where no calls are made at once, the
--- meaning makes each run once, and it used tools as there
+-- all runs of the meaning are finished; of each finished run it is told how its body used tools;
+-- and where no calls are made at once, the meaning makes each run once, and it used tools as there
 pub record IsComplete {P I A : Type 0} (out : Given P I RequestResult) (s : State P I A)
     : Type 0 where
   pub all : (run : RunId) (made : Record) → IsMade out.demand run made →
       found s.table run ≡ Some made
-  pub tools_used : map (λ (t : ToolsUsed I). t.run) s.tools_used ≡ map (λ (f : FinishedRun). f.run) s.table
+  pub tools_used : map (λ (t : ToolsUsed I). t.run) s.tools_used
+      ≡ map (λ (f : FinishedRun). f.run) s.table
   pub once : IsSingle out.demand → AreDistinct (built_runs out.demand)
   pub same_tools : IsSingle out.demand → (site : P) (run : RunId) (from : Journal)
       (made : Record) (tools : List (ToolUse I)) →

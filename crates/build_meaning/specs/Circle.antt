@@ -26,17 +26,25 @@ walk_of [] = walk_at 0
 walk_of (n ∷ path) = walk_at n
 
 abbrev pub circle : World ℕ ℕ ℕ
-circle = record { root = default_key 0; tools = λ name input. input; walks = λ key journal. walk_of key.instance.path }
+circle = record {
+  root = default_key 0;
+  tools = λ name input. input;
+  walks = λ key journal.
+      walk_of key.instance.path;
+}
 
--- each project has begun its run and called the next, and the fourth request wants the first run again
+-- each project has begun its run and called the next, and the fourth request wants the first run
+-- again
 abbrev pub events : List Event
 events =
-    Assign 0 0 ∷ Claim 0 (run_of 0) Go ∷ Request 0 (default_key 1 ∷ []) ∷ Assign 1 0 ∷ Claim 1 (run_of 1) Go ∷ Request 1 (default_key 2 ∷ [])
+    Assign 0 0 ∷ Claim 0 (run_of 0) Go ∷ Request 0 (default_key 1 ∷ []) ∷ Assign 1 0
+    ∷ Claim 1 (run_of 1) Go ∷ Request 1 (default_key 2 ∷ [])
     ∷ Assign 2 0 ∷ Claim 2 (run_of 2) Go ∷ Request 2 (default_key 0 ∷ []) ∷ Assign 3 0 ∷ []
 
 -- what its claim comes to, answered Go, Use or Wait
 abbrev pub claims : State ℕ ℕ ℕ → List (Option (State ℕ ℕ ℕ))
-claims s = step circle s (Claim 3 (run_of 0) Go) ∷ step circle s (Claim 3 (run_of 0) Use) ∷ step circle s (Claim 3 (run_of 0) Wait) ∷ []
+claims s = step circle s (Claim 3 (run_of 0) Go) ∷ step circle s (Claim 3 (run_of 0) Use)
+    ∷ step circle s (Claim 3 (run_of 0) Wait) ∷ []
 
 abbrev pub claims_after : Option (List (Option (State ℕ ℕ ℕ)))
 claims_after = and_then (after_all circle (start circle) events) (λ s. Some (claims s))

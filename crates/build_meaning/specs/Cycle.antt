@@ -1,10 +1,39 @@
--- Which runs need which, and when a run needs itself: a circle of projects that call each other. (MSBuild task)
-use Rattle.std.specs.Prelude.{ℕ, zero, suc, Bool, true, false, ◌||◌, List, [], ◌∷◌, ◌++◌, length, Option, None, Some}
+-- Which runs need which, and when a run needs itself: a circle of projects that call each other.
+-- (MSBuild task)
+use Rattle.std.specs.Prelude.{
+  ℕ,
+  zero,
+  suc,
+  Bool,
+  true,
+  false,
+  ◌||◌,
+  List,
+  [],
+  ◌∷◌,
+  ◌++◌,
+  length,
+  Option,
+  None,
+  Some,
+}
 use Rattle.result_cache.specs.declared.run.RunId.{RunId}
 use Rattle.result_cache.specs.Same.{same_run}
 use Rattle.result_cache.specs.Lists.{In}
 use Rattle.build_meaning.specs.Lists.{at}
-use Rattle.build_meaning.specs.State.{Place, walking, within, Status, ready, assigned, waits, calling, done, RequestState, State}
+use Rattle.build_meaning.specs.State.{
+  Place,
+  walking,
+  within,
+  Status,
+  ready,
+  assigned,
+  waits,
+  calling,
+  done,
+  RequestState,
+  State,
+}
 
 -- these runs, where the test holds
 abbrev pub if_same : Bool → List RunId → List RunId
@@ -45,12 +74,14 @@ module _ {P I A : Type 0} where
   held_by requests [] = []
   held_by requests (id ∷ ids) = held_at (at requests id) ++ held_by requests ids
 
-  -- what a request needs for a run: where it has open calls in the run's body, what its children hold
+  -- what a request needs for a run: where it has open calls in the run's body, what its children
+  -- hold
   abbrev pub needed_at : List (RequestState P I A) → RunId → Status P I A → List RunId
   needed_at all run (calling keys ids x go) = if_same (same_run x.run run) (held_by all ids)
   needed_at all run status = []
 
-  -- the runs that a run needs: its body has open calls, and a child of these has begun such a run or waits for it
+  -- the runs that a run needs: its body has open calls, and a child of these has begun such a run
+  -- or waits for it
   abbrev pub needed : List (RequestState P I A) → RunId → List (RequestState P I A) → List RunId
   needed all run [] = []
   needed all run (q ∷ requests) = needed_at all run q.status ++ needed all run requests
@@ -68,6 +99,8 @@ module _ {P I A : Type 0} where
   abbrev pub ShowsCycle : State P I A → RunId → Type 0
   ShowsCycle s run = (runs : List RunId) × IsChain s run runs run
 
-  -- the run needs itself, as a test: a way that repeats no run has no more steps than runs are begun
+  -- the run needs itself, as a test: a way that repeats no run has no more steps than runs are
+  -- begun
   abbrev pub is_in_cycle : State P I A → RunId → Bool
-  is_in_cycle s run = leads_to (λ other. needed s.requests other s.requests) (length s.begun) run run
+  is_in_cycle s run = leads_to (λ other. needed s.requests other s.requests) (length s.begun) run
+      run

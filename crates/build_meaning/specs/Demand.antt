@@ -1,4 +1,5 @@
--- Whole, steady and single worlds: whose meaning exists within the limits, has one record for each run, or makes no calls at once.
+-- Whole, steady and single worlds: whose meaning exists within the limits, has one record for each
+-- run, or makes no calls at once.
 use Rattle.std.specs.Prelude.{◌≡◌, ◌≤◌, Bool, true, false, ◌||◌, List, [], ◌∷◌, length, Some}
 use Rattle.msb_values.specs.declared.key.InstanceKey.{InstanceKey}
 use Rattle.result_cache.specs.declared.run.RunId.{RunId}

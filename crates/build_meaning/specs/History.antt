@@ -21,8 +21,8 @@ retires [] = 0
 retires (Retire id node ∷ events) = suc (retires events)
 retires (event ∷ events) = retires events
 
--- so many nodes have these events, and one of them has not retired. Events are added alone, so a node has retired only where
--- another one was active
+-- so many nodes have these events, and one of them has not retired. Events are added alone, so a
+-- node has retired only where another one was active
 abbrev pub AreOfNodes : ℕ → List Event → Type 0
 AreOfNodes nodes events = retires events < nodes
 

@@ -8,7 +8,17 @@ use Rattle.result_cache.specs.Table.{found, is_begun}
 use Rattle.build_meaning.specs.World.{World}
 use Rattle.build_meaning.specs.Walk.{gives, wants}
 use Rattle.build_meaning.specs.Stop.{ends, asks}
-use Rattle.build_meaning.specs.State.{Place, walking, within, Status, ready, assigned, done, RequestState, State}
+use Rattle.build_meaning.specs.State.{
+  Place,
+  walking,
+  within,
+  Status,
+  ready,
+  assigned,
+  done,
+  RequestState,
+  State,
+}
 use Rattle.build_meaning.specs.Cycle.{is_in_cycle}
 use Rattle.build_meaning.specs.Step.{waiting, is_within_limits, step}
 
@@ -25,7 +35,8 @@ CanGoOn w s id (walking (wants site run b go)) =
 CanGoOn w s id (within x (ends outcome)) = IsPossible w s (Result id x.run)
 CanGoOn w s id (within x (asks key more go)) = IsPossible w s (Request id (key ∷ more))
 
--- it is refused for its cause: it wants a run that is begun and not finished and that needed itself if it waited, or its calls pass a limit
+-- it is refused for its cause: it wants a run that is begun and not finished and that needed itself
+-- if it waited, or its calls pass a limit
 abbrev pub IsRefused : {P I A : Type 0} → World P I A → State P I A → ℕ → RequestState P I A →
     Place P I A → Type 0
 IsRefused w s id q (walking (gives reply)) = ⊥
@@ -33,7 +44,8 @@ IsRefused w s id q (walking (wants site run b go)) =
     (is_begun run s.begun ≡ true) × (found s.table run ≡ None)
     × (is_in_cycle (waiting w s id q.origin q.journal q.runs run b go) run ≡ true)
 IsRefused w s id q (within x (ends outcome)) = ⊥
-IsRefused w s id q (within x (asks key more go)) = is_within_limits w s (x.run ∷ q.origin.path) (key ∷ more) ≡ false
+IsRefused w s id q (within x (asks key more go)) = is_within_limits w s (x.run ∷ q.origin.path)
+    (key ∷ more) ≡ false
 
 -- a request that may go on: it is ready or with a node
 abbrev pub IsGoing : {P I A : Type 0} → Status P I A → Type 0

@@ -12,7 +12,13 @@ use Rattle.result_cache.specs.declared.record.Segment.TheVariants.{File, Call}
 use Rattle.result_cache.specs.Journal.{Journal, acted, ended}
 use Rattle.result_cache.specs.Table.{FinishedRun}
 use Rattle.build_meaning.specs.declared.event.Event.{Event}
-use Rattle.build_meaning.specs.declared.event.Event.TheVariants.{Assign, Claim, Request, Result, Done}
+use Rattle.build_meaning.specs.declared.event.Event.TheVariants.{
+  Assign,
+  Claim,
+  Request,
+  Result,
+  Done,
+}
 use Rattle.build_meaning.specs.declared.event.ClaimKind.TheVariants.{Go, Wait}
 use Rattle.build_meaning.specs.Walk.{Outcome, Reply, Walk, gives, wants, makes, does, uses, calls}
 use Rattle.build_meaning.specs.World.{World}
@@ -66,14 +72,20 @@ walk_for (t ∷ targets) = child_walk
 
 -- the tools answer with the number after
 abbrev pub shared_run : World ℕ ℕ ℕ
-shared_run = record { root = default_key 0; tools = λ name input. suc input; walks = λ key journal. walk_for key.targets }
+shared_run = record {
+  root = default_key 0;
+  tools = λ name input. suc input;
+  walks = λ key journal.
+      walk_for key.targets;
+}
 
 -- the records of its two runs
 abbrev pub child_record : Record
 child_record = recorded good (File (file_of 4) ∷ [])
 
 abbrev pub root_record : Record
-root_record = recorded good (File (file_of 5) ∷ Call (key_of 1 1) (run_of 1 ∷ []) ∷ Call (key_of 1 2) (run_of 1 ∷ []) ∷ [])
+root_record = recorded good
+    (File (file_of 5) ∷ Call (key_of 1 1) (run_of 1 ∷ []) ∷ Call (key_of 1 2) (run_of 1 ∷ []) ∷ [])
 
 -- the journal with which a child begins, the one that it leaves, and the root's
 abbrev pub call_journal : Journal
@@ -107,10 +119,13 @@ given = record {
 -- a history on two nodes: the second child begins the run, the first one waits for it
 abbrev pub events : List Event
 events =
-    Assign 0 0 ∷ Claim 0 (run_of 0) Go ∷ Request 0 (key_of 1 1 ∷ key_of 1 2 ∷ []) ∷ Assign 2 1 ∷ Assign 1 0 ∷ Claim 2 (run_of 1) Go ∷ Claim 1 (run_of 1) Wait
-    ∷ Result 2 (run_of 1) ∷ Assign 1 0 ∷ Done 1 ∷ Done 2 ∷ Assign 0 1 ∷ Result 0 (run_of 0) ∷ Done 0 ∷ []
+    Assign 0 0 ∷ Claim 0 (run_of 0) Go ∷ Request 0 (key_of 1 1 ∷ key_of 1 2 ∷ []) ∷ Assign 2 1
+    ∷ Assign 1 0 ∷ Claim 2 (run_of 1) Go ∷ Claim 1 (run_of 1) Wait
+    ∷ Result 2 (run_of 1) ∷ Assign 1 0 ∷ Done 1 ∷ Done 2 ∷ Assign 0 1 ∷ Result 0 (run_of 0) ∷ Done 0
+    ∷ []
 
--- the runs that are finished after these events, the last one first, and the journals of the requests
+-- the runs that are finished after these events, the last one first, and the journals of the
+-- requests
 abbrev pub ends_so : Option (List RunId × List Journal)
 ends_so = and_then (after_all shared_run (start shared_run) events)
     (λ s. Some (

@@ -29,7 +29,11 @@ with_act so_far act = record { segments = so_far.segments ++ File act ∷ []; to
 
 -- after it has used a tool
 abbrev pub with_tool : {I : Type 0} → SoFar I → List ℕ → I → SoFar I
-with_tool so_far name input = record { segments = so_far.segments; tools = so_far.tools ++ record { name = name; input = input } ∷ [] }
+with_tool so_far name input = record {
+  segments = so_far.segments;
+  tools = so_far.tools ++ record { name = name; input = input }
+      ∷ [];
+}
 
 -- what calls leave in the record: each request, with the runs that it made or used
 abbrev pub called : List RequestKey → List RequestResult → List Segment
@@ -39,7 +43,8 @@ called (key ∷ keys) (result ∷ results) = Call key result.runs ∷ called key
 
 -- after its calls have given these results
 abbrev pub with_calls : {I : Type 0} → SoFar I → List RequestKey → List RequestResult → SoFar I
-with_calls so_far keys results = record { segments = so_far.segments ++ called keys results; tools = so_far.tools }
+with_calls so_far keys results = record
+    { segments = so_far.segments ++ called keys results; tools = so_far.tools }
 
 -- the runs of some results, in order
 abbrev pub runs_of : List RequestResult → List RunId
@@ -59,4 +64,11 @@ recorded outcome segments = record {
 
 -- the result of a request: its reply, and the runs that it made or used
 abbrev pub result_of : Reply → List RunId → RequestResult
-result_of reply runs = record { ok = reply.ok; evaluated = reply.evaluated; returned = reply.returned; runs = runs; error = reply.error }
+result_of reply runs = record {
+  ok = reply.ok;
+  evaluated = reply.evaluated;
+  returned = reply.returned;
+  runs = runs;
+  error =
+      reply.error;
+}

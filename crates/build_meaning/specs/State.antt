@@ -1,4 +1,5 @@
--- What a scheduler holds: its requests and where each stands, the runs that are begun, and the records of those that are finished.
+-- What a scheduler holds: its requests and where each stands, the runs that are begun, and the
+-- records of those that are finished.
 use Rattle.std.specs.Prelude.{ℕ, List, [], ◌∷◌, Option, None}
 use Rattle.result_cache.specs.declared.run.RunId.{RunId}
 use Rattle.result_cache.specs.declared.request.RequestKey.{RequestKey}
@@ -12,7 +13,8 @@ use Rattle.build_meaning.specs.Walk.{Walk, Body}
 use Rattle.build_meaning.specs.SoFar.{ToolUse, SoFar}
 use Rattle.build_meaning.specs.Stop.{Stop}
 
--- the body that a request is in: its run, what it has done so far, and how the request goes on after it
+-- the body that a request is in: its run, what it has done so far, and how the request goes on
+-- after it
 pub record Within (P I A : Type 0) : Type 0 where
   pub run : RunId
   pub so_far : SoFar I
@@ -23,7 +25,8 @@ pub data Place (P I A : Type 0) : Type 0 where
   walking : Walk P I A → Place P I A
   within : Within P I A → Stop I A → Place P I A
 
--- ready to go on; with a node; waiting for a run that another request has begun; calling, with the numbers of its children; done
+-- ready to go on; with a node; waiting for a run that another request has begun; calling, with the
+-- numbers of its children; done
 pub data Status (P I A : Type 0) : Type 0 where
   ready : Place P I A → Status P I A
   assigned : ℕ → Place P I A → Status P I A
@@ -32,13 +35,15 @@ pub data Status (P I A : Type 0) : Type 0 where
       (List RequestResult → Journal → Body I A) → Status P I A
   done : RequestResult → Status P I A
 
--- what a request asks for, the request that called it, and the runs in whose bodies it was called, the last one first
+-- what a request asks for, the request that called it, and the runs in whose bodies it was called,
+-- the last one first
 pub record Origin : Type 0 where
   pub key : RequestKey
   pub parent : Option ℕ
   pub path : List RunId
 
--- a request: where it comes from, its journal, the runs that it has made or used, and where it stands
+-- a request: where it comes from, its journal, the runs that it has made or used, and where it
+-- stands
 pub record RequestState (P I A : Type 0) : Type 0 where
   pub origin : Origin
   pub journal : Journal
@@ -50,8 +55,8 @@ pub record ToolsUsed (I : Type 0) : Type 0 where
   pub run : RunId
   pub tools : List (ToolUse I)
 
--- requests have the numbers of their places, and the root is 0. In the other lists the newest is first. All runs that were begun are there,
--- those that are finished among them
+-- requests have the numbers of their places, and the root is 0. In the other lists the newest is
+-- first. All runs that were begun are there, those that are finished among them
 pub record State (P I A : Type 0) : Type 0 where
   pub requests : List (RequestState P I A)
   pub begun : List BegunRun
@@ -60,12 +65,14 @@ pub record State (P I A : Type 0) : Type 0 where
 
 -- the state with this in place of the request of that number
 abbrev pub with_request : {P I A : Type 0} → State P I A → ℕ → RequestState P I A → State P I A
-with_request s id q = record { requests = put s.requests id q; begun = s.begun; table = s.table; tools_used = s.tools_used }
+with_request s id q = record
+    { requests = put s.requests id q; begun = s.begun; table = s.table; tools_used = s.tools_used }
 
 -- the request, where it stands so
 abbrev pub with_status : {P I A : Type 0} → RequestState P I A → Status P I A →
     RequestState P I A
-with_status q status = record { origin = q.origin; journal = q.journal; runs = q.runs; status = status }
+with_status q status = record
+    { origin = q.origin; journal = q.journal; runs = q.runs; status = status }
 
 -- a new request, ready at its beginning
 abbrev pub new_request : {P I A : Type 0} → World P I A → Option ℕ → List RunId → Journal →
@@ -79,4 +86,5 @@ new_request w parent path journal key = record {
 
 -- where every history begins: the root request alone, with nothing known and nothing begun
 abbrev pub start : {P I A : Type 0} → World P I A → State P I A
-start w = record { requests = new_request w None [] [] w.root ∷ []; begun = []; table = []; tools_used = [] }
+start w = record
+    { requests = new_request w None [] [] w.root ∷ []; begun = []; table = []; tools_used = [] }

@@ -1,5 +1,23 @@
 -- One event of a scheduler, and the state after it where it is possible.
-use Rattle.std.specs.Prelude.{ℕ, Bool, true, false, ◌&&◌, ◌==◌, nat_le, nat_lt, List, [], ◌∷◌, ◌++◌, length, map, Option, None, Some}
+use Rattle.std.specs.Prelude.{
+  ℕ,
+  Bool,
+  true,
+  false,
+  ◌&&◌,
+  ◌==◌,
+  nat_le,
+  nat_lt,
+  List,
+  [],
+  ◌∷◌,
+  ◌++◌,
+  length,
+  map,
+  Option,
+  None,
+  Some,
+}
 use Rattle.msb_laws.specs.Asking.{and_then}
 use Rattle.msb_laws.specs.Traverse.{traverse}
 use Rattle.msb_values.specs.declared.key.InstanceKey.{InstanceKey}
@@ -9,7 +27,14 @@ use Rattle.result_cache.specs.declared.request.RequestResult.{RequestResult}
 use Rattle.result_cache.specs.declared.record.Record.{Record}
 use Rattle.result_cache.specs.Same.{same_run, same_keys}
 use Rattle.build_meaning.specs.declared.event.Event.{Event}
-use Rattle.build_meaning.specs.declared.event.Event.TheVariants.{Assign, Claim, Request, Result, Done, Retire}
+use Rattle.build_meaning.specs.declared.event.Event.TheVariants.{
+  Assign,
+  Claim,
+  Request,
+  Result,
+  Done,
+  Retire,
+}
 use Rattle.build_meaning.specs.declared.event.ClaimKind.{ClaimKind}
 use Rattle.build_meaning.specs.declared.event.ClaimKind.TheVariants.{Go, Use, Wait}
 use Rattle.build_meaning.specs.Lists.{at, put, numbered_from}
@@ -22,7 +47,23 @@ use Rattle.build_meaning.specs.SoFar.{nothing_yet, with_calls, runs_of, recorded
 use Rattle.build_meaning.specs.Meaning.{deepest, most_instances}
 use Rattle.build_meaning.specs.Demand.{distinct}
 use Rattle.build_meaning.specs.Stop.{ends, asks, Stopped, run_on}
-use Rattle.build_meaning.specs.State.{Within, Place, walking, within, Status, ready, assigned, waits, calling, done, Origin, RequestState, State, with_request, new_request}
+use Rattle.build_meaning.specs.State.{
+  Within,
+  Place,
+  walking,
+  within,
+  Status,
+  ready,
+  assigned,
+  waits,
+  calling,
+  done,
+  Origin,
+  RequestState,
+  State,
+  with_request,
+  new_request,
+}
 use Rattle.build_meaning.specs.Cycle.{is_in_cycle}
 
 -- this where the test holds
@@ -49,7 +90,10 @@ module _ {P I A : Type 0} (w : World P I A) where
   abbrev pub assign_at : State P I A → ℕ → ℕ → Origin → Journal → List RunId → Status P I A →
       Option (State P I A)
   assign_at s id node origin journal runs (ready place) =
-      Some (with_request s id (record { origin = origin; journal = journal; runs = runs; status = assigned node place }))
+      Some
+      (with_request s id
+      (record
+      { origin = origin; journal = journal; runs = runs; status = assigned node place }))
   assign_at s id node origin journal runs status = None
 
   -- Retire: a request goes back from the node that has it, and is ready as it was
@@ -57,7 +101,8 @@ module _ {P I A : Type 0} (w : World P I A) where
       Option (State P I A)
   retire_at s id node origin journal runs (assigned by place) =
       only_if (by == node)
-      (with_request s id (record { origin = origin; journal = journal; runs = runs; status = ready place }))
+      (with_request s id
+      (record { origin = origin; journal = journal; runs = runs; status = ready place }))
   retire_at s id node origin journal runs status = None
 
   -- the request whose body has stopped
@@ -83,7 +128,8 @@ module _ {P I A : Type 0} (w : World P I A) where
   -- the state in which a request waits for a run
   abbrev pub waiting : State P I A → ℕ → Origin → Journal → List RunId → RunId → Body I A →
       (Record → Journal → Walk P I A) → State P I A
-  waiting s id origin journal runs run b go = with_request s id (record { origin = origin; journal = journal; runs = runs; status = waits run b go })
+  waiting s id origin journal runs run b go = with_request s id
+      (record { origin = origin; journal = journal; runs = runs; status = waits run b go })
 
   -- a run may be waited for: it is begun, it has no record, and it does not need itself
   abbrev pub may_wait : Bool → Option Record → Bool → Bool
@@ -92,12 +138,14 @@ module _ {P I A : Type 0} (w : World P I A) where
   may_wait true (Some made) in_cycle = false
   may_wait false record_of_it in_cycle = false
 
-  -- Claim: Go where the run is not begun, and its body runs on until it stops; Use where the run is finished, and its record is replayed; Wait
-  -- where it is begun and not finished, unless it needed itself then
+  -- Claim: Go where the run is not begun, and its body runs on until it stops; Use where the run is
+  -- finished, and its record is replayed; Wait where it is begun and not finished, unless it needed
+  -- itself then
   abbrev pub claimed : State P I A → ℕ → ℕ → Origin → Journal → List RunId → RunId → Body I A →
       (Record → Journal → Walk P I A) → ClaimKind → Option (State P I A)
   claimed s id node origin journal runs run b go Go = unless (is_begun run s.begun) (record {
-    requests = put s.requests id (in_body (assigned node) origin runs run go (run_on w.tools run b journal nothing_yet));
+    requests = put s.requests id
+        (in_body (assigned node) origin runs run go (run_on w.tools run b journal nothing_yet));
     begun = record { run = run; by = id } ∷ s.begun;
     table = s.table;
     tools_used = s.tools_used;
@@ -113,14 +161,22 @@ module _ {P I A : Type 0} (w : World P I A) where
   abbrev pub claim_at : State P I A → ℕ → RunId → ClaimKind → Origin → Journal → List RunId →
       Status P I A → Option (State P I A)
   claim_at s id run kind origin journal runs (assigned node (walking (wants site wanted b go))) =
-      and_then (only_if (same_run wanted run) wanted) (λ run. claimed s id node origin journal runs run b go kind)
+      and_then (only_if (same_run wanted run) wanted)
+      (λ run. claimed s id node origin journal runs run b go kind)
   claim_at s id run kind origin journal runs status = None
 
   -- the calls are made: each has a new request, which is ready and begins with its caller's journal
   abbrev pub with_children : State P I A → ℕ → Origin → Journal → List RunId → List RequestKey →
       Within P I A → (List RequestResult → Journal → Body I A) → State P I A
   with_children s id origin journal runs keys x go = record {
-    requests = put s.requests id (record { origin = origin; journal = journal; runs = runs; status = calling keys (numbered_from (length s.requests) keys) x go })
+    requests = put s.requests id
+        (record {
+          origin = origin;
+          journal = journal;
+          runs = runs;
+          status = calling keys
+              (numbered_from (length s.requests) keys) x go;
+        })
         ++ map (new_request w (Some id) (x.run ∷ origin.path) journal) keys;
     begun = s.begun;
     table = s.table;
@@ -134,7 +190,10 @@ module _ {P I A : Type 0} (w : World P I A) where
   -- the calls are not nested too deep, and there are not too many instances with them
   abbrev pub is_within_limits : State P I A → List RunId → List RequestKey → Bool
   is_within_limits s path keys =
-      nat_lt (length path) deepest && nat_le (length (distinct (map instance_of s.requests ++ map (λ key. key.instance) keys))) most_instances
+      nat_lt (length path) deepest
+      && nat_le
+      (length (distinct (map instance_of s.requests ++ map (λ key. key.instance) keys)))
+      most_instances
 
   -- Request: the calls that the body of a request with a node asks for, within the limits
   abbrev pub request_at : State P I A → ℕ → List RequestKey → Origin → Journal → List RunId →
@@ -147,13 +206,15 @@ module _ {P I A : Type 0} (w : World P I A) where
   -- a waiting request, by whether it waits for that run
   abbrev pub woken_if : Bool → Records → RequestState P I A → Record → RunId →
       (Record → Journal → Walk P I A) → Option (RequestState P I A)
-  woken_if true table q made run go = and_then (replay table run q.journal) (λ next. Some (goes_on ready q.origin q.runs run go made next))
+  woken_if true table q made run go = and_then (replay table run q.journal)
+      (λ next. Some (goes_on ready q.origin q.runs run go made next))
   woken_if false table q made run go = Some q
 
   -- a request that waits for the run is ready, with its record replayed
   abbrev pub woken_at : Records → RunId → Record → RequestState P I A → Status P I A →
       Option (RequestState P I A)
-  woken_at table run made q (waits wanted b go) = woken_if (same_run wanted run) table q made wanted go
+  woken_at table run made q (waits wanted b go) = woken_if (same_run wanted run) table q made wanted
+      go
   woken_at table run made q status = Some q
 
   -- a request as it stands, after the run is finished
@@ -165,14 +226,26 @@ module _ {P I A : Type 0} (w : World P I A) where
       Record → Option (State P I A)
   finished s id node origin journal runs x made =
       let table : Records = record { run = x.run; made = made } ∷ s.table in
-      and_then (traverse (woken table x.run made) (put s.requests id (goes_on (assigned node) origin runs x.run x.go made (add journal (ended x.run made))))) (λ requests.
-      Some (record { requests = requests; begun = s.begun; table = table; tools_used = record { run = x.run; tools = x.so_far.tools } ∷ s.tools_used }))
+      and_then
+      (traverse (woken table x.run made)
+      (put s.requests id
+      (goes_on (assigned node) origin runs x.run x.go made (add journal (ended x.run made)))))
+      (λ requests.
+      Some
+      (record {
+        requests = requests;
+        begun = s.begun;
+        table = table;
+        tools_used = record
+            { run = x.run; tools = x.so_far.tools } ∷ s.tools_used;
+      }))
 
   -- Result: the record of the run whose body has come to its end in a request with a node
   abbrev pub result_at : State P I A → ℕ → RunId → Origin → Journal → List RunId → Status P I A →
       Option (State P I A)
   result_at s id run origin journal runs (assigned node (within x (ends outcome))) =
-      and_then (only_if (same_run x.run run) x) (λ x. finished s id node origin journal runs x (recorded outcome x.so_far.segments))
+      and_then (only_if (same_run x.run run) x)
+      (λ x. finished s id node origin journal runs x (recorded outcome x.so_far.segments))
   result_at s id run origin journal runs status = None
 
   -- the result of a request that is done
@@ -184,18 +257,23 @@ module _ {P I A : Type 0} (w : World P I A) where
   abbrev pub results_of : List (RequestState P I A) → List ℕ → Option (List RequestResult)
   results_of requests = traverse (λ id. and_then (at requests id) (λ q. result_in q.status))
 
-  -- a caller goes on with the results of its calls, once all are there; its journal is that of before with their runs replayed in call order
+  -- a caller goes on with the results of its calls, once all are there; its journal is that of
+  -- before with their runs replayed in call order
   abbrev pub answered : State P I A → ℕ → Origin → Journal → List RunId → List RequestKey →
       Within P I A → (List RequestResult → Journal → Body I A) → Option (List RequestResult) →
       Option (State P I A)
   answered s id origin journal runs keys x go None = Some s
   answered s id origin journal runs keys x go (Some results) =
       and_then (replay_all s.table (runs_of results) journal) (λ next.
-      Some (with_request s id (in_body ready origin runs x.run x.go (run_on w.tools x.run (go results next) next (with_calls x.so_far keys results)))))
+      Some
+      (with_request s id
+      (in_body ready origin runs x.run x.go
+      (run_on w.tools x.run (go results next) next (with_calls x.so_far keys results)))))
 
   -- a caller as it stands, after one of its calls is done
   abbrev pub resume_at : State P I A → ℕ → RequestState P I A → Status P I A → Option (State P I A)
-  resume_at s id q (calling keys ids x go) = answered s id q.origin q.journal q.runs keys x go (results_of s.requests ids)
+  resume_at s id q (calling keys ids x go) = answered s id q.origin q.journal q.runs keys x go
+      (results_of s.requests ids)
   resume_at s id q status = None
 
   -- the caller, if there is one, is ready once its last open call is done
@@ -207,7 +285,14 @@ module _ {P I A : Type 0} (w : World P I A) where
   abbrev pub done_at : State P I A → ℕ → Origin → Journal → List RunId → Status P I A →
       Option (State P I A)
   done_at s id origin journal runs (assigned node (walking (gives reply))) =
-      resume_caller (with_request s id (record { origin = origin; journal = journal; runs = runs; status = done (result_of reply runs) })) origin.parent
+      resume_caller
+      (with_request s id
+      (record {
+        origin = origin;
+        journal = journal;
+        runs = runs;
+        status = done (result_of reply runs);
+      })) origin.parent
   done_at s id origin journal runs status = None
 
   -- an event of this request, as it stands

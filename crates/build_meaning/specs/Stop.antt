@@ -19,9 +19,14 @@ pub record Stopped (I A : Type 0) : Type 0 where
   pub so_far : SoFar I
 
 -- files are written and removed and tools are used until the body stops
-abbrev pub run_on : {I A : Type 0} → (List ℕ → I → A) → RunId → Body I A → Journal → SoFar I → Stopped I A
-run_on tools run (makes outcome) journal so_far = record { stop = ends outcome; journal = journal; so_far = so_far }
+abbrev pub run_on : {I A : Type 0} → (List ℕ → I → A) → RunId → Body I A → Journal → SoFar I
+    → Stopped I A
+run_on tools run (makes outcome) journal so_far = record
+    { stop = ends outcome; journal = journal; so_far = so_far }
 run_on tools run (does act go) journal so_far =
-    let next : Journal = add journal (acted run (length so_far.segments) act) in run_on tools run (go next) next (with_act so_far act)
-run_on tools run (uses name input go) journal so_far = run_on tools run (go (tools name input)) journal (with_tool so_far name input)
-run_on tools run (calls key keys go) journal so_far = record { stop = asks key keys go; journal = journal; so_far = so_far }
+    let next : Journal = add journal (acted run (length so_far.segments) act) in run_on tools run
+    (go next) next (with_act so_far act)
+run_on tools run (uses name input go) journal so_far = run_on tools run (go (tools name input))
+    journal (with_tool so_far name input)
+run_on tools run (calls key keys go) journal so_far = record
+    { stop = asks key keys go; journal = journal; so_far = so_far }

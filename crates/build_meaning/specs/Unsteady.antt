@@ -1,4 +1,5 @@
--- A worked world, whole but not steady: of two requests made at once one writes a file first, and both want a run that tells whether it is there.
+-- A worked world, whole but not steady: of two requests made at once one writes a file first, and
+-- both want a run that tells whether it is there.
 use Rattle.std.specs.Prelude.{ℕ, zero, suc, List, [], ◌∷◌, Option, None, Some}
 use Rattle.msb_laws.specs.Asking.{and_then}
 use Rattle.msb_values.specs.declared.act.Act.{Act}
@@ -8,7 +9,13 @@ use Rattle.result_cache.specs.declared.record.Record.{Record}
 use Rattle.result_cache.specs.declared.record.Segment.TheVariants.{File, Call}
 use Rattle.result_cache.specs.Journal.{Journal, acted, ended, content}
 use Rattle.build_meaning.specs.declared.event.Event.{Event}
-use Rattle.build_meaning.specs.declared.event.Event.TheVariants.{Assign, Claim, Request, Result, Done}
+use Rattle.build_meaning.specs.declared.event.Event.TheVariants.{
+  Assign,
+  Claim,
+  Request,
+  Result,
+  Done,
+}
 use Rattle.build_meaning.specs.declared.event.ClaimKind.TheVariants.{Go, Use}
 use Rattle.build_meaning.specs.Lists.{at}
 use Rattle.build_meaning.specs.Walk.{Walk, gives, wants, makes, does, calls}
@@ -55,7 +62,12 @@ walk_of [] journal = root_walk
 walk_of (n ∷ path) journal = walk_at n journal
 
 abbrev pub unsteady : World ℕ ℕ ℕ
-unsteady = record { root = default_key 0; tools = λ name input. input; walks = λ key journal. walk_of key.instance.path journal }
+unsteady = record {
+  root = default_key 0;
+  tools = λ name input. input;
+  walks = λ key journal.
+      walk_of key.instance.path journal;
+}
 
 -- the record of the run that looks, by the byte that it writes
 abbrev pub looked : ℕ → Record
@@ -65,7 +77,8 @@ abbrev pub writer_record : Record
 writer_record = recorded good (File (file_of 5) ∷ [])
 
 abbrev pub root_record : Record
-root_record = recorded good (Call (key_of 2 1) (run_of 2 ∷ run_of 1 ∷ []) ∷ Call (key_of 1 1) (run_of 1 ∷ []) ∷ [])
+root_record = recorded good
+    (Call (key_of 2 1) (run_of 2 ∷ run_of 1 ∷ []) ∷ Call (key_of 1 1) (run_of 1 ∷ []) ∷ [])
 
 -- the journal after the write; and the journals that the two requests leave
 abbrev pub written : Journal
@@ -93,15 +106,18 @@ given = record {
 abbrev pub writer_first : List Event
 writer_first =
     Assign 0 0 ∷ Claim 0 (run_of 0) Go ∷ Request 0 (key_of 2 1 ∷ key_of 1 1 ∷ [])
-    ∷ Assign 1 0 ∷ Claim 1 (run_of 2) Go ∷ Result 1 (run_of 2) ∷ Claim 1 (run_of 1) Go ∷ Result 1 (run_of 1) ∷ Done 1
+    ∷ Assign 1 0 ∷ Claim 1 (run_of 2) Go ∷ Result 1 (run_of 2) ∷ Claim 1 (run_of 1) Go
+    ∷ Result 1 (run_of 1) ∷ Done 1
     ∷ Assign 2 0 ∷ Claim 2 (run_of 1) Use ∷ Done 2 ∷ Assign 0 0 ∷ Result 0 (run_of 0) ∷ Done 0 ∷ []
 
 abbrev pub looker_first : List Event
 looker_first =
     Assign 0 0 ∷ Claim 0 (run_of 0) Go ∷ Request 0 (key_of 2 1 ∷ key_of 1 1 ∷ [])
     ∷ Assign 2 0 ∷ Claim 2 (run_of 1) Go ∷ Result 2 (run_of 1) ∷ Done 2
-    ∷ Assign 1 0 ∷ Claim 1 (run_of 2) Go ∷ Result 1 (run_of 2) ∷ Claim 1 (run_of 1) Use ∷ Done 1 ∷ Assign 0 0 ∷ Result 0 (run_of 0) ∷ Done 0 ∷ []
+    ∷ Assign 1 0 ∷ Claim 1 (run_of 2) Go ∷ Result 1 (run_of 2) ∷ Claim 1 (run_of 1) Use ∷ Done 1
+    ∷ Assign 0 0 ∷ Result 0 (run_of 0) ∷ Done 0 ∷ []
 
 -- what the last act on a path left, by the root's journal after these events
 abbrev pub left_by : List Event → List ℕ → Option (Option (List ℕ))
-left_by events path = and_then (after_all unsteady (start unsteady) events) (λ s. and_then (at s.requests 0) (λ q. content q.journal path))
+left_by events path = and_then (after_all unsteady (start unsteady) events)
+    (λ s. and_then (at s.requests 0) (λ q. content q.journal path))

@@ -14,8 +14,9 @@ use Rattle.result_cache.specs.declared.record.Decision.{Decision}
 use Rattle.result_cache.specs.declared.record.Record.{Record}
 use Rattle.result_cache.specs.Journal.{Journal}
 
--- what the record of a run says besides its segments: whether it succeeded, what was decided of each bucket, the items that the target
--- returns, what it changes in a request's scope, and its notes. (Target element)
+-- what the record of a run says besides its segments: whether it succeeded, what was decided of
+-- each bucket, the items that the target returns, what it changes in a request's scope, and its
+-- notes. (Target element)
 pub record Outcome : Type 0 where
   pub ok : Bool
   pub decisions : List Decision
@@ -30,9 +31,10 @@ pub record Reply : Type 0 where
   pub returned : List Returned
   pub error : Option (List ℕ)
 
--- the body of a run, by what it does next. It is over; it writes or removes a file, and goes on by the journal then; it uses a tool by name, and goes on
--- by the answer; it calls requests at once, a first one and perhaps more, and goes on by their results and the journal then. A call that is
--- not made at once with others is a list of its own. (Target element; MSBuild task, BuildInParallel)
+-- the body of a run, by what it does next. It is over; it writes or removes a file, and goes on by
+-- the journal then; it uses a tool by name, and goes on by the answer; it calls requests at once, a
+-- first one and perhaps more, and goes on by their results and the journal then. A call that is not
+-- made at once with others is a list of its own. (Target element; MSBuild task, BuildInParallel)
 pub data Body (I A : Type 0) : Type 0 where
   makes : Outcome → Body I A
   does : Act → (Journal → Body I A) → Body I A

@@ -4,7 +4,8 @@ use Rattle.result_cache.specs.declared.request.RequestKey.{RequestKey}
 use Rattle.result_cache.specs.Journal.{Journal}
 use Rattle.build_meaning.specs.Walk.{Walk}
 
--- the request that the build is of; what a tool answers, by its name and its input; what a request does, by its caller's journal
+-- the request that the build is of; what a tool answers, by its name and its input; what a request
+-- does, by its caller's journal
 pub record World (P I A : Type 0) : Type 0 where
   pub root : RequestKey
   pub tools : List ℕ → I → A

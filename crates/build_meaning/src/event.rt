@@ -24,7 +24,8 @@ pub enum Event {
     Result(u64, RunId),
     /// The request is over.
     Done(u64),
-    /// The node of the second number has no memory for the request, which is ready again. It takes no other.
+    /// The node of the second number has no memory for the request, which is ready again. It takes
+    /// no other.
     Retire(u64, u32),
 }
 

@@ -1,8 +1,9 @@
-//! What a build of requests and runs means, and what every history of a scheduler has to do with it.
-//! (MSBuild task; Target build order; Building projects in parallel.)
+//! What a build of requests and runs means, and what every history of a scheduler has to do with
+//! it. (MSBuild task; Target build order; Building projects in parallel.)
 //!
-//! `specs/` has the definitions. The functions here are the laws that are proved of them: they run no code, and their
-//! contracts are what is proved. The laws speak of any world, that is of any root request, tools and walks of requests.
+//! `specs/` has the definitions. The functions here are the laws that are proved of them: they run
+//! no code, and their contracts are what is proved. The laws speak of any world, that is of any
+//! root request, tools and walks of requests.
 #![tactic(auto)]
 
 mod event;

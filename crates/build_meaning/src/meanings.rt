@@ -12,7 +12,16 @@ ghost use Rattle.result_cache.specs.Replay.{replay, replay_all};
 ghost use Rattle.build_meaning.specs.World.{World};
 ghost use Rattle.build_meaning.specs.Walk.{Walk, Body};
 ghost use Rattle.build_meaning.specs.SoFar.{ToolUse, nothing_yet, runs_of};
-ghost use Rattle.build_meaning.specs.Meaning.{Demanded, Given, deepest, at_once, body, walk, request, meaning};
+ghost use Rattle.build_meaning.specs.Meaning.{
+  Demanded,
+  Given,
+  deepest,
+  at_once,
+  body,
+  walk,
+  request,
+  meaning,
+};
 ghost use Rattle.build_meaning.specs.Derived.{OfWalk, OfMeaning};
 ghost use Rattle.build_meaning.specs.Demand.{IsSteady, IsSingle};
 ghost use Rattle.build_meaning.specs.Sound.{IsMade, HasMade, IsSound, IsPart};
@@ -54,24 +63,29 @@ pub fn single_is_steady<P, I, A>()
 
 /// Building a run, and replaying its record by a table, give one journal, whichever journal it is.
 ///
-/// The table's records and those of the journal are such as bodies of a steady demand make, and the journal is closed and
-/// has not the run.
+/// The table's records and those of the journal are such as bodies of a steady demand make, and the
+/// journal is closed and has not the run.
 pub fn building_is_replaying<P, I, A>()
     ensures { (w : World P I A) (demand : List (Demanded P I)) → IsSteady demand →
         (table : Records) → HasMade demand table →
-        (depth : ℕ) (path : List RunId) → depth + suc (length path) ≡ deepest → (run : RunId) (b : Body I A) (journal : Journal) →
+        (depth : ℕ) (path : List RunId) → depth + suc (length path) ≡ deepest
+        → (run : RunId) (b : Body I A) (journal : Journal) →
         IsSound demand journal → has (end_of run) journal ≡ false →
         (x : Given P I (Record × List (ToolUse I))) →
-        body w (request w depth (run ∷ path)) run b journal nothing_yet ≡ Some x → IsPart x.demand demand → IsMade demand run x.value.0 →
-        (after : Journal) → replay table run journal ≡ Some after → after ≡ add x.journal (ended run x.value.0) }
+        body w (request w depth (run ∷ path)) run b journal nothing_yet ≡ Some x
+        → IsPart x.demand demand → IsMade demand run x.value.0 →
+        (after : Journal) → replay table run journal ≡ Some after
+        → after ≡ add x.journal (ended run x.value.0) }
 {}
 
 /// Replaying the runs of calls made at once, in call order, gives the merge of the calls.
 pub fn replaying_is_merging<P, I, A>()
     ensures { (w : World P I A) (demand : List (Demanded P I)) → IsSteady demand →
         (table : Records) → HasMade demand table →
-        (depth : ℕ) (path : List RunId) → depth + length path ≡ deepest → (keys : List RequestKey) (journal : Journal) →
+        (depth : ℕ) (path : List RunId) → depth + length path ≡ deepest
+        → (keys : List RequestKey) (journal : Journal) →
         IsSound demand journal → (x : Given P I (List RequestResult)) →
         at_once w (request w depth path) journal journal keys ≡ Some x → IsPart x.demand demand →
-        (after : Journal) → replay_all table (runs_of x.value) journal ≡ Some after → after ≡ x.journal }
+        (after : Journal) → replay_all table (runs_of x.value) journal ≡ Some after
+        → after ≡ x.journal }
 {}

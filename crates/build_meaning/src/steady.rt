@@ -21,8 +21,8 @@ pub fn any_order_agrees<P, I, A>()
         (events : List Event) (s : State P I A) → IsHistory w events s → Agrees out s }
 {}
 
-/// In every legal history of a whole and steady world each request stands at a place of the meaning: what is left of it
-/// gives what the meaning gives there.
+/// In every legal history of a whole and steady world each request stands at a place of the
+/// meaning: what is left of it gives what the meaning gives there.
 pub fn every_request_stands<P, I, A>()
     ensures { (w : World P I A) (out : Given P I RequestResult) → IsWhole w out →
         IsSteady out.demand →
@@ -30,7 +30,8 @@ pub fn every_request_stands<P, I, A>()
         (goals : List Goal) × StandsInMeaning w out s goals }
 {}
 
-/// In no history of a whole and steady world anything is refused: no cycle closes, and no limit is met.
+/// In no history of a whole and steady world anything is refused: no cycle closes, and no limit is
+/// met.
 pub fn nothing_is_refused<P, I, A>()
     ensures { (w : World P I A) (out : Given P I RequestResult) → IsWhole w out →
         IsSteady out.demand →
@@ -39,8 +40,8 @@ pub fn nothing_is_refused<P, I, A>()
         at s.requests id ≡ Some q → q.status ≡ assigned node place → CanGoOn w s id place }
 {}
 
-/// Where the root of a history of a whole and steady world is done, every run of the meaning is finished, and tools were
-/// used as there.
+/// Where the root of a history of a whole and steady world is done, every run of the meaning is
+/// finished, and tools were used as there.
 pub fn done_is_complete<P, I, A>()
     ensures { (w : World P I A) (out : Given P I RequestResult) → IsWhole w out →
         IsSteady out.demand →
@@ -49,13 +50,15 @@ pub fn done_is_complete<P, I, A>()
         EndsWith s result journal → IsComplete out s }
 {}
 
-/// Two histories of a whole and steady world whose roots are done leave the same: one result, one journal, and tables of
-/// the same runs with the same records, whatever the order of their events and the nodes that they went to.
+/// Two histories of a whole and steady world whose roots are done leave the same: one result, one
+/// journal, and tables of the same runs with the same records, whatever the order of their events
+/// and the nodes that they went to.
 pub fn ends_are_determined<P, I, A>()
     ensures { (w : World P I A) (out : Given P I RequestResult) → IsWhole w out →
         IsSteady out.demand →
         (events others : List Event) (s t : State P I A) → IsHistory w events s →
         IsHistory w others t →
-        (result other : RequestResult) (journal last : Journal) → EndsWith s result journal → EndsWith t other last →
+        (result other : RequestResult) (journal last : Journal) → EndsWith s result journal
+        → EndsWith t other last →
         (result ≡ other) × (journal ≡ last) × SameRecords s.table t.table }
 {}

@@ -1,5 +1,26 @@
 -- A node that has not retired.
-use Rattle.std.proofs.Common.{◌≡◌, ◌||◌, ℕ, zero, suc, true, false, List, [], ◌∷◌, ◌++◌, length, drop, Option, Some, None, refl, ap, sym, ◌∙◌}
+use Rattle.std.proofs.Common.{
+  ◌≡◌,
+  ◌||◌,
+  ℕ,
+  zero,
+  suc,
+  true,
+  false,
+  List,
+  [],
+  ◌∷◌,
+  ◌++◌,
+  length,
+  drop,
+  Option,
+  Some,
+  None,
+  refl,
+  ap,
+  sym,
+  ◌∙◌,
+}
 use Rattle.std.specs.List.{list_any}
 use Rattle.std.proofs.Math.Logic.{∥∥₁_elim, ∥∥₁_map}
 use Rattle.std.proofs.lemmas.List.{append-nil}
@@ -19,29 +40,43 @@ use Rattle.build_nodes.proofs.Either.{or-assoc, or-none, or-right}
 use Rattle.build_nodes.proofs.Marks.{continues-of, drop-front}
 
 -- a node has left where its Retire is among the events, or an end is told
-pub left-is : (node : ℕ) (xs : List Event) (end : Option End) → has_left node (marked xs end) ≡ list_any (is_retire_of node) xs || is_some end
+pub left-is : (node : ℕ) (xs : List Event) (end : Option End)
+    → has_left node (marked xs end) ≡ list_any (is_retire_of node) xs || is_some end
 left-is node [] None = refl
 left-is node [] (Some end) = refl
-left-is node (x ∷ xs) end = ap (λ b. is_retire_of node x || b) (left-is node xs end) ∙ or-assoc (is_retire_of node x) (list_any (is_retire_of node) xs) (is_some end)
+left-is node (x ∷ xs) end = ap (λ b. is_retire_of node x || b) (left-is node xs end)
+    ∙ or-assoc (is_retire_of node x) (list_any (is_retire_of node) xs) (is_some end)
 
 pub any-append : (node : ℕ) (xs ys : List Event) →
     list_any (is_retire_of node) (xs ++ ys)
     ≡ list_any (is_retire_of node) xs || list_any (is_retire_of node) ys
 any-append node [] ys = refl
-any-append node (x ∷ xs) ys = ap (λ b. is_retire_of node x || b) (any-append node xs ys) ∙ or-assoc (is_retire_of node x) (list_any (is_retire_of node) xs) (list_any (is_retire_of node) ys)
+any-append node (x ∷ xs) ys = ap (λ b. is_retire_of node x || b) (any-append node xs ys)
+    ∙ or-assoc (is_retire_of node x) (list_any (is_retire_of node) xs)
+    (list_any (is_retire_of node) ys)
 
-none-left : (node : ℕ) (xs : List Event) (end : Option End) → end ≡ None → has_left node (marked xs end) ≡ false → list_any (is_retire_of node) xs ≡ false
-none-left node xs end none e = sym (or-none (list_any (is_retire_of node) xs)) ∙ (ap (λ o. list_any (is_retire_of node) xs || is_some o) (sym none) ∙ (sym (left-is node xs end) ∙ e))
+none-left : (node : ℕ) (xs : List Event) (end : Option End) → end ≡ None
+    → has_left node (marked xs end) ≡ false → list_any (is_retire_of node) xs ≡ false
+none-left node xs end none e = sym (or-none (list_any (is_retire_of node) xs))
+    ∙ (ap (λ o. list_any (is_retire_of node) xs || is_some o) (sym none)
+    ∙ (sym (left-is node xs end) ∙ e))
 
-left-none : (node : ℕ) (xs : List Event) (end : Option End) → end ≡ None → list_any (is_retire_of node) xs ≡ false → has_left node (marked xs end) ≡ false
-left-none node xs end none e = left-is node xs end ∙ (ap (λ o. list_any (is_retire_of node) xs || is_some o) none ∙ (or-none (list_any (is_retire_of node) xs) ∙ e))
+left-none : (node : ℕ) (xs : List Event) (end : Option End) → end ≡ None
+    → list_any (is_retire_of node) xs ≡ false → has_left node (marked xs end) ≡ false
+left-none node xs end none e = left-is node xs end
+    ∙ (ap (λ o. list_any (is_retire_of node) xs || is_some o) none
+    ∙ (or-none (list_any (is_retire_of node) xs) ∙ e))
 
 -- an event that is no Retire of the node
-pub active-more : (node : ℕ) (xs ys : List Event) (event : Event) (before after : Option End) → before ≡ None → after ≡ None → ys ≡ xs ++ event ∷ [] → is_retire_of node event ≡ false → has_left node (marked xs before) ≡ false →
+pub active-more : (node : ℕ) (xs ys : List Event) (event : Event) (before after : Option End)
+    → before ≡ None → after ≡ None → ys ≡ xs ++ event ∷ [] → is_retire_of node event ≡ false
+    → has_left node (marked xs before) ≡ false →
     has_left node (marked ys after) ≡ false
 active-more node xs ys event before after b a is other e =
-    left-none node ys after a (ap (list_any (is_retire_of node)) is ∙ (any-append node xs (event ∷ [])
-    ∙ (ap (λ x. x || (is_retire_of node event || false)) (none-left node xs before b e) ∙ (or-none (is_retire_of node event) ∙ other))))
+    left-none node ys after a (ap (list_any (is_retire_of node)) is
+    ∙ (any-append node xs (event ∷ [])
+    ∙ (ap (λ x. x || (is_retire_of node event || false)) (none-left node xs before b e)
+    ∙ (or-none (is_retire_of node event) ∙ other))))
 
 -- events of which none is a Retire of the node
 pub active-all : (node : ℕ) (xs ys more : List Event) (before after : Option End) →
@@ -52,37 +87,60 @@ active-all node xs ys more before after b a is none e =
     ∙ (ap (λ x. x || list_any (is_retire_of node) more) (none-left node xs before b e) ∙ none)))
 
 -- nothing has changed
-pub active-same : (node : ℕ) (xs ys : List Event) (before after : Option End) → after ≡ before → ys ≡ xs → has_left node (marked xs before) ≡ false → has_left node (marked ys after) ≡ false
-active-same node xs ys before after a is e = ap (λ o. has_left node (marked ys o)) a ∙ (ap (λ l. has_left node (marked l before)) is ∙ e)
+pub active-same : (node : ℕ) (xs ys : List Event) (before after : Option End) → after ≡ before
+    → ys ≡ xs → has_left node (marked xs before) ≡ false → has_left node (marked ys after) ≡ false
+active-same node xs ys before after a is e = ap (λ o. has_left node (marked ys o)) a
+    ∙ (ap (λ l. has_left node (marked l before)) is ∙ e)
 
-any-dropped : (node n : ℕ) (xs : List Event) → list_any (is_retire_of node) (drop n xs) ≡ true → list_any (is_retire_of node) xs ≡ true
+any-dropped : (node n : ℕ) (xs : List Event) → list_any (is_retire_of node) (drop n xs) ≡ true
+    → list_any (is_retire_of node) xs ≡ true
 any-dropped node zero xs e = e
 any-dropped node (suc n) [] e = absurd (cc)
-any-dropped node (suc n) (x ∷ xs) e = or-right (is_retire_of node x) (list_any (is_retire_of node) xs) (any-dropped node n xs e)
+any-dropped node (suc n) (x ∷ xs) e = or-right (is_retire_of node x)
+    (list_any (is_retire_of node) xs) (any-dropped node n xs e)
 
 -- its Retire is among the last events
-pub retired-now : (node number : ℕ) (events : List Event) (end : Option End) → list_any (is_retire_of node) (drop number events) ≡ true → has_left node (marked events end) ≡ true
-retired-now node number events end e = left-is node events end ∙ ap (λ b. b || is_some end) (any-dropped node number events e)
+pub retired-now : (node number : ℕ) (events : List Event) (end : Option End)
+    → list_any (is_retire_of node) (drop number events) ≡ true
+    → has_left node (marked events end) ≡ true
+retired-now node number events end e = left-is node events end
+    ∙ ap (λ b. b || is_some end) (any-dropped node number events e)
 
-module _ {W P I A : Type 0} (seen : W → Seen P I A) (earlier : W → Option (Position P I A × ℕ)) (node : ℕ) (w : World P I A) where
-  idle-of : (past : List (Option Event)) (b : Brought W) → IsBrought seen earlier node w past b → ∥ IsIdle seen earlier node w past (number_of b) ∥₁
+module _ {W P I A : Type 0} (seen : W → Seen P I A) (earlier : W → Option (Position P I A × ℕ))
+    (node : ℕ) (w : World P I A) where
+  idle-of : (past : List (Option Event)) (b : Brought W) → IsBrought seen earlier node w past b
+      → ∥ IsIdle seen earlier node w past (number_of b) ∥₁
   idle-of past (Nothing number) h = h
-  idle-of past (Walk a) h = ∥∥₁_map h (λ k. record { events = k.events; number_is = k.number; begins = k.begins; active = k.active })
-  idle-of past (Refused a) h = ∥∥₁_map h (λ k. record { events = k.events; number_is = k.number; begins = k.begins; active = k.active })
+  idle-of past (Walk a) h = ∥∥₁_map h
+      (λ k.
+      record { events = k.events; number_is = k.number; begins = k.begins; active = k.active })
+  idle-of past (Refused a) h = ∥∥₁_map h
+      (λ k.
+      record { events = k.events; number_is = k.number; begins = k.begins; active = k.active })
 
   -- a node that has brought something, and has no Retire behind it
-  pub active-now : (events : List Event) (end : Option End) (b : Brought W) → end ≡ None → list_any (is_retire_of node) (drop (number_of b) events) ≡ false → IsBrought seen earlier node w (marked events end) b → has_left node (marked events end) ≡ false
+  pub active-now : (events : List Event) (end : Option End) (b : Brought W) → end ≡ None
+      → list_any (is_retire_of node) (drop (number_of b) events) ≡ false
+      → IsBrought seen earlier node w (marked events end) b
+      → has_left node (marked events end) ≡ false
   active-now events end b none e h = ∥∥₁_elim (idle-of (marked events end) b h) (hlevel props) from
     where
-      from : IsIdle seen earlier node w (marked events end) (number_of b) → has_left node (marked events end) ≡ false
+      from : IsIdle seen earlier node w (marked events end) (number_of b)
+          → has_left node (marked events end) ≡ false
       from k =
           let m = continues-of k.events events None end k.begins in
-          let behind : drop (number_of b) events ≡ m.0 = ap (λ n. drop n events) k.number_is ∙ (ap (drop (length k.events)) m.1 ∙ drop-front k.events m.0) in
-          left-none node events end none (ap (list_any (is_retire_of node)) m.1 ∙ (any-append node k.events m.0
-          ∙ (ap (λ x. x || list_any (is_retire_of node) m.0) (none-left node k.events None refl k.active) ∙ (ap (list_any (is_retire_of node)) (sym behind) ∙ e))))
+          let behind : drop (number_of b) events ≡ m.0 = ap (λ n. drop n events) k.number_is
+          ∙ (ap (drop (length k.events)) m.1 ∙ drop-front k.events m.0) in
+          left-none node events end none (ap (list_any (is_retire_of node)) m.1
+          ∙ (any-append node k.events m.0
+          ∙ (ap (λ x. x || list_any (is_retire_of node) m.0)
+          (none-left node k.events None refl k.active)
+          ∙ (ap (list_any (is_retire_of node)) (sym behind) ∙ e))))
 
   -- a node without a request
-  pub idle-now : (events : List Event) (end : Option End) (number : ℕ) → end ≡ None → number ≡ length events → has_left node (marked events end) ≡ false → ∥ IsIdle seen earlier node w (marked events end) number ∥₁
+  pub idle-now : (events : List Event) (end : Option End) (number : ℕ) → end ≡ None
+      → number ≡ length events → has_left node (marked events end) ≡ false
+      → ∥ IsIdle seen earlier node w (marked events end) number ∥₁
   idle-now events end number none n e = ∣ record {
     events = events;
     number_is = n;
@@ -92,4 +150,5 @@ module _ {W P I A : Type 0} (seen : W → Seen P I A) (earlier : W → Option (P
 
   -- a node that has not begun
   pub idle-first : (past : List (Option Event)) → ∥ IsIdle seen earlier node w past 0 ∥₁
-  idle-first past = ∣ record { events = []; number_is = refl; begins = (past, refl); active = refl } ∣₁
+  idle-first past = ∣ record { events = []; number_is = refl; begins = (past, refl); active = refl }
+      ∣₁

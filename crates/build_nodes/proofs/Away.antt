@@ -1,5 +1,26 @@
 -- What a node knows of a walk while others have the core.
-use Rattle.std.proofs.Common.{◌≡◌, ◌+◌, ◌<◌, ◌^◌, ℕ, List, ◌++◌, length, drop, false, Option, Some, None, refl, ap, sym, subst, ◌∙◌, arith, length-append}
+use Rattle.std.proofs.Common.{
+  ◌≡◌,
+  ◌+◌,
+  ◌<◌,
+  ◌^◌,
+  ℕ,
+  List,
+  ◌++◌,
+  length,
+  drop,
+  false,
+  Option,
+  Some,
+  None,
+  refl,
+  ap,
+  sym,
+  subst,
+  ◌∙◌,
+  arith,
+  length-append,
+}
 use Rattle.std.proofs.Math.Logic.{∥∥₁_map₂}
 use Rattle.std.proofs.Props.{props}
 use Rattle.std.specs.Prelude.{is_some, IsSome}
@@ -38,40 +59,59 @@ use Rattle.build_nodes.proofs.HistoryParts.{goes-on}
 use Rattle.build_nodes.proofs.Marks.{none-more, continues-of, drop-front}
 
 module _ {P I A : Type 0} (w : World P I A) where
-  answered-newer : {T U : Records} → Newer T U → (p next : Position P I A) (answer : Answer) → answered w T p answer ≡ Some next → answered w U p answer ≡ Some next
+  answered-newer : {T U : Records} → Newer T U → (p next : Position P I A) (answer : Answer)
+      → answered w T p answer ≡ Some next → answered w U p answer ≡ Some next
   answered-newer same_table p next answer e = e
-  answered-newer (one_newer {U = U} {f = f} n g) p next answer e = answered-more w U f g p next answer (answered-newer n p next answer e)
+  answered-newer (one_newer {U = U} {f = f} n g) p next answer e = answered-more w U f g p next
+      answer (answered-newer n p next answer e)
 
   -- a walk stays its request's own through the events of others
-  pub own-still : (before more events : List Event) (old table : Records) (id : ℕ) (walk : Seen P I A) (s : State P I A) (o : IsOwn w before old id walk) → o.stands.state.table ≡ old →
-      events ≡ before ++ more → AreOfOthers id more → IsHistory w events s → table ≡ s.table → IsOwn w events table id walk
+  pub own-still : (before more events : List Event) (old table : Records) (id : ℕ)
+      (walk : Seen P I A) (s : State P I A) (o : IsOwn w before old id walk)
+      → o.stands.state.table ≡ old →
+      events ≡ before ++ more → AreOfOthers id more → IsHistory w events s → table ≡ s.table
+      → IsOwn w events table id walk
   own-still before more events old table id walk s o was e others h is =
-      let g : after_all w o.stands.state more ≡ Some s = goes-on w before more (start w) o.stands.state s o.stands.history (subst (λ es. IsHistory w es s) e h) in
+      let g : after_all w o.stands.state more
+      ≡ Some s = goes-on w before more (start w) o.stands.state s o.stands.history
+      (subst (λ es. IsHistory w es s) e h) in
       record {
         stands = record {
           state = s;
           origin = o.stands.origin;
           node = o.stands.node;
           history = h;
-          there = stays w o.stands.state s more id o.stands.node (placed o.stands.origin walk.position (assigned o.stands.node)) walk.position.place o.stands.there refl others g;
+          there = stays w o.stands.state s more id o.stands.node
+              (placed o.stands.origin walk.position (assigned o.stands.node)) walk.position.place
+              o.stands.there refl others g;
         };
         world = o.world;
         learnt = record {
           in_order = o.learnt.in_order;
           shared = λ run made f.
               let a = subst (λ t. found t run ≡ Some made) (sym was) (o.learnt.shared run made f) in
-              subst (λ t. found t run ≡ Some made) (sym is) (records_stay w before more o.stands.state s o.stands.history g run made a).0;
+              subst (λ t. found t run ≡ Some made) (sym is)
+              (records_stay w before more o.stands.state s o.stands.history g run made a).0;
         };
         asked = o.asked;
-        few = let a = o.few in let b = ap length e in let c = length-append before more in omega arith;
+        few = let a = o.few in let b = ap length e in let c = length-append before more in omega
+            arith;
       }
 
   -- and so does one with its next answer
-  pub out-still : (before more events : List Event) (old table : Records) (id : ℕ) (walk : Seen P I A) (answer : Answer) (s : State P I A) (o : IsOut w before old id walk answer) → o.stands.state.table ≡ old →
-      events ≡ before ++ more → AreOfOthers id more → IsHistory w events s → table ≡ s.table → IsOut w events table id walk answer
+  pub out-still : (before more events : List Event) (old table : Records) (id : ℕ)
+      (walk : Seen P I A) (answer : Answer) (s : State P I A)
+      (o : IsOut w before old id walk answer) → o.stands.state.table ≡ old →
+      events ≡ before ++ more → AreOfOthers id more → IsHistory w events s → table ≡ s.table
+      → IsOut w events table id walk answer
   out-still before more events old table id walk answer s o was e others h is =
-      let g : after_all w o.stands.state more ≡ Some s = goes-on w before more (start w) o.stands.state s o.stands.history (subst (λ es. IsHistory w es s) e h) in
-      let newer : Newer old table = subst (Newer old) (sym is) (subst (λ t. Newer t s.table) was (all-change w more o.stands.state s (lawful w before o.stands.state o.stands.history) g).stays) in
+      let g : after_all w o.stands.state more
+      ≡ Some s = goes-on w before more (start w) o.stands.state s o.stands.history
+      (subst (λ es. IsHistory w es s) e h) in
+      let newer : Newer old table = subst (Newer old) (sym is)
+      (subst (λ t. Newer t s.table) was
+      (all-change w more o.stands.state s (lawful w before o.stands.state o.stands.history)
+      g).stays) in
       record {
         next = o.next;
         stands = record {
@@ -79,62 +119,95 @@ module _ {P I A : Type 0} (w : World P I A) where
           origin = o.stands.origin;
           node = o.stands.node;
           history = h;
-          there = stays w o.stands.state s more id o.stands.node (placed o.stands.origin o.next (assigned o.stands.node)) o.next.place o.stands.there refl others g;
+          there = stays w o.stands.state s more id o.stands.node
+              (placed o.stands.origin o.next (assigned o.stands.node)) o.next.place o.stands.there
+              refl others g;
         };
         world = o.world;
-        learnt = record { in_order = o.learnt.in_order; shared = λ run made f. newer-found newer run made (o.learnt.shared run made f) };
+        learnt = record {
+          in_order = o.learnt.in_order;
+          shared = λ run made f.
+              newer-found newer run made (o.learnt.shared run made f);
+        };
         goes = answered-newer newer walk.position o.next answer o.goes;
         turn = o.turn;
-        few = let a = o.few in let b = ap length e in let c = length-append before more in omega arith;
+        few = let a = o.few in let b = ap length e in let c = length-append before more in omega
+            arith;
       }
 
 pub both-shown : {A B : Type 0} → ∥ A ∥₁ → ∥ B ∥₁ → ∥ A × B ∥₁
 both-shown a b = ∥∥₁_map₂ a b (λ x y. (x, y))
 
 -- equal in what contracts see of them
-pub seen-same : {P I A : Type 0} (s t : Seen P I A) → s.world ≡ t.world → s.position ≡ t.position → s.asked ≡ t.asked → s.learnt ≡ t.learnt → s ≡ t
-seen-same s t world position asked learnt = λ i. record { world = world i; position = position i; asked = asked i; learnt = learnt i }
+pub seen-same : {P I A : Type 0} (s t : Seen P I A) → s.world ≡ t.world → s.position ≡ t.position
+    → s.asked ≡ t.asked → s.learnt ≡ t.learnt → s ≡ t
+seen-same s t world position asked learnt = λ i.
+    record { world = world i; position = position i; asked = asked i; learnt = learnt i }
 
-module _ {W P I A : Type 0} (seen : W → Seen P I A) (earlier : W → Option (Position P I A × ℕ)) (node : ℕ) (w : World P I A) where
-  module _ {log : Logged} {origins : List Origin} {slots : List (Slot W)} {making : List (Option RunId)} {table : TableRuns} {end : Option End} (x : Shown seen w log origins slots making table end) where
+module _ {W P I A : Type 0} (seen : W → Seen P I A) (earlier : W → Option (Position P I A × ℕ))
+    (node : ℕ) (w : World P I A) where
+  module _ {log : Logged} {origins : List Origin} {slots : List (Slot W)}
+      {making : List (Option RunId)} {table : TableRuns} {end : Option End}
+      (x : Shown seen w log origins slots making table end) where
     -- none of the events behind the node's own is of the request
-    pub asking-still : (a : Asking W) → IsAsking seen earlier node w (marked log.events end) a → AreOfOthers a.id (drop a.number log.events) → IsOwn w log.events table.finished a.id (seen a.walk)
+    pub asking-still : (a : Asking W) → IsAsking seen earlier node w (marked log.events end) a
+        → AreOfOthers a.id (drop a.number log.events)
+        → IsOwn w log.events table.finished a.id (seen a.walk)
     asking-still a k others =
         let m = continues-of k.events log.events None end k.begins in
-        let behind : drop a.number log.events ≡ m.0 = ap (λ n. drop n log.events) k.number ∙ (ap (drop (length k.events)) m.1 ∙ drop-front k.events m.0) in
-        own-still w k.events m.0 log.events k.table table.finished a.id (seen a.walk) x.state k.own k.table_is m.1 (subst (AreOfOthers a.id) behind others) x.history x.finished
+        let behind : drop a.number log.events ≡ m.0 = ap (λ n. drop n log.events) k.number
+        ∙ (ap (drop (length k.events)) m.1 ∙ drop-front k.events m.0) in
+        own-still w k.events m.0 log.events k.table table.finished a.id (seen a.walk) x.state k.own
+        k.table_is m.1 (subst (AreOfOthers a.id) behind others) x.history x.finished
 
-    pub asking-here : (a : Asking W) → IsAsking seen earlier node w (marked log.events end) a → AreOfOthers a.id (drop a.number log.events) → IsAssignedTo w log.events a.id node
+    pub asking-here : (a : Asking W) → IsAsking seen earlier node w (marked log.events end) a
+        → AreOfOthers a.id (drop a.number log.events) → IsAssignedTo w log.events a.id node
     asking-here a k others =
         let m = continues-of k.events log.events None end k.begins in
-        let behind : drop a.number log.events ≡ m.0 = ap (λ n. drop n log.events) k.number ∙ (ap (drop (length k.events)) m.1 ∙ drop-front k.events m.0) in
-        still-here w k.events m.0 log.events a.id node x.state k.here m.1 (subst (AreOfOthers a.id) behind others) x.history
+        let behind : drop a.number log.events ≡ m.0 = ap (λ n. drop n log.events) k.number
+        ∙ (ap (drop (length k.events)) m.1 ∙ drop-front k.events m.0) in
+        still-here w k.events m.0 log.events a.id node x.state k.here m.1
+        (subst (AreOfOthers a.id) behind others) x.history
 
-    pub asking-back : (a : Asking W) → IsAsking seen earlier node w (marked log.events end) a → AreOfOthers a.id (drop a.number log.events) → CanGoBack seen earlier w log.events table.finished a.id a.walk a.answer
+    pub asking-back : (a : Asking W) → IsAsking seen earlier node w (marked log.events end) a
+        → AreOfOthers a.id (drop a.number log.events)
+        → CanGoBack seen earlier w log.events table.finished a.id a.walk a.answer
     asking-back a k others =
         let m = continues-of k.events log.events None end k.begins in
-        let behind : drop a.number log.events ≡ m.0 = ap (λ n. drop n log.events) k.number ∙ (ap (drop (length k.events)) m.1 ∙ drop-front k.events m.0) in
+        let behind : drop a.number log.events ≡ m.0 = ap (λ n. drop n log.events) k.number
+        ∙ (ap (drop (length k.events)) m.1 ∙ drop-front k.events m.0) in
         let b = k.back in
-        let table_is = ap (λ (s : State P I A). s.table) (one_state w k.events b.out.stands.state k.own.stands.state b.out.stands.history k.own.stands.history) ∙ k.table_is in
+        let table_is = ap (λ (s : State P I A). s.table)
+        (one_state w k.events b.out.stands.state k.own.stands.state b.out.stands.history
+        k.own.stands.history) ∙ k.table_is in
         record {
           position = b.position;
           asked = b.asked;
           stood = b.stood;
-          out = out-still w k.events m.0 log.events k.table table.finished a.id _ a.answer x.state b.out table_is m.1 (subst (AreOfOthers a.id) behind others) x.history x.finished;
+          out = out-still w k.events m.0 log.events k.table table.finished a.id _ a.answer x.state
+              b.out table_is m.1 (subst (AreOfOthers a.id) behind others) x.history x.finished;
         }
 
     -- so it is with a walk that there was no memory to advance
-    pub answered-still : (a : Answered W) → IsAnswered seen earlier node w (marked log.events end) a → AreOfOthers a.id (drop a.number log.events) → IsOut w log.events table.finished a.id (seen a.walk) a.answer
+    pub answered-still : (a : Answered W) → IsAnswered seen earlier node w (marked log.events end) a
+        → AreOfOthers a.id (drop a.number log.events)
+        → IsOut w log.events table.finished a.id (seen a.walk) a.answer
     answered-still a k others =
         let m = continues-of k.events log.events None end k.begins in
-        let behind : drop a.number log.events ≡ m.0 = ap (λ n. drop n log.events) k.number ∙ (ap (drop (length k.events)) m.1 ∙ drop-front k.events m.0) in
-        out-still w k.events m.0 log.events k.table table.finished a.id (seen a.walk) a.answer x.state k.out k.table_is m.1 (subst (AreOfOthers a.id) behind others) x.history x.finished
+        let behind : drop a.number log.events ≡ m.0 = ap (λ n. drop n log.events) k.number
+        ∙ (ap (drop (length k.events)) m.1 ∙ drop-front k.events m.0) in
+        out-still w k.events m.0 log.events k.table table.finished a.id (seen a.walk) a.answer
+        x.state k.out k.table_is m.1 (subst (AreOfOthers a.id) behind others) x.history
+        x.finished
 
-    pub answered-here : (a : Answered W) → IsAnswered seen earlier node w (marked log.events end) a → AreOfOthers a.id (drop a.number log.events) → IsAssignedTo w log.events a.id node
+    pub answered-here : (a : Answered W) → IsAnswered seen earlier node w (marked log.events end) a
+        → AreOfOthers a.id (drop a.number log.events) → IsAssignedTo w log.events a.id node
     answered-here a k others =
         let m = continues-of k.events log.events None end k.begins in
-        let behind : drop a.number log.events ≡ m.0 = ap (λ n. drop n log.events) k.number ∙ (ap (drop (length k.events)) m.1 ∙ drop-front k.events m.0) in
-        still-here w k.events m.0 log.events a.id node x.state k.here m.1 (subst (AreOfOthers a.id) behind others) x.history
+        let behind : drop a.number log.events ≡ m.0 = ap (λ n. drop n log.events) k.number
+        ∙ (ap (drop (length k.events)) m.1 ∙ drop-front k.events m.0) in
+        still-here w k.events m.0 log.events a.id node x.state k.here m.1
+        (subst (AreOfOthers a.id) behind others) x.history
 
     -- a walk with its next answer, for which it knows enough
     pub handed : (id : ℕ) (walk : W) (answer : Answer) (number : ℕ) → end ≡ None →
@@ -163,14 +236,21 @@ module _ {W P I A : Type 0} (seen : W → Seen P I A) (earlier : W → Option (P
         }
 
   -- the walk has gone on with its answer
-  pub asks-next : (past : List (Option Event)) (a : Answered W) (after : W) (ask : Ask) → IsAnswered seen earlier node w past a → ask ≡ ask_of (seen after).position →
-      answered (seen a.walk).world (seen a.walk).learnt (seen a.walk).position a.answer ≡ Some (seen after).position → (seen after).asked ≡ (seen a.walk).asked + 1 →
-      (seen after).world ≡ (seen a.walk).world → (seen after).learnt ≡ (seen a.walk).learnt → earlier after ≡ Some ((seen a.walk).position, (seen a.walk).asked) →
-      IsAsking seen earlier node w past (record { id = a.id; walk = after; answer = a.answer; ask = ask; number = a.number })
+  pub asks-next : (past : List (Option Event)) (a : Answered W) (after : W) (ask : Ask)
+      → IsAnswered seen earlier node w past a → ask ≡ ask_of (seen after).position →
+      answered (seen a.walk).world (seen a.walk).learnt (seen a.walk).position a.answer
+      ≡ Some (seen after).position → (seen after).asked ≡ (seen a.walk).asked + 1 →
+      (seen after).world ≡ (seen a.walk).world → (seen after).learnt ≡ (seen a.walk).learnt
+      → earlier after ≡ Some ((seen a.walk).position, (seen a.walk).asked) →
+      IsAsking seen earlier node w past
+      (record { id = a.id; walk = after; answer = a.answer; ask = ask; number = a.number })
   asks-next past a after ask k asks goes_on same_asked same_world same_learnt stood =
-      let goes_so : answered w (seen a.walk).learnt (seen a.walk).position a.answer ≡ Some (seen after).position =
-      subst (λ (v : World P I A). answered v (seen a.walk).learnt (seen a.walk).position a.answer ≡ Some (seen after).position) k.out.world goes_on in
-      let stands_so : k.out.next ≡ (seen after).position = some-is k.out.next (seen after).position (sym k.enough ∙ goes_so) in
+      let goes_so : answered w (seen a.walk).learnt (seen a.walk).position a.answer
+      ≡ Some (seen after).position =
+      subst (λ (v : World P I A). answered v (seen a.walk).learnt (seen a.walk).position a.answer
+      ≡ Some (seen after).position) k.out.world goes_on in
+      let stands_so : k.out.next ≡ (seen after).position = some-is k.out.next (seen after).position
+      (sym k.enough ∙ goes_so) in
       record {
         events = k.events;
         table = k.table;
@@ -182,7 +262,16 @@ module _ {W P I A : Type 0} (seen : W → Seen P I A) (earlier : W → Option (P
           position = (seen a.walk).position;
           asked = (seen a.walk).asked;
           stood = stood;
-          out = subst (λ (v : Seen P I A). IsOut w k.events k.table a.id v a.answer) (seen-same (seen a.walk) (record { world = (seen after).world; position = (seen a.walk).position; asked = (seen a.walk).asked; learnt = (seen after).learnt }) (sym same_world) refl refl (sym same_learnt)) k.out;
+          out = subst (λ (v : Seen P I A). IsOut w k.events k.table a.id v a.answer)
+              (seen-same (seen a.walk)
+              (record {
+                world = (seen after).world;
+                position = (seen a.walk).position;
+                asked =
+                    (seen a.walk).asked;
+                learnt = (seen after).learnt;
+              }) (sym same_world) refl refl
+              (sym same_learnt)) k.out;
         };
         own = record {
           stands = record {
@@ -190,7 +279,10 @@ module _ {W P I A : Type 0} (seen : W → Seen P I A) (earlier : W → Option (P
             origin = k.out.stands.origin;
             node = k.out.stands.node;
             history = k.out.stands.history;
-            there = k.out.stands.there ∙ ap (λ (p : Position P I A). Some (placed k.out.stands.origin p (assigned k.out.stands.node))) stands_so;
+            there = k.out.stands.there
+                ∙ ap
+                (λ (p : Position P I A). Some
+                (placed k.out.stands.origin p (assigned k.out.stands.node))) stands_so;
           };
           world = same_world ∙ k.out.world;
           learnt = subst (λ l. ArePartOf l k.table) (sym same_learnt) k.out.learnt;
@@ -202,10 +294,15 @@ module _ {W P I A : Type 0} (seen : W → Seen P I A) (earlier : W → Option (P
       }
 
   -- there was no memory to advance the walk, which stands as before
-  pub refused-again : (past : List (Option Event)) (a : Answered W) (after : W) → IsAnswered seen earlier node w past a → (seen after).world ≡ (seen a.walk).world → (seen after).position ≡ (seen a.walk).position → (seen after).asked ≡ (seen a.walk).asked →
-      (seen after).learnt ≡ (seen a.walk).learnt → IsAnswered seen earlier node w past (record { id = a.id; walk = after; answer = a.answer; number = a.number })
+  pub refused-again : (past : List (Option Event)) (a : Answered W) (after : W)
+      → IsAnswered seen earlier node w past a → (seen after).world ≡ (seen a.walk).world
+      → (seen after).position ≡ (seen a.walk).position → (seen after).asked ≡ (seen a.walk).asked →
+      (seen after).learnt ≡ (seen a.walk).learnt
+      → IsAnswered seen earlier node w past
+      (record { id = a.id; walk = after; answer = a.answer; number = a.number })
   refused-again past a after k world position asked learnt =
-      let same : seen a.walk ≡ seen after = seen-same (seen a.walk) (seen after) (sym world) (sym position) (sym asked) (sym learnt) in
+      let same : seen a.walk ≡ seen after = seen-same (seen a.walk) (seen after) (sym world)
+      (sym position) (sym asked) (sym learnt) in
       record {
         events = k.events;
         table = k.table;
@@ -224,15 +321,20 @@ module _ {W P I A : Type 0} (seen : W → Seen P I A) (earlier : W → Option (P
           few = subst (λ n. n < length k.events) (sym asked) k.out.few;
         };
         table_is = k.table_is;
-        enough = ap (λ (v : Seen P I A). answered w v.learnt v.position a.answer) (sym same) ∙ k.enough;
+        enough = ap (λ (v : Seen P I A). answered w v.learnt v.position a.answer) (sym same)
+            ∙ k.enough;
       }
 
-  module _ (past : List (Option Event)) (a : Answered W) (k : IsAnswered seen earlier node w past a) where
-    pub answer-fits : IsSome (answered (seen a.walk).world (seen a.walk).learnt (seen a.walk).position a.answer)
-    answer-fits = ap is_some (subst (λ (v : World P I A). answered v (seen a.walk).learnt (seen a.walk).position a.answer ≡ Some k.out.next) (sym k.out.world) k.enough)
+  module _ (past : List (Option Event)) (a : Answered W) (k : IsAnswered seen earlier node w past a)
+    where
+      pub answer-fits : IsSome
+          (answered (seen a.walk).world (seen a.walk).learnt (seen a.walk).position a.answer)
+      answer-fits = ap is_some
+          (subst (λ (v : World P I A). answered v (seen a.walk).learnt (seen a.walk).position a.answer
+          ≡ Some k.out.next) (sym k.out.world) k.enough)
 
-    pub answer-in-room : (seen a.walk).asked < 2 ^ 63
-    answer-in-room = let b = k.out.few in let c = k.few in omega arith
+      pub answer-in-room : (seen a.walk).asked < 2 ^ 63
+      answer-in-room = let b = k.out.few in let c = k.few in omega arith
 
 pub turn-prop : (asked : ℕ) (answer : Answer) → IsProp (IsInTurn asked answer)
 turn-prop asked First = hlevel props
@@ -249,14 +351,22 @@ part-prop part table p q =
     let b : p.shared ≡ q.shared = shared-prop part table p.shared q.shared in
     λ i. record { in_order = a i; shared = b i }
   where
-    shared-prop : (part table : Records) → IsProp ((run : RunId) (made : _) → found part run ≡ Some made → found table run ≡ Some made)
+    shared-prop : (part table : Records)
+        → IsProp ((run : RunId) (made : _) → found part run ≡ Some made
+        → found table run ≡ Some made)
     shared-prop part table = hlevel props
 
-module _ {W P I A : Type 0} (seen : W → Seen P I A) (earlier : W → Option (Position P I A × ℕ)) (w : World P I A) where
+module _ {W P I A : Type 0} (seen : W → Seen P I A) (earlier : W → Option (Position P I A × ℕ))
+    (w : World P I A) where
   -- a walk that stands as before
-  pub refused-out : (events : List Event) (table : Records) (id : ℕ) (walk after : W) (answer : Answer) → IsOut w events table id (seen walk) answer → (seen after).world ≡ (seen walk).world → (seen after).position ≡ (seen walk).position →
-      (seen after).asked ≡ (seen walk).asked → (seen after).learnt ≡ (seen walk).learnt → IsOut w events table id (seen after) answer
-  refused-out events table id walk after answer o world position asked learnt = subst (λ (v : Seen P I A). IsOut w events table id v answer) (seen-same (seen walk) (seen after) (sym world) (sym position) (sym asked) (sym learnt)) o
+  pub refused-out : (events : List Event) (table : Records) (id : ℕ) (walk after : W)
+      (answer : Answer) → IsOut w events table id (seen walk) answer
+      → (seen after).world ≡ (seen walk).world → (seen after).position ≡ (seen walk).position →
+      (seen after).asked ≡ (seen walk).asked → (seen after).learnt ≡ (seen walk).learnt
+      → IsOut w events table id (seen after) answer
+  refused-out events table id walk after answer o world position asked learnt = subst
+      (λ (v : Seen P I A). IsOut w events table id v answer)
+      (seen-same (seen walk) (seen after) (sym world) (sym position) (sym asked) (sym learnt)) o
 
   -- a walk that has learnt records of the table
   pub learnt-out : (events : List Event) (table : Records) (id : ℕ) (walk after : W)
@@ -282,21 +392,40 @@ module _ {W P I A : Type 0} (seen : W → Seen P I A) (earlier : W → Option (P
   learnt-alike table walk after answer alike world position =
       let these = (seen after).learnt in
       let here = (seen walk).position in
-      subst (λ (p : Position P I A). AreAlike (seen after).world these table p answer) (sym position)
+      subst (λ (p : Position P I A). AreAlike (seen after).world these table p answer)
+      (sym position)
       (subst (λ (v : World P I A). AreAlike v these table here answer) (sym world) alike)
 
   -- a walk whose last answer is taken back
-  pub back-out : (events : List Event) (table : Records) (id : ℕ) (walk after : W) (answer : Answer) → CanGoBack seen earlier w events table id walk answer → earlier walk ≡ Some ((seen after).position, (seen after).asked) →
-      (seen after).world ≡ (seen walk).world → (seen after).learnt ≡ (seen walk).learnt → IsOut w events table id (seen after) answer
+  pub back-out : (events : List Event) (table : Records) (id : ℕ) (walk after : W) (answer : Answer)
+      → CanGoBack seen earlier w events table id walk answer
+      → earlier walk ≡ Some ((seen after).position, (seen after).asked) →
+      (seen after).world ≡ (seen walk).world → (seen after).learnt ≡ (seen walk).learnt
+      → IsOut w events table id (seen after) answer
   back-out events table id walk after answer b stood world learnt =
-      let pair : (b.position, b.asked) ≡ ((seen after).position, (seen after).asked) = some-is _ _ (sym b.stood ∙ stood) in
-      subst (λ (v : Seen P I A). IsOut w events table id v answer) (seen-same (record { world = (seen walk).world; position = b.position; asked = b.asked; learnt = (seen walk).learnt }) (seen after) (sym world) (ap (λ p. p.0) pair) (ap (λ p. p.1) pair) (sym learnt)) b.out
+      let pair : (b.position, b.asked) ≡ ((seen after).position, (seen after).asked) = some-is _ _
+      (sym b.stood ∙ stood) in
+      subst (λ (v : Seen P I A). IsOut w events table id v answer)
+      (seen-same
+      (record {
+        world = (seen walk).world;
+        position = b.position;
+        asked = b.asked;
+        learnt =
+            (seen walk).learnt;
+      }) (seen after) (sym world) (ap (λ p. p.0) pair) (ap (λ p. p.1) pair)
+      (sym learnt)) b.out
 
-  pub back-fits : (events : List Event) (table : Records) (id : ℕ) (walk : W) (answer : Answer) → CanGoBack seen earlier w events table id walk answer → IsSome (earlier walk)
+  pub back-fits : (events : List Event) (table : Records) (id : ℕ) (walk : W) (answer : Answer)
+      → CanGoBack seen earlier w events table id walk answer → IsSome (earlier walk)
   back-fits events table id walk answer b = ap is_some b.stood
 
-  pub back-kept : (v : World P I A) (events after : List Event) (table now : Records) (id : ℕ) (walk held : W) (answer : Answer) → v ≡ w → after ≡ events → now ≡ table → held ≡ walk →
-      CanGoBack seen earlier w events table id walk answer → CanGoBack seen earlier v after now id held answer
+  pub back-kept : (v : World P I A) (events after : List Event) (table now : Records) (id : ℕ)
+      (walk held : W) (answer : Answer) → v ≡ w → after ≡ events → now ≡ table → held ≡ walk →
+      CanGoBack seen earlier w events table id walk answer
+      → CanGoBack seen earlier v after now id held answer
   back-kept v events after table now id walk held answer same es t h b =
       subst (λ (u : World P I A). CanGoBack seen earlier u after now id held answer) (sym same)
-      (subst (λ es. CanGoBack seen earlier w es now id held answer) (sym es) (subst (λ t. CanGoBack seen earlier w events t id held answer) (sym t) (subst (λ (a : W). CanGoBack seen earlier w events table id a answer) (sym h) b)))
+      (subst (λ es. CanGoBack seen earlier w es now id held answer) (sym es)
+      (subst (λ t. CanGoBack seen earlier w events t id held answer) (sym t)
+      (subst (λ (a : W). CanGoBack seen earlier w events table id a answer) (sym h) b)))

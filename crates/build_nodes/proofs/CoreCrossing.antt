@@ -1,4 +1,5 @@
--- A core, and what its nodes share, may cross threads where its walks and the origin of its world may.
+-- A core, and what its nodes share, may cross threads where its walks and the origin of its world
+-- may.
 use mathlib.Core.List.{[], ◌∷◌}
 use mir.Syntax.{Sym, Ty}
 use denote.RattleType.{RattleType}
@@ -7,7 +8,20 @@ use denote.Param.{arg, param}
 use denote.Struct.Declared as Struct
 use denote.Struct.Tuple.{TupleAt, type_at}
 use denote.Enum.Declared as Enum
-use denote.Param.Send.{IsSend, IsSync, sendable, view_send, view_sync, recorded_send, recorded_sync, arg_send, param_send, struct_send, struct_sync, enum_send}
+use denote.Param.Send.{
+  IsSend,
+  IsSync,
+  sendable,
+  view_send,
+  view_sync,
+  recorded_send,
+  recorded_sync,
+  arg_send,
+  param_send,
+  struct_send,
+  struct_sync,
+  enum_send,
+}
 use Rattle.std.specs.contracts.alloc.Global as Heap
 use Rattle.std.specs.contracts.impls.GlobalAllocator.TheImpl.{ghosts as heap}
 use Rattle.std.specs.contracts.option.Option as Option
@@ -42,10 +56,22 @@ use Rattle.build_nodes.specs.contracts.nodes.Node as Node
 use Rattle.build_nodes.specs.contracts.shared.Shared as Shared
 use Rattle.build_nodes.specs.contracts.shared.SharedHistories.TheImpl as histories
 use Rattle.build_scheduler.specs.contracts.walker.Answer as Answer
-use Rattle.build_nodes.proofs.Crossing.{Entries-send, key-send, InstanceKey-send, run-send, RunId-send, request-send, RequestKey-send, told-send, RequestResult-send, Table-send}
+use Rattle.build_nodes.proofs.Crossing.{
+  Entries-send,
+  key-send,
+  InstanceKey-send,
+  run-send,
+  RunId-send,
+  request-send,
+  RequestKey-send,
+  told-send,
+  RequestResult-send,
+  Table-send,
+}
 
 -- a closure may cross where the three values that it has may
-pub captured-send : (name : Sym) (A B C : RattleType) → IsSend A → IsSend B → IsSend C → IsSend (TupleAt name (A ∷ B ∷ C ∷ []))
+pub captured-send : (name : Sym) (A B C : RattleType) → IsSend A → IsSend B → IsSend C
+    → IsSend (TupleAt name (A ∷ B ∷ C ∷ []))
 captured-send name A B C a b c =
     let captures = type_at name (A ∷ B ∷ C ∷ []) in
     recorded_send _ _ _ captures.to_one (struct_send (Struct.shape captures) (a, (b, (c, tt))))
@@ -55,7 +81,13 @@ Event-send = recorded_send _ _ _ Event.the_type.to_one (enum_send (Enum.shape Ev
   (search sendable, (search sendable, tt)),
   (
     (search sendable, (run-send, (search sendable, tt))),
-    ((search sendable, (Entries-send RequestKey.the_row RequestKey-send, tt)), ((search sendable, (run-send, tt)), ((search sendable, tt), ((search sendable, (search sendable, tt)), tt)))),
+    (
+      (search sendable, (Entries-send RequestKey.the_row RequestKey-send, tt)),
+      (
+        (search sendable, (run-send, tt)),
+        ((search sendable, tt), ((search sendable, (search sendable, tt)), tt)),
+      ),
+    ),
   ),
 ))
 
@@ -66,7 +98,9 @@ Numbers-send : IsSend Numbers.the_row
 Numbers-send = search (owned, sendable) depth 20
 
 Origin-send : IsSend Origin.the_row
-Origin-send = recorded_send _ _ _ Origin.the_type.to_one (struct_send (Struct.shape Origin.the_type) (request-send, (search (owned, sendable) depth 20, (search sendable, tt))))
+Origin-send = recorded_send _ _ _ Origin.the_type.to_one
+    (struct_send (Struct.shape Origin.the_type)
+    (request-send, (search (owned, sendable) depth 20, (search sendable, tt))))
 
 Instances-send : IsSend Instances.the_row
 Instances-send = search (InstanceKey-send, owned, sendable) depth 30
@@ -74,18 +108,29 @@ Instances-send = search (InstanceKey-send, owned, sendable) depth 30
 End-send : IsSend End.the_row
 End-send = recorded_send _ _ _ End.the_type.to_one (enum_send (Enum.shape End.the_type) (
   (told-send, tt),
-  ((Entries-send RunId.the_row RunId-send, tt), ((Entries-send RequestKey.the_row RequestKey-send, tt), ((key-send, tt), (tt, tt)))),
+  (
+    (Entries-send RunId.the_row RunId-send, tt),
+    ((Entries-send RequestKey.the_row RequestKey-send, tt), ((key-send, tt), (tt, tt))),
+  ),
 ))
 
 answer-send : IsSend Answer.the_field.row
-answer-send = enum_send (Enum.shape Answer.the_type) (tt, (tt, (tt, ((Entries-send RequestResult.the_row RequestResult-send, tt), tt))))
+answer-send = enum_send (Enum.shape Answer.the_type)
+    (tt, (tt, (tt, ((Entries-send RequestResult.the_row RequestResult-send, tt), tt))))
 
 calls-send : (W : RattleType) → IsSend W → IsSend (Calls.the_field W).row
-calls-send W s = struct_send (Struct.shape (Calls.the_type W)) (s, (search sendable, (search sendable, (Vec-send RequestResult.the_row RequestResult-send, tt))))
+calls-send W s = struct_send (Struct.shape (Calls.the_type W)) (
+  s,
+  (search sendable, (search sendable, (Vec-send RequestResult.the_row RequestResult-send, tt))),
+)
 
 Slot-send : (W : RattleType) → IsSend W → IsSend (Slot.the_row W)
 Slot-send W s =
-    recorded_send _ _ _ (Slot.the_type W).to_one (enum_send (Enum.shape (Slot.the_type W)) ((s, (answer-send, tt)), ((search sendable, tt), ((s, (search sendable, tt)), ((calls-send W s, tt), (tt, tt))))))
+    recorded_send _ _ _ (Slot.the_type W).to_one
+    (enum_send (Enum.shape (Slot.the_type W)) (
+      (s, (answer-send, tt)),
+      ((search sendable, tt), ((s, (search sendable, tt)), ((calls-send W s, tt), (tt, tt)))),
+    ))
 
 some-send : (S : RattleType) → IsSend S → IsSend (Option.the_row S)
 some-send S s =
@@ -106,11 +151,21 @@ ends-send W s = struct_send (Struct.shape (KeptEnds.the_type W)) (
   ),
 )
 
-module _ (S V K P : RattleType) (g : TableRule.Ghosts P.Denot S.Denot V.Denot K.Denot) (s : IsSend S) where
+module _ (S V K P : RattleType) (g : TableRule.Ghosts P.Denot S.Denot V.Denot K.Denot)
+    (s : IsSend S) where
   table-sync : IsSync (Table.the_field S V K P Heap.the_row g heap).row
   table-sync = struct_sync (Struct.shape (Table.the_type S V K P Heap.the_row g heap)) (
     shared.the_sync S V K P g s,
-    (search sendable, (search sendable, (search (send, frees, lease.the_sync), (search (send, frees, lease.the_sync), (sync, tt))))),
+    (
+      search sendable,
+      (
+        search sendable,
+        (
+          search (send, frees, lease.the_sync),
+          (search (send, frees, lease.the_sync), (sync, tt)),
+        ),
+      ),
+    ),
   )
 
 -- a board may be shared, and its seats may cross, where its state may
@@ -120,7 +175,9 @@ module _ (S T E : RattleType) (h : Histories.Ghosts S.Denot T.Denot E.Denot) (s 
 
   seat-send : IsSend (Seat.the_row S T E h)
   seat-send =
-      let I = seat_inside.the_type S T E h in view_send (seat_inside.the_row S T E h) _ _ _ _ (recorded_send _ _ _ I.to_one (struct_send (Struct.shape I) (seat.the_send (Option.the_row S) _ slot-send, tt)))
+      let I = seat_inside.the_type S T E h in view_send (seat_inside.the_row S T E h) _ _ _ _
+      (recorded_send _ _ _ I.to_one
+      (struct_send (Struct.shape I) (seat.the_send (Option.the_row S) _ slot-send, tt)))
 
   board-sync : IsSync (Board.the_row S T E h)
   board-sync =
@@ -129,7 +186,8 @@ module _ (S T E : RattleType) (h : Histories.Ghosts S.Denot T.Denot E.Denot) (s 
       (recorded_sync _ _ _ I.to_one (struct_sync (Struct.shape I)
       (search (table-sync, slot-send), (waits.the_field_sync, (waits.the_field_sync, tt)))))
 
-module _ (W P O : RattleType) (g : Walker.Ghosts W.Denot P.Denot O.Denot) (s : IsSend W) (o : IsSend O) where
+module _ (W P O : RattleType) (g : Walker.Ghosts W.Denot P.Denot O.Denot) (s : IsSend W)
+    (o : IsSend O) where
   core-send : IsSend (Core.the_field W P O g).row
   core-send = struct_send (Struct.shape (Core.the_type W P O g)) (
     o,
@@ -161,14 +219,27 @@ module _ (W P O : RattleType) (g : Walker.Ghosts W.Denot P.Denot O.Denot) (s : I
   )
 
   Shared-send : IsSend (Shared.the_row W P O g)
-  Shared-send = recorded_send _ _ _ (Shared.the_type W P O g).to_one (struct_send (Struct.shape (Shared.the_type W P O g)) (core-send, (search owned, tt)))
+  Shared-send = recorded_send _ _ _ (Shared.the_type W P O g).to_one
+      (struct_send (Struct.shape (Shared.the_type W P O g)) (core-send, (search owned, tt)))
 
   -- as a board's calls ask it
   pub shared-crosses : (δ : Ty) → IsSend (param 0 (arg δ no (Shared.the_row W P O g)))
   shared-crosses δ = param_send 0 _ (arg_send δ no _ Shared-send)
 
   pub Node-send : IsSend P → IsSend (Node.the_row W P O g)
-  Node-send p = recorded_send _ _ _ (Node.the_type W P O g).to_one (struct_send (Struct.shape (Node.the_type W P O g)) (search sendable, (seat-send (Shared.the_row W P O g) (Core.the_row W P O g) (Option.the_row Event.the_row) (histories.ghosts W P O g histories.no_dict histories.no_dict histories.no_dict) Shared-send, (p, tt))))
+  Node-send p = recorded_send _ _ _ (Node.the_type W P O g).to_one
+      (struct_send (Struct.shape (Node.the_type W P O g)) (
+        search sendable,
+        (
+          seat-send (Shared.the_row W P O g) (Core.the_row W P O g) (Option.the_row Event.the_row)
+              (histories.ghosts W P O g histories.no_dict histories.no_dict histories.no_dict) Shared-send,
+          (p, tt),
+        ),
+      ))
 
-  pub board-crosses : IsSync (Board.the_row (Shared.the_row W P O g) (Core.the_row W P O g) (Option.the_row Event.the_row) (histories.ghosts W P O g histories.no_dict histories.no_dict histories.no_dict))
-  board-crosses = board-sync (Shared.the_row W P O g) (Core.the_row W P O g) (Option.the_row Event.the_row) (histories.ghosts W P O g histories.no_dict histories.no_dict histories.no_dict) Shared-send
+  pub board-crosses : IsSync
+      (Board.the_row (Shared.the_row W P O g) (Core.the_row W P O g) (Option.the_row Event.the_row)
+      (histories.ghosts W P O g histories.no_dict histories.no_dict histories.no_dict))
+  board-crosses = board-sync (Shared.the_row W P O g) (Core.the_row W P O g)
+      (Option.the_row Event.the_row)
+      (histories.ghosts W P O g histories.no_dict histories.no_dict histories.no_dict) Shared-send

@@ -2,7 +2,17 @@
 use denote.RattleType.{RattleType}
 use denote.Struct.Declared as Struct
 use denote.Enum.Declared as Enum
-use denote.Param.Send.{IsSend, IsSync, sendable, recorded_send, recorded_sync, struct_send, struct_sync, enum_send, enum_sync}
+use denote.Param.Send.{
+  IsSend,
+  IsSync,
+  sendable,
+  recorded_send,
+  recorded_sync,
+  struct_send,
+  struct_sync,
+  enum_send,
+  enum_sync,
+}
 use Rattle.std.proofs.Crossing.{crosses as owned}
 use Rattle.std.proofs.MapsCrossing.{crosses as maps}
 use Rattle.msb_values.specs.contracts.act.Act as Act
@@ -62,10 +72,12 @@ Named-sync T s = search (Name-sync, owned, maps, sendable) depth 20
 
 -- a struct or an enum as a field, by its own fields, and alone
 pub key-send : IsSend InstanceKey.the_field.row
-key-send = struct_send (Struct.shape InstanceKey.the_type) (Text-send, (Named-send Text.the_row Text-send, tt))
+key-send = struct_send (Struct.shape InstanceKey.the_type)
+    (Text-send, (Named-send Text.the_row Text-send, tt))
 
 key-sync : IsSync InstanceKey.the_field.row
-key-sync = struct_sync (Struct.shape InstanceKey.the_type) (Text-sync, (Named-sync Text.the_row Text-sync, tt))
+key-sync = struct_sync (Struct.shape InstanceKey.the_type)
+    (Text-sync, (Named-sync Text.the_row Text-sync, tt))
 
 pub InstanceKey-send : IsSend InstanceKey.the_row
 InstanceKey-send = recorded_send _ _ _ InstanceKey.the_type.to_one key-send
@@ -83,19 +95,23 @@ RunId-sync : IsSync RunId.the_row
 RunId-sync = recorded_sync _ _ _ RunId.the_type.to_one run-sync
 
 pub request-send : IsSend RequestKey.the_field.row
-request-send = struct_send (Struct.shape RequestKey.the_type) (key-send, (Entries-send Name.the_row Name-send, (search sendable, tt)))
+request-send = struct_send (Struct.shape RequestKey.the_type)
+    (key-send, (Entries-send Name.the_row Name-send, (search sendable, tt)))
 
 request-sync : IsSync RequestKey.the_field.row
-request-sync = struct_sync (Struct.shape RequestKey.the_type) (key-sync, (Entries-sync Name.the_row Name-sync, (search sendable, tt)))
+request-sync = struct_sync (Struct.shape RequestKey.the_type)
+    (key-sync, (Entries-sync Name.the_row Name-sync, (search sendable, tt)))
 
 pub RequestKey-send : IsSend RequestKey.the_row
 RequestKey-send = recorded_send _ _ _ RequestKey.the_type.to_one request-send
 
 item-send : IsSend Item.the_field.row
-item-send = struct_send (Struct.shape Item.the_type) (Text-send, (Text-send, (Named-send Text.the_row Text-send, tt)))
+item-send = struct_send (Struct.shape Item.the_type)
+    (Text-send, (Text-send, (Named-send Text.the_row Text-send, tt)))
 
 item-sync : IsSync Item.the_field.row
-item-sync = struct_sync (Struct.shape Item.the_type) (Text-sync, (Text-sync, (Named-sync Text.the_row Text-sync, tt)))
+item-sync = struct_sync (Struct.shape Item.the_type)
+    (Text-sync, (Text-sync, (Named-sync Text.the_row Text-sync, tt)))
 
 Item-send : IsSend Item.the_row
 Item-send = recorded_send _ _ _ Item.the_type.to_one item-send
@@ -110,10 +126,12 @@ Shared-sync : (T : RattleType) → IsSend T → IsSync T → IsSync (Shared.the_
 Shared-sync T s y = search (owned, sendable) depth 20
 
 put-send : IsSend Put.the_field.row
-put-send = struct_send (Struct.shape Put.the_type) (Text-send, (Shared-send Bytes.the_row Bytes-send Bytes-sync, tt))
+put-send = struct_send (Struct.shape Put.the_type)
+    (Text-send, (Shared-send Bytes.the_row Bytes-send Bytes-sync, tt))
 
 put-sync : IsSync Put.the_field.row
-put-sync = struct_sync (Struct.shape Put.the_type) (Text-sync, (Shared-sync Bytes.the_row Bytes-send Bytes-sync, tt))
+put-sync = struct_sync (Struct.shape Put.the_type)
+    (Text-sync, (Shared-sync Bytes.the_row Bytes-send Bytes-sync, tt))
 
 act-send : IsSend Act.the_field.row
 act-send = enum_send (Enum.shape Act.the_type) ((put-send, tt), ((Text-send, tt), tt))
@@ -122,17 +140,30 @@ act-sync : IsSync Act.the_field.row
 act-sync = enum_sync (Enum.shape Act.the_type) ((put-sync, tt), ((Text-sync, tt), tt))
 
 Note-send : IsSend Note.the_row
-Note-send = recorded_send _ _ _ Note.the_type.to_one (enum_send (Enum.shape Note.the_type) ((Text-send, tt), ((Text-send, tt), ((Text-send, tt), ((Text-send, tt), tt)))))
+Note-send = recorded_send _ _ _ Note.the_type.to_one
+    (enum_send (Enum.shape Note.the_type)
+    ((Text-send, tt), ((Text-send, tt), ((Text-send, tt), ((Text-send, tt), tt)))))
 
 Note-sync : IsSync Note.the_row
-Note-sync = recorded_sync _ _ _ Note.the_type.to_one (enum_sync (Enum.shape Note.the_type) ((Text-sync, tt), ((Text-sync, tt), ((Text-sync, tt), ((Text-sync, tt), tt)))))
+Note-sync = recorded_sync _ _ _ Note.the_type.to_one
+    (enum_sync (Enum.shape Note.the_type)
+    ((Text-sync, tt), ((Text-sync, tt), ((Text-sync, tt), ((Text-sync, tt), tt)))))
 
 Change-send : IsSend Change.the_row
 Change-send = recorded_send _ _ _ Change.the_type.to_one (enum_send (Enum.shape Change.the_type) (
   (Name-send, (Text-send, tt)),
   (
     (Name-send, (Entries-send Item.the_row Item-send, tt)),
-    ((Name-send, (Entries-send Text.the_row Text-send, tt)), ((Name-send, (Entries-send Item.the_row Item-send, (Named-send Text.the_row Text-send, tt))), tt)),
+    (
+      (Name-send, (Entries-send Text.the_row Text-send, tt)),
+      (
+        (
+          Name-send,
+          (Entries-send Item.the_row Item-send, (Named-send Text.the_row Text-send, tt)),
+        ),
+        tt,
+      ),
+    ),
   ),
 ))
 
@@ -141,7 +172,16 @@ Change-sync = recorded_sync _ _ _ Change.the_type.to_one (enum_sync (Enum.shape 
   (Name-sync, (Text-sync, tt)),
   (
     (Name-sync, (Entries-sync Item.the_row Item-sync, tt)),
-    ((Name-sync, (Entries-sync Text.the_row Text-sync, tt)), ((Name-sync, (Entries-sync Item.the_row Item-sync, (Named-sync Text.the_row Text-sync, tt))), tt)),
+    (
+      (Name-sync, (Entries-sync Text.the_row Text-sync, tt)),
+      (
+        (
+          Name-sync,
+          (Entries-sync Item.the_row Item-sync, (Named-sync Text.the_row Text-sync, tt)),
+        ),
+        tt,
+      ),
+    ),
   ),
 ))
 
@@ -158,17 +198,27 @@ RunRef-sync : IsSync RunRef.the_row
 RunRef-sync = search (RunId-send, RunId-sync, owned, sendable) depth 20
 
 Segment-send : IsSend Segment.the_row
-Segment-send = recorded_send _ _ _ Segment.the_type.to_one (enum_send (Enum.shape Segment.the_type) ((act-send, tt), ((request-send, (Entries-send RunRef.the_row RunRef-send, tt)), tt)))
+Segment-send = recorded_send _ _ _ Segment.the_type.to_one
+    (enum_send (Enum.shape Segment.the_type)
+    ((act-send, tt), ((request-send, (Entries-send RunRef.the_row RunRef-send, tt)), tt)))
 
 Segment-sync : IsSync Segment.the_row
-Segment-sync = recorded_sync _ _ _ Segment.the_type.to_one (enum_sync (Enum.shape Segment.the_type) ((act-sync, tt), ((request-sync, (Entries-sync RunRef.the_row RunRef-sync, tt)), tt)))
+Segment-sync = recorded_sync _ _ _ Segment.the_type.to_one
+    (enum_sync (Enum.shape Segment.the_type)
+    ((act-sync, tt), ((request-sync, (Entries-sync RunRef.the_row RunRef-sync, tt)), tt)))
 
 record-send : IsSend Record.the_field.row
 record-send = struct_send (Struct.shape Record.the_type) (
   search sendable,
   (
     Entries-send Decision.the_row Decision-send,
-    (Entries-send Item.the_row Item-send, (Entries-send Change.the_row Change-send, (Entries-send Note.the_row Note-send, (Entries-send Segment.the_row Segment-send, tt)))),
+    (
+      Entries-send Item.the_row Item-send,
+      (
+        Entries-send Change.the_row Change-send,
+        (Entries-send Note.the_row Note-send, (Entries-send Segment.the_row Segment-send, tt)),
+      ),
+    ),
   ),
 )
 
@@ -177,26 +227,47 @@ record-sync = struct_sync (Struct.shape Record.the_type) (
   search sendable,
   (
     Entries-sync Decision.the_row Decision-sync,
-    (Entries-sync Item.the_row Item-sync, (Entries-sync Change.the_row Change-sync, (Entries-sync Note.the_row Note-sync, (Entries-sync Segment.the_row Segment-sync, tt)))),
+    (
+      Entries-sync Item.the_row Item-sync,
+      (
+        Entries-sync Change.the_row Change-sync,
+        (Entries-sync Note.the_row Note-sync, (Entries-sync Segment.the_row Segment-sync, tt)),
+      ),
+    ),
   ),
 )
 
 Kept-send : IsSend Kept.the_row
-Kept-send = recorded_send _ _ _ Kept.the_type.to_one (struct_send (Struct.shape Kept.the_type) (record-send, (search (RunRef-send, owned, sendable) depth 20, tt)))
+Kept-send = recorded_send _ _ _ Kept.the_type.to_one
+    (struct_send (Struct.shape Kept.the_type)
+    (record-send, (search (RunRef-send, owned, sendable) depth 20, tt)))
 
 Kept-sync : IsSync Kept.the_row
-Kept-sync = recorded_sync _ _ _ Kept.the_type.to_one (struct_sync (Struct.shape Kept.the_type) (record-sync, (search (RunRef-sync, owned, sendable) depth 20, tt)))
+Kept-sync = recorded_sync _ _ _ Kept.the_type.to_one
+    (struct_sync (Struct.shape Kept.the_type)
+    (record-sync, (search (RunRef-sync, owned, sendable) depth 20, tt)))
 
 pub RecordRef-send : IsSend RecordRef.the_row
 RecordRef-send = search (Kept-send, Kept-sync, owned, sendable) depth 20
 
 Returned-send : IsSend Returned.the_row
-Returned-send = recorded_send _ _ _ Returned.the_type.to_one (struct_send (Struct.shape Returned.the_type) (Name-send, (Entries-send Item.the_row Item-send, tt)))
+Returned-send = recorded_send _ _ _ Returned.the_type.to_one
+    (struct_send (Struct.shape Returned.the_type)
+    (Name-send, (Entries-send Item.the_row Item-send, tt)))
 
 pub told-send : IsSend RequestResult.the_field.row
 told-send = struct_send (Struct.shape RequestResult.the_type) (
   search sendable,
-  (search sendable, (Entries-send Returned.the_row Returned-send, (Entries-send RunRef.the_row RunRef-send, (search (Text-send, owned, sendable) depth 20, tt)))),
+  (
+    search sendable,
+    (
+      Entries-send Returned.the_row Returned-send,
+      (
+        Entries-send RunRef.the_row RunRef-send,
+        (search (Text-send, owned, sendable) depth 20, tt),
+      ),
+    ),
+  ),
 )
 
 pub RequestResult-send : IsSend RequestResult.the_row

@@ -1,5 +1,20 @@
 -- Which node a request is with, through the events of a turn.
-use Rattle.std.proofs.Common.{◌≡◌, ℕ, List, [], ◌∷◌, ◌++◌, Option, None, Some, refl, ap, sym, ◌∙◌, subst}
+use Rattle.std.proofs.Common.{
+  ◌≡◌,
+  ℕ,
+  List,
+  [],
+  ◌∷◌,
+  ◌++◌,
+  Option,
+  None,
+  Some,
+  refl,
+  ap,
+  sym,
+  ◌∙◌,
+  subst,
+}
 use Rattle.std.proofs.Math.Logic.{∥∥₁_map, ∥∥₁_map₂}
 use Rattle.msb_laws.specs.Asking.{and_then}
 use Rattle.msb_laws.specs.Traverse.{traverse}
@@ -18,8 +33,33 @@ use Rattle.build_meaning.specs.SoFar.{nothing_yet, recorded}
 use Rattle.build_meaning.specs.Stop.{ends, asks, run_on}
 use Rattle.build_meaning.specs.Walk.{gives, wants}
 use Rattle.build_meaning.specs.World.{World}
-use Rattle.build_meaning.specs.State.{Place, walking, within, Status, ready, assigned, waits, calling, done, Origin, RequestState, State, with_request, start}
-use Rattle.build_meaning.specs.Step.{whose, only_if, in_body, goes_on, claimed, woken, finished, step_of, after_all}
+use Rattle.build_meaning.specs.State.{
+  Place,
+  walking,
+  within,
+  Status,
+  ready,
+  assigned,
+  waits,
+  calling,
+  done,
+  Origin,
+  RequestState,
+  State,
+  with_request,
+  start,
+}
+use Rattle.build_meaning.specs.Step.{
+  whose,
+  only_if,
+  in_body,
+  goes_on,
+  claimed,
+  woken,
+  finished,
+  step_of,
+  after_all,
+}
 use Rattle.build_meaning.specs.History.{IsHistory, AreOfOthers}
 use Rattle.build_meaning.proofs.AssignedRequests.{stays}
 use Rattle.build_meaning.proofs.EventsKeepLawful.{request_of, some-is, unless-some}
@@ -42,56 +82,113 @@ module _ {P I A : Type 0} (w : World P I A) where
     pub there : at s.requests id ≡ Some request
     pub is : request.status ≡ assigned node place
 
-  put-it : (s t : State P I A) (id node : ℕ) (q z : RequestState P I A) (p : Place P I A) → at s.requests id ≡ Some q → z.status ≡ assigned node p → with_request s id z ≡ t → HasIt t id node
-  put-it s t id node q z p e st h = subst (λ (u : State P I A). HasIt u id node) h (record { request = z; place = p; there = at-put_same s.requests id q z e; is = st })
+  put-it : (s t : State P I A) (id node : ℕ) (q z : RequestState P I A) (p : Place P I A)
+      → at s.requests id ≡ Some q → z.status ≡ assigned node p → with_request s id z ≡ t
+      → HasIt t id node
+  put-it s t id node q z p e st h = subst (λ (u : State P I A). HasIt u id node) h
+      (record { request = z; place = p; there = at-put_same s.requests id q z e; is = st })
 
-  assign-it : (s t : State P I A) (id node : ℕ) (o : Origin) (j : Journal) (runs : List RunId) (u : Status P I A) → at s.requests id ≡ Some (request_of o j runs u) → step_of w s (Assign id node) (request_of o j runs u) ≡ Some t → HasIt t id node
+  assign-it : (s t : State P I A) (id node : ℕ) (o : Origin) (j : Journal) (runs : List RunId)
+      (u : Status P I A) → at s.requests id ≡ Some (request_of o j runs u)
+      → step_of w s (Assign id node) (request_of o j runs u) ≡ Some t → HasIt t id node
   assign-it s t id node o j runs (ready p) e h =
-      put-it s t id node (request_of o j runs (ready p)) (request_of o j runs (assigned node p)) p e refl (some-is (with_request s id (request_of o j runs (assigned node p))) t h)
+      put-it s t id node (request_of o j runs (ready p)) (request_of o j runs (assigned node p)) p e
+      refl (some-is (with_request s id (request_of o j runs (assigned node p))) t h)
   assign-it s t id node o j runs (assigned m p) e h = absurd (cc)
   assign-it s t id node o j runs (waits a b c) e h = absurd (cc)
   assign-it s t id node o j runs (calling a b c d) e h = absurd (cc)
   assign-it s t id node o j runs (done a) e h = absurd (cc)
 
-  go-it : (s t : State P I A) (id node : ℕ) (o : Origin) (j : Journal) (runs : List RunId) (p : Place P I A) (run : RunId) → at s.requests id ≡ Some (request_of o j runs (assigned node p)) →
-      step_of w s (Claim id run Go) (request_of o j runs (assigned node p)) ≡ Some t → HasIt t id node
+  go-it : (s t : State P I A) (id node : ℕ) (o : Origin) (j : Journal) (runs : List RunId)
+      (p : Place P I A) (run : RunId) → at s.requests id
+      ≡ Some (request_of o j runs (assigned node p)) →
+      step_of w s (Claim id run Go) (request_of o j runs (assigned node p)) ≡ Some t
+      → HasIt t id node
   go-it s t id node o j runs (walking (wants site r b go)) run e h =
-      let x = and_then-some (only_if (same_run r run) r) (λ run. claimed w s id node o j runs run b go Go) t h in
+      let x = and_then-some (only_if (same_run r run) r)
+      (λ run. claimed w s id node o j runs run b go Go) t h in
       let stopped = run_on w.tools x.0 b j nothing_yet in
       let z : RequestState P I A = in_body w (assigned node) o runs x.0 go stopped in
-      let y = unless-some (is_begun x.0 s.begun) (record { requests = put s.requests id z; begun = record { run = x.0; by = id } ∷ s.begun; table = s.table; tools_used = s.tools_used }) t x.2 in
+      let y = unless-some (is_begun x.0 s.begun)
+      (record {
+        requests = put s.requests id z;
+        begun = record { run = x.0; by = id }
+            ∷ s.begun;
+        table = s.table;
+        tools_used = s.tools_used;
+      }) t x.2 in
       subst (λ (u : State P I A). HasIt u id node) y.1 (record {
         request = z;
         place = within (record { run = x.0; so_far = stopped.so_far; go = go }) stopped.stop;
-        there = at-put_same s.requests id (request_of o j runs (assigned node (walking (wants site r b go)))) z e;
+        there = at-put_same s.requests id
+            (request_of o j runs (assigned node (walking (wants site r b go)))) z e;
         is = refl;
       })
   go-it s t id node o j runs (walking (gives reply)) run e h = absurd (cc)
   go-it s t id node o j runs (within x stop) run e h = absurd (cc)
 
-  use-it : (s t : State P I A) (id node : ℕ) (o : Origin) (j : Journal) (runs : List RunId) (p : Place P I A) (run : RunId) → at s.requests id ≡ Some (request_of o j runs (assigned node p)) →
-      step_of w s (Claim id run Use) (request_of o j runs (assigned node p)) ≡ Some t → HasIt t id node
+  use-it : (s t : State P I A) (id node : ℕ) (o : Origin) (j : Journal) (runs : List RunId)
+      (p : Place P I A) (run : RunId) → at s.requests id
+      ≡ Some (request_of o j runs (assigned node p)) →
+      step_of w s (Claim id run Use) (request_of o j runs (assigned node p)) ≡ Some t
+      → HasIt t id node
   use-it s t id node o j runs (walking (wants site r b go)) run e h =
-      let x = and_then-some (only_if (same_run r run) r) (λ run. claimed w s id node o j runs run b go Use) t h in
-      let m = and_then-some (found s.table x.0) (λ made. and_then (replay s.table x.0 j) (λ next. Some (with_request s id (goes_on w (assigned node) o runs x.0 go made next)))) t x.2 in
-      let n = and_then-some (replay s.table x.0 j) (λ next. Some (with_request s id (goes_on w (assigned node) o runs x.0 go m.0 next))) t m.2 in
+      let x = and_then-some (only_if (same_run r run) r)
+      (λ run. claimed w s id node o j runs run b go Use) t h in
+      let m = and_then-some (found s.table x.0)
+      (λ made. and_then (replay s.table x.0 j)
+      (λ next. Some (with_request s id (goes_on w (assigned node) o runs x.0 go made next)))) t
+      x.2 in
+      let n = and_then-some (replay s.table x.0 j)
+      (λ next. Some (with_request s id (goes_on w (assigned node) o runs x.0 go m.0 next))) t
+      m.2 in
       let z : RequestState P I A = goes_on w (assigned node) o runs x.0 go m.0 n.0 in
-      put-it s t id node (request_of o j runs (assigned node (walking (wants site r b go)))) z (walking (go m.0 n.0)) e refl (some-is (with_request s id z) t n.2)
+      put-it s t id node (request_of o j runs (assigned node (walking (wants site r b go)))) z
+      (walking (go m.0 n.0)) e refl (some-is (with_request s id z) t n.2)
   use-it s t id node o j runs (walking (gives reply)) run e h = absurd (cc)
   use-it s t id node o j runs (within x stop) run e h = absurd (cc)
 
-  result-it : (s t : State P I A) (id node : ℕ) (o : Origin) (j : Journal) (runs : List RunId) (p : Place P I A) (run : RunId) → at s.requests id ≡ Some (request_of o j runs (assigned node p)) →
+  result-it : (s t : State P I A) (id node : ℕ) (o : Origin) (j : Journal) (runs : List RunId)
+      (p : Place P I A) (run : RunId) → at s.requests id
+      ≡ Some (request_of o j runs (assigned node p)) →
       step_of w s (Result id run) (request_of o j runs (assigned node p)) ≡ Some t → HasIt t id node
   result-it s t id node o j runs (within x (ends outcome)) run e h =
-      let y = and_then-some (only_if (same_run x.run run) x) (λ x. finished w s id node o j runs x (recorded outcome x.so_far.segments)) t h in
+      let y = and_then-some (only_if (same_run x.run run) x)
+      (λ x. finished w s id node o j runs x (recorded outcome x.so_far.segments)) t h in
       let made : Record = recorded outcome y.0.so_far.segments in
       let f : FinishedRun = record { run = y.0.run; made = made } in
-      let z : RequestState P I A = goes_on w (assigned node) o runs y.0.run y.0.go made (add j (ended y.0.run made)) in
-      let u = and_then-some (traverse (woken w (f ∷ s.table) y.0.run made) (put s.requests id z)) (λ requests. Some (record { requests = requests; begun = s.begun; table = f ∷ s.table; tools_used = record { run = y.0.run; tools = y.0.so_far.tools } ∷ s.tools_used })) t y.2 in
-      let last : State P I A = record { requests = u.0; begun = s.begun; table = f ∷ s.table; tools_used = record { run = y.0.run; tools = y.0.so_far.tools } ∷ s.tools_used } in
-      let k = traverse-at (woken w (f ∷ s.table) y.0.run made) (put s.requests id z) u.0 u.1 id z (at-put_same s.requests id (request_of o j runs (assigned node (within x (ends outcome)))) z e) in
+      let z : RequestState P I A = goes_on w (assigned node) o runs y.0.run y.0.go made
+      (add j (ended y.0.run made)) in
+      let u = and_then-some (traverse (woken w (f ∷ s.table) y.0.run made) (put s.requests id z))
+      (λ requests.
+      Some
+      (record {
+        requests = requests;
+        begun = s.begun;
+        table = f
+            ∷ s.table;
+        tools_used = record { run = y.0.run; tools = y.0.so_far.tools }
+            ∷ s.tools_used;
+      })) t y.2 in
+      let last : State P I A = record {
+        requests = u.0;
+        begun = s.begun;
+        table = f
+            ∷ s.table;
+        tools_used = record { run = y.0.run; tools = y.0.so_far.tools }
+            ∷ s.tools_used;
+      } in
+      let k = traverse-at (woken w (f ∷ s.table) y.0.run made) (put s.requests id z) u.0 u.1 id z
+      (at-put_same s.requests id (request_of o j runs (assigned node (within x (ends outcome))))
+      z e) in
       subst (λ (v : State P I A). HasIt v id node) (some-is last t u.2)
-      (record { request = z; place = walking (y.0.go made (add j (ended y.0.run made))); there = k.1 ∙ ap Some (sym (some-is z k.0 k.2)); is = refl })
+      (record {
+        request = z;
+        place = walking (y.0.go made (add j (ended y.0.run made)));
+        there = k.1
+            ∙ ap Some (sym (some-is z k.0 k.2));
+        is = refl;
+      })
   result-it s t id node o j runs (within x (asks key more go)) run e h = absurd (cc)
   result-it s t id node o j runs (walking tree) run e h = absurd (cc)
 
@@ -103,53 +200,96 @@ module _ {P I A : Type 0} (w : World P I A) where
     pub there : at state.requests (whose event) ≡ Some request
     pub goes : step_of w state event request ≡ Some t
 
-  before-last : (events : List Event) (event : Event) (t : State P I A) → IsHistory w (events ++ event ∷ []) t → Before events event t
+  before-last : (events : List Event) (event : Event) (t : State P I A)
+      → IsHistory w (events ++ event ∷ []) t → Before events event t
   before-last events event t h =
       let x = last-of w events event (start w) t h in
       let y = and_then-some (at x.0.requests (whose event)) (step_of w x.0 event) t x.2 in
       record { state = x.0; request = y.0; history = x.1; there = y.1; goes = y.2 }
 
-  has-here : (events : List Event) (t : State P I A) (id node : ℕ) → IsHistory w events t → HasIt t id node → IsAssignedTo w events id node
-  has-here events t id node h x = record { state = t; request = x.request; place = x.place; history = h; there = x.there; is = x.is }
+  has-here : (events : List Event) (t : State P I A) (id node : ℕ) → IsHistory w events t
+      → HasIt t id node → IsAssignedTo w events id node
+  has-here events t id node h x = record
+      { state = t; request = x.request; place = x.place; history = h; there = x.there; is = x.is }
 
   -- an assigned request is with the node that has it
-  pub assigned-here : (events after : List Event) (t : State P I A) (id node : ℕ) → after ≡ events ++ Assign id node ∷ [] → IsHistory w after t → IsAssignedTo w after id node
+  pub assigned-here : (events after : List Event) (t : State P I A) (id node : ℕ)
+      → after ≡ events ++ Assign id node ∷ [] → IsHistory w after t → IsAssignedTo w after id node
   assigned-here events after t id node e h =
       let b = before-last events (Assign id node) t (subst (λ es. IsHistory w es t) e h) in
-      has-here after t id node h (assign-it b.state t id node b.request.origin b.request.journal b.request.runs b.request.status b.there b.goes)
+      has-here after t id node h
+      (assign-it b.state t id node b.request.origin b.request.journal b.request.runs
+      b.request.status b.there b.goes)
 
-  module _ (events after : List Event) (t : State P I A) (id node : ℕ) (here : IsAssignedTo w events id node) where
-    own-before : (event : Event) → whose event ≡ id → (b : Before events event t) → at b.state.requests id ≡ Some (request_of here.request.origin here.request.journal here.request.runs (assigned node here.place))
+  module _ (events after : List Event) (t : State P I A) (id node : ℕ)
+      (here : IsAssignedTo w events id node) where
+    own-before : (event : Event) → whose event ≡ id → (b : Before events event t)
+        → at b.state.requests id
+        ≡ Some
+        (request_of here.request.origin here.request.journal here.request.runs
+        (assigned node here.place))
     own-before event is b =
-        let same : here.state ≡ b.state = one_state w events here.state b.state here.history b.history in
-        ap (λ (s : State P I A). at s.requests id) (sym same) ∙ (here.there ∙ ap (λ u. Some (request_of here.request.origin here.request.journal here.request.runs u)) here.is)
+        let same : here.state ≡ b.state = one_state w events here.state b.state here.history
+        b.history in
+        ap (λ (s : State P I A). at s.requests id) (sym same)
+        ∙ (here.there
+        ∙ ap
+        (λ u. Some (request_of here.request.origin here.request.journal here.request.runs u))
+        here.is)
 
-    stepped : (event : Event) → whose event ≡ id → (b : Before events event t) → step_of w b.state event (request_of here.request.origin here.request.journal here.request.runs (assigned node here.place)) ≡ Some t
+    stepped : (event : Event) → whose event ≡ id → (b : Before events event t)
+        → step_of w b.state event
+        (request_of here.request.origin here.request.journal here.request.runs
+        (assigned node here.place)) ≡ Some t
     stepped event is b =
-        let there : at b.state.requests id ≡ Some b.request = ap (at b.state.requests) (sym is) ∙ b.there in
-        ap (step_of w b.state event) (some-is _ b.request (sym (own-before event is b) ∙ there)) ∙ b.goes
+        let there : at b.state.requests id ≡ Some b.request = ap (at b.state.requests) (sym is)
+        ∙ b.there in
+        ap (step_of w b.state event) (some-is _ b.request (sym (own-before event is b) ∙ there))
+        ∙ b.goes
 
     -- a request stays with its node where its run is begun, used or finished
-    pub going-here : (run : RunId) → after ≡ events ++ Claim id run Go ∷ [] → IsHistory w after t → IsAssignedTo w after id node
+    pub going-here : (run : RunId) → after ≡ events ++ Claim id run Go ∷ [] → IsHistory w after t
+        → IsAssignedTo w after id node
     going-here run e h =
         let b = before-last events (Claim id run Go) t (subst (λ es. IsHistory w es t) e h) in
-        has-here after t id node h (go-it b.state t id node here.request.origin here.request.journal here.request.runs here.place run (own-before (Claim id run Go) refl b) (stepped (Claim id run Go) refl b))
+        has-here after t id node h
+        (go-it b.state t id node here.request.origin here.request.journal here.request.runs
+        here.place run (own-before (Claim id run Go) refl b) (stepped (Claim id run Go) refl b))
 
-    pub using-here : (run : RunId) → after ≡ events ++ Claim id run Use ∷ [] → IsHistory w after t → IsAssignedTo w after id node
+    pub using-here : (run : RunId) → after ≡ events ++ Claim id run Use ∷ [] → IsHistory w after t
+        → IsAssignedTo w after id node
     using-here run e h =
         let b = before-last events (Claim id run Use) t (subst (λ es. IsHistory w es t) e h) in
-        has-here after t id node h (use-it b.state t id node here.request.origin here.request.journal here.request.runs here.place run (own-before (Claim id run Use) refl b) (stepped (Claim id run Use) refl b))
+        has-here after t id node h
+        (use-it b.state t id node here.request.origin here.request.journal here.request.runs
+        here.place run (own-before (Claim id run Use) refl b)
+        (stepped (Claim id run Use) refl b))
 
-    pub finished-here : (run : RunId) → after ≡ events ++ Result id run ∷ [] → IsHistory w after t → IsAssignedTo w after id node
+    pub finished-here : (run : RunId) → after ≡ events ++ Result id run ∷ [] → IsHistory w after t
+        → IsAssignedTo w after id node
     finished-here run e h =
         let b = before-last events (Result id run) t (subst (λ es. IsHistory w es t) e h) in
-        has-here after t id node h (result-it b.state t id node here.request.origin here.request.journal here.request.runs here.place run (own-before (Result id run) refl b) (stepped (Result id run) refl b))
+        has-here after t id node h
+        (result-it b.state t id node here.request.origin here.request.journal here.request.runs
+        here.place run (own-before (Result id run) refl b) (stepped (Result id run) refl b))
 
   -- and through the events of others
-  pub still-here : (before more events : List Event) (id node : ℕ) (t : State P I A) → IsAssignedTo w before id node → events ≡ before ++ more → AreOfOthers id more → IsHistory w events t → IsAssignedTo w events id node
+  pub still-here : (before more events : List Event) (id node : ℕ) (t : State P I A)
+      → IsAssignedTo w before id node → events ≡ before ++ more → AreOfOthers id more
+      → IsHistory w events t → IsAssignedTo w events id node
   still-here before more events id node t here e others h =
-      let g : after_all w here.state more ≡ Some t = goes-on w before more (start w) here.state t here.history (subst (λ es. IsHistory w es t) e h) in
-      record { state = t; request = here.request; place = here.place; history = h; there = stays w here.state t more id node here.request here.place here.there here.is others g; is = here.is }
+      let g : after_all w here.state more ≡ Some t = goes-on w before more (start w) here.state t
+      here.history (subst (λ es. IsHistory w es t) e h) in
+      record {
+        state = t;
+        request = here.request;
+        place = here.place;
+        history = h;
+        there = stays w
+            here.state t more id node here.request here.place here.there here.is others g;
+        is =
+            here.is;
+      }
 
   -- the node to which a request is assigned
   abbrev assigned-of : Status P I A → Option ℕ
@@ -160,28 +300,45 @@ module _ {P I A : Type 0} (w : World P I A) where
   assigned-of (done a) = None
 
   -- a request is with one node
-  pub one-node : (events : List Event) (id node other : ℕ) → IsAssignedTo w events id node → IsAssignedTo w events id other → node ≡ other
+  pub one-node : (events : List Event) (id node other : ℕ) → IsAssignedTo w events id node
+      → IsAssignedTo w events id other → node ≡ other
   one-node events id node other x y =
       let same : x.state ≡ y.state = one_state w events x.state y.state x.history y.history in
-      let q : x.request ≡ y.request = some-is x.request y.request (sym x.there ∙ (ap (λ (s : State P I A). at s.requests id) same ∙ y.there)) in
-      some-is node other (sym (ap assigned-of x.is) ∙ (ap (λ (r : RequestState P I A). assigned-of r.status) q ∙ ap assigned-of y.is))
+      let q : x.request ≡ y.request = some-is x.request y.request
+      (sym x.there ∙ (ap (λ (s : State P I A). at s.requests id) same ∙ y.there)) in
+      some-is node other (sym (ap assigned-of x.is)
+      ∙ (ap (λ (r : RequestState P I A). assigned-of r.status) q ∙ ap assigned-of y.is))
 
-module _ {W P I A : Type 0} (seen : W → Seen P I A) (w : World P I A) {log : Logged} {origins : List Kept} {slots : List (Slot W)} {making : List (Option RunId)} {table : TableRuns} {end : Option End} where
-  pub assign-shown : (events : List Event) (id node : ℕ) → log.events ≡ events ++ Assign id node ∷ [] → ∥ Shown seen w log origins slots making table end ∥₁ → ∥ IsAssignedTo w log.events id node ∥₁
-  assign-shown events id node e x = ∥∥₁_map x (λ x. assigned-here w events log.events x.state id node e x.history)
+module _ {W P I A : Type 0} (seen : W → Seen P I A) (w : World P I A) {log : Logged}
+    {origins : List Kept} {slots : List (Slot W)} {making : List (Option RunId)} {table : TableRuns}
+    {end : Option End} where
+  pub assign-shown : (events : List Event) (id node : ℕ)
+      → log.events ≡ events ++ Assign id node ∷ []
+      → ∥ Shown seen w log origins slots making table end ∥₁
+      → ∥ IsAssignedTo w log.events id node ∥₁
+  assign-shown events id node e x = ∥∥₁_map x
+      (λ x. assigned-here w events log.events x.state id node e x.history)
 
-  module _ (events : List Event) (id node : ℕ) (v : World P I A) (same : w ≡ v) (here : ∥ IsAssignedTo v events id node ∥₁) (x : ∥ Shown seen w log origins slots making table end ∥₁) where
+  module _ (events : List Event) (id node : ℕ) (v : World P I A) (same : w ≡ v)
+      (here : ∥ IsAssignedTo v events id node ∥₁)
+      (x : ∥ Shown seen w log origins slots making table end ∥₁) where
     was : ∥ IsAssignedTo w events id node ∥₁
     was = subst (λ (u : World P I A). ∥ IsAssignedTo u events id node ∥₁) (sym same) here
 
-    pub go-shown : (run : RunId) → log.events ≡ events ++ Claim id run Go ∷ [] → ∥ IsAssignedTo w log.events id node ∥₁
-    go-shown run e = ∥∥₁_map₂ was x (λ here x. going-here w events log.events x.state id node here run e x.history)
+    pub go-shown : (run : RunId) → log.events ≡ events ++ Claim id run Go ∷ []
+        → ∥ IsAssignedTo w log.events id node ∥₁
+    go-shown run e = ∥∥₁_map₂ was x
+        (λ here x. going-here w events log.events x.state id node here run e x.history)
 
-    pub use-shown : (run : RunId) → log.events ≡ events ++ Claim id run Use ∷ [] → ∥ IsAssignedTo w log.events id node ∥₁
-    use-shown run e = ∥∥₁_map₂ was x (λ here x. using-here w events log.events x.state id node here run e x.history)
+    pub use-shown : (run : RunId) → log.events ≡ events ++ Claim id run Use ∷ []
+        → ∥ IsAssignedTo w log.events id node ∥₁
+    use-shown run e = ∥∥₁_map₂ was x
+        (λ here x. using-here w events log.events x.state id node here run e x.history)
 
-    pub result-shown : (run : RunId) → log.events ≡ events ++ Result id run ∷ [] → ∥ IsAssignedTo w log.events id node ∥₁
-    result-shown run e = ∥∥₁_map₂ was x (λ here x. finished-here w events log.events x.state id node here run e x.history)
+    pub result-shown : (run : RunId) → log.events ≡ events ++ Result id run ∷ []
+        → ∥ IsAssignedTo w log.events id node ∥₁
+    result-shown run e = ∥∥₁_map₂ was x
+        (λ here x. finished-here w events log.events x.state id node here run e x.history)
 
     -- nothing has changed
     pub kept-shown : log.events ≡ events → ∥ IsAssignedTo w log.events id node ∥₁

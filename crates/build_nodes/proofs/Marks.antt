@@ -1,5 +1,31 @@
 -- What is added to a history continues it, and an end is told where the mark stands.
-use Rattle.std.proofs.Common.{◌≡◌, ◌+◌, ◌≤◌, suc, true, false, Bor, option_copied, List, [], ◌∷◌, ◌++◌, length, map, drop, Option, Some, None, refl, ap, sym, subst, ◌∙◌, arith, append_assoc}
+use Rattle.std.proofs.Common.{
+  ◌≡◌,
+  ◌+◌,
+  ◌≤◌,
+  suc,
+  true,
+  false,
+  Bor,
+  option_copied,
+  List,
+  [],
+  ◌∷◌,
+  ◌++◌,
+  length,
+  map,
+  drop,
+  Option,
+  Some,
+  None,
+  refl,
+  ap,
+  sym,
+  subst,
+  ◌∙◌,
+  arith,
+  append_assoc,
+}
 use Rattle.std.proofs.lemmas.List.{append-nil}
 use Rattle.std.specs.Prelude.{is_some, IsSome}
 use mathlib.Core.List.{IsPrefix}
@@ -10,20 +36,24 @@ use Rattle.build_nodes.specs.Driven.{Continues}
 use Rattle.build_nodes.specs.Marked.{mark_of, marked, has_mark}
 
 -- more events, or an end, continue a history without one
-pub ahead : (xs ys more : List Event) (before after : Option End) → before ≡ None → ys ≡ xs ++ more → IsPrefix (marked xs before) (marked ys after)
+pub ahead : (xs ys more : List Event) (before after : Option End) → before ≡ None → ys ≡ xs ++ more
+    → IsPrefix (marked xs before) (marked ys after)
 ahead xs ys more before after b e = (
   map Some more ++ mark_of after,
   ap (λ o. marked xs o ++ (map Some more ++ mark_of after)) b
       ∙ (ap (λ l. l ++ (map Some more ++ mark_of after)) (append-nil (map Some xs))
       ∙ (sym (append_assoc (map Some xs) (map Some more) (mark_of after))
-      ∙ (ap (λ l. l ++ mark_of after) (sym (map-append Some xs more)) ∙ ap (λ l. marked l after) (sym e)))),
+      ∙ (ap (λ l. l ++ mark_of after) (sym (map-append Some xs more))
+      ∙ ap (λ l. marked l after) (sym e)))),
 )
 
-pub none-more : (xs ys : List Event) (before after : Option End) → before ≡ None → ys ≡ xs → IsPrefix (marked xs before) (marked ys after)
+pub none-more : (xs ys : List Event) (before after : Option End) → before ≡ None → ys ≡ xs
+    → IsPrefix (marked xs before) (marked ys after)
 none-more xs ys before after b e = ahead xs ys [] before after b (e ∙ sym (append-nil xs))
 
 -- the mark stays
-pub mark-stays : (xs ys : List (Option Event)) → IsPrefix xs ys → has_mark xs ≡ true → has_mark ys ≡ true
+pub mark-stays : (xs ys : List (Option Event)) → IsPrefix xs ys → has_mark xs ≡ true
+    → has_mark ys ≡ true
 mark-stays xs ys p e = subst (λ l. has_mark l ≡ true) p.1 (longer xs p.0 e)
   where
     longer : (xs rest : List (Option Event)) → has_mark xs ≡ true → has_mark (xs ++ rest) ≡ true
@@ -32,7 +62,8 @@ mark-stays xs ys p e = subst (λ l. has_mark l ≡ true) p.1 (longer xs p.0 e)
     longer (None ∷ xs) rest e = refl
 
 -- a history has the mark exactly where an end is told
-pub has-mark : (xs : List Event) (end : Option End) → is_some end ≡ true → has_mark (marked xs end) ≡ true
+pub has-mark : (xs : List Event) (end : Option End) → is_some end ≡ true
+    → has_mark (marked xs end) ≡ true
 has-mark [] (Some end) e = refl
 has-mark [] None e = absurd (cc)
 has-mark (x ∷ xs) end e = has-mark xs end e
@@ -43,7 +74,8 @@ mark-told [] None e = absurd (cc)
 mark-told (x ∷ xs) end e = mark-told xs end e
 
 -- without the mark the events continue as well
-pub continues-of : (xs ys : List Event) (before after : Option End) → IsPrefix (marked xs before) (marked ys after) → Continues xs ys
+pub continues-of : (xs ys : List Event) (before after : Option End)
+    → IsPrefix (marked xs before) (marked ys after) → Continues xs ys
 continues-of [] ys before after p = (ys, refl)
 continues-of (x ∷ xs) [] before None p = absurd (cc (p.1))
 continues-of (x ∷ xs) [] before (Some end) p = absurd (cc (p.1))
@@ -52,7 +84,8 @@ continues-of (x ∷ xs) (y ∷ ys) before after p =
     let rest = continues-of xs ys before after (p.0, cc (p.1)) in
     (rest.0, cc (heads, rest.1))
 
-pub length-unmarked : (xs : List Event) (end : Option End) → end ≡ None → length (marked xs end) ≡ length xs
+pub length-unmarked : (xs : List Event) (end : Option End) → end ≡ None
+    → length (marked xs end) ≡ length xs
 length-unmarked [] end e = ap (λ o. length (mark_of o)) e
 length-unmarked (x ∷ xs) end e = ap suc (length-unmarked xs end e)
 
@@ -65,10 +98,12 @@ pub drop-front : {X : Type 0} (xs ys : List X) → drop (length xs) (xs ++ ys) �
 drop-front [] ys = refl
 drop-front (x ∷ xs) ys = drop-front xs ys
 
-pub copied-some : {X : Type 0} (o : Option (Bor X)) (end : Option X) → option_copied o ≡ end → is_some o ≡ true → is_some end ≡ true
+pub copied-some : {X : Type 0} (o : Option (Bor X)) (end : Option X) → option_copied o ≡ end
+    → is_some o ≡ true → is_some end ≡ true
 copied-some (Some x) end e h = ap is_some (sym e)
 copied-some None end e h = absurd (cc)
 
-pub copied-none : {X : Type 0} (o : Option (Bor X)) (end : Option X) → option_copied o ≡ end → is_some o ≡ false → end ≡ None
+pub copied-none : {X : Type 0} (o : Option (Bor X)) (end : Option X) → option_copied o ≡ end
+    → is_some o ≡ false → end ≡ None
 copied-none (Some x) end e h = absurd (cc)
 copied-none None end e h = sym e

@@ -1,5 +1,20 @@
 -- When a node leaves: the end is told, or it has retired. (Building projects in parallel)
-use Rattle.std.specs.Prelude.{◌≡◌, ℕ, suc, Bool, true, false, ◌==◌, ◌||◌, List, [], ◌∷◌, Option, None, Some}
+use Rattle.std.specs.Prelude.{
+  ◌≡◌,
+  ℕ,
+  suc,
+  Bool,
+  true,
+  false,
+  ◌==◌,
+  ◌||◌,
+  List,
+  [],
+  ◌∷◌,
+  Option,
+  None,
+  Some,
+}
 use Rattle.build_meaning.specs.declared.event.Event.{Event}
 use Rattle.build_meaning.specs.declared.event.Event.TheVariants.{Retire}
 use Rattle.build_meaning.specs.History.{retires}

@@ -1,5 +1,18 @@
 -- The history of a core that nodes share.
-use Rattle.std.specs.Prelude.{Bool, false, ◌||◌, is_none, List, [], ◌∷◌, ◌++◌, map, Option, Some, None}
+use Rattle.std.specs.Prelude.{
+  Bool,
+  false,
+  ◌||◌,
+  is_none,
+  List,
+  [],
+  ◌∷◌,
+  ◌++◌,
+  map,
+  Option,
+  Some,
+  None,
+}
 use Rattle.build_meaning.specs.declared.event.Event.{Event}
 use Rattle.build_scheduler.specs.declared.slot.End.{End}
 

@@ -7,7 +7,8 @@ use Rattle.turn_board.specs.Seats.{SeatFacts}
 
 -- it is of this board, with one share, knows the board's world, and has not the core out
 abbrev pub IsSeated : {W : Type 0} → TableId → SeatFacts W (Option Event) → Type 0
-IsSeated board seat = (seat.board ≡ board) × (seat.has_state ≡ false) × (seat.share ≡ 1) × (is_some seat.world ≡ true)
+IsSeated board seat = (seat.board ≡ board) × (seat.has_state ≡ false) × (seat.share ≡ 1)
+    × (is_some seat.world ≡ true)
 
 -- the node of this number has left by what its seat has seen: the end is told, or it has retired
 abbrev pub HasLeft : {W : Type 0} → ℕ → SeatFacts W (Option Event) → Type 0

@@ -1,13 +1,22 @@
--- What a node has between two of its turns, by the history that it has seen. (Building projects in parallel)
+-- What a node has between two of its turns, by the history that it has seen. (Building projects in
+-- parallel)
 use Rattle.std.specs.Prelude.{◌≡◌, ◌<◌, ◌^◌, ℕ, List, length, false, true, Option, None, Some}
 use mathlib.Core.List.{IsPrefix}
 use Rattle.result_cache.specs.Table.{Records}
 use Rattle.build_meaning.specs.declared.event.Event.{Event}
 use Rattle.build_meaning.specs.World.{World}
 use Rattle.build_scheduler.specs.declared.slot.End.{End}
-use Rattle.build_scheduler.specs.declared.slot.End.TheVariants.{TooDeep as EndsTooDeep, TooMany as EndsTooMany, NoMemory as EndsNoMemory}
+use Rattle.build_scheduler.specs.declared.slot.End.TheVariants.{
+  TooDeep as EndsTooDeep,
+  TooMany as EndsTooMany,
+  NoMemory as EndsNoMemory,
+}
 use Rattle.build_scheduler.specs.declared.request.RequestFault.{RequestFault}
-use Rattle.build_scheduler.specs.declared.request.RequestFault.TheVariants.{TooDeep, TooMany, Memory}
+use Rattle.build_scheduler.specs.declared.request.RequestFault.TheVariants.{
+  TooDeep,
+  TooMany,
+  Memory,
+}
 use Rattle.build_scheduler.specs.declared.walker.Answer.{Answer}
 use Rattle.build_scheduler.specs.Own.{Seen, IsOut, IsOwn}
 use Rattle.build_scheduler.specs.Position.{Position, ask_of, answered}
@@ -38,15 +47,24 @@ abbrev pub AreAlike : {P I A : Type 0} →
     World P I A → Records → Records → Position P I A → Answer → Type 0
 AreAlike w these those p answer = answered w these p answer ≡ answered w those p answer
 
-module _ {W P I A : Type 0} (seen : W → Seen P I A) (earlier : W → Option (Position P I A × ℕ)) where
-  -- once its last answer is taken back, the walk is its request's own, and this is its next answer
-  pub record CanGoBack (w : World P I A) (events : List Event) (table : Records) (id : ℕ) (walk : W) (answer : Answer) : Type 0 where
-    pub position : Position P I A
-    pub asked : ℕ
-    pub stood : earlier walk ≡ Some (position, asked)
-    pub out : IsOut w events table id (record { world = (seen walk).world; position = position; asked = asked; learnt = (seen walk).learnt }) answer
+module _ {W P I A : Type 0} (seen : W → Seen P I A) (earlier : W → Option (Position P I A × ℕ))
+  where
+    -- once its last answer is taken back, the walk is its request's own, and this is its next answer
+    pub record CanGoBack (w : World P I A) (events : List Event) (table : Records) (id : ℕ) (walk : W)
+        (answer : Answer) : Type 0 where
+      pub position : Position P I A
+      pub asked : ℕ
+      pub stood : earlier walk ≡ Some (position, asked)
+      pub out : IsOut w events table id
+          (record {
+            world = (seen walk).world;
+            position = position;
+            asked = asked;
+            learnt = (seen walk).learnt;
+          }) answer
 
-module _ {W P I A : Type 0} (seen : W → Seen P I A) (earlier : W → Option (Position P I A × ℕ)) (node : ℕ) (w : World P I A) (past : List (Option Event)) where
+module _ {W P I A : Type 0} (seen : W → Seen P I A) (earlier : W → Option (Position P I A × ℕ))
+    (node : ℕ) (w : World P I A) (past : List (Option Event)) where
   -- when the history had this number, the node had not retired
   pub record IsIdle (number : ℕ) : Type 0 where
     pub events : List Event
@@ -54,7 +72,8 @@ module _ {W P I A : Type 0} (seen : W → Seen P I A) (earlier : W → Option (P
     pub begins : IsPrefix (marked events None) past
     pub active : has_left node (marked events None) ≡ false
 
-  -- besides, the walk was its request's own, with its next answer, for which it has learnt enough; and the request was with this node
+  -- besides, the walk was its request's own, with its next answer, for which it has learnt enough;
+  -- and the request was with this node
   pub record IsAnswered (a : Answered W) : Type 0 where
     pub events : List Event
     pub table : Records
@@ -86,7 +105,8 @@ module _ {W P I A : Type 0} (seen : W → Seen P I A) (earlier : W → Option (P
   IsBrought (Walk a) = ∥ IsAsking a ∥₁
   IsBrought (Refused a) = ∥ IsAnswered a ∥₁
 
-  -- what a node does after its turn, unless it leaves: it brings the same again, advances a walk, or parks at the number that it has seen
+  -- what a node does after its turn, unless it leaves: it brings the same again, advances a walk,
+  -- or parks at the number that it has seen
   abbrev pub IsNext : Option (Next W) → Type 0
   IsNext None = has_left node past ≡ true
   IsNext (Some (Missed brought)) = IsBrought brought

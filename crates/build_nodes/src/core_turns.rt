@@ -46,12 +46,15 @@ pub(crate) fn turn<W: Walker>(
     discarded: &mut Discarded<W>,
 ) -> Option<Next<W>>
     requires spent { IsSpent core.old.history.nodes core.old.history.events core.old.end }
-    requires brought { IsBrought (seen_by W.world W.position W.asked W.learnt) W.earlier node (W.world_of core.old.world) (marked core.old.history.events core.old.end) brought }
+    requires brought { IsBrought (seen_by W.world W.position W.asked W.learnt) W.earlier node
+        (W.world_of core.old.world) (marked core.old.history.events core.old.end) brought }
     ensures world { W.world_of core.new.world ≡ W.world_of core.old.world }
-    ensures continues { IsPrefix (marked core.old.history.events core.old.end) (marked core.new.history.events core.new.end) }
+    ensures continues { IsPrefix (marked core.old.history.events core.old.end)
+        (marked core.new.history.events core.new.end) }
     ensures nodes { core.new.history.nodes ≡ core.old.history.nodes }
     ensures spent { IsSpent core.new.history.nodes core.new.history.events core.new.end }
-    ensures next { IsNext (seen_by W.world W.position W.asked W.learnt) W.earlier node (W.world_of core.new.world) (marked core.new.history.events core.new.end) result }
+    ensures next { IsNext (seen_by W.world W.position W.asked W.learnt) W.earlier node
+        (W.world_of core.new.world) (marked core.new.history.events core.new.end) result }
 {
     if core.end().is_some() {
         return None;
@@ -109,12 +112,15 @@ fn bring_back<W: Walker>(
 ) -> Option<Next<W>>
     requires running { core.old.end ≡ None }
     requires active { has_left node (marked core.old.history.events core.old.end) ≡ false }
-    requires asking { ∥ IsAsking (seen_by W.world W.position W.asked W.learnt) W.earlier node (W.world_of core.old.world) (marked core.old.history.events core.old.end) asking ∥₁ }
+    requires asking { ∥ IsAsking (seen_by W.world W.position W.asked W.learnt) W.earlier node
+        (W.world_of core.old.world) (marked core.old.history.events core.old.end) asking ∥₁ }
     ensures world { W.world_of core.new.world ≡ W.world_of core.old.world }
-    ensures continues { IsPrefix (marked core.old.history.events core.old.end) (marked core.new.history.events core.new.end) }
+    ensures continues { IsPrefix (marked core.old.history.events core.old.end)
+        (marked core.new.history.events core.new.end) }
     ensures nodes { core.new.history.nodes ≡ core.old.history.nodes }
     ensures spent { IsSpent core.new.history.nodes core.new.history.events core.new.end }
-    ensures next { IsNext (seen_by W.world W.position W.asked W.learnt) W.earlier node (W.world_of core.new.world) (marked core.new.history.events core.new.end) result }
+    ensures next { IsNext (seen_by W.world W.position W.asked W.learnt) W.earlier node
+        (W.world_of core.new.world) (marked core.new.history.events core.new.end) result }
 {
     if are_of_others(core.history(), asking.id, asking.number) {
         go_on(core, node, asking, discarded)
@@ -166,15 +172,22 @@ fn go_on<W: Walker>(
 ) -> Option<Next<W>>
     requires running { core.old.end ≡ None }
     requires active { has_left node (marked core.old.history.events core.old.end) ≡ false }
-    requires own { ∥ IsOwn (W.world_of core.old.world) core.old.history.events core.old.table.finished asking.id (seen_by W.world W.position W.asked W.learnt asking.walk) ∥₁ }
-    requires here { ∥ IsAssignedTo (W.world_of core.old.world) core.old.history.events asking.id node ∥₁ }
-    requires back { ∥ CanGoBack (seen_by W.world W.position W.asked W.learnt) W.earlier (W.world_of core.old.world) core.old.history.events core.old.table.finished asking.id asking.walk asking.answer ∥₁ }
+    requires own { ∥ IsOwn (W.world_of core.old.world) core.old.history.events
+        core.old.table.finished asking.id
+        (seen_by W.world W.position W.asked W.learnt asking.walk) ∥₁ }
+    requires here { ∥ IsAssignedTo (W.world_of core.old.world) core.old.history.events asking.id
+        node ∥₁ }
+    requires back { ∥ CanGoBack (seen_by W.world W.position W.asked W.learnt) W.earlier
+        (W.world_of core.old.world) core.old.history.events core.old.table.finished asking.id
+        asking.walk asking.answer ∥₁ }
     requires asks { ask_of (W.position asking.walk) ≡ asking.ask }
     ensures world { W.world_of core.new.world ≡ W.world_of core.old.world }
-    ensures continues { IsPrefix (marked core.old.history.events core.old.end) (marked core.new.history.events core.new.end) }
+    ensures continues { IsPrefix (marked core.old.history.events core.old.end)
+        (marked core.new.history.events core.new.end) }
     ensures nodes { core.new.history.nodes ≡ core.old.history.nodes }
     ensures spent { IsSpent core.new.history.nodes core.new.history.events core.new.end }
-    ensures next { IsNext (seen_by W.world W.position W.asked W.learnt) W.earlier node (W.world_of core.new.world) (marked core.new.history.events core.new.end) result }
+    ensures next { IsNext (seen_by W.world W.position W.asked W.learnt) W.earlier node
+        (W.world_of core.new.world) (marked core.new.history.events core.new.end) result }
 {
     let Asking {
         id,
@@ -205,15 +218,21 @@ fn claim<W: Walker>(
 ) -> Option<Next<W>>
     requires running { core.old.end ≡ None }
     requires active { has_left node (marked core.old.history.events core.old.end) ≡ false }
-    requires own { ∥ IsOwn (W.world_of core.old.world) core.old.history.events core.old.table.finished held.id (seen_by W.world W.position W.asked W.learnt held.walk) ∥₁ }
-    requires here { ∥ IsAssignedTo (W.world_of core.old.world) core.old.history.events held.id node ∥₁ }
-    requires back { ∥ CanGoBack (seen_by W.world W.position W.asked W.learnt) W.earlier (W.world_of core.old.world) core.old.history.events core.old.table.finished held.id held.walk held.answer ∥₁ }
+    requires own { ∥ IsOwn (W.world_of core.old.world) core.old.history.events
+        core.old.table.finished held.id (seen_by W.world W.position W.asked W.learnt held.walk) ∥₁ }
+    requires here { ∥ IsAssignedTo (W.world_of core.old.world) core.old.history.events held.id
+        node ∥₁ }
+    requires back { ∥ CanGoBack (seen_by W.world W.position W.asked W.learnt) W.earlier
+        (W.world_of core.old.world) core.old.history.events core.old.table.finished held.id
+        held.walk held.answer ∥₁ }
     requires asks { ask_of (W.position held.walk) ≡ Want run.now }
     ensures world { W.world_of core.new.world ≡ W.world_of core.old.world }
-    ensures continues { IsPrefix (marked core.old.history.events core.old.end) (marked core.new.history.events core.new.end) }
+    ensures continues { IsPrefix (marked core.old.history.events core.old.end)
+        (marked core.new.history.events core.new.end) }
     ensures nodes { core.new.history.nodes ≡ core.old.history.nodes }
     ensures spent { IsSpent core.new.history.nodes core.new.history.events core.new.end }
-    ensures next { IsNext (seen_by W.world W.position W.asked W.learnt) W.earlier node (W.world_of core.new.world) (marked core.new.history.events core.new.end) result }
+    ensures next { IsNext (seen_by W.world W.position W.asked W.learnt) W.earlier node
+        (W.world_of core.new.world) (marked core.new.history.events core.new.end) result }
 {
     let Held { id, walk, answer } = held;
     match core.claim(id, walk, run) {
@@ -246,15 +265,21 @@ fn request<W: Walker>(
 ) -> Option<Next<W>>
     requires running { core.old.end ≡ None }
     requires active { has_left node (marked core.old.history.events core.old.end) ≡ false }
-    requires own { ∥ IsOwn (W.world_of core.old.world) core.old.history.events core.old.table.finished held.id (seen_by W.world W.position W.asked W.learnt held.walk) ∥₁ }
-    requires here { ∥ IsAssignedTo (W.world_of core.old.world) core.old.history.events held.id node ∥₁ }
-    requires back { ∥ CanGoBack (seen_by W.world W.position W.asked W.learnt) W.earlier (W.world_of core.old.world) core.old.history.events core.old.table.finished held.id held.walk held.answer ∥₁ }
+    requires own { ∥ IsOwn (W.world_of core.old.world) core.old.history.events
+        core.old.table.finished held.id (seen_by W.world W.position W.asked W.learnt held.walk) ∥₁ }
+    requires here { ∥ IsAssignedTo (W.world_of core.old.world) core.old.history.events held.id
+        node ∥₁ }
+    requires back { ∥ CanGoBack (seen_by W.world W.position W.asked W.learnt) W.earlier
+        (W.world_of core.old.world) core.old.history.events core.old.table.finished held.id
+        held.walk held.answer ∥₁ }
     requires asks { ask_of (W.position held.walk) ≡ Call calls }
     ensures world { W.world_of core.new.world ≡ W.world_of core.old.world }
-    ensures continues { IsPrefix (marked core.old.history.events core.old.end) (marked core.new.history.events core.new.end) }
+    ensures continues { IsPrefix (marked core.old.history.events core.old.end)
+        (marked core.new.history.events core.new.end) }
     ensures nodes { core.new.history.nodes ≡ core.old.history.nodes }
     ensures spent { IsSpent core.new.history.nodes core.new.history.events core.new.end }
-    ensures next { IsNext (seen_by W.world W.position W.asked W.learnt) W.earlier node (W.world_of core.new.world) (marked core.new.history.events core.new.end) result }
+    ensures next { IsNext (seen_by W.world W.position W.asked W.learnt) W.earlier node
+        (W.world_of core.new.world) (marked core.new.history.events core.new.end) result }
 {
     let Held { id, walk, answer } = held;
     match core.request(id, walk, calls) {
@@ -274,14 +299,20 @@ fn refuse<W: Walker>(
     fault: RequestFault,
 ) -> Option<Next<W>>
     requires running { core.old.end ≡ None }
-    requires shown { IsStop (W.world_of core.old.world) core.old.history.events (refusal_end fault) }
-    requires here { ∥ IsAssignedTo (W.world_of core.old.world) core.old.history.events held.id node ∥₁ }
-    requires back { ∥ CanGoBack (seen_by W.world W.position W.asked W.learnt) W.earlier (W.world_of core.old.world) core.old.history.events core.old.table.finished held.id held.walk held.answer ∥₁ }
+    requires shown { IsStop (W.world_of core.old.world) core.old.history.events
+        (refusal_end fault) }
+    requires here { ∥ IsAssignedTo (W.world_of core.old.world) core.old.history.events held.id
+        node ∥₁ }
+    requires back { ∥ CanGoBack (seen_by W.world W.position W.asked W.learnt) W.earlier
+        (W.world_of core.old.world) core.old.history.events core.old.table.finished held.id
+        held.walk held.answer ∥₁ }
     ensures world { W.world_of core.new.world ≡ W.world_of core.old.world }
-    ensures continues { IsPrefix (marked core.old.history.events core.old.end) (marked core.new.history.events core.new.end) }
+    ensures continues { IsPrefix (marked core.old.history.events core.old.end)
+        (marked core.new.history.events core.new.end) }
     ensures nodes { core.new.history.nodes ≡ core.old.history.nodes }
     ensures spent { IsSpent core.new.history.nodes core.new.history.events core.new.end }
-    ensures next { IsNext (seen_by W.world W.position W.asked W.learnt) W.earlier node (W.world_of core.new.world) (marked core.new.history.events core.new.end) result }
+    ensures next { IsNext (seen_by W.world W.position W.asked W.learnt) W.earlier node
+        (W.world_of core.new.world) (marked core.new.history.events core.new.end) result }
 {
     match fault {
         RequestFault::TooDeep(keys) => stop(core, node, End::TooDeep(keys)),
@@ -300,15 +331,19 @@ fn finish<W: Walker>(
 ) -> Option<Next<W>>
     requires running { core.old.end ≡ None }
     requires active { has_left node (marked core.old.history.events core.old.end) ≡ false }
-    requires own { ∥ IsOwn (W.world_of core.old.world) core.old.history.events core.old.table.finished held.id (seen_by W.world W.position W.asked W.learnt held.walk) ∥₁ }
-    requires here { ∥ IsAssignedTo (W.world_of core.old.world) core.old.history.events held.id node ∥₁ }
+    requires own { ∥ IsOwn (W.world_of core.old.world) core.old.history.events
+        core.old.table.finished held.id (seen_by W.world W.position W.asked W.learnt held.walk) ∥₁ }
+    requires here { ∥ IsAssignedTo (W.world_of core.old.world) core.old.history.events held.id
+        node ∥₁ }
     requires answer { held.answer ≡ Use }
     requires asks { ask_of (W.position held.walk) ≡ Finished run.now made }
     ensures world { W.world_of core.new.world ≡ W.world_of core.old.world }
-    ensures continues { IsPrefix (marked core.old.history.events core.old.end) (marked core.new.history.events core.new.end) }
+    ensures continues { IsPrefix (marked core.old.history.events core.old.end)
+        (marked core.new.history.events core.new.end) }
     ensures nodes { core.new.history.nodes ≡ core.old.history.nodes }
     ensures spent { IsSpent core.new.history.nodes core.new.history.events core.new.end }
-    ensures next { IsNext (seen_by W.world W.position W.asked W.learnt) W.earlier node (W.world_of core.new.world) (marked core.new.history.events core.new.end) result }
+    ensures next { IsNext (seen_by W.world W.position W.asked W.learnt) W.earlier node
+        (W.world_of core.new.world) (marked core.new.history.events core.new.end) result }
 {
     core.result(held.id, run, made);
     // The walk has made the record itself.
@@ -329,10 +364,12 @@ fn end_request<W: Walker>(
         core.old.table.finished held.id (seen_by W.world W.position W.asked W.learnt held.walk) ∥₁ }
     requires asks { ask_of (W.position held.walk) ≡ Done told }
     ensures world { W.world_of core.new.world ≡ W.world_of core.old.world }
-    ensures continues { IsPrefix (marked core.old.history.events core.old.end) (marked core.new.history.events core.new.end) }
+    ensures continues { IsPrefix (marked core.old.history.events core.old.end)
+        (marked core.new.history.events core.new.end) }
     ensures nodes { core.new.history.nodes ≡ core.old.history.nodes }
     ensures spent { IsSpent core.new.history.nodes core.new.history.events core.new.end }
-    ensures next { IsNext (seen_by W.world W.position W.asked W.learnt) W.earlier node (W.world_of core.new.world) (marked core.new.history.events core.new.end) result }
+    ensures next { IsNext (seen_by W.world W.position W.asked W.learnt) W.earlier node
+        (W.world_of core.new.world) (marked core.new.history.events core.new.end) result }
 {
     let Held { id, walk, answer } = held;
     discarded.answer = Some(answer);
@@ -350,10 +387,12 @@ fn assign_least<W: Walker>(core: &mut Core<W>, node: u32) -> Option<Next<W>>
     requires running { core.old.end ≡ None }
     requires active { has_left node (marked core.old.history.events core.old.end) ≡ false }
     ensures world { W.world_of core.new.world ≡ W.world_of core.old.world }
-    ensures continues { IsPrefix (marked core.old.history.events core.old.end) (marked core.new.history.events core.new.end) }
+    ensures continues { IsPrefix (marked core.old.history.events core.old.end)
+        (marked core.new.history.events core.new.end) }
     ensures nodes { core.new.history.nodes ≡ core.old.history.nodes }
     ensures spent { IsSpent core.new.history.nodes core.new.history.events core.new.end }
-    ensures next { IsNext (seen_by W.world W.position W.asked W.learnt) W.earlier node (W.world_of core.new.world) (marked core.new.history.events core.new.end) result }
+    ensures next { IsNext (seen_by W.world W.position W.asked W.learnt) W.earlier node
+        (W.world_of core.new.world) (marked core.new.history.events core.new.end) result }
 {
     match next_ready(core, node) {
         None => Some(Next::Park(core.history().len())),
@@ -410,13 +449,18 @@ fn is_repeated<W: Walker>(core: &mut Core<W>, id: u64, node: u32) -> bool
 fn give_answer<W: Walker>(core: &mut Core<W>, node: u32, held: Held<W>) -> Option<Next<W>>
     requires running { core.old.end ≡ None }
     requires active { has_left node (marked core.old.history.events core.old.end) ≡ false }
-    requires out { ∥ IsOut (W.world_of core.old.world) core.old.history.events core.old.table.finished held.id (seen_by W.world W.position W.asked W.learnt held.walk) held.answer ∥₁ }
-    requires here { ∥ IsAssignedTo (W.world_of core.old.world) core.old.history.events held.id node ∥₁ }
+    requires out { ∥ IsOut (W.world_of core.old.world) core.old.history.events
+        core.old.table.finished held.id (seen_by W.world W.position W.asked W.learnt held.walk)
+        held.answer ∥₁ }
+    requires here { ∥ IsAssignedTo (W.world_of core.old.world) core.old.history.events held.id
+        node ∥₁ }
     ensures world { W.world_of core.new.world ≡ W.world_of core.old.world }
-    ensures continues { IsPrefix (marked core.old.history.events core.old.end) (marked core.new.history.events core.new.end) }
+    ensures continues { IsPrefix (marked core.old.history.events core.old.end)
+        (marked core.new.history.events core.new.end) }
     ensures nodes { core.new.history.nodes ≡ core.old.history.nodes }
     ensures spent { IsSpent core.new.history.nodes core.new.history.events core.new.end }
-    ensures next { IsNext (seen_by W.world W.position W.asked W.learnt) W.earlier node (W.world_of core.new.world) (marked core.new.history.events core.new.end) result }
+    ensures next { IsNext (seen_by W.world W.position W.asked W.learnt) W.earlier node
+        (W.world_of core.new.world) (marked core.new.history.events core.new.end) result }
 {
     let Held {
         id,
@@ -457,15 +501,20 @@ fn learn_records<W: Walker>(walk: &mut W, table: &Table, answer: &Answer) -> Res
 fn hand_over<W: Walker>(core: &mut Core<W>, node: u32, held: Held<W>) -> Option<Next<W>>
     requires running { core.old.end ≡ None }
     requires active { has_left node (marked core.old.history.events core.old.end) ≡ false }
-    requires out { ∥ IsOut (W.world_of core.old.world) core.old.history.events core.old.table.finished held.id (seen_by W.world W.position W.asked W.learnt held.walk) held.answer ∥₁ }
-    requires here { ∥ IsAssignedTo (W.world_of core.old.world) core.old.history.events held.id node ∥₁ }
+    requires out { ∥ IsOut (W.world_of core.old.world) core.old.history.events
+        core.old.table.finished held.id (seen_by W.world W.position W.asked W.learnt held.walk)
+        held.answer ∥₁ }
+    requires here { ∥ IsAssignedTo (W.world_of core.old.world) core.old.history.events held.id
+        node ∥₁ }
     requires enough { AreAlike (W.world held.walk) (W.learnt held.walk) core.old.table.finished
         (W.position held.walk) held.answer }
     ensures world { W.world_of core.new.world ≡ W.world_of core.old.world }
-    ensures continues { IsPrefix (marked core.old.history.events core.old.end) (marked core.new.history.events core.new.end) }
+    ensures continues { IsPrefix (marked core.old.history.events core.old.end)
+        (marked core.new.history.events core.new.end) }
     ensures nodes { core.new.history.nodes ≡ core.old.history.nodes }
     ensures spent { IsSpent core.new.history.nodes core.new.history.events core.new.end }
-    ensures next { IsNext (seen_by W.world W.position W.asked W.learnt) W.earlier node (W.world_of core.new.world) (marked core.new.history.events core.new.end) result }
+    ensures next { IsNext (seen_by W.world W.position W.asked W.learnt) W.earlier node
+        (W.world_of core.new.world) (marked core.new.history.events core.new.end) result }
 {
     let Held { id, walk, answer } = held;
     Some(Next::Advance(Answered {
@@ -486,12 +535,15 @@ fn give_back<W: Walker>(
 ) -> Option<Next<W>>
     requires running { core.old.end ≡ None }
     requires active { has_left node (marked core.old.history.events core.old.end) ≡ false }
-    requires answered { ∥ IsAnswered (seen_by W.world W.position W.asked W.learnt) W.earlier node (W.world_of core.old.world) (marked core.old.history.events core.old.end) answered ∥₁ }
+    requires answered { ∥ IsAnswered (seen_by W.world W.position W.asked W.learnt) W.earlier node
+        (W.world_of core.old.world) (marked core.old.history.events core.old.end) answered ∥₁ }
     ensures world { W.world_of core.new.world ≡ W.world_of core.old.world }
-    ensures continues { IsPrefix (marked core.old.history.events core.old.end) (marked core.new.history.events core.new.end) }
+    ensures continues { IsPrefix (marked core.old.history.events core.old.end)
+        (marked core.new.history.events core.new.end) }
     ensures nodes { core.new.history.nodes ≡ core.old.history.nodes }
     ensures spent { IsSpent core.new.history.nodes core.new.history.events core.new.end }
-    ensures next { IsNext (seen_by W.world W.position W.asked W.learnt) W.earlier node (W.world_of core.new.world) (marked core.new.history.events core.new.end) result }
+    ensures next { IsNext (seen_by W.world W.position W.asked W.learnt) W.earlier node
+        (W.world_of core.new.world) (marked core.new.history.events core.new.end) result }
 {
     let Answered {
         id,
@@ -510,13 +562,18 @@ fn give_back<W: Walker>(
 /// Takes the last answer of a walk back, and gives its request back.
 fn take_back<W: Walker>(core: &mut Core<W>, node: u32, held: Held<W>) -> Option<Next<W>>
     requires running { core.old.end ≡ None }
-    requires here { ∥ IsAssignedTo (W.world_of core.old.world) core.old.history.events held.id node ∥₁ }
-    requires back { ∥ CanGoBack (seen_by W.world W.position W.asked W.learnt) W.earlier (W.world_of core.old.world) core.old.history.events core.old.table.finished held.id held.walk held.answer ∥₁ }
+    requires here { ∥ IsAssignedTo (W.world_of core.old.world) core.old.history.events held.id
+        node ∥₁ }
+    requires back { ∥ CanGoBack (seen_by W.world W.position W.asked W.learnt) W.earlier
+        (W.world_of core.old.world) core.old.history.events core.old.table.finished held.id
+        held.walk held.answer ∥₁ }
     ensures world { W.world_of core.new.world ≡ W.world_of core.old.world }
-    ensures continues { IsPrefix (marked core.old.history.events core.old.end) (marked core.new.history.events core.new.end) }
+    ensures continues { IsPrefix (marked core.old.history.events core.old.end)
+        (marked core.new.history.events core.new.end) }
     ensures nodes { core.new.history.nodes ≡ core.old.history.nodes }
     ensures spent { IsSpent core.new.history.nodes core.new.history.events core.new.end }
-    ensures next { IsNext (seen_by W.world W.position W.asked W.learnt) W.earlier node (W.world_of core.new.world) (marked core.new.history.events core.new.end) result }
+    ensures next { IsNext (seen_by W.world W.position W.asked W.learnt) W.earlier node
+        (W.world_of core.new.world) (marked core.new.history.events core.new.end) result }
 {
     let Held {
         id,
@@ -527,16 +584,22 @@ fn take_back<W: Walker>(core: &mut Core<W>, node: u32, held: Held<W>) -> Option<
     retire(core, node, Held { id, walk, answer })
 }
 
-/// Gives a request back for which the node has no memory: the node has retired. Where no other node is left, the end is told.
+/// Gives a request back for which the node has no memory: the node has retired. Where no other node
+/// is left, the end is told.
 fn retire<W: Walker>(core: &mut Core<W>, node: u32, held: Held<W>) -> Option<Next<W>>
     requires running { core.old.end ≡ None }
-    requires out { ∥ IsOut (W.world_of core.old.world) core.old.history.events core.old.table.finished held.id (seen_by W.world W.position W.asked W.learnt held.walk) held.answer ∥₁ }
-    requires here { ∥ IsAssignedTo (W.world_of core.old.world) core.old.history.events held.id node ∥₁ }
+    requires out { ∥ IsOut (W.world_of core.old.world) core.old.history.events
+        core.old.table.finished held.id (seen_by W.world W.position W.asked W.learnt held.walk)
+        held.answer ∥₁ }
+    requires here { ∥ IsAssignedTo (W.world_of core.old.world) core.old.history.events held.id
+        node ∥₁ }
     ensures world { W.world_of core.new.world ≡ W.world_of core.old.world }
-    ensures continues { IsPrefix (marked core.old.history.events core.old.end) (marked core.new.history.events core.new.end) }
+    ensures continues { IsPrefix (marked core.old.history.events core.old.end)
+        (marked core.new.history.events core.new.end) }
     ensures nodes { core.new.history.nodes ≡ core.old.history.nodes }
     ensures spent { IsSpent core.new.history.nodes core.new.history.events core.new.end }
-    ensures next { IsNext (seen_by W.world W.position W.asked W.learnt) W.earlier node (W.world_of core.new.world) (marked core.new.history.events core.new.end) result }
+    ensures next { IsNext (seen_by W.world W.position W.asked W.learnt) W.earlier node
+        (W.world_of core.new.world) (marked core.new.history.events core.new.end) result }
 {
     let Held { id, walk, answer } = held;
     core.retire(id, walk, answer);
@@ -549,10 +612,12 @@ fn stop<W: Walker>(core: &mut Core<W>, node: u32, end: End) -> Option<Next<W>>
     requires shown { IsStop (W.world_of core.old.world) core.old.history.events end }
     requires caused { IsCaused end }
     ensures world { W.world_of core.new.world ≡ W.world_of core.old.world }
-    ensures continues { IsPrefix (marked core.old.history.events core.old.end) (marked core.new.history.events core.new.end) }
+    ensures continues { IsPrefix (marked core.old.history.events core.old.end)
+        (marked core.new.history.events core.new.end) }
     ensures nodes { core.new.history.nodes ≡ core.old.history.nodes }
     ensures spent { IsSpent core.new.history.nodes core.new.history.events core.new.end }
-    ensures next { IsNext (seen_by W.world W.position W.asked W.learnt) W.earlier node (W.world_of core.new.world) (marked core.new.history.events core.new.end) result }
+    ensures next { IsNext (seen_by W.world W.position W.asked W.learnt) W.earlier node
+        (W.world_of core.new.world) (marked core.new.history.events core.new.end) result }
 {
     core.stop(end);
     None

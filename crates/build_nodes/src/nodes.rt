@@ -1,4 +1,25 @@
-ghost use Rattle.std.specs.Prelude.{◌≡◌, ◌+◌, ◌-◌, ◌<◌, ◌≤◌, ◌++◌, ◌∷◌, [], All, map, true, false, is_some, vec_len, vec_capacity, IfOk, IfSome, IsSome, IsSomeAnd, None};
+ghost use Rattle.std.specs.Prelude.{
+  ◌≡◌,
+  ◌+◌,
+  ◌-◌,
+  ◌<◌,
+  ◌≤◌,
+  ◌++◌,
+  ◌∷◌,
+  [],
+  All,
+  map,
+  true,
+  false,
+  is_some,
+  vec_len,
+  vec_capacity,
+  IfOk,
+  IfSome,
+  IsSome,
+  IsSomeAnd,
+  None,
+};
 ghost use mathlib.Core.List.{IsPrefix};
 ghost use Rattle.build_scheduler.specs.Ends.{IsEnd};
 ghost use Rattle.build_scheduler.specs.Own.{seen_by};
@@ -46,10 +67,15 @@ where
     W::Origin: Send,
     requires board { seat.old.board ≡ board.now }
     requires home { seat.old.has_state ≡ false }
-    requires brought { IsSomeAnd seat.old.world (λ first. IsBrought (seen_by W.world W.position W.asked W.learnt) W.earlier number (W.world_of first.world) seat.old.seen brought) }
+    requires brought { IsSomeAnd seat.old.world
+        (λ first. IsBrought (seen_by W.world W.position W.asked W.learnt) W.earlier number
+        (W.world_of first.world) seat.old.seen brought) }
     ensures home { seat.new.has_state ≡ false }
-    ensures kept { (seat.new.board ≡ seat.old.board) × (seat.new.share ≡ seat.old.share) × (seat.new.world ≡ seat.old.world) }
-    ensures next { IsSomeAnd seat.new.world (λ first. IsNext (seen_by W.world W.position W.asked W.learnt) W.earlier number (W.world_of first.world) seat.new.seen result.next) }
+    ensures kept { (seat.new.board ≡ seat.old.board) × (seat.new.share ≡ seat.old.share)
+        × (seat.new.world ≡ seat.old.world) }
+    ensures next { IsSomeAnd seat.new.world
+        (λ first. IsNext (seen_by W.world W.position W.asked W.learnt) W.earlier number
+        (W.world_of first.world) seat.new.seen result.next) }
 {
     let mut shared = match board.take(seat) {
         Taken::State(shared) => shared,
@@ -76,9 +102,14 @@ fn advance<W: Walker + Send>(node: &mut Node<W>, answered: Answered<W>) -> Broug
 where
     W::Place: Send + Drop,
     W::Origin: Send,
-    requires answered { IsSomeAnd node.old.seat.world (λ first. ∥ IsAnswered (seen_by W.world W.position W.asked W.learnt) W.earlier node.old.number (W.world_of first.world) node.old.seat.seen answered ∥₁) }
+    requires answered { IsSomeAnd node.old.seat.world
+        (λ first.
+        ∥ IsAnswered (seen_by W.world W.position W.asked W.learnt) W.earlier node.old.number
+        (W.world_of first.world) node.old.seat.seen answered ∥₁) }
     ensures seat { (node.new.seat ≡ node.old.seat) × (node.new.number ≡ node.old.number) }
-    ensures brought { IsSomeAnd node.old.seat.world (λ first. IsBrought (seen_by W.world W.position W.asked W.learnt) W.earlier node.old.number (W.world_of first.world) node.old.seat.seen result) }
+    ensures brought { IsSomeAnd node.old.seat.world
+        (λ first. IsBrought (seen_by W.world W.position W.asked W.learnt) W.earlier node.old.number
+        (W.world_of first.world) node.old.seat.seen result) }
 {
     let Answered {
         id,
@@ -113,9 +144,13 @@ fn go_on<R: Wait, W: Walker + Send>(
 where
     W::Place: Send + Drop,
     W::Origin: Send,
-    requires next { IsSomeAnd node.old.seat.world (λ first. IsNext (seen_by W.world W.position W.asked W.learnt) W.earlier node.old.number (W.world_of first.world) node.old.seat.seen (Some next)) }
+    requires next { IsSomeAnd node.old.seat.world
+        (λ first. IsNext (seen_by W.world W.position W.asked W.learnt) W.earlier node.old.number
+        (W.world_of first.world) node.old.seat.seen (Some next)) }
     ensures seat { (node.new.seat ≡ node.old.seat) × (node.new.number ≡ node.old.number) }
-    ensures brought { IsSomeAnd node.old.seat.world (λ first. IsBrought (seen_by W.world W.position W.asked W.learnt) W.earlier node.old.number (W.world_of first.world) node.old.seat.seen result) }
+    ensures brought { IsSomeAnd node.old.seat.world
+        (λ first. IsBrought (seen_by W.world W.position W.asked W.learnt) W.earlier node.old.number
+        (W.world_of first.world) node.old.seat.seen result) }
 {
     match next {
         Next::Missed(brought) => {
@@ -141,7 +176,9 @@ where
     W::Place: Send + Drop,
     W::Origin: Send,
     requires seated { IsSeated board.now node.old.seat }
-    requires brought { IsSomeAnd node.old.seat.world (λ first. IsBrought (seen_by W.world W.position W.asked W.learnt) W.earlier node.old.number (W.world_of first.world) node.old.seat.seen brought) }
+    requires brought { IsSomeAnd node.old.seat.world
+        (λ first. IsBrought (seen_by W.world W.position W.asked W.learnt) W.earlier node.old.number
+        (W.world_of first.world) node.old.seat.seen brought) }
     ensures seated { IsSeated board.now node.new.seat }
     ensures number { node.new.number ≡ node.old.number }
     ensures left { HasLeft node.new.number node.new.seat }
@@ -154,8 +191,8 @@ where
     }
 }
 
-/// Takes turns until the end is told, the node retires or there is a walk to advance. A node that is alone
-/// advances walks itself while no other request is ready.
+/// Takes turns until the end is told, the node retires or there is a walk to advance. A node that
+/// is alone advances walks itself while no other request is ready.
 fn take_turns<R: Wait, W: Walker + Send>(
     rt: &R,
     board: &Board<Shared<W>>,
@@ -168,7 +205,12 @@ where
     requires seated { IsSeated board.now node.old.seat }
     ensures seated { IsSeated board.now node.new.seat }
     ensures number { node.new.number ≡ node.old.number }
-    ensures answered { IfSome result (λ a. IsSomeAnd node.new.seat.world (λ first. ∥ IsAnswered (seen_by W.world W.position W.asked W.learnt) W.earlier node.new.number (W.world_of first.world) node.new.seat.seen a ∥₁)) }
+    ensures answered { IfSome result
+        (λ a.
+        IsSomeAnd node.new.seat.world
+        (λ first.
+        ∥ IsAnswered (seen_by W.world W.position W.asked W.learnt) W.earlier node.new.number
+        (W.world_of first.world) node.new.seat.seen a ∥₁)) }
     ensures left { result ≡ None → HasLeft node.new.number node.new.seat }
 {
     let mut brought = Brought::Nothing(0);
@@ -183,7 +225,8 @@ where
     unreachable!()
 }
 
-/// A board for the nodes of a core that runs, with the core at home. Where there is no memory, the core is let go.
+/// A board for the nodes of a core that runs, with the core at home. Where there is no memory, the
+/// core is let go.
 fn open_board<W: Walker + Send>(
     alloc: Global,
     core: Core<W>,
@@ -214,11 +257,13 @@ where
     W::Place: Send + Drop,
     W::Origin: Send,
     requires board { seat.old.board ≡ board.now }
-    requires seat { (seat.old.has_state ≡ false) × (vec_len places < seat.old.share) × (seat.old.share ≤ 128) × (is_some seat.old.world ≡ true) }
+    requires seat { (seat.old.has_state ≡ false) × (vec_len places < seat.old.share)
+        × (seat.old.share ≤ 128) × (is_some seat.old.world ≡ true) }
     requires room { (all.old.items ≡ []) × (vec_len places ≤ vec_capacity all.old) }
     requires fits { IsSomeAnd seat.old.world (λ first.
         All (λ place. W.Fits place (W.world_of first.world)) places.items) }
-    ensures nodes { (vec_len all.new ≡ vec_len places) × All (λ n. IsSeated board.now n.seat) all.new.items }
+    ensures nodes { (vec_len all.new ≡ vec_len places)
+        × All (λ n. IsSeated board.now n.seat) all.new.items }
     ensures numbers { map (λ n. n.number) all.new.items ≡ numbers_below (vec_len places) }
     ensures seat { seat.new ≡ record seat.old { share = seat.old.share - vec_len places } }
 {
@@ -232,8 +277,8 @@ where
     }
 }
 
-/// Runs nodes to the end: one in this thread, and the others in threads of their own, as there is work for them. `alone` says
-/// that no other node is started.
+/// Runs nodes to the end: one in this thread, and the others in threads of their own, as there is
+/// work for them. `alone` says that no other node is started.
 #[cycle(runs)]
 fn run_all<R: Threads + Wait + Sync, W: Walker + Send>(
     rt: &R,
@@ -269,8 +314,9 @@ where
     }
 }
 
-/// Runs a node in this thread and the others in another, which begins before the node advances its walk: so while there are
-/// nodes to start, one that is not at work is there for the next request that is ready.
+/// Runs a node in this thread and the others in another, which begins before the node advances its
+/// walk: so while there are nodes to start, one that is not at work is there for the next request
+/// that is ready.
 #[cycle(runs)]
 fn run_both<R: Threads + Wait + Sync, W: Walker + Send>(
     rt: &R,
@@ -282,21 +328,35 @@ fn run_both<R: Threads + Wait + Sync, W: Walker + Send>(
 where
     W::Place: Send + Drop,
     W::Origin: Send,
-    requires seated { IsSeated board.now node.seat × All (λ n. IsSeated board.now n.seat) others.items }
-    requires answered { IsSomeAnd node.seat.world (λ first. ∥ IsAnswered (seen_by W.world W.position W.asked W.learnt) W.earlier node.number (W.world_of first.world) node.seat.seen answered ∥₁) }
+    requires seated { IsSeated board.now node.seat
+        × All (λ n. IsSeated board.now n.seat) others.items }
+    requires answered { IsSomeAnd node.seat.world
+        (λ first.
+        ∥ IsAnswered (seen_by W.world W.position W.asked W.learnt) W.earlier node.number
+        (W.world_of first.world) node.seat.seen answered ∥₁) }
     requires room { vec_len others < vec_capacity others }
     ensures seated { All (λ n. IsSeated board.now n.seat) result.items }
     ensures left { All (λ n. HasLeft n.number n.seat) result.items }
-    ensures numbers { map (λ n. n.number) result.items ≡ map (λ n. n.number) others.items ++ node.number ∷ [] }
-    ensures room { (vec_len result ≡ vec_len others + 1) × (vec_capacity result ≡ vec_capacity others) }
+    ensures numbers { map (λ n. n.number) result.items
+        ≡ map (λ n. n.number) others.items ++ node.number ∷ [] }
+    ensures room { (vec_len result ≡ vec_len others + 1)
+        × (vec_capacity result ≡ vec_capacity others) }
 {
     let there = move || -> Vec<Node<W>>
         requires { All (λ n. IsSeated board.now n.seat) others.items }
-        ensures { All (λ n. IsSeated board.entry.now n.seat) result.items × All (λ n. HasLeft n.number n.seat) result.items × (map (λ n. n.number) result.items ≡ map (λ n. n.number) others.items) × (vec_len result ≡ vec_len others) × (vec_capacity result ≡ vec_capacity others) }
+        ensures { All (λ n. IsSeated board.entry.now n.seat) result.items
+            × All (λ n. HasLeft n.number n.seat) result.items
+            × (map (λ n. n.number) result.items ≡ map (λ n. n.number) others.items)
+            × (vec_len result ≡ vec_len others) × (vec_capacity result ≡ vec_capacity others) }
     { run_all(rt, board, false, others) };
     let here = move || -> Node<W>
-        requires { IsSeated board.now node.seat × IsSomeAnd node.seat.world (λ first. ∥ IsAnswered (seen_by W.world W.position W.asked W.learnt) W.earlier node.number (W.world_of first.world) node.seat.seen answered ∥₁) }
-        ensures { IsSeated board.entry.now result.seat × HasLeft result.number result.seat × (result.number ≡ node.number) }
+        requires { IsSeated board.now node.seat
+            × IsSomeAnd node.seat.world
+            (λ first.
+            ∥ IsAnswered (seen_by W.world W.position W.asked W.learnt) W.earlier node.number
+            (W.world_of first.world) node.seat.seen answered ∥₁) }
+        ensures { IsSeated board.entry.now result.seat × HasLeft result.number result.seat
+            × (result.number ≡ node.number) }
     {
         let mut node = node;
         let brought = advance(&mut node, answered);
@@ -317,7 +377,8 @@ where
     requires home { seat.old.has_state ≡ false }
     requires seated { IsSeated board.now node.seat }
     requires left { HasLeft node.number node.seat }
-    ensures kept { (seat.new.board ≡ seat.old.board) × (seat.new.world ≡ seat.old.world) × (seat.new.has_state ≡ false) }
+    ensures kept { (seat.new.board ≡ seat.old.board) × (seat.new.world ≡ seat.old.world)
+        × (seat.new.has_state ≡ false) }
     ensures share { seat.new.share ≡ seat.old.share + 1 }
     ensures continues { IsPrefix seat.old.seen seat.new.seen }
     ensures left { has_left node.number seat.new.seen ≡ true }
@@ -343,7 +404,8 @@ where
     requires home { seat.old.has_state ≡ false }
     requires seated { All (λ n. IsSeated board.now n.seat) all.items }
     requires left { All (λ n. HasLeft n.number n.seat) all.items }
-    ensures kept { (seat.new.board ≡ seat.old.board) × (seat.new.world ≡ seat.old.world) × (seat.new.has_state ≡ false) }
+    ensures kept { (seat.new.board ≡ seat.old.board) × (seat.new.world ≡ seat.old.world)
+        × (seat.new.has_state ≡ false) }
     ensures share { seat.new.share ≡ seat.old.share + vec_len all }
     ensures continues { IsPrefix seat.old.seen seat.new.seen }
     ensures left { All (λ n. has_left n.number seat.new.seen ≡ true) all.items }
@@ -353,10 +415,11 @@ where
     }
 }
 
-/// Builds on several nodes, one for each place and each in a thread of its own, until the core's end is told. Nodes are
-/// started as there is work for them, and each takes the least request that is ready. A node that has no memory for its
-/// request gives it back and leaves; where no other one is left, the build ends for want of memory. A cycle of runs and a
-/// limit that is passed end the build as well. Where there is no memory to begin with, nothing has run. (Building projects in
+/// Builds on several nodes, one for each place and each in a thread of its own, until the core's
+/// end is told. Nodes are started as there is work for them, and each takes the least request that
+/// is ready. A node that has no memory for its request gives it back and leaves; where no other one
+/// is left, the build ends for want of memory. A cycle of runs and a limit that is passed end the
+/// build as well. Where there is no memory to begin with, nothing has run. (Building projects in
 /// parallel.)
 pub fn build_with<R: Threads + Wait + Sync, W: Walker + Send>(
     rt: &R,
@@ -372,10 +435,13 @@ where
     requires running { core.end ≡ None }
     requires fits { All (λ place. W.Fits place (W.world_of core.world)) places.items }
     ensures world { IfOk result (λ built. ∥ W.world_of built.world ≡ W.world_of core.world ∥₁) }
-    ensures continues { IfOk result (λ built. ∥ Continues core.history.events built.history.events ∥₁) }
-    ensures legal { IfOk result (λ built. ∥ IsLegal (W.world_of core.world) built.history.events ∥₁) }
+    ensures continues { IfOk result
+        (λ built. ∥ Continues core.history.events built.history.events ∥₁) }
+    ensures legal { IfOk result
+        (λ built. ∥ IsLegal (W.world_of core.world) built.history.events ∥₁) }
     ensures end { IfOk result (λ built. IsSome built.end) }
-    ensures told { IfOk result (λ built. IsEnd (W.world_of core.world) built.history.events built.end) }
+    ensures told { IfOk result
+        (λ built. IsEnd (W.world_of core.world) built.history.events built.end) }
     ensures few { IfOk result (λ built. AreOfNodes (vec_len places) built.history.events) }
     ensures spent { IfOk result (λ built. IsSpent (vec_len places) built.history.events built.end) }
 {

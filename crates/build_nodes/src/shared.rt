@@ -48,10 +48,15 @@ impl<W: Walker> Shared<W> {
         brought: Brought<W>,
         discarded: &mut Discarded<W>,
     ) -> Option<Next<W>>
-        requires brought { IsBrought (seen_by W.world W.position W.asked W.learnt) W.earlier node (W.world_of self.old.core.world) (marked self.old.core.history.events self.old.core.end) brought }
+        requires brought { IsBrought (seen_by W.world W.position W.asked W.learnt) W.earlier node
+            (W.world_of self.old.core.world) (marked self.old.core.history.events self.old.core.end)
+            brought }
         ensures first { self.new.first ≡ self.old.first }
-        ensures continues { IsPrefix (marked self.old.core.history.events self.old.core.end) (marked self.new.core.history.events self.new.core.end) }
-        ensures next { IsNext (seen_by W.world W.position W.asked W.learnt) W.earlier node (W.world_of self.new.core.world) (marked self.new.core.history.events self.new.core.end) result }
+        ensures continues { IsPrefix (marked self.old.core.history.events self.old.core.end)
+            (marked self.new.core.history.events self.new.core.end) }
+        ensures next { IsNext (seen_by W.world W.position W.asked W.learnt) W.earlier node
+            (W.world_of self.new.core.world) (marked self.new.core.history.events self.new.core.end)
+            result }
         ensures few { length (marked self.new.core.history.events self.new.core.end) < 2 ^ 63 }
     {
         let next = turn(&mut self.core, node, brought, discarded);

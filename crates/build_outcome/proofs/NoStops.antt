@@ -1,5 +1,30 @@
 -- No history of a whole and steady world stops: no circle of runs closes, and no limit is passed.
-use Rattle.std.proofs.Common.{◌≡◌, ℕ, suc, ◌≤◌, Bool, true, false, inl, inr, List, [], ◌∷◌, ◌++◌, length, map, None, Some, refl, ap, sym, ◌∙◌, subst, append_assoc, arith}
+use Rattle.std.proofs.Common.{
+  ◌≡◌,
+  ℕ,
+  suc,
+  ◌≤◌,
+  Bool,
+  true,
+  false,
+  inl,
+  inr,
+  List,
+  [],
+  ◌∷◌,
+  ◌++◌,
+  length,
+  map,
+  None,
+  Some,
+  refl,
+  ap,
+  sym,
+  ◌∙◌,
+  subst,
+  append_assoc,
+  arith,
+}
 use Rattle.std.specs.Prelude.{nat_lt, nat_le}
 use Rattle.std.proofs.lemmas.Bool.{ltb-true, leb-true}
 use Rattle.std.proofs.Math.Logic.{∥∥₁_elim}
@@ -27,7 +52,18 @@ use Rattle.build_meaning.specs.Demand.{IsWhole, IsSteady}
 use Rattle.build_meaning.specs.Stop.{ends, asks}
 use Rattle.build_meaning.specs.State.{Place, walking, within, Status, assigned, RequestState, State}
 use Rattle.build_meaning.specs.Cycle.{is_in_cycle}
-use Rattle.build_meaning.specs.Step.{only_if, unless, waiting, claimed, claim_at, request_at, instance_of, is_within_limits, step_of, step}
+use Rattle.build_meaning.specs.Step.{
+  only_if,
+  unless,
+  waiting,
+  claimed,
+  claim_at,
+  request_at,
+  instance_of,
+  is_within_limits,
+  step_of,
+  step,
+}
 use Rattle.build_meaning.specs.Progress.{CanGoOn}
 use Rattle.build_meaning.proofs.CyclesShown.{cycles_are_shown}
 use Rattle.build_meaning.proofs.BuildingReplays.{map-append}
@@ -60,7 +96,10 @@ module _ {P I A : Type 0} (w : World P I A) (s : State P I A) (id node : ℕ) (q
       let same : same_run run run ≡ true = (run-exact run run).1 refl in
       sym (ap (λ o. and_then o (step_of w s (Claim id run kind))) there
       ∙ (ap (λ (a : Status P I A). claim_at w s id run kind q.origin q.journal q.runs a) st
-      ∙ ap (λ t. and_then (only_if t run) (λ r. claimed w s id node q.origin q.journal q.runs r b go kind)) same)) ∙ h
+      ∙ ap
+      (λ t.
+      and_then (only_if t run) (λ r. claimed w s id node q.origin q.journal q.runs r b go kind))
+      same)) ∙ h
 
   -- a run that is begun, and not finished, and that needed itself then, can't be claimed
   not-claimed : (run : RunId) (b : Body I A) (go : Record → Journal → Walk P I A) →
@@ -68,11 +107,15 @@ module _ {P I A : Type 0} (w : World P I A) (s : State P I A) (id node : ℕ) (q
       is_in_cycle (waiting w s id q.origin q.journal q.runs run b go) run ≡ true →
       (kind : ClaimKind) (next : State P I A) →
       claimed w s id node q.origin q.journal q.runs run b go kind ≡ Some next → ⊥
-  not-claimed run b go begun none cycle Go next h = unless-none (is_begun run s.begun) _ next begun h
-  not-claimed run b go begun none cycle Use next h = let y = and_then-some (found s.table run) _ next h in let e : None ≡ Some y.0 = sym none ∙ y.1 in cc
+  not-claimed run b go begun none cycle Go next h = unless-none (is_begun run s.begun) _ next begun
+      h
+  not-claimed run b go begun none cycle Use next h = let y = and_then-some (found s.table run) _
+      next h in let e : None ≡ Some y.0 = sym none ∙ y.1 in cc
   not-claimed run b go begun none cycle Wait next h =
       let y = only_if-some _ _ next h in
-      clash (is_in_cycle (waiting w s id q.origin q.journal q.runs run b go) run) cycle (may_wait-so w (is_begun run s.begun) (found s.table run) (is_in_cycle (waiting w s id q.origin q.journal q.runs run b go) run) y.0).2
+      clash (is_in_cycle (waiting w s id q.origin q.journal q.runs run b go) run) cycle
+      (may_wait-so w (is_begun run s.begun) (found s.table run)
+      (is_in_cycle (waiting w s id q.origin q.journal q.runs run b go) run) y.0).2
 
   no-wait : (site : P) (run : RunId) (b : Body I A) (go : Record → Journal → Walk P I A) →
       q.status ≡ assigned node (walking (wants site run b go)) → is_begun run s.begun ≡ true →
@@ -98,17 +141,24 @@ module _ {P I A : Type 0} (w : World P I A) (s : State P I A) (id node : ℕ) (q
       let made = sym (ap (λ o. and_then o (step_of w s (Request id (key ∷ keys)))) there ∙ ap
       (λ (t : Status P I A). request_at w s id (key ∷ keys) q.origin q.journal q.runs t) st)
       ∙ can.1 in
-      let fits = (and_both (same_keys (key ∷ keys) (key ∷ keys)) (is_within_limits w s (x.run ∷ q.origin.path) (key ∷ keys)) (only_if-some _ _ can.0 made).0).1 in
+      let fits =
+      (and_both (same_keys (key ∷ keys) (key ∷ keys))
+      (is_within_limits w s (x.run ∷ q.origin.path) (key ∷ keys))
+      (only_if-some _ _ can.0 made).0).1 in
       (x.run, ap (is_within_limits w s (x.run ∷ q.origin.path)) (sym same) ∙ fits)
 
 module _ {P I A : Type 0} (w : World P I A) (s : State P I A) where
   -- with more calls there are no fewer instances
-  more-instances : (some more : List RequestKey) → instances_with w s some ≤ instances_with w s (some ++ more)
+  more-instances : (some more : List RequestKey)
+      → instances_with w s some ≤ instances_with w s (some ++ more)
   more-instances some more =
       let asked : List InstanceKey = map (instance_of w) s.requests in
       let instance_called : RequestKey → InstanceKey = λ (call : RequestKey). call.instance in
-      distinct-least (asked ++ map instance_called some) (asked ++ map instance_called (some ++ more)) (λ x i.
-      subst (λ xs. In x (asked ++ xs)) (sym (map-append instance_called some more)) (subst (λ xs. In x xs) (append_assoc asked (map instance_called some) (map instance_called more))
+      distinct-least (asked ++ map instance_called some)
+      (asked ++ map instance_called (some ++ more)) (λ x i.
+      subst (λ xs. In x (asked ++ xs)) (sym (map-append instance_called some more))
+      (subst (λ xs. In x xs)
+      (append_assoc asked (map instance_called some) (map instance_called more))
       (in-left x (asked ++ map instance_called some) (map instance_called more) i)))
 
 module _ {P I A : Type 0} (w : World P I A) (out : Given P I RequestResult) (whole : IsWhole w out)
@@ -126,18 +176,30 @@ module _ {P I A : Type 0} (w : World P I A) (out : Given P I RequestResult) (who
   not-deep id calls keys x =
       let y = x.stands in
       let q : RequestState P I A = placed y.origin x.position (assigned y.node) in
-      let fits = calls-fit w y.state id y.node q y.there x.position.place calls refl x.asks (nothing_refused w out whole steady events y.state y.history id y.node q x.position.place y.there refl) in
-      let less = ltb-true (suc (length y.origin.path)) deepest (and_both (nat_lt (suc (length y.origin.path)) deepest) (nat_le (instances_with w y.state calls) most_instances) fits.1).0 in
+      let fits = calls-fit w y.state id y.node q y.there x.position.place calls refl x.asks
+      (nothing_refused w out whole steady events y.state y.history id y.node q x.position.place
+      y.there refl) in
+      let less = ltb-true (suc (length y.origin.path)) deepest
+      (and_both (nat_lt (suc (length y.origin.path)) deepest)
+      (nat_le (instances_with w y.state calls) most_instances) fits.1).0 in
       omega (arith, less, x.too_deep)
 
-  not-many : (id : ℕ) (calls : List RequestKey) (instance : InstanceKey) → AreTooMany w events id calls instance → ⊥
+  not-many : (id : ℕ) (calls : List RequestKey) (instance : InstanceKey)
+      → AreTooMany w events id calls instance → ⊥
   not-many id calls instance x =
       let y = x.stands in
       let q : RequestState P I A = placed y.origin x.position (assigned y.node) in
-      let fits = calls-fit w y.state id y.node q y.there x.position.place calls refl x.asks (nothing_refused w out whole steady events y.state y.history id y.node q x.position.place y.there refl) in
-      let few = leb-true (instances_with w y.state calls) most_instances (and_both (nat_lt (suc (length y.origin.path)) deepest) (nat_le (instances_with w y.state calls) most_instances) fits.1).1 in
-      let calls_are : calls ≡ (x.before ++ x.call ∷ []) ++ x.behind = x.calls_are ∙ sym (append_assoc x.before (x.call ∷ []) x.behind) in
-      let more = subst (λ ks. instances_with w y.state (x.before ++ x.call ∷ []) ≤ instances_with w y.state ks) (sym calls_are) (more-instances w y.state (x.before ++ x.call ∷ []) x.behind) in
+      let fits = calls-fit w y.state id y.node q y.there x.position.place calls refl x.asks
+      (nothing_refused w out whole steady events y.state y.history id y.node q x.position.place
+      y.there refl) in
+      let few = leb-true (instances_with w y.state calls) most_instances
+      (and_both (nat_lt (suc (length y.origin.path)) deepest)
+      (nat_le (instances_with w y.state calls) most_instances) fits.1).1 in
+      let calls_are : calls ≡ (x.before ++ x.call ∷ []) ++ x.behind = x.calls_are
+      ∙ sym (append_assoc x.before (x.call ∷ []) x.behind) in
+      let more = subst (λ ks. instances_with w y.state (x.before ++ x.call ∷ [])
+      ≤ instances_with w y.state ks) (sym calls_are)
+      (more-instances w y.state (x.before ++ x.call ∷ []) x.behind) in
       omega (arith, few, more, x.too_many)
 
   -- nothing stops the build but want of memory

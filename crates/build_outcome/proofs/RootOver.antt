@@ -1,5 +1,19 @@
--- The journal of a root request that is over is got from its result by the table of the core, and tells what comes of the build.
-use Rattle.std.proofs.Common.{◌≡◌, Bool, List, [], Option, Some, IsSome, is_some, ap, sym, ◌∙◌, subst}
+-- The journal of a root request that is over is got from its result by the table of the core, and
+-- tells what comes of the build.
+use Rattle.std.proofs.Common.{
+  ◌≡◌,
+  Bool,
+  List,
+  [],
+  Option,
+  Some,
+  IsSome,
+  is_some,
+  ap,
+  sym,
+  ◌∙◌,
+  subst,
+}
 use Rattle.std.proofs.Math.Logic.{∥∥₁_elim, ∥∥₁_map₂}
 use Rattle.std.specs.Prelude.{IfSome}
 use Rattle.result_cache.specs.declared.run.RunId.{RunId}
@@ -30,24 +44,35 @@ over w events result e told = subst (λ o. IsEnd w events o) (sym e) told
 module _ {W P I A : Type 0} (seen : W → Seen P I A)
     (w : World P I A) {log : Logged} {origins : List Origin} {slots : List (Slot W)} {making : List
     (Option RunId)} {table : TableRuns} {end : Option End} (result : RequestResult) where
-  over-replayed : Shown seen w log origins slots making table end → (x : IsRootOver w log.events result) → replay_all table.finished result.runs [] ≡ Some x.journal
+  over-replayed : Shown seen w log origins slots making table end
+      → (x : IsRootOver w log.events result) → replay_all table.finished result.runs []
+      ≡ Some x.journal
   over-replayed s x =
       let same : s.state ≡ x.state = one_state w log.events s.state x.state s.history x.history in
       ap (λ finished. replay_all finished result.runs [])
       (s.finished ∙ ap (λ (t : State P I A). t.table) same)
       ∙ root_is_replayed w log.events x.state x.history result x.journal x.ends
 
-  pub root-replays : ∥ Shown seen w log origins slots making table end ∥₁ → Some (Root result) ≡ end → IsEnd w log.events end → IsSome (replay_all table.finished result.runs [])
+  pub root-replays : ∥ Shown seen w log origins slots making table end ∥₁ → Some (Root result) ≡ end
+      → IsEnd w log.events end → IsSome (replay_all table.finished result.runs [])
   root-replays legal e told =
       ∥∥₁_elim legal (some-prop (replay_all table.finished result.runs [])) (λ s.
-      ∥∥₁_elim (over w log.events result e told) (some-prop (replay_all table.finished result.runs [])) (λ x. ap is_some (over-replayed s x)))
+      ∥∥₁_elim (over w log.events result e told)
+      (some-prop (replay_all table.finished result.runs []))
+      (λ x. ap is_some (over-replayed s x)))
 
-  pub root-outcome : (low : Bool) (outcome : Outcome) → ∥ Shown seen w log origins slots making table end ∥₁ → Some (Root result) ≡ end → IsEnd w log.events end →
-      IfSome (replay_all table.finished result.runs []) (λ journal. outcome ≡ built low result journal) → ∥ IsOutcomeAt w low log.events end outcome ∥₁
-  root-outcome low outcome legal e told h = ∥∥₁_map₂ legal (over w log.events result e told) (λ s x. subst (λ o. IsOutcomeAt w low log.events o outcome) e (record {
-    state = x.state;
-    journal = x.journal;
-    history = x.history;
-    ends = x.ends;
-    outcome_is = subst (λ o. IfSome o (λ journal. outcome ≡ built low result journal)) (over-replayed s x) h;
-  }))
+  pub root-outcome : (low : Bool) (outcome : Outcome)
+      → ∥ Shown seen w log origins slots making table end ∥₁ → Some (Root result) ≡ end
+      → IsEnd w log.events end →
+      IfSome (replay_all table.finished result.runs [])
+      (λ journal. outcome ≡ built low result journal)
+      → ∥ IsOutcomeAt w low log.events end outcome ∥₁
+  root-outcome low outcome legal e told h = ∥∥₁_map₂ legal (over w log.events result e told)
+      (λ s x. subst (λ o. IsOutcomeAt w low log.events o outcome) e (record {
+        state = x.state;
+        journal = x.journal;
+        history = x.history;
+        ends = x.ends;
+        outcome_is = subst (λ o. IfSome o (λ journal. outcome ≡ built low result journal))
+            (over-replayed s x) h;
+      }))

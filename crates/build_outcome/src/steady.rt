@@ -8,8 +8,9 @@ ghost use Rattle.build_meaning.specs.Demand.{IsWhole, IsSteady};
 ghost use Rattle.build_outcome.specs.declared.outcome.Outcome.{Outcome};
 ghost use Rattle.build_outcome.specs.Outcomes.{built, IsOutcome};
 
-/// Every outcome of a whole and steady world is that of its meaning: the status, what is printed and what is done to files
-/// are told by the meaning's result and journal, whatever the order of the events, and the build is not stopped.
+/// Every outcome of a whole and steady world is that of its meaning: the status, what is printed
+/// and what is done to files are told by the meaning's result and journal, whatever the order of
+/// the events, and the build is not stopped.
 pub fn outcome_is_the_meanings<P, I, A>()
     ensures { (w : World P I A) (out : Given P I RequestResult) → IsWhole w out →
         IsSteady out.demand → (low : Bool) (outcome : Outcome) →

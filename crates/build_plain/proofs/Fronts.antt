@@ -10,4 +10,8 @@ module _ {X : Type 0} where
   front-more xs ys more e = (more, sym e)
 
   pub front-trans : (xs ys zs : List X) → IsPrefix xs ys → IsPrefix ys zs → IsPrefix xs zs
-  front-trans xs ys zs p q = (p.0 ++ q.0, sym (append_assoc xs p.0 q.0) ∙ (ap (λ us. us ++ q.0) p.1 ∙ q.1))
+  front-trans xs ys zs p q = (
+    p.0 ++ q.0,
+    sym (append_assoc xs p.0 q.0)
+        ∙ (ap (λ us. us ++ q.0) p.1 ∙ q.1),
+  )

@@ -15,7 +15,11 @@ use Rattle.build_scheduler.specs.declared.walker.Ask.{Ask}
 use Rattle.build_scheduler.specs.declared.walker.Answer.{Answer}
 use Rattle.build_scheduler.specs.declared.walker.Answer.TheVariants.{First}
 use Rattle.build_scheduler.specs.declared.request.RequestFault.{RequestFault}
-use Rattle.build_scheduler.specs.declared.request.RequestFault.TheVariants.{TooDeep, TooMany, Memory}
+use Rattle.build_scheduler.specs.declared.request.RequestFault.TheVariants.{
+  TooDeep,
+  TooMany,
+  Memory,
+}
 use Rattle.build_scheduler.specs.Claims.{ClosesCycle}
 use Rattle.build_scheduler.specs.Ends.{IsStop}
 use Rattle.build_scheduler.specs.Learnt.{ArePartOf}
@@ -26,19 +30,22 @@ use Rattle.build_scheduler.specs.declared.slot.End.TheVariants.{Circular}
 use Rattle.build_scheduler.proofs.HistoryFacts.{some-prop, in_order-prop}
 use Rattle.build_plain.specs.Driven.{end_of}
 
-shared-prop : (part table : Records) (p q : (run : RunId) (made : Record) → found part run ≡ Some made → found table run ≡ Some made) → p ≡ q
+shared-prop : (part table : Records) (p q : (run : RunId) (made : Record)
+    → found part run ≡ Some made → found table run ≡ Some made) → p ≡ q
 shared-prop part table = hlevel props
 
 part-prop : (part table : Records) (p q : ArePartOf part table) → p ≡ q
 part-prop part table p q =
     let a : p.in_order ≡ q.in_order = in_order-prop part p.in_order q.in_order in
-    let b : p.shared ≡ q.shared = shared-prop part table p.shared q.shared in λ i. record { in_order = a i; shared = b i }
+    let b : p.shared ≡ q.shared = shared-prop part table p.shared q.shared in λ i.
+    record { in_order = a i; shared = b i }
 
 turn-prop : (asked : ℕ) (answer : Answer) (p q : IsInTurn asked answer) → p ≡ q
 turn-prop asked First p q = ℕ_set asked 0 p q
 turn-prop asked _ p q = le_prop p q
 
-module _ {P I A : Type 0} (w : World P I A) (events : List Event) (table : Records) (id : ℕ) (walk : Seen P I A) where
+module _ {P I A : Type 0} (w : World P I A) (events : List Event) (table : Records) (id : ℕ)
+    (walk : Seen P I A) where
   module _ (answer : Answer) (out : ∥ IsOut w events table id walk answer ∥₁) where
     pub known-of : ArePartOf walk.learnt table
     known-of = ∥∥₁_elim out (part-prop walk.learnt table) (λ o. o.learnt)
@@ -60,12 +67,17 @@ module _ {P I A : Type 0} (w : World P I A) (events : List Event) (table : Recor
     fits-world Fits once fits = ∥∥₁_elim out (once w) (λ o. subst Fits o.world fits)
 
     pub room-of : length events < 2 ^ 63 → walk.asked < 2 ^ 63
-    room-of l = ∥∥₁_elim out (λ p q. le_prop p q) (λ o. let f : walk.asked < length events = o.few in omega arith)
+    room-of l = ∥∥₁_elim out (λ p q. le_prop p q)
+        (λ o. let f : walk.asked < length events = o.few in omega arith)
 
     -- the walk after its answer is the request's own
-    pub own-of : (next : Seen P I A) → next.world ≡ walk.world → answered walk.world table walk.position answer ≡ Some next.position → next.asked ≡ walk.asked + 1 → ArePartOf next.learnt table → ∥ IsOwn w events table id next ∥₁
+    pub own-of : (next : Seen P I A) → next.world ≡ walk.world
+        → answered walk.world table walk.position answer ≡ Some next.position
+        → next.asked ≡ walk.asked + 1 → ArePartOf next.learnt table
+        → ∥ IsOwn w events table id next ∥₁
     own-of next same goes asked known = ∥∥₁_map out (λ o.
-        let e : Some o.next ≡ Some next.position = sym o.goes ∙ (ap (λ v. answered v table walk.position answer) (sym o.world) ∙ goes) in
+        let e : Some o.next ≡ Some next.position = sym o.goes
+        ∙ (ap (λ v. answered v table walk.position answer) (sym o.world) ∙ goes) in
         let there : o.next ≡ next.position = cc in record {
           stands = subst (λ p. IsWith w events id p) there o.stands;
           world = same ∙ o.world;
@@ -74,18 +86,22 @@ module _ {P I A : Type 0} (w : World P I A) (events : List Event) (table : Recor
           few = let f : walk.asked < length events = o.few in omega arith;
         })
 
-  pub asks-of : (ask : Ask) → ∥ IsOwn w events table id walk ∥₁ → ask_of walk.position ≡ ask → ∥ Asks w events id ask ∥₁
-  asks-of ask own e = ∥∥₁_map own (λ o. record { position = walk.position; stands = o.stands; asks = e })
+  pub asks-of : (ask : Ask) → ∥ IsOwn w events table id walk ∥₁ → ask_of walk.position ≡ ask
+      → ∥ Asks w events id ask ∥₁
+  asks-of ask own e = ∥∥₁_map own
+      (λ o. record { position = walk.position; stands = o.stands; asks = e })
 
 module _ {P I A : Type 0} (w : World P I A) (events : List Event) (id : ℕ) where
   -- calls that are refused end the build
-  pub refused-shown : (calls : List RequestKey) (fault : RequestFault) → IsRefused w events id calls fault → IsStop w events (end_of fault)
+  pub refused-shown : (calls : List RequestKey) (fault : RequestFault)
+      → IsRefused w events id calls fault → IsStop w events (end_of fault)
   refused-shown calls (TooDeep keys) h = ∥∥₁_map h (λ x. (id, calls, x))
   refused-shown calls (TooMany instance) h = ∥∥₁_map h (λ x. (id, calls, x))
   refused-shown calls Memory h = tt
 
   -- and so does a cycle of runs
-  pub cycle-shown : (run : RunId) (runs : List RunId) → ∥ ClosesCycle w events id run runs ∥₁ → IsStop w events (Circular runs)
+  pub cycle-shown : (run : RunId) (runs : List RunId) → ∥ ClosesCycle w events id run runs ∥₁
+      → IsStop w events (Circular runs)
   cycle-shown run runs h = ∥∥₁_map h (λ x. (id, run, x))
 
 -- nothing of this has changed

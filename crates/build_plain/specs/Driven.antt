@@ -7,7 +7,11 @@ use Rattle.build_meaning.specs.World.{World}
 use Rattle.build_meaning.specs.State.{State}
 use Rattle.build_meaning.specs.History.{IsHistory}
 use Rattle.build_scheduler.specs.declared.request.RequestFault.{RequestFault}
-use Rattle.build_scheduler.specs.declared.request.RequestFault.TheVariants.{TooDeep as IsTooDeep, TooMany as AreTooMany, Memory}
+use Rattle.build_scheduler.specs.declared.request.RequestFault.TheVariants.{
+  TooDeep as IsTooDeep,
+  TooMany as AreTooMany,
+  Memory,
+}
 use Rattle.build_scheduler.specs.declared.slot.End.{End}
 use Rattle.build_scheduler.specs.declared.slot.End.TheVariants.{Root, TooDeep, TooMany, NoMemory}
 use Rattle.build_scheduler.specs.Own.{Seen, IsOut}
@@ -37,17 +41,20 @@ IsLegal {P} {I} {A} w events = (s : State P I A) × IsHistory w events s
 abbrev pub Continues : List Event → List Event → Type 0
 Continues before events = (more : List Event) × (events ≡ before ++ more)
 
--- where the event hands a request to a node, no request is with a node, it is the least one that is ready, and the node is the first; and the node
--- doesn't retire
+-- where the event hands a request to a node, no request is with a node, it is the least one that is
+-- ready, and the node is the first; and the node doesn't retire
 abbrev pub TakesLeast : {P I A : Type 0} → World P I A → List Event → Event → Type 0
-TakesLeast w before (Assign id node) = NoneAssigned w before × IsLeastReady w before (Some id) × (node ≡ 0)
+TakesLeast w before (Assign id node) = NoneAssigned w before × IsLeastReady w before (Some id)
+    × (node ≡ 0)
 TakesLeast w before (Retire id node) = ⊥
 TakesLeast w before event = Unit {0}
 
--- among the events that come after these, each that hands a request to the node takes the least ready one, and the node doesn't retire
+-- among the events that come after these, each that hands a request to the node takes the least
+-- ready one, and the node doesn't retire
 abbrev pub AssignsLeast : {P I A : Type 0} → World P I A → List Event → List Event → Type 0
 AssignsLeast w before [] = Unit {0}
-AssignsLeast w before (event ∷ more) = TakesLeast w before event × AssignsLeast w (before ++ event ∷ []) more
+AssignsLeast w before (event ∷ more) = TakesLeast w before event
+    × AssignsLeast w (before ++ event ∷ []) more
 
 -- more events came after these, and each that hands a request to the node takes the least ready one
 pub record Drives {P I A : Type 0} (w : World P I A) (before events : List Event) : Type 0 where
@@ -55,9 +62,12 @@ pub record Drives {P I A : Type 0} (w : World P I A) (before events : List Event
   pub is : events ≡ before ++ more
   pub least : AssignsLeast w before more
 
--- what has become of the request with the node: its walk is its own with its next answer, and no other request is with a node; or none is
-abbrev pub IsTurn : {W P I A : Type 0} → (W → Seen P I A) → World P I A → List Event → Records → Option End → ℕ → Turn W → Type 0
-IsTurn seen w events table end id (GoesOn walk answer) = (end ≡ None) × ∥ IsOut w events table id (seen walk) answer ∥₁ × OnlyAssigned w events id
+-- what has become of the request with the node: its walk is its own with its next answer, and no
+-- other request is with a node; or none is
+abbrev pub IsTurn : {W P I A : Type 0} → (W → Seen P I A) → World P I A → List Event → Records
+    → Option End → ℕ → Turn W → Type 0
+IsTurn seen w events table end id (GoesOn walk answer) = (end ≡ None)
+    × ∥ IsOut w events table id (seen walk) answer ∥₁ × OnlyAssigned w events id
 IsTurn seen w events table end id Over = IsFree w events end
 
 -- where the request goes on, there are more events

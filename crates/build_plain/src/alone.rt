@@ -1,10 +1,34 @@
-ghost use Rattle.std.specs.Prelude.{◌≡◌, ◌+◌, ◌^◌, ◌<◌, ◌++◌, [], None, Some, IfOk, IsSome, OnOk, length};
+ghost use Rattle.std.specs.Prelude.{
+  ◌≡◌,
+  ◌+◌,
+  ◌^◌,
+  ◌<◌,
+  ◌++◌,
+  [],
+  None,
+  Some,
+  IfOk,
+  IsSome,
+  OnOk,
+  length,
+};
 ghost use mathlib.Core.List.{IsPrefix};
 ghost use Rattle.build_meaning.specs.declared.event.Event.{Event};
 ghost use Rattle.build_meaning.specs.History.{retires};
 ghost use Rattle.build_plain.specs.declared.alone.Turn.TheVariants.{Over};
 ghost use Rattle.build_plain.specs.Used.{UnlessMemory, Uses, due, due_in};
-ghost use Rattle.build_plain.specs.Driven.{AssignsLeast, Continues, Drives, HasGrown, IsFree, IsLegal, IsTurn, NoneAssigned, OnlyAssigned, end_of};
+ghost use Rattle.build_plain.specs.Driven.{
+  AssignsLeast,
+  Continues,
+  Drives,
+  HasGrown,
+  IsFree,
+  IsLegal,
+  IsTurn,
+  NoneAssigned,
+  OnlyAssigned,
+  end_of,
+};
 ghost use Rattle.build_scheduler.specs.declared.walker.Ask.TheVariants.{Want, Call, Done as IsOver};
 ghost use Rattle.build_scheduler.specs.Ends.{IsStop};
 ghost use Rattle.build_scheduler.specs.Kept.{IsRepeated};
@@ -26,19 +50,20 @@ pub(crate) enum Turn<W> {
     Over,
 }
 
-/// Builds on one node until the core's end is told: the least ready request is assigned each time, and
-/// its walk is advanced until it waits, calls or is over. Want of memory, a cycle of runs and a limit
-/// that is passed end the build; the node doesn't retire. Unless it wanted memory, or a node had
-/// retired before, the tools that were used at the place are those that the history has, in its order.
-/// After want of memory, too, they begin with those of before. (MSBuild task; Building projects in
-/// parallel.)
+/// Builds on one node until the core's end is told: the least ready request is assigned each time,
+/// and its walk is advanced until it waits, calls or is over. Want of memory, a cycle of runs and a
+/// limit that is passed end the build; the node doesn't retire. Unless it wanted memory, or a node
+/// had retired before, the tools that were used at the place are those that the history has, in its
+/// order. After want of memory, too, they begin with those of before. (MSBuild task; Building
+/// projects in parallel.)
 pub fn build_alone<W: Walker>(core: &mut Core<W>, place: &mut W::Place)
     requires free { NoneAssigned (W.world_of core.old.world) core.old.history.events }
     requires place { W.Fits place.old (W.world_of core.old.world) }
     ensures world { W.world_of core.new.world ≡ W.world_of core.old.world }
     ensures continues { ∥ Continues core.old.history.events core.new.history.events ∥₁ }
     ensures legal { ∥ IsLegal (W.world_of core.new.world) core.new.history.events ∥₁ }
-    ensures least { (more : List Event) → core.new.history.events ≡ core.old.history.events ++ more → AssignsLeast (W.world_of core.old.world) core.old.history.events more }
+    ensures least { (more : List Event) → core.new.history.events ≡ core.old.history.events ++ more
+        → AssignsLeast (W.world_of core.old.world) core.old.history.events more }
     ensures end { IsSome core.new.end }
     ensures free { IsFree (W.world_of core.new.world) core.new.history.events core.new.end }
     ensures uses { retires core.old.history.events ≡ 0 → UnlessMemory core.new.end
@@ -59,7 +84,8 @@ fn take_turn<W: Walker>(core: &mut Core<W>, place: &mut W::Place)
     requires free { NoneAssigned (W.world_of core.old.world) core.old.history.events }
     requires place { W.Fits place.old (W.world_of core.old.world) }
     ensures world { W.world_of core.new.world ≡ W.world_of core.old.world }
-    ensures drives { Drives (W.world_of core.old.world) core.old.history.events core.new.history.events }
+    ensures drives { Drives (W.world_of core.old.world) core.old.history.events
+        core.new.history.events }
     ensures free { IsFree (W.world_of core.old.world) core.new.history.events core.new.end }
     ensures grows { length core.old.history.events < length core.new.history.events }
     ensures few { length core.old.history.events < 2 ^ 63 }
@@ -122,13 +148,18 @@ fn hand_out<W: Walker>(core: &mut Core<W>, place: &mut W::Place, id: u64)
 /// Works at the request with the node until it leaves the node, or the build ends.
 fn work<W: Walker>(core: &mut Core<W>, place: &mut W::Place, id: u64, walk: W, answer: Answer)
     requires running { core.old.end ≡ None }
-    requires out { ∥ IsOut (W.world_of core.old.world) core.old.history.events core.old.table.finished id (seen_by W.world W.position W.asked W.learnt walk) answer ∥₁ }
+    requires out { ∥ IsOut (W.world_of core.old.world) core.old.history.events
+        core.old.table.finished id (seen_by W.world W.position W.asked W.learnt walk) answer ∥₁ }
     requires only { OnlyAssigned (W.world_of core.old.world) core.old.history.events id }
     requires place { W.Fits place.old (W.world_of core.old.world) }
     ensures world { W.world_of core.new.world ≡ W.world_of core.old.world }
-    ensures drives { Drives (W.world_of core.old.world) core.old.history.events core.new.history.events }
+    ensures drives { Drives (W.world_of core.old.world) core.old.history.events
+        core.new.history.events }
     ensures free { IsFree (W.world_of core.old.world) core.new.history.events core.new.end }
-    ensures uses { UnlessMemory core.new.end ∥ Uses (W.world_of core.old.world) core.old.history.events core.new.history.events (W.used place.old ++ due (W.world_of core.old.world) core.old.table.finished (seen_by W.world W.position W.asked W.learnt walk) answer) (W.used place.new) ∥₁ }
+    ensures uses { UnlessMemory core.new.end
+        ∥ Uses (W.world_of core.old.world) core.old.history.events core.new.history.events
+        (W.used place.old ++ due (W.world_of core.old.world) core.old.table.finished
+        (seen_by W.world W.position W.asked W.learnt walk) answer) (W.used place.new) ∥₁ }
     ensures front { IsPrefix (W.used place.old) (W.used place.new) }
     ensures place { W.Fits place.new (W.world_of core.old.world) }
     ensures lent { W.lent place.new ≡ W.lent place.old }
@@ -139,7 +170,8 @@ fn work<W: Walker>(core: &mut Core<W>, place: &mut W::Place, id: u64, walk: W, a
     }
 }
 
-/// The walk of the request with the node goes on to its next ask, which is answered where that can be done at once.
+/// The walk of the request with the node goes on to its next ask, which is answered where that can
+/// be done at once.
 fn step<W: Walker>(
     core: &mut Core<W>,
     place: &mut W::Place,
@@ -148,15 +180,23 @@ fn step<W: Walker>(
     answer: Answer,
 ) -> Turn<W>
     requires running { core.old.end ≡ None }
-    requires out { ∥ IsOut (W.world_of core.old.world) core.old.history.events core.old.table.finished id (seen_by W.world W.position W.asked W.learnt walk) answer ∥₁ }
+    requires out { ∥ IsOut (W.world_of core.old.world) core.old.history.events
+        core.old.table.finished id (seen_by W.world W.position W.asked W.learnt walk) answer ∥₁ }
     requires only { OnlyAssigned (W.world_of core.old.world) core.old.history.events id }
     requires place { W.Fits place.old (W.world_of core.old.world) }
     ensures world { W.world_of core.new.world ≡ W.world_of core.old.world }
-    ensures drives { Drives (W.world_of core.old.world) core.old.history.events core.new.history.events }
-    ensures turn { IsTurn (seen_by W.world W.position W.asked W.learnt) (W.world_of core.old.world) core.new.history.events core.new.table.finished core.new.end id result }
+    ensures drives { Drives (W.world_of core.old.world) core.old.history.events
+        core.new.history.events }
+    ensures turn { IsTurn (seen_by W.world W.position W.asked W.learnt) (W.world_of core.old.world)
+        core.new.history.events core.new.table.finished core.new.end id result }
     ensures grows { HasGrown core.old.history.events core.new.history.events result }
     ensures few { length core.old.history.events < 2 ^ 63 }
-    ensures uses { UnlessMemory core.new.end ∥ Uses (W.world_of core.old.world) core.old.history.events core.new.history.events (W.used place.old ++ due (W.world_of core.old.world) core.old.table.finished (seen_by W.world W.position W.asked W.learnt walk) answer) (W.used place.new ++ due_in (seen_by W.world W.position W.asked W.learnt) (W.world_of core.old.world) core.new.table.finished result) ∥₁ }
+    ensures uses { UnlessMemory core.new.end
+        ∥ Uses (W.world_of core.old.world) core.old.history.events core.new.history.events
+        (W.used place.old ++ due (W.world_of core.old.world) core.old.table.finished
+        (seen_by W.world W.position W.asked W.learnt walk) answer)
+        (W.used place.new ++ due_in (seen_by W.world W.position W.asked W.learnt)
+        (W.world_of core.old.world) core.new.table.finished result) ∥₁ }
     ensures front { IsPrefix (W.used place.old) (W.used place.new) }
     ensures place { W.Fits place.new (W.world_of core.old.world) }
     ensures lent { W.lent place.new ≡ W.lent place.old }
@@ -169,7 +209,8 @@ fn step<W: Walker>(
     }
 }
 
-/// The history is a list, which has fewer than 2^63 entries: so each walk may ask once more, and the build comes to its end.
+/// The history is a list, which has fewer than 2^63 entries: so each walk may ask once more, and
+/// the build comes to its end.
 fn few_events<W: Walker>(core: &Core<W>)
     ensures { length core.now.history.events < 2 ^ 63 }
 {
@@ -185,15 +226,20 @@ fn go_on<W: Walker>(
 ) -> Result<Ask, NoMemory>
     requires in_order { AreInOrder table.now.finished }
     requires known { ArePartOf (W.learnt walk.old) table.now.finished }
-    requires fits { IsSome (answered (W.world walk.old) table.now.finished (W.position walk.old) answer.now) }
+    requires fits { IsSome
+        (answered (W.world walk.old) table.now.finished (W.position walk.old) answer.now) }
     requires turn { IsInTurn (W.asked walk.old) answer.now }
     requires room { W.asked walk.old < 2 ^ 63 }
     requires place { W.Fits place.old (W.world walk.old) }
     ensures asks { IfOk result (λ ask. ask ≡ ask_of (W.position walk.new)) }
-    ensures goes_on { OnOk result (answered (W.world walk.old) table.now.finished (W.position walk.old) answer.now ≡ Some (W.position walk.new)) }
+    ensures goes_on { OnOk result
+        (answered (W.world walk.old) table.now.finished (W.position walk.old) answer.now
+        ≡ Some (W.position walk.new)) }
     ensures asked { OnOk result (W.asked walk.new ≡ W.asked walk.old + 1) }
     ensures known { ArePartOf (W.learnt walk.new) table.now.finished }
-    ensures used { OnOk result (W.used place.new ≡ W.used place.old ++ used_between (W.position walk.old).place (W.position walk.new).place) }
+    ensures used { OnOk result (W.used place.new
+        ≡ W.used place.old ++ used_between (W.position walk.old).place
+        (W.position walk.new).place) }
     ensures world { W.world walk.new ≡ W.world walk.old }
     ensures front { IsPrefix (W.used place.old) (W.used place.new) }
     ensures place { W.Fits place.new (W.world walk.old) }
@@ -206,14 +252,20 @@ fn go_on<W: Walker>(
 /// Answers what the request with the node asks.
 fn answer_ask<W: Walker>(core: &mut Core<W>, id: u64, walk: W, ask: Ask) -> Turn<W>
     requires running { core.old.end ≡ None }
-    requires own { ∥ IsOwn (W.world_of core.old.world) core.old.history.events core.old.table.finished id (seen_by W.world W.position W.asked W.learnt walk) ∥₁ }
+    requires own { ∥ IsOwn (W.world_of core.old.world) core.old.history.events
+        core.old.table.finished id (seen_by W.world W.position W.asked W.learnt walk) ∥₁ }
     requires asks { ask_of (W.position walk) ≡ ask }
     requires only { OnlyAssigned (W.world_of core.old.world) core.old.history.events id }
     ensures world { W.world_of core.new.world ≡ W.world_of core.old.world }
-    ensures drives { Drives (W.world_of core.old.world) core.old.history.events core.new.history.events }
-    ensures turn { IsTurn (seen_by W.world W.position W.asked W.learnt) (W.world_of core.old.world) core.new.history.events core.new.table.finished core.new.end id result }
+    ensures drives { Drives (W.world_of core.old.world) core.old.history.events
+        core.new.history.events }
+    ensures turn { IsTurn (seen_by W.world W.position W.asked W.learnt) (W.world_of core.old.world)
+        core.new.history.events core.new.table.finished core.new.end id result }
     ensures grows { HasGrown core.old.history.events core.new.history.events result }
-    ensures uses { ∥ Uses (W.world_of core.old.world) core.old.history.events core.new.history.events [] (due_in (seen_by W.world W.position W.asked W.learnt) (W.world_of core.old.world) core.new.table.finished result) ∥₁ }
+    ensures uses { ∥ Uses (W.world_of core.old.world) core.old.history.events
+        core.new.history.events []
+        (due_in (seen_by W.world W.position W.asked W.learnt) (W.world_of core.old.world)
+        core.new.table.finished result) ∥₁ }
 {
     match ask {
         Ask::Want(run) => claim(core, id, walk, &run),
@@ -248,18 +300,24 @@ fn end_request<W: Walker>(core: &mut Core<W>, id: u64, walk: W, told: RequestRes
     let _left = core.done(id, walk, told);
 }
 
-/// Claims the run that a request wants: it goes on, or waits, or a cycle of runs ends the build. (MSBuild task: a target is
-/// run once.)
+/// Claims the run that a request wants: it goes on, or waits, or a cycle of runs ends the build.
+/// (MSBuild task: a target is run once.)
 fn claim<W: Walker>(core: &mut Core<W>, id: u64, walk: W, run: &RunId) -> Turn<W>
     requires running { core.old.end ≡ None }
-    requires own { ∥ IsOwn (W.world_of core.old.world) core.old.history.events core.old.table.finished id (seen_by W.world W.position W.asked W.learnt walk) ∥₁ }
+    requires own { ∥ IsOwn (W.world_of core.old.world) core.old.history.events
+        core.old.table.finished id (seen_by W.world W.position W.asked W.learnt walk) ∥₁ }
     requires asks { ask_of (W.position walk) ≡ Want run.now }
     requires only { OnlyAssigned (W.world_of core.old.world) core.old.history.events id }
     ensures world { W.world_of core.new.world ≡ W.world_of core.old.world }
-    ensures drives { Drives (W.world_of core.old.world) core.old.history.events core.new.history.events }
-    ensures turn { IsTurn (seen_by W.world W.position W.asked W.learnt) (W.world_of core.old.world) core.new.history.events core.new.table.finished core.new.end id result }
+    ensures drives { Drives (W.world_of core.old.world) core.old.history.events
+        core.new.history.events }
+    ensures turn { IsTurn (seen_by W.world W.position W.asked W.learnt) (W.world_of core.old.world)
+        core.new.history.events core.new.table.finished core.new.end id result }
     ensures grows { HasGrown core.old.history.events core.new.history.events result }
-    ensures uses { ∥ Uses (W.world_of core.old.world) core.old.history.events core.new.history.events [] (due_in (seen_by W.world W.position W.asked W.learnt) (W.world_of core.old.world) core.new.table.finished result) ∥₁ }
+    ensures uses { ∥ Uses (W.world_of core.old.world) core.old.history.events
+        core.new.history.events []
+        (due_in (seen_by W.world W.position W.asked W.learnt) (W.world_of core.old.world)
+        core.new.table.finished result) ∥₁ }
 {
     match core.claim(id, walk, run) {
         Ok(Claimed::Go(walk)) => Turn::GoesOn(walk, Answer::Go),
@@ -270,18 +328,24 @@ fn claim<W: Walker>(core: &mut Core<W>, id: u64, walk: W, run: &RunId) -> Turn<W
     }
 }
 
-/// Makes the calls of a request, which then waits for them, or ends the build where they are refused. (MSBuild task,
-/// BuildInParallel.)
+/// Makes the calls of a request, which then waits for them, or ends the build where they are
+/// refused. (MSBuild task, BuildInParallel.)
 fn call<W: Walker>(core: &mut Core<W>, id: u64, walk: W, calls: List<RequestKey>) -> Turn<W>
     requires running { core.old.end ≡ None }
-    requires own { ∥ IsOwn (W.world_of core.old.world) core.old.history.events core.old.table.finished id (seen_by W.world W.position W.asked W.learnt walk) ∥₁ }
+    requires own { ∥ IsOwn (W.world_of core.old.world) core.old.history.events
+        core.old.table.finished id (seen_by W.world W.position W.asked W.learnt walk) ∥₁ }
     requires asks { ask_of (W.position walk) ≡ Call calls }
     requires only { OnlyAssigned (W.world_of core.old.world) core.old.history.events id }
     ensures world { W.world_of core.new.world ≡ W.world_of core.old.world }
-    ensures drives { Drives (W.world_of core.old.world) core.old.history.events core.new.history.events }
-    ensures turn { IsTurn (seen_by W.world W.position W.asked W.learnt) (W.world_of core.old.world) core.new.history.events core.new.table.finished core.new.end id result }
+    ensures drives { Drives (W.world_of core.old.world) core.old.history.events
+        core.new.history.events }
+    ensures turn { IsTurn (seen_by W.world W.position W.asked W.learnt) (W.world_of core.old.world)
+        core.new.history.events core.new.table.finished core.new.end id result }
     ensures grows { HasGrown core.old.history.events core.new.history.events result }
-    ensures uses { ∥ Uses (W.world_of core.old.world) core.old.history.events core.new.history.events [] (due_in (seen_by W.world W.position W.asked W.learnt) (W.world_of core.old.world) core.new.table.finished result) ∥₁ }
+    ensures uses { ∥ Uses (W.world_of core.old.world) core.old.history.events
+        core.new.history.events []
+        (due_in (seen_by W.world W.position W.asked W.learnt) (W.world_of core.old.world)
+        core.new.table.finished result) ∥₁ }
 {
     match core.request(id, walk, calls) {
         Ok(()) => Turn::Over,

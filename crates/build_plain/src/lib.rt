@@ -1,5 +1,5 @@
-//! Builds on one node: the least request that is ready goes on until it asks for what others have to do first.
-//! (MSBuild command-line reference, -maxCpuCount.)
+//! Builds on one node: the least request that is ready goes on until it asks for what others have
+//! to do first. (MSBuild command-line reference, -maxCpuCount.)
 #![tactic(auto)]
 
 mod alone;

@@ -1,4 +1,5 @@
--- An evaluated project, line by line. (MSBuild command-line reference; MSBuild properties; MSBuild items; MSBuild item definitions.)
+-- An evaluated project, line by line. (MSBuild command-line reference; MSBuild properties; MSBuild
+-- items; MSBuild item definitions.)
 use Rattle.std.specs.Prelude.{ℕ, List, [], ◌++◌, codes}
 use Rattle.std.specs.List.{flat_map}
 use Rattle.std.specs.Option.{unwrap_or}
@@ -25,11 +26,13 @@ metadata_line pair = line (codes "  " ++ named_value pair)
 
 -- an item, and its metadata: its own, and the defaults of its type that it does not have itself
 abbrev pub item_lines : List ℕ → List (List ℕ × List ℕ) → Item → List ℕ
-item_lines kind defaults item = item_line kind item ++ flat_map metadata_line (overlaid defaults item.meta)
+item_lines kind defaults item = item_line kind item
+    ++ flat_map metadata_line (overlaid defaults item.meta)
 
 -- the items of a type
 abbrev pub list_lines : List (List ℕ × List (List ℕ × List ℕ)) → List ℕ × List Item → List ℕ
-list_lines defaults list = flat_map (item_lines list.0 (unwrap_or (value_at list.0 defaults) [])) list.1
+list_lines defaults list = flat_map (item_lines list.0 (unwrap_or (value_at list.0 defaults) []))
+    list.1
 
 -- an import that was ignored, since its file was there already
 abbrev pub duplicate_line : List ℕ → List ℕ
@@ -37,4 +40,5 @@ duplicate_line path = line (codes "duplicate " ++ path)
 
 -- the properties, the items of each type and the ignored imports
 abbrev pub eval_text : Scope → List (List ℕ) → List ℕ
-eval_text scope duplicates = flat_map property_line scope.props ++ flat_map (list_lines scope.defaults) scope.items ++ flat_map duplicate_line duplicates
+eval_text scope duplicates = flat_map property_line scope.props
+    ++ flat_map (list_lines scope.defaults) scope.items ++ flat_map duplicate_line duplicates

@@ -1,4 +1,5 @@
--- What is printed of a build that is refused while it goes on. (MSBuild command-line reference; MSBuild task.)
+-- What is printed of a build that is refused while it goes on. (MSBuild command-line reference;
+-- MSBuild task.)
 use Rattle.std.specs.Prelude.{ℕ, List, ◌++◌, codes}
 use Rattle.std.specs.List.{flat_map}
 use Rattle.msb_values.specs.InstanceKeys.{key_text}

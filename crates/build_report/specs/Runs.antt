@@ -1,4 +1,5 @@
--- How printed text names a run: a target of an instance. (MSBuild command-line reference; MSBuild task.)
+-- How printed text names a run: a target of an instance. (MSBuild command-line reference; MSBuild
+-- task.)
 use Rattle.std.specs.Prelude.{ℕ, List, ◌++◌, codes}
 use Rattle.msb_values.specs.InstanceKeys.{key_text}
 use Rattle.result_cache.specs.declared.run.RunId.{RunId}

@@ -1,5 +1,20 @@
--- What is printed of a build, line by line. (MSBuild command-line reference; Message task; Incremental builds; MSBuild task.)
-use Rattle.std.specs.Prelude.{ℕ, List, [], ◌++◌, length, reverse, Bool, true, false, Option, Some, None, codes}
+-- What is printed of a build, line by line. (MSBuild command-line reference; Message task;
+-- Incremental builds; MSBuild task.)
+use Rattle.std.specs.Prelude.{
+  ℕ,
+  List,
+  [],
+  ◌++◌,
+  length,
+  reverse,
+  Bool,
+  true,
+  false,
+  Option,
+  Some,
+  None,
+  codes,
+}
 use Rattle.std.specs.Fmt.{decimal}
 use Rattle.std.specs.List.{flat_map, join_by}
 use Rattle.msb_values.specs.Escapes.{unescaped}
@@ -8,7 +23,13 @@ use Rattle.msb_values.specs.declared.note.Note.{Note}
 use Rattle.msb_values.specs.declared.note.Note.TheVariants.{Low, Message, Warning, Fail}
 use Rattle.result_cache.specs.declared.run.RunId.{RunId}
 use Rattle.result_cache.specs.declared.record.Decision.{Decision}
-use Rattle.result_cache.specs.declared.record.Decision.TheVariants.{Ran, UpToDate, NothingToDo, Part, Failed}
+use Rattle.result_cache.specs.declared.record.Decision.TheVariants.{
+  Ran,
+  UpToDate,
+  NothingToDo,
+  Part,
+  Failed,
+}
 use Rattle.result_cache.specs.declared.record.Record.{Record}
 use Rattle.result_cache.specs.declared.request.Returned.{Returned}
 use Rattle.result_cache.specs.declared.request.RequestResult.{RequestResult}
@@ -26,7 +47,8 @@ decision_words Failed = codes "failed"
 
 -- a run, and what became of each bucket of its target
 abbrev pub run_line : RunId → List Decision → List ℕ
-run_line run decisions = line (run_text run ++ codes " " ++ join_by decision_words (codes ", ") decisions)
+run_line run decisions = line
+    (run_text run ++ codes " " ++ join_by decision_words (codes ", ") decisions)
 
 -- a message
 abbrev pub message_line : List ℕ → List ℕ
@@ -72,7 +94,8 @@ item_line item = line (codes "  " ++ unescaped item.ident)
 
 -- how many items are returned, and each of them
 abbrev pub returned_lines : List Item → List ℕ
-returned_lines items = line (codes "returned " ++ decimal (length items)) ++ flat_map item_line items
+returned_lines items = line (codes "returned " ++ decimal (length items))
+    ++ flat_map item_line items
 
 -- how the build ended
 abbrev pub last_line : Bool → List ℕ
@@ -81,7 +104,8 @@ last_line false = line (codes "build failed")
 
 -- what the root request gives: its error text, the items it returns, and how it ended
 abbrev pub end_lines : RequestResult → List ℕ
-end_lines root = error_lines root.error ++ returned_lines (items_returned root.returned) ++ last_line root.ok
+end_lines root = error_lines root.error ++ returned_lines (items_returned root.returned)
+    ++ last_line root.ok
 
 -- a build: the runs in the root request's journal, and what the root request gives
 abbrev pub shown_text : RequestResult → Journal → Bool → List ℕ

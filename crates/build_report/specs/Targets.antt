@@ -18,4 +18,5 @@ target_line row = line (codes "target " ++ row.name)
 
 -- the targets that come first, the default targets and all of the project
 abbrev pub targets_text : List TargetRow → List (List ℕ) → List (List ℕ) → List ℕ
-targets_text rows initial default = names_line (codes "initial") initial ++ names_line (codes "default") default ++ flat_map target_line rows
+targets_text rows initial default = names_line (codes "initial") initial
+    ++ names_line (codes "default") default ++ flat_map target_line rows

@@ -9,9 +9,9 @@ use msb_values::{NoMemory, Text8};
 use result_cache::RequestResult;
 use std::alloc::Global;
 
-/// What is printed of a build: the runs in the journal of its root request, with their notes, of which those of low
-/// importance are left out unless they are asked for; then the error text of the root request, the items that it
-/// returns, and how the build ended.
+/// What is printed of a build: the runs in the journal of its root request, with their notes, of
+/// which those of low importance are left out unless they are asked for; then the error text of the
+/// root request, the items that it returns, and how the build ended.
 ///
 /// (MSBuild command-line reference; Message task; Incremental builds.)
 pub fn shown(
@@ -34,7 +34,8 @@ fn push_journal(
     journal: &Journal,
     low: bool,
 ) -> Result<(), NoMemory>
-    ensures { OnOk result (string_bytes shown.new ≡ string_bytes shown.old ++ journal_lines low journal.now) }
+    ensures { OnOk result (string_bytes shown.new
+        ≡ string_bytes shown.old ++ journal_lines low journal.now) }
 {
     for at in 0..journal.count() {
         push_entry(alloc, shown, journal.entry(at), low)?;
@@ -48,7 +49,8 @@ fn push_entry(
     entry: JView<'_>,
     low: bool,
 ) -> Result<(), NoMemory>
-    ensures { OnOk result (string_bytes shown.new ≡ string_bytes shown.old ++ entry_lines low (entry_shown entry.entry)) }
+    ensures { OnOk result (string_bytes shown.new
+        ≡ string_bytes shown.old ++ entry_lines low (entry_shown entry.entry)) }
 {
     match entry {
         JView::Wrote(_, _, _, _) => Ok(()),

@@ -1,6 +1,13 @@
 ghost use Rattle.std.specs.Prelude.{◌≡◌, ◌++◌, length, IfOk, OnOk, string_bytes};
 ghost use Rattle.std.specs.List.{flat_map};
-ghost use Rattle.build_report.specs.Shown.{error_lines, items_returned, item_line, returned_lines, last_line, end_lines};
+ghost use Rattle.build_report.specs.Shown.{
+  error_lines,
+  items_returned,
+  item_line,
+  returned_lines,
+  last_line,
+  end_lines,
+};
 
 use crate::lines::push_line;
 use msb_values::{Item, NoMemory, Text, unescape};
@@ -17,7 +24,8 @@ pub fn push_end(alloc: Global, shown: &mut String, root: &RequestResult) -> Resu
 }
 
 fn push_error(shown: &mut String, error: &Option<Text>) -> Result<(), NoMemory>
-    ensures { OnOk result (string_bytes shown.new ≡ string_bytes shown.old ++ error_lines error.now) }
+    ensures { OnOk result (string_bytes shown.new
+        ≡ string_bytes shown.old ++ error_lines error.now) }
 {
     match error {
         Some(error) => push_line(shown, "error: ", error.as_str()),
@@ -26,7 +34,8 @@ fn push_error(shown: &mut String, error: &Option<Text>) -> Result<(), NoMemory>
 }
 
 fn push_returned(alloc: Global, shown: &mut String, returned: &[Returned]) -> Result<(), NoMemory>
-    ensures { OnOk result (string_bytes shown.new ≡ string_bytes shown.old ++ returned_lines (items_returned returned.now)) }
+    ensures { OnOk result (string_bytes shown.new
+        ≡ string_bytes shown.old ++ returned_lines (items_returned returned.now)) }
 {
     let count = count(returned)?;
     write!(shown, "returned {count}\n")?;
@@ -45,7 +54,8 @@ fn count(returned: &[Returned]) -> Result<usize, NoMemory>
 }
 
 fn push_lists(alloc: Global, shown: &mut String, returned: &[Returned]) -> Result<(), NoMemory>
-    ensures { OnOk result (string_bytes shown.new ≡ string_bytes shown.old ++ flat_map item_line (items_returned returned.now)) }
+    ensures { OnOk result (string_bytes shown.new
+        ≡ string_bytes shown.old ++ flat_map item_line (items_returned returned.now)) }
 {
     for one in returned {
         push_items(alloc, shown, one.items.as_slice())?;
@@ -54,7 +64,8 @@ fn push_lists(alloc: Global, shown: &mut String, returned: &[Returned]) -> Resul
 }
 
 fn push_items(alloc: Global, shown: &mut String, items: &[Item]) -> Result<(), NoMemory>
-    ensures { OnOk result (string_bytes shown.new ≡ string_bytes shown.old ++ flat_map item_line items.now) }
+    ensures { OnOk result (string_bytes shown.new
+        ≡ string_bytes shown.old ++ flat_map item_line items.now) }
 {
     for item in items {
         let ident = unescape(alloc, item.ident.as_str())?;

@@ -3,15 +3,24 @@ ghost use Rattle.std.specs.List.{flat_map};
 ghost use Rattle.std.specs.Option.{unwrap_or};
 ghost use Rattle.msb_values.specs.Overlays.{overlaid};
 ghost use Rattle.build_report.specs.Line.{line};
-ghost use Rattle.build_report.specs.Eval.{eval_text, named_value, property_line, item_line, metadata_line, item_lines, list_lines, duplicate_line};
+ghost use Rattle.build_report.specs.Eval.{
+  eval_text,
+  named_value,
+  property_line,
+  item_line,
+  metadata_line,
+  item_lines,
+  list_lines,
+  duplicate_line,
+};
 
 use msb_values::{
     Defaults, Item, List, Lists, Name, NoMemory, Pairs, Scope, Text, Text8, overlaid, unescape,
 };
 use std::alloc::Global;
 
-/// An evaluated project, line by line: its properties, its items with their metadata, and the imports that were
-/// ignored as duplicates.
+/// An evaluated project, line by line: its properties, its items with their metadata, and the
+/// imports that were ignored as duplicates.
 ///
 /// Properties and types stand in byte order of their names, values and identities are unescaped.
 /// (MSBuild command-line reference; MSBuild properties; MSBuild items.)
@@ -26,7 +35,8 @@ pub fn shown_eval(alloc: Global, scope: &Scope, duplicates: &List<Text>) -> Resu
 }
 
 fn push_properties(alloc: Global, shown: &mut String, props: &Pairs) -> Result<(), NoMemory>
-    ensures { OnOk result (string_bytes shown.new ≡ string_bytes shown.old ++ flat_map property_line props.now) }
+    ensures { OnOk result (string_bytes shown.new
+        ≡ string_bytes shown.old ++ flat_map property_line props.now) }
 {
     for (name, value) in props.iter() {
         push_property(alloc, shown, name, value)?;
@@ -40,7 +50,8 @@ fn push_property(
     name: &Name,
     value: &Text,
 ) -> Result<(), NoMemory>
-    ensures { OnOk result (string_bytes shown.new ≡ string_bytes shown.old ++ property_line (name.now, value.now)) }
+    ensures { OnOk result (string_bytes shown.new
+        ≡ string_bytes shown.old ++ property_line (name.now, value.now)) }
 {
     shown.push_str("property ")?;
     push_value(alloc, shown, name, value)
@@ -48,7 +59,8 @@ fn push_property(
 
 /// A name and its value, at the end of a line.
 fn push_value(alloc: Global, shown: &mut String, name: &Name, value: &Text) -> Result<(), NoMemory>
-    ensures { OnOk result (string_bytes shown.new ≡ string_bytes shown.old ++ line (named_value (name.now, value.now))) }
+    ensures { OnOk result (string_bytes shown.new
+        ≡ string_bytes shown.old ++ line (named_value (name.now, value.now))) }
 {
     let name = name.key();
     let value = unescape(alloc, value.as_str())?;
@@ -62,7 +74,8 @@ fn push_lists(
     defaults: &Defaults,
     lists: &Lists,
 ) -> Result<(), NoMemory>
-    ensures { OnOk result (string_bytes shown.new ≡ string_bytes shown.old ++ flat_map (list_lines defaults.now) lists.now) }
+    ensures { OnOk result (string_bytes shown.new
+        ≡ string_bytes shown.old ++ flat_map (list_lines defaults.now) lists.now) }
 {
     for (kind, items) in lists.iter() {
         push_items(alloc, shown, kind, defaults.get(kind), items.as_slice())?;
@@ -77,7 +90,9 @@ fn push_items(
     defaults: Option<&Pairs>,
     items: &[Item],
 ) -> Result<(), NoMemory>
-    ensures { OnOk result (string_bytes shown.new ≡ string_bytes shown.old ++ flat_map (item_lines kind.now (unwrap_or (option_copied defaults.entry) [])) items.now) }
+    ensures { OnOk result (string_bytes shown.new
+        ≡ string_bytes shown.old
+        ++ flat_map (item_lines kind.now (unwrap_or (option_copied defaults.entry) [])) items.now) }
 {
     for item in items {
         push_item(alloc, shown, kind, item)?;
@@ -87,7 +102,8 @@ fn push_items(
 }
 
 fn push_item(alloc: Global, shown: &mut String, kind: &Name, item: &Item) -> Result<(), NoMemory>
-    ensures { OnOk result (string_bytes shown.new ≡ string_bytes shown.old ++ item_line kind.now item.now) }
+    ensures { OnOk result (string_bytes shown.new
+        ≡ string_bytes shown.old ++ item_line kind.now item.now) }
 {
     let kind = kind.key();
     let ident = unescape(alloc, item.ident.as_str())?;
@@ -102,7 +118,9 @@ fn push_metadata(
     defaults: Option<&Pairs>,
     own: &Pairs,
 ) -> Result<(), NoMemory>
-    ensures { OnOk result (string_bytes shown.new ≡ string_bytes shown.old ++ flat_map metadata_line (overlaid (unwrap_or (option_copied defaults.entry) []) own.now)) }
+    ensures { OnOk result (string_bytes shown.new
+        ≡ string_bytes shown.old ++ flat_map metadata_line
+        (overlaid (unwrap_or (option_copied defaults.entry) []) own.now)) }
 {
     match defaults {
         None => push_pairs(alloc, shown, own),
@@ -111,7 +129,8 @@ fn push_metadata(
 }
 
 fn push_pairs(alloc: Global, shown: &mut String, pairs: &Pairs) -> Result<(), NoMemory>
-    ensures { OnOk result (string_bytes shown.new ≡ string_bytes shown.old ++ flat_map metadata_line pairs.now) }
+    ensures { OnOk result (string_bytes shown.new
+        ≡ string_bytes shown.old ++ flat_map metadata_line pairs.now) }
 {
     for (name, value) in pairs.iter() {
         push_pair(alloc, shown, name, value)?;
@@ -120,14 +139,16 @@ fn push_pairs(alloc: Global, shown: &mut String, pairs: &Pairs) -> Result<(), No
 }
 
 fn push_pair(alloc: Global, shown: &mut String, name: &Name, value: &Text) -> Result<(), NoMemory>
-    ensures { OnOk result (string_bytes shown.new ≡ string_bytes shown.old ++ metadata_line (name.now, value.now)) }
+    ensures { OnOk result (string_bytes shown.new
+        ≡ string_bytes shown.old ++ metadata_line (name.now, value.now)) }
 {
     shown.push_str("  ")?;
     push_value(alloc, shown, name, value)
 }
 
 fn push_duplicates(shown: &mut String, duplicates: &[Text]) -> Result<(), NoMemory>
-    ensures { OnOk result (string_bytes shown.new ≡ string_bytes shown.old ++ flat_map duplicate_line duplicates.now) }
+    ensures { OnOk result (string_bytes shown.new
+        ≡ string_bytes shown.old ++ flat_map duplicate_line duplicates.now) }
 {
     for path in duplicates {
         push_duplicate(shown, path.as_str())?;
@@ -136,7 +157,8 @@ fn push_duplicates(shown: &mut String, duplicates: &[Text]) -> Result<(), NoMemo
 }
 
 fn push_duplicate(shown: &mut String, path: &str) -> Result<(), NoMemory>
-    ensures { OnOk result (string_bytes shown.new ≡ string_bytes shown.old ++ duplicate_line path.now) }
+    ensures { OnOk result (string_bytes shown.new
+        ≡ string_bytes shown.old ++ duplicate_line path.now) }
 {
     Ok(write!(shown, "duplicate {path}\n")?)
 }

@@ -1,8 +1,8 @@
 //! What is printed of a build and of an evaluated project, line by line.
 //!
 //! The texts stand in `specs/`: `shown_text` shows a build; `circular_text`, `too_deep_text` and
-//! `too_many_text` show one that was refused; `eval_text` shows an evaluated project, `targets_text`
-//! its targets; `specs/Checked.antt` has those of a check.
+//! `too_many_text` show one that was refused; `eval_text` shows an evaluated project,
+//! `targets_text` its targets; `specs/Checked.antt` has those of a check.
 #![tactic(auto)]
 
 mod build;

@@ -8,7 +8,8 @@ use std::alloc::Global;
 
 /// A line of a text, with some words before it.
 pub fn push_line(shown: &mut String, before: &str, text: &str) -> Result<(), NoMemory>
-    ensures { OnOk result (string_bytes shown.new ≡ string_bytes shown.old ++ line (before.now ++ text.now)) }
+    ensures { OnOk result (string_bytes shown.new
+        ≡ string_bytes shown.old ++ line (before.now ++ text.now)) }
 {
     shown.push_str(before)?;
     shown.push_str(text)?;

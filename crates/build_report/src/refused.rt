@@ -1,13 +1,21 @@
 ghost use Rattle.std.specs.Prelude.{◌≡◌, ◌++◌, IfOk, OnOk, string_bytes};
 ghost use Rattle.std.specs.List.{flat_map};
-ghost use Rattle.build_report.specs.Refused.{circular_text, circle_line, too_deep_text, request_line, too_many_text, instance_line};
+ghost use Rattle.build_report.specs.Refused.{
+  circular_text,
+  circle_line,
+  too_deep_text,
+  request_line,
+  too_many_text,
+  instance_line,
+};
 
 use crate::lines::{push_line, push_name};
 use msb_values::{InstanceKey, List, NoMemory, Text8};
 use result_cache::{RequestKey, RunId};
 use std::alloc::Global;
 
-/// What is printed of a build in which runs wait for each other: these runs, from the one that was claimed on.
+/// What is printed of a build in which runs wait for each other: these runs, from the one that was
+/// claimed on.
 ///
 /// (MSBuild command-line reference; MSBuild task.)
 pub fn shown_circular(alloc: Global, runs: &List<RunId>) -> Result<Text8, NoMemory>
@@ -18,8 +26,8 @@ pub fn shown_circular(alloc: Global, runs: &List<RunId>) -> Result<Text8, NoMemo
     Ok(Text8::from(shown.into_bytes()))
 }
 
-/// What is printed of a build whose calls are nested too deep: the instances of the requests of this chain, of which
-/// each has called the next.
+/// What is printed of a build whose calls are nested too deep: the instances of the requests of
+/// this chain, of which each has called the next.
 ///
 /// (MSBuild command-line reference; MSBuild task.)
 pub fn shown_too_deep(alloc: Global, keys: &List<RequestKey>) -> Result<Text8, NoMemory>
@@ -42,7 +50,8 @@ pub fn shown_too_many(alloc: Global, key: &InstanceKey) -> Result<Text8, NoMemor
 }
 
 fn push_circle(alloc: Global, shown: &mut String, runs: &[RunId]) -> Result<(), NoMemory>
-    ensures { OnOk result (string_bytes shown.new ≡ string_bytes shown.old ++ flat_map circle_line runs.now) }
+    ensures { OnOk result (string_bytes shown.new
+        ≡ string_bytes shown.old ++ flat_map circle_line runs.now) }
 {
     for run in runs {
         shown.push_str("  ")?;
@@ -53,7 +62,8 @@ fn push_circle(alloc: Global, shown: &mut String, runs: &[RunId]) -> Result<(), 
 }
 
 fn push_chain(alloc: Global, shown: &mut String, keys: &[RequestKey]) -> Result<(), NoMemory>
-    ensures { OnOk result (string_bytes shown.new ≡ string_bytes shown.old ++ flat_map request_line keys.now) }
+    ensures { OnOk result (string_bytes shown.new
+        ≡ string_bytes shown.old ++ flat_map request_line keys.now) }
 {
     for key in keys {
         push_instance(alloc, shown, &key.instance)?;
@@ -62,7 +72,8 @@ fn push_chain(alloc: Global, shown: &mut String, keys: &[RequestKey]) -> Result<
 }
 
 fn push_instance(alloc: Global, shown: &mut String, key: &InstanceKey) -> Result<(), NoMemory>
-    ensures { OnOk result (string_bytes shown.new ≡ string_bytes shown.old ++ instance_line key.now) }
+    ensures { OnOk result (string_bytes shown.new
+        ≡ string_bytes shown.old ++ instance_line key.now) }
 {
     let key = key.shown(alloc)?;
     push_line(shown, "  ", key.as_str())

@@ -16,7 +16,8 @@ pub fn push_run(
     made: &Record,
     low: bool,
 ) -> Result<(), NoMemory>
-    ensures { OnOk result (string_bytes shown.new ≡ string_bytes shown.old ++ run_lines low run.now made.now) }
+    ensures { OnOk result (string_bytes shown.new
+        ≡ string_bytes shown.old ++ run_lines low run.now made.now) }
 {
     push_decided(alloc, shown, run, made.decisions.as_slice())?;
     push_notes(shown, made.notes.as_slice(), low)
@@ -28,7 +29,8 @@ fn push_decided(
     run: &RunId,
     decisions: &[Decision],
 ) -> Result<(), NoMemory>
-    ensures { OnOk result (string_bytes shown.new ≡ string_bytes shown.old ++ run_line run.now decisions.now) }
+    ensures { OnOk result (string_bytes shown.new
+        ≡ string_bytes shown.old ++ run_line run.now decisions.now) }
 {
     push_name(alloc, shown, run)?;
     shown.push(' ')?;
@@ -37,7 +39,8 @@ fn push_decided(
 }
 
 pub(crate) fn push_decisions(shown: &mut String, decisions: &[Decision]) -> Result<(), NoMemory>
-    ensures { OnOk result (string_bytes shown.new ≡ string_bytes shown.old ++ join_by decision_words (codes ", ") decisions.now) }
+    ensures { OnOk result (string_bytes shown.new
+        ≡ string_bytes shown.old ++ join_by decision_words (codes ", ") decisions.now) }
 {
     match decisions {
         [] => Ok(()),
@@ -49,7 +52,9 @@ pub(crate) fn push_decisions(shown: &mut String, decisions: &[Decision]) -> Resu
 }
 
 fn push_others(shown: &mut String, decisions: &[Decision]) -> Result<(), NoMemory>
-    ensures { OnOk result (string_bytes shown.new ≡ string_bytes shown.old ++ flat_map (λ decision. codes ", " ++ decision_words decision) decisions.now) }
+    ensures { OnOk result (string_bytes shown.new
+        ≡ string_bytes shown.old ++ flat_map (λ decision. codes ", " ++ decision_words decision)
+        decisions.now) }
 {
     for decision in decisions {
         shown.push_str(", ")?;
@@ -59,7 +64,8 @@ fn push_others(shown: &mut String, decisions: &[Decision]) -> Result<(), NoMemor
 }
 
 fn push_decision(shown: &mut String, decision: &Decision) -> Result<(), NoMemory>
-    ensures { OnOk result (string_bytes shown.new ≡ string_bytes shown.old ++ decision_words decision.now) }
+    ensures { OnOk result (string_bytes shown.new
+        ≡ string_bytes shown.old ++ decision_words decision.now) }
 {
     match decision {
         Decision::Ran => Ok(shown.push_str("ran")?),
@@ -71,7 +77,8 @@ fn push_decision(shown: &mut String, decision: &Decision) -> Result<(), NoMemory
 }
 
 pub(crate) fn push_notes(shown: &mut String, notes: &[Note], low: bool) -> Result<(), NoMemory>
-    ensures { OnOk result (string_bytes shown.new ≡ string_bytes shown.old ++ flat_map (note_line low) notes.now) }
+    ensures { OnOk result (string_bytes shown.new
+        ≡ string_bytes shown.old ++ flat_map (note_line low) notes.now) }
 {
     for note in notes {
         push_note(shown, note, low)?;
@@ -80,7 +87,8 @@ pub(crate) fn push_notes(shown: &mut String, notes: &[Note], low: bool) -> Resul
 }
 
 fn push_note(shown: &mut String, note: &Note, low: bool) -> Result<(), NoMemory>
-    ensures { OnOk result (string_bytes shown.new ≡ string_bytes shown.old ++ note_line low note.now) }
+    ensures { OnOk result (string_bytes shown.new
+        ≡ string_bytes shown.old ++ note_line low note.now) }
 {
     match note {
         Note::Low(_) if !low => Ok(()),

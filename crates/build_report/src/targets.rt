@@ -6,7 +6,8 @@ use msb_values::{List, Name, NoMemory, Text8};
 use std::alloc::Global;
 use target_order::TargetRow;
 
-/// The targets of a project, line by line: those of its InitialTargets, its default targets, and all in their order.
+/// The targets of a project, line by line: those of its InitialTargets, its default targets, and
+/// all in their order.
 ///
 /// (MSBuild command-line reference; Target build order.)
 pub fn shown_targets(
@@ -25,7 +26,8 @@ pub fn shown_targets(
 }
 
 fn push_line(shown: &mut String, word: &str, names: &[Name]) -> Result<(), NoMemory>
-    ensures { OnOk result (string_bytes shown.new ≡ string_bytes shown.old ++ names_line word.now names.now) }
+    ensures { OnOk result (string_bytes shown.new
+        ≡ string_bytes shown.old ++ names_line word.now names.now) }
 {
     shown.push_str(word)?;
     push_names(shown, names)?;
@@ -33,7 +35,8 @@ fn push_line(shown: &mut String, word: &str, names: &[Name]) -> Result<(), NoMem
 }
 
 fn push_names(shown: &mut String, names: &[Name]) -> Result<(), NoMemory>
-    ensures { OnOk result (string_bytes shown.new ≡ string_bytes shown.old ++ trailing_names names.now) }
+    ensures { OnOk result (string_bytes shown.new
+        ≡ string_bytes shown.old ++ trailing_names names.now) }
 {
     match names {
         [] => Ok(()),
@@ -46,7 +49,8 @@ fn push_names(shown: &mut String, names: &[Name]) -> Result<(), NoMemory>
 }
 
 fn push_others(shown: &mut String, names: &[Name]) -> Result<(), NoMemory>
-    ensures { OnOk result (string_bytes shown.new ≡ string_bytes shown.old ++ flat_map (λ name. codes ";" ++ name) names.now) }
+    ensures { OnOk result (string_bytes shown.new
+        ≡ string_bytes shown.old ++ flat_map (λ name. codes ";" ++ name) names.now) }
 {
     for name in names {
         let name = name.key();
@@ -56,7 +60,8 @@ fn push_others(shown: &mut String, names: &[Name]) -> Result<(), NoMemory>
 }
 
 fn push_targets(shown: &mut String, rows: &[TargetRow]) -> Result<(), NoMemory>
-    ensures { OnOk result (string_bytes shown.new ≡ string_bytes shown.old ++ flat_map target_line rows.now) }
+    ensures { OnOk result (string_bytes shown.new
+        ≡ string_bytes shown.old ++ flat_map target_line rows.now) }
 {
     for row in rows {
         let name = row.name.key();

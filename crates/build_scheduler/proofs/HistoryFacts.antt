@@ -1,5 +1,20 @@
 -- What a legal history says of its last state.
-use Rattle.std.proofs.Common.{◌≡◌, Bool, true, List, [], ◌∷◌, ◌++◌, Option, None, Some, refl, ap, sym, ◌∙◌}
+use Rattle.std.proofs.Common.{
+  ◌≡◌,
+  Bool,
+  true,
+  List,
+  [],
+  ◌∷◌,
+  ◌++◌,
+  Option,
+  None,
+  Some,
+  refl,
+  ap,
+  sym,
+  ◌∙◌,
+}
 use Rattle.std.proofs.Props.{props}
 use Rattle.std.specs.Prelude.{IsSome, is_some}
 use Rattle.result_cache.specs.declared.run.RunId.{RunId}
@@ -30,7 +45,9 @@ some-prop o = truth-prop (is_some o) true
 absent-prop : (o : Option Record) → IsProp (o ≡ None)
 absent-prop o = hlevel props
 
-called-prop : (table : Records) (f : FinishedRun) (p q : (run : RunId) → In (replays_run run) (effects_of f.run f.made) → IsSome (found table run)) → p ≡ q
+called-prop : (table : Records) (f : FinishedRun)
+    (p q : (run : RunId) → In (replays_run run) (effects_of f.run f.made)
+    → IsSome (found table run)) → p ≡ q
 called-prop table f = hlevel props
 
 pub in_order-prop : (table : Records) (p q : AreInOrder table) → p ≡ q
@@ -42,10 +59,12 @@ in_order-prop (f ∷ table) p q =
 
 pub ordered-in_order : (table : Records) → IsOnce table → IsOrdered table → AreInOrder table
 ordered-in_order [] o h = tt
-ordered-in_order (f ∷ table) o h = (o.0, (λ run i. found-some table run (h.0 run i)), ordered-in_order table o.1 h.1)
+ordered-in_order (f ∷ table) o h =
+    (o.0, (λ run i. found-some table run (h.0 run i)), ordered-in_order table o.1 h.1)
 
 module _ {P I A : Type 0} (w : World P I A) where
-  pub one_state : (events : List Event) (s t : State P I A) → IsHistory w events s → IsHistory w events t → s ≡ t
+  pub one_state : (events : List Event) (s t : State P I A) → IsHistory w events s
+      → IsHistory w events t → s ≡ t
   one_state events s t h g = some-is s t (sym h ∙ g)
 
   pub lawful : (events : List Event) (s : State P I A) → IsHistory w events s → Lawful s
@@ -54,8 +73,10 @@ module _ {P I A : Type 0} (w : World P I A) where
   pub kindred : (events : List Event) (s : State P I A) → IsHistory w events s → Kindred s
   kindred events s h = all-kindred w events (start w) s (start-lawful w) (start-kindred w) h
 
-  pub more : (events : List Event) (event : Event) (s t : State P I A) → IsHistory w events s → step w s event ≡ Some t → IsHistory w (events ++ event ∷ []) t
+  pub more : (events : List Event) (event : Event) (s t : State P I A) → IsHistory w events s
+      → step w s event ≡ Some t → IsHistory w (events ++ event ∷ []) t
   more events event s t h e = after-more w events event (start w) s t h e
 
-  pub table_in_order : (events : List Event) (s : State P I A) → IsHistory w events s → AreInOrder s.table
+  pub table_in_order : (events : List Event) (s : State P I A) → IsHistory w events s
+      → AreInOrder s.table
   table_in_order events s h = let v = lawful events s h in ordered-in_order s.table v.once v.ordered

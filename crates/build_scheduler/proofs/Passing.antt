@@ -193,7 +193,8 @@ module _ {W P I A : Type 0} (seen : W → Seen P I A)
               few = subst (λ n. n ≤ length log.events) (sym t.asked) s.stands.few;
             };
             so_far =
-                subst (λ first. AreSoFar (told first) r.now.results.items r.now.«open») (sym t.first)
+                subst (λ first. AreSoFar (told first) r.now.results.items r.now.«open»)
+                (sym t.first)
                 (subst (λ results. AreSoFar (told r.before.first) results r.now.«open»)
                 (sym t.results) (subst (AreSoFar (told r.before.first) r.before.results.items)
                 (sym t.open_calls) s.so_far));
@@ -212,7 +213,8 @@ module _ {W P I A : Type 0} (seen : W → Seen P I A)
             each = subst (λ (xs : List (Slot W)). Paired S xs x.state.requests) (sym r.is)
                 (subst (Paired S (put slots caller (Calling r.now)))
                 (put-there x.state.requests caller y.0 y.2)
-                (paired-puts S S slots x.state.requests caller (Calling r.now) y.0 (λ n a b d e s. s)
+                (paired-puts S S slots x.state.requests caller (Calling r.now) y.0
+                (λ n a b d e s. s)
                 (still-calls x y.0 y.1) x.each));
             bodies = x.bodies;
             finished = x.finished;

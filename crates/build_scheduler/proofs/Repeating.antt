@@ -143,7 +143,13 @@ use Rattle.build_scheduler.proofs.OneRequest.{
   later-same,
 }
 use Rattle.build_scheduler.proofs.OwnWalks.{There, there-of, Gives, gives-of}
-use Rattle.build_scheduler.proofs.SlotsStay.{paired-other, paired-puts, map-alike, Alike, slot-later}
+use Rattle.build_scheduler.proofs.SlotsStay.{
+  paired-other,
+  paired-puts,
+  map-alike,
+  Alike,
+  slot-later,
+}
 
 append-cancel : {X : Type 0} (xs ys zs : List X) → xs ++ ys ≡ xs ++ zs → ys ≡ zs
 append-cancel [] ys zs h = h

@@ -11,7 +11,13 @@ use Rattle.build_meaning.specs.Progress.{IsOver}
 use Rattle.build_scheduler.specs.declared.slot.Origin.{Origin}
 use Rattle.build_scheduler.specs.declared.slot.Slot.{Slot}
 use Rattle.build_scheduler.specs.declared.slot.End.{End}
-use Rattle.build_scheduler.specs.declared.slot.End.TheVariants.{Root, Circular, TooDeep, TooMany, NoMemory}
+use Rattle.build_scheduler.specs.declared.slot.End.TheVariants.{
+  Root,
+  Circular,
+  TooDeep,
+  TooMany,
+  NoMemory,
+}
 use Rattle.build_scheduler.specs.Ends.{IsStop, IsEnd, ShowsStop}
 use Rattle.build_scheduler.specs.Log.{Logged}
 use Rattle.build_scheduler.specs.Own.{Seen}
@@ -36,9 +42,13 @@ module _ {P I A : Type 0} (w : World P I A) (events : List Event) where
   stop-ends s (TooMany instance) h = tt
   stop-ends s NoMemory h = tt
 
-module _ {W P I A : Type 0} (seen : W → Seen P I A) (w : World P I A) {log : Logged} {origins : List Origin} {slots : List (Slot W)} {making : List (Option RunId)} {table : TableRuns} where
+module _ {W P I A : Type 0} (seen : W → Seen P I A) (w : World P I A) {log : Logged}
+    {origins : List Origin} {slots : List (Slot W)} {making : List (Option RunId)}
+    {table : TableRuns} where
   -- the core shows the same state after it is stopped
-  pub stopped-shown : {end : Option End} (told : End) → IsStop w log.events told → Shown seen w log origins slots making table end → Shown seen w log origins slots making table (Some told)
+  pub stopped-shown : {end : Option End} (told : End) → IsStop w log.events told
+      → Shown seen w log origins slots making table end
+      → Shown seen w log origins slots making table (Some told)
   stopped-shown told h x = record {
     state = x.state;
     history = x.history;
@@ -53,10 +63,14 @@ module _ {W P I A : Type 0} (seen : W → Seen P I A) (w : World P I A) {log : L
   }
 
   -- what is told of the end
-  pub end-told : (end : Option End) → ∥ Shown seen w log origins slots making table end ∥₁ → ∥ ShowsStop w log.events end ∥₁ → IsEnd w log.events end
-  end-told None shown h = λ result r. ∥∥₁_elim shown (λ p q. absurd p) (λ x. ∥∥₁_elim r (λ p q. absurd p) (λ r.
+  pub end-told : (end : Option End) → ∥ Shown seen w log origins slots making table end ∥₁
+      → ∥ ShowsStop w log.events end ∥₁ → IsEnd w log.events end
+  end-told None shown h = λ result r. ∥∥₁_elim shown (λ p q. absurd p)
+      (λ x. ∥∥₁_elim r (λ p q. absurd p) (λ r.
       let one = one_state w log.events r.state x.state r.history x.history in
-      x.ends r.ends.root (subst (λ (s : State P I A). at s.requests 0 ≡ Some r.ends.root) one r.ends.there) (subst IsOver (sym r.ends.over) tt)))
+      x.ends r.ends.root
+      (subst (λ (s : State P I A). at s.requests 0 ≡ Some r.ends.root) one r.ends.there)
+      (subst IsOver (sym r.ends.over) tt)))
   end-told (Some (Root result)) shown h = ∥∥₁_map shown (λ x. record {
     state = x.state;
     journal = x.ends.0.journal;

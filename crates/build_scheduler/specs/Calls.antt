@@ -1,5 +1,21 @@
 -- How a caller goes on as the results of its calls come. (MSBuild task, BuildInParallel)
-use Rattle.std.specs.Prelude.{◌≡◌, ◌+◌, ◌-◌, ◌<◌, ◌≤◌, ◌||◌, ◌&&◌, ◌==◌, ℕ, suc, List, length, Some, None, Option}
+use Rattle.std.specs.Prelude.{
+  ◌≡◌,
+  ◌+◌,
+  ◌-◌,
+  ◌<◌,
+  ◌≤◌,
+  ◌||◌,
+  ◌&&◌,
+  ◌==◌,
+  ℕ,
+  suc,
+  List,
+  length,
+  Some,
+  None,
+  Option,
+}
 use Rattle.result_cache.specs.declared.request.RequestResult.{RequestResult}
 use Rattle.result_cache.specs.Replay.{replay_all}
 use Rattle.result_cache.specs.Table.{Records}
@@ -14,11 +30,14 @@ use Rattle.build_scheduler.specs.Numbers.{among, Numbered}
 use Rattle.build_scheduler.specs.Own.{Seen}
 use Rattle.build_scheduler.specs.Shown.{is_ready, one_unless}
 
--- the slot of a caller, after the call of this place has given its result: it is ready with all results where this was the last one
+-- the slot of a caller, after the call of this place has given its result: it is ready with all
+-- results where this was the last one
 abbrev pub IsTold : {W : Type 0} → Calls W → ℕ → RequestResult → Slot W → Type 0
-IsTold calls place told (Ready walk answer) = (walk ≡ calls.walk) × (calls.«open» ≡ 1) × (answer ≡ Results (put calls.results.items place told))
+IsTold calls place told (Ready walk answer) = (walk ≡ calls.walk) × (calls.«open» ≡ 1)
+    × (answer ≡ Results (put calls.results.items place told))
 IsTold calls place told (Calling next) =
-    (next.walk ≡ calls.walk) × (next.first ≡ calls.first) × (calls.«open» ≡ suc next.«open») × (0 < next.«open») × (next.results.items ≡ put calls.results.items place told)
+    (next.walk ≡ calls.walk) × (next.first ≡ calls.first) × (calls.«open» ≡ suc next.«open»)
+    × (0 < next.«open») × (next.results.items ≡ put calls.results.items place told)
 IsTold calls place told slot = ⊥
 
 -- the request that calls it
@@ -33,17 +52,20 @@ IsCalling slot = ⊥
 
 -- a call of this number is open
 abbrev pub HasOpen : {W : Type 0} → ℕ → Option (Slot W) → Type 0
-HasOpen id (Some (Calling calls)) = (calls.first ≤ id) × (id - calls.first < length calls.results.items) × (0 < calls.«open»)
+HasOpen id (Some (Calling calls)) = (calls.first ≤ id)
+    × (id - calls.first < length calls.results.items) × (0 < calls.«open»)
 HasOpen id slot = ⊥
 
 -- the caller of this number is told the result of its call
-pub record IsResumed {W : Type 0} (slots after : List (Slot W)) (ready next : Numbered) (caller id : ℕ) (told : RequestResult) : Type 0 where
+pub record IsResumed {W : Type 0} (slots after : List (Slot W)) (ready next : Numbered)
+    (caller id : ℕ) (told : RequestResult) : Type 0 where
   pub calls : Calls W
   pub slot : Slot W
   pub was : at slots caller ≡ Some (Calling calls)
   pub tells : IsTold calls (id - calls.first) told slot
   pub is : after ≡ put slots caller slot
-  pub listed : (n : ℕ) → among n next.numbers ≡ ((is_ready (Some slot) && caller == n) || among n ready.numbers)
+  pub listed : (n : ℕ) → among n next.numbers
+      ≡ ((is_ready (Some slot) && caller == n) || among n ready.numbers)
   pub room : ready.room + one_unless (is_ready (Some slot)) ≡ next.room + 1
 
 module _ {W P I A : Type 0} (seen : W → Seen P I A) (table : Records) where

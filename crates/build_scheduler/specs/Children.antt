@@ -18,14 +18,16 @@ abbrev pub AreAsked : List RequestKey → Ask → Type 0
 AreAsked calls ask = ask ≡ Call calls
 
 -- a walk of this key, which begins with the journal of its caller and knows no more than it
-pub record IsChild {P I A : Type 0} (caller : Seen P I A) (key : RequestKey) (walk : Seen P I A) : Type 0 where
+pub record IsChild {P I A : Type 0} (caller : Seen P I A) (key : RequestKey) (walk : Seen P I A) :
+    Type 0 where
   pub world : walk.world ≡ caller.world
   pub position : walk.position ≡ begins caller.world key caller.position.journal
   pub asked : walk.asked ≡ 0
   pub learnt : ArePartOf walk.learnt caller.learnt
 
 -- the slot of a call: it is ready, with its first answer
-abbrev pub IsChildSlot : {W P I A : Type 0} → (W → Seen P I A) → Seen P I A → Slot W → RequestKey → Type 0
+abbrev pub IsChildSlot : {W P I A : Type 0} → (W → Seen P I A) → Seen P I A → Slot W → RequestKey
+    → Type 0
 IsChildSlot seen caller (Ready walk First) key = IsChild caller key (seen walk)
 IsChildSlot seen caller slot key = ⊥
 

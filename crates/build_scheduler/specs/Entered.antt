@@ -12,7 +12,8 @@ use Rattle.build_scheduler.specs.Children.{HasDepth, IsChildSlot, child_origin, 
 use Rattle.build_scheduler.specs.Own.{Seen}
 
 -- the children of these calls, which are not nested too deep
-pub record AreNew {W P I A : Type 0} (seen : W → Seen P I A) (caller : Seen P I A) (id : ℕ) (calls : List RequestKey) (requests : List Origin) (children : Children W) : Type 0 where
+pub record AreNew {W P I A : Type 0} (seen : W → Seen P I A) (caller : Seen P I A) (id : ℕ)
+    (calls : List RequestKey) (requests : List Origin) (children : Children W) : Type 0 where
   pub depth : ℕ
   pub has_depth : HasDepth (at requests id) depth
   pub not_deep : suc depth < deepest
@@ -23,7 +24,8 @@ pub record AreNew {W P I A : Type 0} (seen : W → Seen P I A) (caller : Seen P 
   pub results : length children.results.items ≡ length calls
 
 -- the walk of the caller is put away, and its children stand behind the other requests
-pub record AreEntered {W : Type 0} (slots after : List (Slot W)) (id : ℕ) (walk : W) (children : Children W) : Type 0 where
+pub record AreEntered {W : Type 0} (slots after : List (Slot W)) (id : ℕ) (walk : W)
+    (children : Children W) : Type 0 where
   pub calls : Calls W
   pub walk_is : calls.walk ≡ walk
   pub first_is : calls.first ≡ length slots

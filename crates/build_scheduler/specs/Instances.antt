@@ -1,5 +1,21 @@
 -- The instances that requests ask for, each once. (MSBuild task: project instances)
-use Rattle.std.specs.Prelude.{◌≡◌, ◌≤◌, ◌<◌, ℕ, Bool, true, false, List, [], ◌∷◌, ◌++◌, length, Result, Ok, Err}
+use Rattle.std.specs.Prelude.{
+  ◌≡◌,
+  ◌≤◌,
+  ◌<◌,
+  ℕ,
+  Bool,
+  true,
+  false,
+  List,
+  [],
+  ◌∷◌,
+  ◌++◌,
+  length,
+  Result,
+  Ok,
+  Err,
+}
 use Rattle.msb_values.specs.declared.key.InstanceKey.{InstanceKey}
 use Rattle.result_cache.specs.declared.request.RequestKey.{RequestKey}
 use Rattle.build_meaning.specs.Demand.{is_among}
@@ -35,7 +51,8 @@ with_all instances [] = instances
 with_all instances (call ∷ calls) = with_all (with_instance instances call.instance) calls
 
 -- with the instance of one of some calls, and not before it, there are too many
-pub record IsOver (old : List InstanceKey) (calls : List RequestKey) (instance : InstanceKey) : Type 0 where
+pub record IsOver (old : List InstanceKey) (calls : List RequestKey) (instance : InstanceKey) : Type
+    0 where
   pub before : List RequestKey
   pub call : RequestKey
   pub behind : List RequestKey
@@ -45,20 +62,26 @@ pub record IsOver (old : List InstanceKey) (calls : List RequestKey) (instance :
   pub too_many : most_instances < length (with_all old (before ++ call ∷ []))
 
 -- the instances of some calls are added; where there would be too many, nothing changes
-abbrev pub IsAdded : List InstanceKey → List InstanceKey → List RequestKey → Result (Unit {0}) Crowd → Type 0
+abbrev pub IsAdded : List InstanceKey → List InstanceKey → List RequestKey → Result (Unit {0}) Crowd
+    → Type 0
 IsAdded old new calls (Ok done) = (new ≡ with_all old calls) × (length new ≤ most_instances)
 IsAdded old new calls (Err (TooMany instance)) = (new ≡ old) × IsOver old calls instance
 IsAdded old new calls (Err Memory) = new ≡ old
 
 -- with some of the calls the instances have grown
-abbrev pub IsGrown : List InstanceKey → List InstanceKey → List RequestKey → Result (Unit {0}) Crowd → Type 0
+abbrev pub IsGrown : List InstanceKey → List InstanceKey → List RequestKey → Result (Unit {0}) Crowd
+    → Type 0
 IsGrown old new calls (Ok done) = (new ≡ with_all old calls) × (length new ≤ most_instances)
-IsGrown old new calls (Err (TooMany instance)) = ((more : List InstanceKey) × (new ≡ old ++ more)) × IsOver old calls instance
+IsGrown old new calls (Err (TooMany instance)) = ((more : List InstanceKey) × (new ≡ old ++ more))
+    × IsOver old calls instance
 IsGrown old new calls (Err Memory) = (more : List InstanceKey) × (new ≡ old ++ more)
 
-abbrev pub IsGrownBy : List InstanceKey → List InstanceKey → InstanceKey → Result (Unit {0}) Crowd → Type 0
-IsGrownBy old new instance (Ok done) = (new ≡ with_instance old instance) × (length new ≤ most_instances)
-IsGrownBy old new instance (Err (TooMany other)) = (new ≡ with_instance old instance) × (most_instances < length new) × (other ≡ instance)
+abbrev pub IsGrownBy : List InstanceKey → List InstanceKey → InstanceKey → Result (Unit {0}) Crowd
+    → Type 0
+IsGrownBy old new instance (Ok done) = (new ≡ with_instance old instance)
+    × (length new ≤ most_instances)
+IsGrownBy old new instance (Err (TooMany other)) = (new ≡ with_instance old instance)
+    × (most_instances < length new) × (other ≡ instance)
 IsGrownBy old new instance (Err Memory) = (more : List InstanceKey) × (new ≡ old ++ more)
 
 abbrev pub IsBelowMost : ℕ → InstanceKey → Result (Unit {0}) Crowd → Type 0

@@ -1,5 +1,24 @@
 -- Sets of numbers as lists that rise.
-use Rattle.std.specs.Prelude.{ℕ, suc, length, not, ◌&&◌, ◌<◌, ◌≤◌, ◌≡◌, ◌==◌, Bool, true, false, List, [], ◌∷◌, Option, None, Some}
+use Rattle.std.specs.Prelude.{
+  ℕ,
+  suc,
+  length,
+  not,
+  ◌&&◌,
+  ◌<◌,
+  ◌≤◌,
+  ◌≡◌,
+  ◌==◌,
+  Bool,
+  true,
+  false,
+  List,
+  [],
+  ◌∷◌,
+  Option,
+  None,
+  Some,
+}
 use Rattle.std.specs.List.{list_any}
 
 -- the number is one of these
@@ -19,12 +38,14 @@ AreRising (n ∷ numbers) = AreAbove n numbers × AreRising numbers
 -- it is the least of the numbers, or there is none
 abbrev pub IsLeast : List ℕ → Option ℕ → Type 0
 IsLeast numbers None = (n : ℕ) → among n numbers ≡ false
-IsLeast numbers (Some least) = (among least numbers ≡ true) × ((n : ℕ) → among n numbers ≡ true → least ≤ n)
+IsLeast numbers (Some least) = (among least numbers ≡ true)
+    × ((n : ℕ) → among n numbers ≡ true → least ≤ n)
 
 -- a number is taken from the set, or it is empty
 abbrev pub IsPopped : List ℕ → List ℕ → Option ℕ → Type 0
 IsPopped old new None = (old ≡ []) × (new ≡ [])
-IsPopped old new (Some n) = (length old ≡ suc (length new)) × (among n old ≡ true) × ((m : ℕ) → among m new ≡ (not (n == m) && among m old))
+IsPopped old new (Some n) = (length old ≡ suc (length new)) × (among n old ≡ true)
+    × ((m : ℕ) → among m new ≡ (not (n == m) && among m old))
 
 -- a set of numbers, and for how many more it has room
 pub record Numbered : Type 0 where

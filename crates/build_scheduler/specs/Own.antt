@@ -18,15 +18,20 @@ pub record Seen (P I A : Type 0) : Type 0 where
   pub asked : ℕ
   pub learnt : Records
 
-abbrev pub seen_by : {W P I A : Type 0} → (W → World P I A) → (W → Position P I A) → (W → ℕ) → (W → Records) → W → Seen P I A
-seen_by world position asked learnt walk = record { world = world walk; position = position walk; asked = asked walk; learnt = learnt walk }
+abbrev pub seen_by : {W P I A : Type 0} → (W → World P I A) → (W → Position P I A) → (W → ℕ)
+    → (W → Records) → W → Seen P I A
+seen_by world position asked learnt walk = record
+    { world = world walk; position = position walk; asked = asked walk; learnt = learnt walk }
 
 -- a request that stands at a position
-abbrev pub placed : {P I A : Type 0} → Origin → Position P I A → (Place P I A → Status P I A) → RequestState P I A
-placed origin p status = record { origin = origin; journal = p.journal; runs = p.runs; status = status p.place }
+abbrev pub placed : {P I A : Type 0} → Origin → Position P I A → (Place P I A → Status P I A)
+    → RequestState P I A
+placed origin p status = record
+    { origin = origin; journal = p.journal; runs = p.runs; status = status p.place }
 
 -- after these events the request is with a node, and stands there
-pub record IsWith {P I A : Type 0} (w : World P I A) (events : List Event) (id : ℕ) (p : Position P I A) : Type 0 where
+pub record IsWith {P I A : Type 0} (w : World P I A) (events : List Event) (id : ℕ)
+    (p : Position P I A) : Type 0 where
   pub state : State P I A
   pub origin : Origin
   pub node : ℕ
@@ -34,21 +39,25 @@ pub record IsWith {P I A : Type 0} (w : World P I A) (events : List Event) (id :
   pub there : at state.requests id ≡ Some (placed origin p (assigned node))
 
 -- the request is with a node, and asks this
-pub record Asks {P I A : Type 0} (w : World P I A) (events : List Event) (id : ℕ) (ask : Ask) : Type 0 where
+pub record Asks {P I A : Type 0} (w : World P I A) (events : List Event) (id : ℕ) (ask : Ask) : Type
+    0 where
   pub position : Position P I A
   pub stands : IsWith w events id position
   pub asks : ask_of position ≡ ask
 
 -- the walk is the request's own: it stands where the request does, and has asked what it asks there
-pub record IsOwn {P I A : Type 0} (w : World P I A) (events : List Event) (table : Records) (id : ℕ) (walk : Seen P I A) : Type 0 where
+pub record IsOwn {P I A : Type 0} (w : World P I A) (events : List Event) (table : Records) (id : ℕ)
+    (walk : Seen P I A) : Type 0 where
   pub stands : IsWith w events id walk.position
   pub world : walk.world ≡ w
   pub learnt : ArePartOf walk.learnt table
   pub asked : 0 < walk.asked
   pub few : walk.asked ≤ length events
 
--- the walk is the request's own, and this is its next answer: it takes the walk to where the request stands
-pub record IsOut {P I A : Type 0} (w : World P I A) (events : List Event) (table : Records) (id : ℕ) (walk : Seen P I A) (answer : Answer) : Type 0 where
+-- the walk is the request's own, and this is its next answer: it takes the walk to where the
+-- request stands
+pub record IsOut {P I A : Type 0} (w : World P I A) (events : List Event) (table : Records) (id : ℕ)
+    (walk : Seen P I A) (answer : Answer) : Type 0 where
   pub next : Position P I A
   pub stands : IsWith w events id next
   pub world : walk.world ≡ w

@@ -16,17 +16,19 @@ pub record IsReady {P I A : Type 0} (w : World P I A) (events : List Event) (id 
   pub is : request.status ≡ ready place
 
 -- after these events the request is with a node
-pub record IsAssigned {P I A : Type 0} (w : World P I A) (events : List Event) (id : ℕ) : Type 0 where
-  pub state : State P I A
-  pub request : RequestState P I A
-  pub node : ℕ
-  pub place : Place P I A
-  pub history : IsHistory w events state
-  pub there : at state.requests id ≡ Some request
-  pub is : request.status ≡ assigned node place
+pub record IsAssigned {P I A : Type 0} (w : World P I A) (events : List Event) (id : ℕ) : Type 0
+  where
+    pub state : State P I A
+    pub request : RequestState P I A
+    pub node : ℕ
+    pub place : Place P I A
+    pub history : IsHistory w events state
+    pub there : at state.requests id ≡ Some request
+    pub is : request.status ≡ assigned node place
 
 -- after these events the request is with this node
-pub record IsAssignedTo {P I A : Type 0} (w : World P I A) (events : List Event) (id node : ℕ) : Type 0 where
+pub record IsAssignedTo {P I A : Type 0} (w : World P I A) (events : List Event) (id node : ℕ) :
+    Type 0 where
   pub state : State P I A
   pub request : RequestState P I A
   pub place : Place P I A
@@ -37,4 +39,5 @@ pub record IsAssignedTo {P I A : Type 0} (w : World P I A) (events : List Event)
 -- it is the least request that is ready, or none is
 abbrev pub IsLeastReady : {P I A : Type 0} → World P I A → List Event → Option ℕ → Type 0
 IsLeastReady w events None = (id : ℕ) → ∥ IsReady w events id ∥₁ → ⊥
-IsLeastReady w events (Some least) = ∥ IsReady w events least ∥₁ × ((id : ℕ) → ∥ IsReady w events id ∥₁ → least ≤ id)
+IsLeastReady w events (Some least) = ∥ IsReady w events least ∥₁
+    × ((id : ℕ) → ∥ IsReady w events id ∥₁ → least ≤ id)

@@ -1,5 +1,25 @@
 -- How the calls of a request are answered. (MSBuild task)
-use Rattle.std.specs.Prelude.{◌≡◌, ◌≤◌, ◌<◌, ◌+◌, ℕ, suc, List, [], ◌∷◌, ◌++◌, length, map, reverse, Option, None, Some, Result, Ok, Err}
+use Rattle.std.specs.Prelude.{
+  ◌≡◌,
+  ◌≤◌,
+  ◌<◌,
+  ◌+◌,
+  ℕ,
+  suc,
+  List,
+  [],
+  ◌∷◌,
+  ◌++◌,
+  length,
+  map,
+  reverse,
+  Option,
+  None,
+  Some,
+  Result,
+  Ok,
+  Err,
+}
 use Rattle.msb_values.specs.declared.key.InstanceKey.{InstanceKey}
 use Rattle.result_cache.specs.declared.request.RequestKey.{RequestKey}
 use Rattle.build_meaning.specs.declared.event.Event.{Event}
@@ -13,7 +33,11 @@ use Rattle.build_meaning.specs.Step.{instance_of}
 use Rattle.build_meaning.specs.History.{IsHistory}
 use Rattle.build_scheduler.specs.declared.walker.Ask.TheVariants.{Call}
 use Rattle.build_scheduler.specs.declared.request.RequestFault.{RequestFault}
-use Rattle.build_scheduler.specs.declared.request.RequestFault.TheVariants.{TooDeep, TooMany, Memory}
+use Rattle.build_scheduler.specs.declared.request.RequestFault.TheVariants.{
+  TooDeep,
+  TooMany,
+  Memory,
+}
 use Rattle.build_scheduler.specs.Log.{Logged}
 use Rattle.build_scheduler.specs.Own.{IsWith}
 use Rattle.build_scheduler.specs.Position.{Position, ask_of}
@@ -26,13 +50,17 @@ pub record HasSpare {P I A : Type 0} (w : World P I A) (log : Logged) (more : �
   pub spare : owed_by state.requests + more ≤ log.room
 
 -- the keys from a request up to the root
-abbrev pub AreKeysUp : {P I A : Type 0} → List (RequestState P I A) → Option ℕ → List RequestKey → Type 0
+abbrev pub AreKeysUp : {P I A : Type 0} → List (RequestState P I A) → Option ℕ → List RequestKey
+    → Type 0
 AreKeysUp requests None [] = Unit {0}
-AreKeysUp {P} {I} {A} requests (Some id) (key ∷ keys) = (q : RequestState P I A) × (at requests id ≡ Some q) × (q.origin.key ≡ key) × AreKeysUp requests q.origin.parent keys
+AreKeysUp {P} {I} {A} requests (Some id) (key ∷ keys) = (q : RequestState P I A)
+    × (at requests id ≡ Some q) × (q.origin.key ≡ key) × AreKeysUp requests q.origin.parent keys
 AreKeysUp requests id keys = ⊥
 
--- a call of the request with a node would be nested too deep: these are the keys from the root to the request, and the first one of its call
-pub record IsTooDeep {P I A : Type 0} (w : World P I A) (events : List Event) (id : ℕ) (calls keys : List RequestKey) : Type 0 where
+-- a call of the request with a node would be nested too deep: these are the keys from the root to
+-- the request, and the first one of its call
+pub record IsTooDeep {P I A : Type 0} (w : World P I A) (events : List Event) (id : ℕ)
+    (calls keys : List RequestKey) : Type 0 where
   pub position : Position P I A
   pub stands : IsWith w events id position
   pub asks : ask_of position ≡ Call calls
@@ -47,10 +75,13 @@ pub record IsTooDeep {P I A : Type 0} (w : World P I A) (events : List Event) (i
 
 -- how many distinct instances there are with some calls
 abbrev pub instances_with : {P I A : Type 0} → World P I A → State P I A → List RequestKey → ℕ
-instances_with w s calls = length (distinct (map (instance_of w) s.requests ++ map (λ (call : RequestKey). call.instance) calls))
+instances_with w s calls = length
+    (distinct (map (instance_of w) s.requests ++ map (λ (call : RequestKey). call.instance) calls))
 
--- the calls of the request with a node would not be nested too deep, and with this instance of one of them, and not before, there would be too many
-pub record AreTooMany {P I A : Type 0} (w : World P I A) (events : List Event) (id : ℕ) (calls : List RequestKey) (instance : InstanceKey) : Type 0 where
+-- the calls of the request with a node would not be nested too deep, and with this instance of one
+-- of them, and not before, there would be too many
+pub record AreTooMany {P I A : Type 0} (w : World P I A) (events : List Event) (id : ℕ)
+    (calls : List RequestKey) (instance : InstanceKey) : Type 0 where
   pub position : Position P I A
   pub stands : IsWith w events id position
   pub asks : ask_of position ≡ Call calls
@@ -63,12 +94,15 @@ pub record AreTooMany {P I A : Type 0} (w : World P I A) (events : List Event) (
   pub not_before : instances_with w stands.state before ≤ most_instances
   pub too_many : most_instances < instances_with w stands.state (before ++ call ∷ [])
 
-abbrev pub IsRefused : {P I A : Type 0} → World P I A → List Event → ℕ → List RequestKey → RequestFault → Type 0
+abbrev pub IsRefused : {P I A : Type 0} → World P I A → List Event → ℕ → List RequestKey
+    → RequestFault → Type 0
 IsRefused w events id calls (TooDeep keys) = ∥ IsTooDeep w events id calls keys ∥₁
 IsRefused w events id calls (TooMany instance) = ∥ AreTooMany w events id calls instance ∥₁
 IsRefused w events id calls Memory = Unit {0}
 
 -- the calls are made, or nothing changes, and the walk is handed back
-abbrev pub IsRequested : {W P I A : Type 0} → World P I A → List Event → List Event → ℕ → List RequestKey → W → Result (Unit {0}) (W × RequestFault) → Type 0
+abbrev pub IsRequested : {W P I A : Type 0} → World P I A → List Event → List Event → ℕ
+    → List RequestKey → W → Result (Unit {0}) (W × RequestFault) → Type 0
 IsRequested w events after id calls walk (Ok done) = after ≡ events ++ Request id calls ∷ []
-IsRequested w events after id calls walk (Err back) = (after ≡ events) × (back.0 ≡ walk) × IsRefused w events id calls back.1
+IsRequested w events after id calls walk (Err back) = (after ≡ events) × (back.0 ≡ walk)
+    × IsRefused w events id calls back.1

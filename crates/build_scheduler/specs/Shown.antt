@@ -1,5 +1,26 @@
 -- What a core is: the state of the scheduler after its events.
-use Rattle.std.specs.Prelude.{◌≡◌, ◌≤◌, ◌<◌, ◌+◌, ◌||◌, ◌==◌, ℕ, suc, Bool, true, false, List, [], ◌∷◌, length, map, Option, None, Some, IsSome}
+use Rattle.std.specs.Prelude.{
+  ◌≡◌,
+  ◌≤◌,
+  ◌<◌,
+  ◌+◌,
+  ◌||◌,
+  ◌==◌,
+  ℕ,
+  suc,
+  Bool,
+  true,
+  false,
+  List,
+  [],
+  ◌∷◌,
+  length,
+  map,
+  Option,
+  None,
+  Some,
+  IsSome,
+}
 use Rattle.result_cache.specs.declared.run.RunId.{RunId}
 use Rattle.result_cache.specs.Table.{TableRuns}
 use Rattle.build_meaning.specs.Lists.{at, put, Paired}
@@ -21,8 +42,10 @@ use Rattle.build_scheduler.specs.Slots.{origin_of, making_of, owed_by, unfinishe
 
 -- no end is told before the root is over, and its end is that it is over
 abbrev pub ShowsEnd : {P I A : Type 0} → State P I A → Option End → Type 0
-ShowsEnd {P} {I} {A} s None = (root : RequestState P I A) → at s.requests 0 ≡ Some root → IsOver root.status → ⊥
-ShowsEnd {P} {I} {A} s (Some (Root result)) = (root : RequestState P I A) × (at s.requests 0 ≡ Some root) × (root.status ≡ done result)
+ShowsEnd {P} {I} {A} s None = (root : RequestState P I A) → at s.requests 0 ≡ Some root
+    → IsOver root.status → ⊥
+ShowsEnd {P} {I} {A} s (Some (Root result)) = (root : RequestState P I A)
+    × (at s.requests 0 ≡ Some root) × (root.status ≡ done result)
 ShowsEnd {P} {I} {A} s (Some end) = Unit {0}
 
 -- every request but the root is called by another
@@ -34,16 +57,20 @@ abbrev pub AreRooted : List Origin → Type 0
 AreRooted [] = Unit {0}
 AreRooted (root ∷ origins) = (root.parent ≡ None) × AreCalled origins
 
--- each request is called by one that is nested one less, the root by none, and none is nested too deep
+-- each request is called by one that is nested one less, the root by none, and none is nested too
+-- deep
 abbrev pub IsNested : List Origin → ℕ → Option ℕ → Type 0
 IsNested origins depth None = depth ≡ 0
-IsNested origins depth (Some caller) = (by : Origin) × (at origins caller ≡ Some by) × (depth ≡ suc by.depth)
+IsNested origins depth (Some caller) = (by : Origin) × (at origins caller ≡ Some by)
+    × (depth ≡ suc by.depth)
 
 abbrev pub AreNested : List Origin → Type 0
-AreNested origins = (id : ℕ) (origin : Origin) → at origins id ≡ Some origin → (origin.depth < deepest) × IsNested origins origin.depth origin.parent
+AreNested origins = (id : ℕ) (origin : Origin) → at origins id ≡ Some origin
+    → (origin.depth < deepest) × IsNested origins origin.depth origin.parent
 
 -- the events are a legal history, and the core shows the state after them
-pub record Shown {W P I A : Type 0} (seen : W → Seen P I A) (w : World P I A) (log : Logged) (origins : List Origin) (slots : List (Slot W)) (making : List (Option RunId))
+pub record Shown {W P I A : Type 0} (seen : W → Seen P I A) (w : World P I A) (log : Logged)
+    (origins : List Origin) (slots : List (Slot W)) (making : List (Option RunId))
     (table : TableRuns) (end : Option End) : Type 0 where
   pub state : State P I A
   pub history : IsHistory w log.events state
@@ -92,17 +119,22 @@ pub record HaveNumbers (old new : List Numbered) : Type 0 where
 -- one of the sets has one more number
 pub record IsListed (old new : List Numbered) (by id : ℕ) : Type 0 where
   pub lists : length new ≡ length old
-  pub mine : (n : ℕ) → among n (numbers_of (at new by)) ≡ (id == n || among n (numbers_of (at old by)))
-  pub others : (other : ℕ) → (other ≡ by → ⊥) → numbers_of (at new other) ≡ numbers_of (at old other)
+  pub mine : (n : ℕ) → among n (numbers_of (at new by))
+      ≡ (id == n || among n (numbers_of (at old by)))
+  pub others : (other : ℕ) → (other ≡ by → ⊥)
+      → numbers_of (at new other) ≡ numbers_of (at old other)
 
--- the ready requests are listed, with room for those that are not ready, and for each request those that wait for the run that it has begun
-pub record Indexed {W : Type 0} (slots : List (Slot W)) (ready : Numbered) (waiting : List Numbered) : Type 0 where
+-- the ready requests are listed, with room for those that are not ready, and for each request those
+-- that wait for the run that it has begun
+pub record Indexed {W : Type 0} (slots : List (Slot W)) (ready : Numbered) (waiting : List Numbered)
+    : Type 0 where
   pub listed : (n : ℕ) → among n ready.numbers ≡ is_ready (at slots n)
   pub room : unready slots ≤ ready.room
   pub lists : length waiting ≡ length slots
   pub waits : (by n : ℕ) → among n (numbers_of (at waiting by)) ≡ waits_for by (at slots n)
 
--- a slot after the run that this request has begun is finished: where it waits for the run, it is ready
+-- a slot after the run that this request has begun is finished: where it waits for the run, it is
+-- ready
 abbrev pub woken_if : {W : Type 0} → Bool → W → ℕ → Slot W
 woken_if true walk by = Ready walk Use
 woken_if false walk by = Waiting walk by
@@ -111,8 +143,10 @@ abbrev pub woken_by : {W : Type 0} → ℕ → Slot W → Slot W
 woken_by id (Waiting walk by) = woken_if (by == id) walk by
 woken_by id slot = slot
 
--- the ready slots are listed, with room for the others, and those that wait for the run of this request
-pub record Listed {W : Type 0} (id : ℕ) (slots : List (Slot W)) (ready : Numbered) (waiting : List ℕ) : Type 0 where
+-- the ready slots are listed, with room for the others, and those that wait for the run of this
+-- request
+pub record Listed {W : Type 0} (id : ℕ) (slots : List (Slot W)) (ready : Numbered)
+    (waiting : List ℕ) : Type 0 where
   pub listed : (n : ℕ) → among n ready.numbers ≡ is_ready (at slots n)
   pub room : unready slots ≤ ready.room
   pub waits : (n : ℕ) → among n waiting ≡ waits_for id (at slots n)

@@ -1,5 +1,20 @@
 -- What a core holds of each request, by the state of the scheduler that it shows.
-use Rattle.std.specs.Prelude.{◌≡◌, ◌≤◌, ◌<◌, ◌+◌, ℕ, suc, List, [], ◌∷◌, length, map, Option, None, Some}
+use Rattle.std.specs.Prelude.{
+  ◌≡◌,
+  ◌≤◌,
+  ◌<◌,
+  ◌+◌,
+  ℕ,
+  suc,
+  List,
+  [],
+  ◌∷◌,
+  length,
+  map,
+  Option,
+  None,
+  Some,
+}
 use Rattle.msb_laws.specs.Asking.{and_then}
 use Rattle.result_cache.specs.declared.run.RunId.{RunId}
 use Rattle.result_cache.specs.declared.request.RequestKey.{RequestKey}
@@ -11,11 +26,31 @@ use Rattle.build_meaning.specs.Lists.{at, numbered_from}
 use Rattle.build_meaning.specs.World.{World}
 use Rattle.build_meaning.specs.Walk.{Walk, wants, Body}
 use Rattle.build_meaning.specs.Stop.{asks}
-use Rattle.build_meaning.specs.State.{Within, Place, walking, within, Status, ready, assigned, waits, calling, done, Origin as Asked, RequestState, State}
+use Rattle.build_meaning.specs.State.{
+  Within,
+  Place,
+  walking,
+  within,
+  Status,
+  ready,
+  assigned,
+  waits,
+  calling,
+  done,
+  Origin as Asked,
+  RequestState,
+  State,
+}
 use Rattle.build_scheduler.specs.declared.walker.Answer.{Answer}
 use Rattle.build_scheduler.specs.declared.slot.Origin.{Origin}
 use Rattle.build_scheduler.specs.declared.slot.Slot.{Slot}
-use Rattle.build_scheduler.specs.declared.slot.Slot.TheVariants.{Ready, Assigned, Waiting, Calling, Done}
+use Rattle.build_scheduler.specs.declared.slot.Slot.TheVariants.{
+  Ready,
+  Assigned,
+  Waiting,
+  Calling,
+  Done,
+}
 use Rattle.build_scheduler.specs.Position.{Position, answered, IsInTurn}
 use Rattle.build_scheduler.specs.Learnt.{ArePartOf}
 use Rattle.build_scheduler.specs.Own.{Seen, placed}
@@ -53,11 +88,13 @@ result_at requests id = and_then (at requests id) (λ q. result_in q.status)
 -- results of calls as they come: those that are there stand at their places, and so many are open
 abbrev pub AreSoFar : List (Option RequestResult) → List RequestResult → ℕ → Type 0
 AreSoFar [] [] open_calls = open_calls ≡ 0
-AreSoFar (Some told ∷ others) (result ∷ results) open_calls = (result ≡ told) × AreSoFar others results open_calls
+AreSoFar (Some told ∷ others) (result ∷ results) open_calls = (result ≡ told)
+    × AreSoFar others results open_calls
 AreSoFar (None ∷ others) (result ∷ results) (suc open_calls) = AreSoFar others results open_calls
 AreSoFar others results open_calls = ⊥
 
--- how many events a request still needs room for: its Assign where it is to come, its Result where it is in a body, and its Done
+-- how many events a request still needs room for: its Assign where it is to come, its Result where
+-- it is in a body, and its Done
 abbrev pub owed_in : {P I A : Type 0} → Place P I A → ℕ
 owed_in (walking walk) = 1
 owed_in (within x stop) = 2
@@ -100,10 +137,11 @@ module _ {P I A : Type 0} (w : World P I A) (s : State P I A) (count : ℕ) wher
     pub few : walk.asked ≤ count
 
   -- a ready request: its walk, and the answer that takes it to where it stands
-  pub record ShowsReady (walk : Seen P I A) (answer : Answer) (q : RequestState P I A) : Type 0 where
-    pub position : Position P I A
-    pub goes : Goes walk answer position
-    pub is : q ≡ placed q.origin position ready
+  pub record ShowsReady (walk : Seen P I A) (answer : Answer) (q : RequestState P I A) : Type 0
+    where
+      pub position : Position P I A
+      pub goes : Goes walk answer position
+      pub is : q ≡ placed q.origin position ready
 
   -- a request with this node
   pub record ShowsAssigned (node : ℕ) (q : RequestState P I A) : Type 0 where
@@ -117,18 +155,22 @@ module _ {P I A : Type 0} (w : World P I A) (s : State P I A) (count : ℕ) wher
     pub body : Body I A
     pub go : Record → Journal → Walk P I A
     pub is : q.status ≡ waits run body go
-    pub stands : Stands walk (record { journal = q.journal; runs = q.runs; place = walking (wants site run body go) })
+    pub stands : Stands walk
+        (record { journal = q.journal; runs = q.runs; place = walking (wants site run body go) })
     pub begun : request_of (unfinished s.table s.begun) run ≡ Some by
 
   -- a request whose calls are open: its walk, the number of the first child, and the results so far
-  pub record ShowsCalling (walk : Seen P I A) (first : ℕ) (open_calls : ℕ) (results : List RequestResult) (q : RequestState P I A) : Type 0 where
+  pub record ShowsCalling (walk : Seen P I A) (first : ℕ) (open_calls : ℕ)
+      (results : List RequestResult) (q : RequestState P I A) : Type 0 where
     pub key : RequestKey
     pub keys : List RequestKey
     pub inside : Within P I A
     pub go : List RequestResult → Journal → Body I A
     pub is : q.status ≡ calling (key ∷ keys) (numbered_from first (key ∷ keys)) inside go
-    pub stands : Stands walk (record { journal = q.journal; runs = q.runs; place = within inside (asks key keys go) })
-    pub so_far : AreSoFar (map (result_at s.requests) (numbered_from first (key ∷ keys))) results open_calls
+    pub stands : Stands walk
+        (record { journal = q.journal; runs = q.runs; place = within inside (asks key keys go) })
+    pub so_far : AreSoFar (map (result_at s.requests) (numbered_from first (key ∷ keys))) results
+        open_calls
 
   -- a request that is over
   pub record ShowsDone (q : RequestState P I A) : Type 0 where
@@ -139,7 +181,8 @@ module _ {P I A : Type 0} (w : World P I A) (s : State P I A) (count : ℕ) wher
   ShowsSlot seen (Ready walk answer) q = ShowsReady (seen walk) answer q
   ShowsSlot seen (Assigned node) q = ShowsAssigned node q
   ShowsSlot seen (Waiting walk by) q = ShowsWaiting (seen walk) by q
-  ShowsSlot seen (Calling calls) q = ShowsCalling (seen calls.walk) calls.first calls.«open» calls.results.items q
+  ShowsSlot seen (Calling calls) q = ShowsCalling (seen calls.walk) calls.first calls.«open»
+      calls.results.items q
   ShowsSlot seen Done q = ShowsDone q
 
 -- a node has the request of the slot

@@ -1,6 +1,12 @@
 ghost use Rattle.std.specs.Prelude.{◌≡◌, IfOk, length, map};
 ghost use Rattle.build_meaning.specs.Lists.{Paired};
-ghost use Rattle.build_scheduler.specs.Children.{AreAsked, IsChildSlot, child_origin, empty_set, no_run};
+ghost use Rattle.build_scheduler.specs.Children.{
+  AreAsked,
+  IsChildSlot,
+  child_origin,
+  empty_set,
+  no_run,
+};
 ghost use Rattle.build_scheduler.specs.Own.{seen_by};
 ghost use Rattle.build_scheduler.specs.Position.{ask_of};
 
@@ -18,7 +24,11 @@ pub(crate) fn child_slots<W: Walker>(
     calls: &[RequestKey],
 ) -> Result<Vec<Slot<W>>, NoMemory>
     requires { AreAsked calls.now (ask_of (W.position walk.now)) }
-    ensures { IfOk result (λ slots. Paired (IsChildSlot (seen_by W.world W.position W.asked W.learnt) (seen_by W.world W.position W.asked W.learnt walk.now)) slots.items calls.now) }
+    ensures { IfOk result
+        (λ slots.
+        Paired
+        (IsChildSlot (seen_by W.world W.position W.asked W.learnt)
+        (seen_by W.world W.position W.asked W.learnt walk.now)) slots.items calls.now) }
 {
     let mut slots = Vec::new(alloc);
     for key in calls {

@@ -1,8 +1,27 @@
-ghost use Rattle.std.specs.Prelude.{◌≡◌, ◌+◌, ◌<◌, ◌≤◌, ◌++◌, ◌∷◌, [], false, None, Some, IsSome, IfOk, OnOk, OnErr, length};
+ghost use Rattle.std.specs.Prelude.{
+  ◌≡◌,
+  ◌+◌,
+  ◌<◌,
+  ◌≤◌,
+  ◌++◌,
+  ◌∷◌,
+  [],
+  false,
+  None,
+  Some,
+  IsSome,
+  IfOk,
+  OnOk,
+  OnErr,
+  length,
+};
 ghost use Rattle.build_meaning.specs.Lists.{at, put};
 ghost use Rattle.result_cache.specs.Table.{found, request_of};
 ghost use Rattle.build_meaning.specs.declared.event.Event.TheVariants.{Claim};
-ghost use Rattle.build_meaning.specs.declared.event.ClaimKind.TheVariants.{Go as Begins, Use as Takes};
+ghost use Rattle.build_meaning.specs.declared.event.ClaimKind.TheVariants.{
+  Go as Begins,
+  Use as Takes,
+};
 ghost use Rattle.build_scheduler.specs.declared.walker.Ask.TheVariants.{Want};
 ghost use Rattle.build_scheduler.specs.declared.walker.Answer.TheVariants.{Go as Goes, Use as Uses};
 ghost use Rattle.build_scheduler.specs.Claims.{IsClosingCycle, IsClaimed};
@@ -34,17 +53,19 @@ pub enum Claimed<W> {
 }
 
 impl<W: Walker> Core<W> {
-    /// Claims the run that a request with a node wants. Where there is no memory, the walk is handed back, and nothing has
-    /// changed. (MSBuild task: a target is run once.)
+    /// Claims the run that a request with a node wants. Where there is no memory, the walk is
+    /// handed back, and nothing has changed. (MSBuild task: a target is run once.)
     pub fn claim(&mut self, id: u64, walk: W, run: &RunId) -> Result<Claimed<W>, W>
         requires running { self.old.end ≡ None }
-        requires own { ∥ IsOwn (W.world_of self.old.world) self.old.history.events self.old.table.finished id (seen_by W.world W.position W.asked W.learnt walk) ∥₁ }
+        requires own { ∥ IsOwn (W.world_of self.old.world) self.old.history.events
+            self.old.table.finished id (seen_by W.world W.position W.asked W.learnt walk) ∥₁ }
         requires asks { ask_of (W.position walk) ≡ Want run.now }
         ensures world { W.world_of self.new.world ≡ W.world_of self.old.world }
         ensures table { self.new.table.finished ≡ self.old.table.finished }
         ensures end { self.new.end ≡ self.old.end }
         ensures nodes { self.new.history.nodes ≡ self.old.history.nodes }
-        ensures claimed { IsClaimed (seen_by W.world W.position W.asked W.learnt) (W.world_of self.old.world) self.old.history.events self.new.history.events
+        ensures claimed { IsClaimed (seen_by W.world W.position W.asked W.learnt)
+            (W.world_of self.old.world) self.old.history.events self.new.history.events
             self.new.table.finished id run.now walk result }
     {
         match self.table.find(run) {
@@ -56,7 +77,8 @@ impl<W: Walker> Core<W> {
 
     fn go(&mut self, id: u64, walk: W, run: &RunId) -> Result<Claimed<W>, W>
         requires running { self.old.end ≡ None }
-        requires own { ∥ IsOwn (W.world_of self.old.world) self.old.history.events self.old.table.finished id (seen_by W.world W.position W.asked W.learnt walk) ∥₁ }
+        requires own { ∥ IsOwn (W.world_of self.old.world) self.old.history.events
+            self.old.table.finished id (seen_by W.world W.position W.asked W.learnt walk) ∥₁ }
         requires asks { ask_of (W.position walk) ≡ Want run.now }
         requires unfinished { found self.old.table.finished run.now ≡ None }
         requires unbegun { request_of self.old.table.begun run.now ≡ None }
@@ -64,7 +86,8 @@ impl<W: Walker> Core<W> {
         ensures table { self.new.table.finished ≡ self.old.table.finished }
         ensures end { self.new.end ≡ self.old.end }
         ensures nodes { self.new.history.nodes ≡ self.old.history.nodes }
-        ensures claimed { IsClaimed (seen_by W.world W.position W.asked W.learnt) (W.world_of self.old.world) self.old.history.events self.new.history.events
+        ensures claimed { IsClaimed (seen_by W.world W.position W.asked W.learnt)
+            (W.world_of self.old.world) self.old.history.events self.new.history.events
             self.new.table.finished id run.now walk result }
     {
         match self.begin(id, &walk, run) {
@@ -76,7 +99,8 @@ impl<W: Walker> Core<W> {
     /// Begins a run, with room for its result.
     fn begin(&mut self, id: u64, walk: &W, run: &RunId) -> Result<(), NoMemory>
         requires running { self.old.end ≡ None }
-        requires own { ∥ IsOwn (W.world_of self.old.world) self.old.history.events self.old.table.finished id (seen_by W.world W.position W.asked W.learnt walk.now) ∥₁ }
+        requires own { ∥ IsOwn (W.world_of self.old.world) self.old.history.events
+            self.old.table.finished id (seen_by W.world W.position W.asked W.learnt walk.now) ∥₁ }
         requires asks { ask_of (W.position walk.now) ≡ Want run.now }
         requires unfinished { found self.old.table.finished run.now ≡ None }
         requires unbegun { request_of self.old.table.begun run.now ≡ None }
@@ -84,8 +108,11 @@ impl<W: Walker> Core<W> {
         ensures table { self.new.table.finished ≡ self.old.table.finished }
         ensures end { self.new.end ≡ self.old.end }
         ensures nodes { self.new.history.nodes ≡ self.old.history.nodes }
-        ensures history { OnOk result (self.new.history.events ≡ self.old.history.events ++ Claim id run.now Begins ∷ []) }
-        ensures out { OnOk result ∥ IsOut (W.world_of self.old.world) self.new.history.events self.new.table.finished id (seen_by W.world W.position W.asked W.learnt walk.now) Goes ∥₁ }
+        ensures history { OnOk result (self.new.history.events
+            ≡ self.old.history.events ++ Claim id run.now Begins ∷ []) }
+        ensures out { OnOk result
+            ∥ IsOut (W.world_of self.old.world) self.new.history.events self.new.table.finished id
+            (seen_by W.world W.position W.asked W.learnt walk.now) Goes ∥₁ }
         ensures err { OnErr result (self.new.history.events ≡ self.old.history.events) }
     {
         let (claimed, made) = begin_room(&mut self.history, run)?;
@@ -98,7 +125,8 @@ impl<W: Walker> Core<W> {
     /// Waits for a run that another request has begun, unless this closes a cycle of runs.
     fn wait(&mut self, id: u64, walk: W, run: &RunId, by: u64) -> Result<Claimed<W>, W>
         requires running { self.old.end ≡ None }
-        requires own { ∥ IsOwn (W.world_of self.old.world) self.old.history.events self.old.table.finished id (seen_by W.world W.position W.asked W.learnt walk) ∥₁ }
+        requires own { ∥ IsOwn (W.world_of self.old.world) self.old.history.events
+            self.old.table.finished id (seen_by W.world W.position W.asked W.learnt walk) ∥₁ }
         requires asks { ask_of (W.position walk) ≡ Want run.now }
         requires unfinished { found self.old.table.finished run.now ≡ None }
         requires begun { request_of self.old.table.begun run.now ≡ Some by }
@@ -106,7 +134,8 @@ impl<W: Walker> Core<W> {
         ensures table { self.new.table.finished ≡ self.old.table.finished }
         ensures end { self.new.end ≡ self.old.end }
         ensures nodes { self.new.history.nodes ≡ self.old.history.nodes }
-        ensures claimed { IsClaimed (seen_by W.world W.position W.asked W.learnt) (W.world_of self.old.world) self.old.history.events self.new.history.events
+        ensures claimed { IsClaimed (seen_by W.world W.position W.asked W.learnt)
+            (W.world_of self.old.world) self.old.history.events self.new.history.events
             self.new.table.finished id run.now walk result }
     {
         match self.closing_cycle(id, &walk, run, by) {
@@ -119,16 +148,19 @@ impl<W: Walker> Core<W> {
     /// Puts the walk of a request that waits for a run away.
     fn put_away(&mut self, id: u64, walk: W, run: &RunId, by: u64) -> Result<Claimed<W>, W>
         requires running { self.old.end ≡ None }
-        requires own { ∥ IsOwn (W.world_of self.old.world) self.old.history.events self.old.table.finished id (seen_by W.world W.position W.asked W.learnt walk) ∥₁ }
+        requires own { ∥ IsOwn (W.world_of self.old.world) self.old.history.events
+            self.old.table.finished id (seen_by W.world W.position W.asked W.learnt walk) ∥₁ }
         requires asks { ask_of (W.position walk) ≡ Want run.now }
         requires unfinished { found self.old.table.finished run.now ≡ None }
         requires begun { request_of self.old.table.begun run.now ≡ Some by }
-        requires open { IsClosingCycle (W.world_of self.old.world) self.old.history.events id run.now None }
+        requires open { IsClosingCycle (W.world_of self.old.world) self.old.history.events id
+            run.now None }
         ensures world { W.world_of self.new.world ≡ W.world_of self.old.world }
         ensures table { self.new.table.finished ≡ self.old.table.finished }
         ensures end { self.new.end ≡ self.old.end }
         ensures nodes { self.new.history.nodes ≡ self.old.history.nodes }
-        ensures claimed { IsClaimed (seen_by W.world W.position W.asked W.learnt) (W.world_of self.old.world) self.old.history.events self.new.history.events
+        ensures claimed { IsClaimed (seen_by W.world W.position W.asked W.learnt)
+            (W.world_of self.old.world) self.old.history.events self.new.history.events
             self.new.table.finished id run.now walk result }
     {
         match wait_room(&mut self.history, &mut self.waiting, run, by) {
@@ -145,14 +177,16 @@ impl<W: Walker> Core<W> {
 
     fn use_record(&mut self, id: u64, walk: W, run: &RunId) -> Result<Claimed<W>, W>
         requires running { self.old.end ≡ None }
-        requires own { ∥ IsOwn (W.world_of self.old.world) self.old.history.events self.old.table.finished id (seen_by W.world W.position W.asked W.learnt walk) ∥₁ }
+        requires own { ∥ IsOwn (W.world_of self.old.world) self.old.history.events
+            self.old.table.finished id (seen_by W.world W.position W.asked W.learnt walk) ∥₁ }
         requires asks { ask_of (W.position walk) ≡ Want run.now }
         requires finished { IsSome (found self.old.table.finished run.now) }
         ensures world { W.world_of self.new.world ≡ W.world_of self.old.world }
         ensures table { self.new.table.finished ≡ self.old.table.finished }
         ensures end { self.new.end ≡ self.old.end }
         ensures nodes { self.new.history.nodes ≡ self.old.history.nodes }
-        ensures claimed { IsClaimed (seen_by W.world W.position W.asked W.learnt) (W.world_of self.old.world) self.old.history.events self.new.history.events
+        ensures claimed { IsClaimed (seen_by W.world W.position W.asked W.learnt)
+            (W.world_of self.old.world) self.old.history.events self.new.history.events
             self.new.table.finished id run.now walk result }
     {
         match self.take_record(id, &walk, run) {
@@ -163,15 +197,19 @@ impl<W: Walker> Core<W> {
 
     fn take_record(&mut self, id: u64, walk: &W, run: &RunId) -> Result<(), NoMemory>
         requires running { self.old.end ≡ None }
-        requires own { ∥ IsOwn (W.world_of self.old.world) self.old.history.events self.old.table.finished id (seen_by W.world W.position W.asked W.learnt walk.now) ∥₁ }
+        requires own { ∥ IsOwn (W.world_of self.old.world) self.old.history.events
+            self.old.table.finished id (seen_by W.world W.position W.asked W.learnt walk.now) ∥₁ }
         requires asks { ask_of (W.position walk.now) ≡ Want run.now }
         requires finished { IsSome (found self.old.table.finished run.now) }
         ensures world { W.world_of self.new.world ≡ W.world_of self.old.world }
         ensures table { self.new.table.finished ≡ self.old.table.finished }
         ensures end { self.new.end ≡ self.old.end }
         ensures nodes { self.new.history.nodes ≡ self.old.history.nodes }
-        ensures history { OnOk result (self.new.history.events ≡ self.old.history.events ++ Claim id run.now Takes ∷ []) }
-        ensures out { OnOk result ∥ IsOut (W.world_of self.old.world) self.new.history.events self.new.table.finished id (seen_by W.world W.position W.asked W.learnt walk.now) Uses ∥₁ }
+        ensures history { OnOk result (self.new.history.events
+            ≡ self.old.history.events ++ Claim id run.now Takes ∷ []) }
+        ensures out { OnOk result
+            ∥ IsOut (W.world_of self.old.world) self.new.history.events self.new.table.finished id
+            (seen_by W.world W.position W.asked W.learnt walk.now) Uses ∥₁ }
         ensures err { OnErr result (self.new.history.events ≡ self.old.history.events) }
     {
         let claimed = run.copy()?;
@@ -181,7 +219,8 @@ impl<W: Walker> Core<W> {
     }
 }
 
-/// Takes room for a run that begins: for its event and that of its result, with the run's name for both.
+/// Takes room for a run that begins: for its event and that of its result, with the run's name for
+/// both.
 fn begin_room(history: &mut Log, run: &RunId) -> Result<(RunId, RunId), NoMemory>
     ensures events { history.new.events ≡ history.old.events }
     ensures nodes { history.new.nodes ≡ history.old.nodes }
@@ -196,8 +235,8 @@ fn begin_room(history: &mut Log, run: &RunId) -> Result<(RunId, RunId), NoMemory
     Ok((claimed, made))
 }
 
-/// Takes room for a wait: for its event and the Assign that follows it, and in the list of those that wait for the run of a
-/// request.
+/// Takes room for a wait: for its event and the Assign that follows it, and in the list of those
+/// that wait for the run of a request.
 fn wait_room(
     history: &mut Log,
     waiting: &mut Vec<Numbers>,

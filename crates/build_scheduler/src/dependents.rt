@@ -1,7 +1,20 @@
 ghost use Rattle.std.specs.Prelude.{◌≡◌, ◌<◌, ◌^◌, ◌∷◌, ℕ, [], true, length, Some, IfOk, OnOk};
 ghost use Rattle.result_cache.specs.Lists.{In};
 ghost use Rattle.build_meaning.specs.Lists.{at};
-ghost use Rattle.build_scheduler.specs.Dependents.{AreBackward, AreBounded, AreBroughtIn, AreCallersThere, AreOverAdded, IsAddedTo, IsLookedAt, IsMaking, IsCycleOver, IsRunAdded, TellsDependent, TellsDependentFrom};
+ghost use Rattle.build_scheduler.specs.Dependents.{
+  AreBackward,
+  AreBounded,
+  AreBroughtIn,
+  AreCallersThere,
+  AreOverAdded,
+  IsAddedTo,
+  IsLookedAt,
+  IsMaking,
+  IsCycleOver,
+  IsRunAdded,
+  TellsDependent,
+  TellsDependentFrom,
+};
 ghost use Rattle.build_scheduler.specs.Numbers.{among};
 
 use crate::done::parent_of;
@@ -67,7 +80,9 @@ impl Dependents {
 
     /// Adds a request whose run needs that of the one at a place, unless it is there.
     fn add(&mut self, request: u64, place: usize) -> Result<(), NoMemory>
-        ensures { OnOk result (IsAddedTo self.old.requests.keys self.old.needs.items request place self.new.requests.keys self.new.needs.items) }
+        ensures { OnOk result
+            (IsAddedTo self.old.requests.keys self.old.needs.items request place
+            self.new.requests.keys self.new.needs.items) }
     {
         if self.requests.insert(request)? {
             self.needs.push(place)?;
@@ -83,7 +98,9 @@ impl Dependents {
         place: usize,
     ) -> Result<(), NoMemory>
         requires { request < length origins.now.items }
-        ensures { OnOk result (AreBroughtIn origins.now.items (request ∷ []) place self.old.requests.keys self.old.needs.items self.new.requests.keys self.new.needs.items) }
+        ensures { OnOk result
+            (AreBroughtIn origins.now.items (request ∷ []) place self.old.requests.keys
+            self.old.needs.items self.new.requests.keys self.new.needs.items) }
     {
         match parent_of(origins, request) {
             None => Ok(()),
@@ -99,7 +116,9 @@ impl Dependents {
         place: usize,
     ) -> Result<(), NoMemory>
         requires { (request : ℕ) → In request requests.now → request < length origins.now.items }
-        ensures { OnOk result (AreBroughtIn origins.now.items requests.now place self.old.requests.keys self.old.needs.items self.new.requests.keys self.new.needs.items) }
+        ensures { OnOk result
+            (AreBroughtIn origins.now.items requests.now place self.old.requests.keys
+            self.old.needs.items self.new.requests.keys self.new.needs.items) }
     {
         for request in requests {
             self.add_caller(origins, *request, place)?;
@@ -107,8 +126,8 @@ impl Dependents {
         Ok(())
     }
 
-    /// Adds the requests whose runs need that of the one at a place: the one that calls it, and those that call one that waits for
-    /// its run.
+    /// Adds the requests whose runs need that of the one at a place: the one that calls it, and
+    /// those that call one that waits for its run.
     fn look(
         &mut self,
         origins: &Vec<Origin>,
@@ -116,9 +135,12 @@ impl Dependents {
         place: usize,
     ) -> Result<(), NoMemory>
         requires within { place < length self.old.requests.keys }
-        requires there { (i request : ℕ) → at self.old.requests.keys i ≡ Some request → request < length origins.now.items }
+        requires there { (i request : ℕ) → at self.old.requests.keys i ≡ Some request
+            → request < length origins.now.items }
         requires waiting { AreBounded waiting.now.items (length origins.now.items) }
-        ensures { OnOk result (IsLookedAt origins.now.items waiting.now.items place self.old.requests.keys self.old.needs.items self.new.requests.keys self.new.needs.items) }
+        ensures { OnOk result
+            (IsLookedAt origins.now.items waiting.now.items place self.old.requests.keys
+            self.old.needs.items self.new.requests.keys self.new.needs.items) }
     {
         let request = self.requests[place];
         self.add_caller(origins, request, place)?;
@@ -127,16 +149,21 @@ impl Dependents {
 }
 
 impl Dependent {
-    /// The runs of the cycle that a wait would close: from the run that is wanted, over those that need it, back to it.
+    /// The runs of the cycle that a wait would close: from the run that is wanted, over those that
+    /// need it, back to it.
     pub(crate) fn runs(
         &self,
         making: &Vec<Option<RunId>>,
         run: &RunId,
     ) -> Result<List<RunId>, NoMemory>
         requires within { self.now.place < length self.now.dependents.requests.keys }
-        requires backward { AreBackward self.now.dependents.requests.keys self.now.dependents.needs.items }
-        requires making { (request : ℕ) → among request self.now.dependents.requests.keys ≡ true → IsMaking (at making.now.items request) }
-        ensures { IfOk result (λ runs. IsCycleOver self.now.dependents.requests.keys self.now.dependents.needs.items making.now.items self.now.place run.now runs) }
+        requires backward { AreBackward self.now.dependents.requests.keys
+            self.now.dependents.needs.items }
+        requires making { (request : ℕ) → among request self.now.dependents.requests.keys ≡ true
+            → IsMaking (at making.now.items request) }
+        ensures { IfOk result
+            (λ runs. IsCycleOver self.now.dependents.requests.keys self.now.dependents.needs.items
+            making.now.items self.now.place run.now runs) }
     {
         let mut runs = Vec::new(*making.allocator());
         runs.push(run.copy()?)?;
@@ -148,9 +175,13 @@ impl Dependent {
     /// Adds the runs of those that the request was found by.
     fn push_runs(&self, runs: &mut Vec<RunId>, making: &Vec<Option<RunId>>) -> Result<(), NoMemory>
         requires within { self.now.place < length self.now.dependents.requests.keys }
-        requires backward { AreBackward self.now.dependents.requests.keys self.now.dependents.needs.items }
-        requires making { (request : ℕ) → among request self.now.dependents.requests.keys ≡ true → IsMaking (at making.now.items request) }
-        ensures { OnOk result (AreOverAdded self.now.dependents.requests.keys self.now.dependents.needs.items making.now.items self.now.place runs.old.items runs.new.items) }
+        requires backward { AreBackward self.now.dependents.requests.keys
+            self.now.dependents.needs.items }
+        requires making { (request : ℕ) → among request self.now.dependents.requests.keys ≡ true
+            → IsMaking (at making.now.items request) }
+        ensures { OnOk result
+            (AreOverAdded self.now.dependents.requests.keys self.now.dependents.needs.items
+            making.now.items self.now.place runs.old.items runs.new.items) }
     {
         let mut place = self.place;
         while place > 0 {
@@ -189,7 +220,8 @@ pub(crate) fn find_dependent(
     requires there { id < length origins.now.items }
     requires callers { AreCallersThere origins.now.items }
     requires waiting { AreBounded waiting.now.items (length origins.now.items) }
-    ensures { IfOk result (λ dependent. TellsDependent origins.now.items waiting.now.items id by dependent) }
+    ensures { IfOk result
+        (λ dependent. TellsDependent origins.now.items waiting.now.items id by dependent) }
 {
     match parent_of(origins, id) {
         None => Ok(None),
@@ -197,7 +229,8 @@ pub(crate) fn find_dependent(
     }
 }
 
-/// Looks for a request from the one that calls another, on to those whose runs need the runs of those that were found.
+/// Looks for a request from the one that calls another, on to those whose runs need the runs of
+/// those that were found.
 fn search(
     origins: &Vec<Origin>,
     waiting: &Vec<Numbers>,
@@ -207,7 +240,8 @@ fn search(
     requires there { first < length origins.now.items }
     requires callers { AreCallersThere origins.now.items }
     requires waiting { AreBounded waiting.now.items (length origins.now.items) }
-    ensures { IfOk result (λ dependent. TellsDependentFrom origins.now.items waiting.now.items first by dependent) }
+    ensures { IfOk result
+        (λ dependent. TellsDependentFrom origins.now.items waiting.now.items first by dependent) }
 {
     let mut dependents = Dependents::new(*origins.allocator(), first)?;
     let mut place = 0;

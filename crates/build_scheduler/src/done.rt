@@ -1,4 +1,24 @@
-ghost use Rattle.std.specs.Prelude.{◌≡◌, ◌+◌, ◌-◌, ◌<◌, ◌≤◌, ◌++◌, ◌∷◌, ◌==◌, ◌||◌, ◌&&◌, ℕ, [], None, Some, false, true, IsTrue, length, ◌↔◌};
+ghost use Rattle.std.specs.Prelude.{
+  ◌≡◌,
+  ◌+◌,
+  ◌-◌,
+  ◌<◌,
+  ◌≤◌,
+  ◌++◌,
+  ◌∷◌,
+  ◌==◌,
+  ◌||◌,
+  ◌&&◌,
+  ℕ,
+  [],
+  None,
+  Some,
+  false,
+  true,
+  IsTrue,
+  length,
+  ◌↔◌,
+};
 ghost use Rattle.result_cache.specs.declared.request.RequestResult.{RequestResult as Told};
 ghost use Rattle.build_meaning.specs.declared.event.Event.TheVariants.{Done};
 ghost use Rattle.build_meaning.specs.Lists.{at, put};
@@ -35,7 +55,8 @@ impl<W: Walker> Core<W> {
         requires running { self.old.end ≡ None }
         requires own { ∥ IsOwn (W.world_of self.old.world) self.old.history.events
             self.old.table.finished id (seen_by W.world W.position W.asked W.learnt walk) ∥₁ }
-        requires asks { ∥ Asks (W.world_of self.old.world) self.old.history.events id (IsOver told) ∥₁ }
+        requires asks { ∥ Asks (W.world_of self.old.world) self.old.history.events id
+            (IsOver told) ∥₁ }
         ensures world { W.world_of self.new.world ≡ W.world_of self.old.world }
         ensures history { self.new.history.events ≡ self.old.history.events ++ Done id ∷ [] }
         ensures table { self.new.table ≡ self.old.table }

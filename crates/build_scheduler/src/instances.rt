@@ -1,6 +1,12 @@
 ghost use Rattle.std.specs.Prelude.{◌≡◌, ◌≤◌, [], ◌∷◌, length, IfOk, OnOk, OnErr};
 ghost use Rattle.build_meaning.specs.Meaning.{most_instances};
-ghost use Rattle.build_scheduler.specs.Instances.{IsAdded, IsBelowMost, IsGrown, IsGrownBy, with_instance};
+ghost use Rattle.build_scheduler.specs.Instances.{
+  IsAdded,
+  IsBelowMost,
+  IsGrown,
+  IsGrownBy,
+  with_instance,
+};
 
 use indexmap::IndexSet;
 use msb_values::{Copied, InstanceKey, NoMemory};
@@ -55,7 +61,8 @@ impl Instances {
         self.seen.get_index_of(instance)
     }
 
-    /// Adds the instances of some calls. Where there would be too many, or no memory, nothing changes.
+    /// Adds the instances of some calls. Where there would be too many, or no memory, nothing
+    /// changes.
     pub(crate) fn add(&mut self, calls: &[RequestKey]) -> Result<(), Crowd>
         requires { length self.old ≤ most_instances }
         ensures { IsAdded self.old self.new calls.now result }

@@ -1,5 +1,5 @@
-//! The scheduler of a build: its requests, the runs that they claim, and the records of those that are finished.
-//! (MSBuild task; Building projects in parallel.)
+//! The scheduler of a build: its requests, the runs that they claim, and the records of those that
+//! are finished. (MSBuild task; Building projects in parallel.)
 #![tactic(auto)]
 
 mod children;

@@ -1,4 +1,18 @@
-ghost use Rattle.std.specs.Prelude.{◌≡◌, ◌+◌, ◌<◌, ◌==◌, ◌||◌, ◌&&◌, ℕ, [], not, true, false, OnOk, OnErr};
+ghost use Rattle.std.specs.Prelude.{
+  ◌≡◌,
+  ◌+◌,
+  ◌<◌,
+  ◌==◌,
+  ◌||◌,
+  ◌&&◌,
+  ℕ,
+  [],
+  not,
+  true,
+  false,
+  OnOk,
+  OnErr,
+};
 ghost use Rattle.build_scheduler.specs.Numbers.{among, IsLeast, IsPopped};
 
 use msb_values::NoMemory;
@@ -30,7 +44,8 @@ impl Model for Numbers {
 
     ghost view = { λ n. record { numbers = n.numbers.items; room = n.room } };
 
-    ghost invariant = { λ n. AreRising n.numbers.items × (vec_len n.numbers + n.room ≤ vec_capacity n.numbers) };
+    ghost invariant = { λ n. AreRising n.numbers.items
+        × (vec_len n.numbers + n.room ≤ vec_capacity n.numbers) };
 }
 
 impl Numbers {
@@ -78,7 +93,8 @@ impl Numbers {
     pub fn insert(&mut self, number: u64)
         requires room { 0 < self.old.room }
         requires absent { among number self.old.numbers ≡ false }
-        ensures numbers { (n : ℕ) → among n self.new.numbers ≡ (number == n || among n self.old.numbers) }
+        ensures numbers { (n : ℕ) → among n self.new.numbers
+            ≡ (number == n || among n self.old.numbers) }
         ensures room { self.old.room ≡ self.new.room + 1 }
     {
         match self.numbers.binary_search(&number) {
@@ -96,7 +112,8 @@ impl Numbers {
     /// Takes a number away, whose room stays.
     pub fn remove(&mut self, number: u64)
         requires present { among number self.old.numbers ≡ true }
-        ensures numbers { (n : ℕ) → among n self.new.numbers ≡ (not (number == n) && among n self.old.numbers) }
+        ensures numbers { (n : ℕ) → among n self.new.numbers
+            ≡ (not (number == n) && among n self.old.numbers) }
         ensures room { self.new.room ≡ self.old.room + 1 }
     {
         match self.numbers.binary_search(&number) {

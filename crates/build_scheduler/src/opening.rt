@@ -9,8 +9,8 @@ use msb_values::NoMemory;
 use result_cache::RunId;
 use std::alloc::Global;
 
-/// A history without events that has room for the root's Assign and Done, the root among the requests that are ready, and that
-/// it is in no body and nobody waits for it.
+/// A history without events that has room for the root's Assign and Done, the root among the
+/// requests that are ready, and that it is in no body and nobody waits for it.
 pub(crate) struct Opening {
     history: Log,
     ready: Numbers,
@@ -35,9 +35,11 @@ impl Opening {
         ensures events { IfOk result (λ opening. opening.history.events ≡ []) }
         ensures room { IfOk result (λ opening. opening.history.room ≡ 2) }
         ensures nodes { IfOk result (λ opening. opening.history.nodes ≡ 1) }
-        ensures ready { IfOk result (λ opening. (n : ℕ) → among n opening.ready.numbers ≡ (0 == n)) }
+        ensures ready { IfOk result (λ opening. (n : ℕ)
+            → among n opening.ready.numbers ≡ (0 == n)) }
         ensures making { IfOk result (λ opening. opening.making.items ≡ None ∷ []) }
-        ensures waiting { IfOk result (λ opening. opening.waiting.items ≡ (record { numbers = []; room = 0 }) ∷ []) }
+        ensures waiting { IfOk result (λ opening. opening.waiting.items
+            ≡ (record { numbers = []; room = 0 }) ∷ []) }
     {
         let history = empty_history(alloc)?;
         let ready = root_alone(alloc)?;

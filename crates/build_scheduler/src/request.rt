@@ -1,10 +1,49 @@
-ghost use Rattle.std.specs.Prelude.{◌≡◌, ◌+◌, ◌*◌, ◌^◌, ◌<◌, ◌≤◌, ◌++◌, ◌∷◌, ◌&&◌, ◌||◌, ℕ, [], None, Some, false, nat_le, nat_lt, length, map, take, vec_len, vec_capacity, IfOk, IfErr, OnOk, OnErr};
+ghost use Rattle.std.specs.Prelude.{
+  ◌≡◌,
+  ◌+◌,
+  ◌*◌,
+  ◌^◌,
+  ◌<◌,
+  ◌≤◌,
+  ◌++◌,
+  ◌∷◌,
+  ◌&&◌,
+  ◌||◌,
+  ℕ,
+  [],
+  None,
+  Some,
+  false,
+  nat_le,
+  nat_lt,
+  length,
+  map,
+  take,
+  vec_len,
+  vec_capacity,
+  IfOk,
+  IfErr,
+  OnOk,
+  OnErr,
+};
 ghost use Rattle.build_meaning.specs.Lists.{at, put, Paired};
 ghost use Rattle.build_meaning.specs.Meaning.{deepest};
 ghost use Rattle.build_scheduler.specs.declared.walker.Ask.TheVariants.{Call};
 ghost use Rattle.build_scheduler.specs.declared.slot.Slot.TheVariants.{Calling};
-ghost use Rattle.build_scheduler.specs.Children.{HasDepth, IsChildSlot, child_origin, empty_set, no_run};
-ghost use Rattle.build_scheduler.specs.Chain.{AreKeysDown, AreUpward, IsDeepFault, IsFurther, IsThere};
+ghost use Rattle.build_scheduler.specs.Children.{
+  HasDepth,
+  IsChildSlot,
+  child_origin,
+  empty_set,
+  no_run,
+};
+ghost use Rattle.build_scheduler.specs.Chain.{
+  AreKeysDown,
+  AreUpward,
+  IsDeepFault,
+  IsFurther,
+  IsThere,
+};
 ghost use Rattle.build_scheduler.specs.Entered.{AreEntered, AreNew};
 ghost use Rattle.build_scheduler.specs.Numbers.{among};
 ghost use Rattle.build_scheduler.specs.Own.{IsOwn, seen_by};
@@ -25,7 +64,8 @@ use std::alloc::Global;
 /// Why calls are not made. (MSBuild task.)
 #[derive(Drop)]
 pub enum RequestFault {
-    /// They are nested too deep: the requests from the root to the one that calls, and the first call.
+    /// They are nested too deep: the requests from the root to the one that calls, and the first
+    /// call.
     TooDeep(List<RequestKey>),
     /// With the instance of one of them there would be too many.
     TooMany(InstanceKey),
@@ -66,10 +106,13 @@ impl<W: Drop> Children<W> {
         walk: W,
     )
         requires there { id < length slots.old.items }
-        requires origin_room { vec_len origins.old + length self.origins.items ≤ vec_capacity origins.old }
+        requires origin_room { vec_len origins.old + length self.origins.items
+            ≤ vec_capacity origins.old }
         requires slot_room { vec_len slots.old + length self.slots.items ≤ vec_capacity slots.old }
-        requires making_room { vec_len making.old + length self.making.items ≤ vec_capacity making.old }
-        requires waiting_room { vec_len waiting.old + length self.waiting.items ≤ vec_capacity waiting.old }
+        requires making_room { vec_len making.old + length self.making.items
+            ≤ vec_capacity making.old }
+        requires waiting_room { vec_len waiting.old + length self.waiting.items
+            ≤ vec_capacity waiting.old }
         ensures origins { origins.new.items ≡ origins.old.items ++ self.origins.items }
         ensures slots { AreEntered slots.old.items slots.new.items id walk self }
         ensures making { making.new.items ≡ making.old.items ++ self.making.items }
@@ -103,9 +146,9 @@ const DEEPEST: usize = 128;
 const MOST_CALLS: usize = 1 << 60;
 
 impl<W: Walker> Core<W> {
-    /// Makes the requests that the body of a request with a node calls at once: they are ready, and its walk is put away until
-    /// all of them are done. Where they are refused, the walk is handed back, and nothing has changed. (MSBuild task,
-    /// BuildInParallel.)
+    /// Makes the requests that the body of a request with a node calls at once: they are ready, and
+    /// its walk is put away until all of them are done. Where they are refused, the walk is handed
+    /// back, and nothing has changed. (MSBuild task, BuildInParallel.)
     pub fn request(
         &mut self,
         id: u64,
@@ -113,13 +156,15 @@ impl<W: Walker> Core<W> {
         calls: List<RequestKey>,
     ) -> Result<(), (W, RequestFault)>
         requires running { self.old.end ≡ None }
-        requires own { ∥ IsOwn (W.world_of self.old.world) self.old.history.events self.old.table.finished id (seen_by W.world W.position W.asked W.learnt walk) ∥₁ }
+        requires own { ∥ IsOwn (W.world_of self.old.world) self.old.history.events
+            self.old.table.finished id (seen_by W.world W.position W.asked W.learnt walk) ∥₁ }
         requires asks { ask_of (W.position walk) ≡ Call calls }
         ensures world { W.world_of self.new.world ≡ W.world_of self.old.world }
         ensures table { self.new.table ≡ self.old.table }
         ensures end { self.new.end ≡ self.old.end }
         ensures nodes { self.new.history.nodes ≡ self.old.history.nodes }
-        ensures requested { IsRequested (W.world_of self.old.world) self.old.history.events self.new.history.events id calls walk result }
+        ensures requested { IsRequested (W.world_of self.old.world) self.old.history.events
+            self.new.history.events id calls walk result }
     {
         match self.children(id, &walk, calls.as_slice()) {
             Ok(children) => self.enter(id, walk, calls, children),
@@ -134,21 +179,33 @@ impl<W: Walker> Core<W> {
         walk: &W,
         calls: &[RequestKey],
     ) -> Result<Children<W>, RequestFault>
-        requires own { ∥ IsOwn (W.world_of self.old.world) self.old.history.events self.old.table.finished id (seen_by W.world W.position W.asked W.learnt walk.now) ∥₁ }
+        requires own { ∥ IsOwn (W.world_of self.old.world) self.old.history.events
+            self.old.table.finished id (seen_by W.world W.position W.asked W.learnt walk.now) ∥₁ }
         requires asks { ask_of (W.position walk.now) ≡ Call calls.now }
         ensures world { W.world_of self.new.world ≡ W.world_of self.old.world }
         ensures table { self.new.table ≡ self.old.table }
         ensures end { self.new.end ≡ self.old.end }
         ensures nodes { self.new.history.nodes ≡ self.old.history.nodes }
         ensures history { self.new.history.events ≡ self.old.history.events }
-        ensures fault { IfErr result (λ fault. IsRefused (W.world_of self.old.world) self.old.history.events id calls.now fault) }
-        ensures children { IfOk result (λ children. AreNew (seen_by W.world W.position W.asked W.learnt) (seen_by W.world W.position W.asked W.learnt walk.now) id calls.now self.new.origins.items children) }
-        ensures origin_room { OnOk result (vec_len self.new.origins + length calls.now ≤ vec_capacity self.new.origins) }
-        ensures slot_room { OnOk result (vec_len self.new.slots + length calls.now ≤ vec_capacity self.new.slots) }
-        ensures making_room { OnOk result (vec_len self.new.making + length calls.now ≤ vec_capacity self.new.making) }
-        ensures waiting_room { OnOk result (vec_len self.new.waiting + length calls.now ≤ vec_capacity self.new.waiting) }
-        ensures ready_room { OnOk result (unready self.new.slots.items + length calls.now ≤ self.new.ready.room) }
-        ensures spare { OnOk result ∥ HasSpare (W.world_of self.new.world) self.new.history (2 + 2 * length calls.now) ∥₁ }
+        ensures fault { IfErr result
+            (λ fault. IsRefused (W.world_of self.old.world) self.old.history.events id calls.now
+            fault) }
+        ensures children { IfOk result
+            (λ children. AreNew (seen_by W.world W.position W.asked W.learnt)
+            (seen_by W.world W.position W.asked W.learnt walk.now) id calls.now
+            self.new.origins.items children) }
+        ensures origin_room { OnOk result (vec_len self.new.origins + length calls.now
+            ≤ vec_capacity self.new.origins) }
+        ensures slot_room { OnOk result (vec_len self.new.slots + length calls.now
+            ≤ vec_capacity self.new.slots) }
+        ensures making_room { OnOk result (vec_len self.new.making + length calls.now
+            ≤ vec_capacity self.new.making) }
+        ensures waiting_room { OnOk result (vec_len self.new.waiting + length calls.now
+            ≤ vec_capacity self.new.waiting) }
+        ensures ready_room { OnOk result (unready self.new.slots.items + length calls.now
+            ≤ self.new.ready.room) }
+        ensures spare { OnOk result
+            ∥ HasSpare (W.world_of self.new.world) self.new.history (2 + 2 * length calls.now) ∥₁ }
     {
         let depth = self.depth_for(id, walk, calls)?;
         let alloc = *self.slots.allocator();
@@ -159,10 +216,14 @@ impl<W: Walker> Core<W> {
 
     /// How many requests call each other down to the one that calls, where its calls may be nested.
     fn depth_for(&self, id: u64, walk: &W, calls: &[RequestKey]) -> Result<usize, RequestFault>
-        requires own { ∥ IsOwn (W.world_of self.now.world) self.now.history.events self.now.table.finished id (seen_by W.world W.position W.asked W.learnt walk.now) ∥₁ }
+        requires own { ∥ IsOwn (W.world_of self.now.world) self.now.history.events
+            self.now.table.finished id (seen_by W.world W.position W.asked W.learnt walk.now) ∥₁ }
         requires asks { ask_of (W.position walk.now) ≡ Call calls.now }
-        ensures depth { IfOk result (λ depth. HasDepth (at self.now.origins.items id) depth × (depth + 1 < deepest)) }
-        ensures fault { IfErr result (λ fault. IsRefused (W.world_of self.now.world) self.now.history.events id calls.now fault) }
+        ensures depth { IfOk result (λ depth. HasDepth (at self.now.origins.items id) depth
+            × (depth + 1 < deepest)) }
+        ensures fault { IfErr result
+            (λ fault. IsRefused (W.world_of self.now.world) self.now.history.events id calls.now
+            fault) }
     {
         let depth = depth_of(&self.origins, id);
         if depth < DEEPEST - 1 {
@@ -180,12 +241,18 @@ impl<W: Walker> Core<W> {
         ensures nodes { self.new.history.nodes ≡ self.old.history.nodes }
         ensures history { self.new.history.events ≡ self.old.history.events }
         ensures origins { self.new.origins.items ≡ self.old.origins.items }
-        ensures origin_room { OnOk result (vec_len self.new.origins + count ≤ vec_capacity self.new.origins) }
-        ensures slot_room { OnOk result (vec_len self.new.slots + count ≤ vec_capacity self.new.slots) }
-        ensures making_room { OnOk result (vec_len self.new.making + count ≤ vec_capacity self.new.making) }
-        ensures waiting_room { OnOk result (vec_len self.new.waiting + count ≤ vec_capacity self.new.waiting) }
-        ensures ready_room { OnOk result (unready self.new.slots.items + count ≤ self.new.ready.room) }
-        ensures spare { OnOk result ∥ HasSpare (W.world_of self.new.world) self.new.history (2 + 2 * count) ∥₁ }
+        ensures origin_room { OnOk result (vec_len self.new.origins + count
+            ≤ vec_capacity self.new.origins) }
+        ensures slot_room { OnOk result (vec_len self.new.slots + count
+            ≤ vec_capacity self.new.slots) }
+        ensures making_room { OnOk result (vec_len self.new.making + count
+            ≤ vec_capacity self.new.making) }
+        ensures waiting_room { OnOk result (vec_len self.new.waiting + count
+            ≤ vec_capacity self.new.waiting) }
+        ensures ready_room { OnOk result (unready self.new.slots.items + count
+            ≤ self.new.ready.room) }
+        ensures spare { OnOk result
+            ∥ HasSpare (W.world_of self.new.world) self.new.history (2 + 2 * count) ∥₁ }
     {
         let events = events_of(count)?;
         reserve_all(
@@ -210,20 +277,28 @@ impl<W: Walker> Core<W> {
         children: Children<W>,
     ) -> Result<(), (W, RequestFault)>
         requires running { self.old.end ≡ None }
-        requires own { ∥ IsOwn (W.world_of self.old.world) self.old.history.events self.old.table.finished id (seen_by W.world W.position W.asked W.learnt walk) ∥₁ }
+        requires own { ∥ IsOwn (W.world_of self.old.world) self.old.history.events
+            self.old.table.finished id (seen_by W.world W.position W.asked W.learnt walk) ∥₁ }
         requires asks { ask_of (W.position walk) ≡ Call calls }
-        requires children { AreNew (seen_by W.world W.position W.asked W.learnt) (seen_by W.world W.position W.asked W.learnt walk) id calls self.old.origins.items children }
-        requires origin_room { vec_len self.old.origins + length calls ≤ vec_capacity self.old.origins }
+        requires children { AreNew (seen_by W.world W.position W.asked W.learnt)
+            (seen_by W.world W.position W.asked W.learnt walk) id calls self.old.origins.items
+            children }
+        requires origin_room { vec_len self.old.origins + length calls
+            ≤ vec_capacity self.old.origins }
         requires slot_room { vec_len self.old.slots + length calls ≤ vec_capacity self.old.slots }
-        requires making_room { vec_len self.old.making + length calls ≤ vec_capacity self.old.making }
-        requires waiting_room { vec_len self.old.waiting + length calls ≤ vec_capacity self.old.waiting }
+        requires making_room { vec_len self.old.making + length calls
+            ≤ vec_capacity self.old.making }
+        requires waiting_room { vec_len self.old.waiting + length calls
+            ≤ vec_capacity self.old.waiting }
         requires ready_room { unready self.old.slots.items + length calls ≤ self.old.ready.room }
-        requires spare { ∥ HasSpare (W.world_of self.old.world) self.old.history (2 + 2 * length calls) ∥₁ }
+        requires spare { ∥ HasSpare (W.world_of self.old.world) self.old.history
+            (2 + 2 * length calls) ∥₁ }
         ensures world { W.world_of self.new.world ≡ W.world_of self.old.world }
         ensures table { self.new.table ≡ self.old.table }
         ensures end { self.new.end ≡ self.old.end }
         ensures nodes { self.new.history.nodes ≡ self.old.history.nodes }
-        ensures requested { IsRequested (W.world_of self.old.world) self.old.history.events self.new.history.events id calls walk result }
+        ensures requested { IsRequested (W.world_of self.old.world) self.old.history.events
+            self.new.history.events id calls walk result }
     {
         match self.instances.add(calls.as_slice()) {
             Err(Crowd::TooMany(instance)) => Err((walk, RequestFault::TooMany(instance))),
@@ -267,7 +342,8 @@ fn append<T: Drop>(list: &mut Vec<T>, more: &mut Vec<T>)
     }
 }
 
-/// How many events so many new requests need: the call, the next Assign of the caller, and an Assign and a Done of each.
+/// How many events so many new requests need: the call, the next Assign of the caller, and an
+/// Assign and a Done of each.
 fn events_of(count: usize) -> Result<usize, NoMemory>
     ensures { IfOk result (λ events. events ≡ 2 + 2 * count) }
 {
@@ -326,7 +402,8 @@ fn push_key(
     id: Option<u64>,
 ) -> Result<Option<u64>, NoMemory>
     requires { IsThere origins.now.items id }
-    ensures { IfOk result (λ next. IsFurther origins.now.items keys.old.items keys.new.items id next) }
+    ensures { IfOk result
+        (λ next. IsFurther origins.now.items keys.old.items keys.new.items id next) }
 {
     match id {
         None => Ok(None),
@@ -370,8 +447,13 @@ fn children_of<W: Walker>(
     calls: &[RequestKey],
 ) -> Result<Children<W>, NoMemory>
     requires { ask_of (W.position walk.now) ≡ Call calls.now }
-    ensures origins { IfOk result (λ children. children.origins.items ≡ map (child_origin id depth) calls.now) }
-    ensures slots { IfOk result (λ children. Paired (IsChildSlot (seen_by W.world W.position W.asked W.learnt) (seen_by W.world W.position W.asked W.learnt walk.now)) children.slots.items calls.now) }
+    ensures origins { IfOk result (λ children. children.origins.items
+        ≡ map (child_origin id depth) calls.now) }
+    ensures slots { IfOk result
+        (λ children.
+        Paired
+        (IsChildSlot (seen_by W.world W.position W.asked W.learnt)
+        (seen_by W.world W.position W.asked W.learnt walk.now)) children.slots.items calls.now) }
     ensures making { IfOk result (λ children. children.making.items ≡ map no_run calls.now) }
     ensures waiting { IfOk result (λ children. children.waiting.items ≡ map empty_set calls.now) }
     ensures results { IfOk result (λ children. length children.results.items ≡ length calls.now) }
@@ -422,7 +504,8 @@ fn list_new(ready: &mut Numbers, first: u64, count: usize)
     requires room { count ≤ ready.old.room }
     requires absent { (n : ℕ) → first ≤ n → among n ready.old.numbers ≡ false }
     requires fits { first + count < 2 ^ 64 }
-    ensures numbers { (n : ℕ) → among n ready.new.numbers ≡ ((nat_le first n && nat_lt n (first + count)) || among n ready.old.numbers) }
+    ensures numbers { (n : ℕ) → among n ready.new.numbers
+        ≡ ((nat_le first n && nat_lt n (first + count)) || among n ready.old.numbers) }
     ensures room { ready.old.room ≡ ready.new.room + count }
 {
     for i in 0..count {

@@ -1,4 +1,20 @@
-ghost use Rattle.std.specs.Prelude.{◌≡◌, ◌+◌, ◌<◌, ◌++◌, ◌∷◌, ◌==◌, ◌||◌, ℕ, [], None, Some, false, true, length, map};
+ghost use Rattle.std.specs.Prelude.{
+  ◌≡◌,
+  ◌+◌,
+  ◌<◌,
+  ◌++◌,
+  ◌∷◌,
+  ◌==◌,
+  ◌||◌,
+  ℕ,
+  [],
+  None,
+  Some,
+  false,
+  true,
+  length,
+  map,
+};
 ghost use Rattle.build_meaning.specs.declared.event.Event.TheVariants.{Result};
 ghost use Rattle.build_meaning.specs.Lists.{at, put};
 ghost use Rattle.build_scheduler.specs.declared.walker.Ask.TheVariants.{Finished};
@@ -18,19 +34,26 @@ use result_cache::{RecordRef, RunId};
 use std::mem;
 
 impl<W: Walker> Core<W> {
-    /// Finishes the run whose body has come to its end, and makes every request that waits for it ready. The request that made
-    /// it goes on with Use. This takes no memory. (MSBuild task: a target is run once.)
+    /// Finishes the run whose body has come to its end, and makes every request that waits for it
+    /// ready. The request that made it goes on with Use. This takes no memory. (MSBuild task: a
+    /// target is run once.)
     pub fn result(&mut self, id: u64, run: &RunId, made: RecordRef)
         requires running { self.old.end ≡ None }
-        requires asks { ∥ Asks (W.world_of self.old.world) self.old.history.events id (Finished run.now made) ∥₁ }
+        requires asks { ∥ Asks (W.world_of self.old.world) self.old.history.events id
+            (Finished run.now made) ∥₁ }
         ensures world { W.world_of self.new.world ≡ W.world_of self.old.world }
-        ensures history { self.new.history.events ≡ self.old.history.events ++ Result id run.now ∷ [] }
-        ensures table { self.new.table.finished ≡ record { run = run.now; made = made } ∷ self.old.table.finished }
+        ensures history { self.new.history.events
+            ≡ self.old.history.events ++ Result id run.now ∷ [] }
+        ensures table { self.new.table.finished
+            ≡ record { run = run.now; made = made } ∷ self.old.table.finished }
         ensures end { self.new.end ≡ self.old.end }
         ensures nodes { self.new.history.nodes ≡ self.old.history.nodes }
-        ensures out { (walk : W) → ∥ IsOwn (W.world_of self.old.world) self.old.history.events self.old.table.finished id (seen_by W.world W.position W.asked W.learnt walk) ∥₁ →
+        ensures out { (walk : W)
+            → ∥ IsOwn (W.world_of self.old.world) self.old.history.events self.old.table.finished id
+            (seen_by W.world W.position W.asked W.learnt walk) ∥₁ →
             ask_of (W.position walk) ≡ Finished run.now made →
-            ∥ IsOut (W.world_of self.new.world) self.new.history.events self.new.table.finished id (seen_by W.world W.position W.asked W.learnt walk) Use ∥₁ }
+            ∥ IsOut (W.world_of self.new.world) self.new.history.events self.new.table.finished id
+            (seen_by W.world W.position W.asked W.learnt walk) Use ∥₁ }
     {
         self.table.finish(run, made);
         match take_run(&mut self.making, id) {
@@ -82,7 +105,8 @@ fn wake_one<W: Drop>(slots: &mut Vec<Slot<W>>, ready: &mut Numbers, number: u64)
     requires absent { among number ready.old.numbers ≡ false }
     requires room { 0 < ready.old.room }
     ensures slots { IsWoken slots.old.items slots.new.items number }
-    ensures ready { (n : ℕ) → among n ready.new.numbers ≡ (number == n || among n ready.old.numbers) }
+    ensures ready { (n : ℕ) → among n ready.new.numbers
+        ≡ (number == n || among n ready.old.numbers) }
     ensures room { ready.old.room ≡ ready.new.room + 1 }
 {
     let (walk, _) = replace_slot(slots, number, Slot::Done).into_waiting();

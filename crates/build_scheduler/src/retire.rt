@@ -34,7 +34,8 @@ impl<W: Walker> Core<W> {
     pub fn retire(&mut self, id: u64, walk: W, answer: Answer) -> bool
         requires running { self.old.end ≡ None }
         requires out { ∥ IsOut (W.world_of self.old.world) self.old.history.events
-            self.old.table.finished id (seen_by W.world W.position W.asked W.learnt walk) answer ∥₁ }
+            self.old.table.finished id (seen_by W.world W.position W.asked W.learnt walk)
+            answer ∥₁ }
         ensures world { W.world_of self.new.world ≡ W.world_of self.old.world }
         ensures table { self.new.table ≡ self.old.table }
         ensures nodes { self.new.history.nodes ≡ self.old.history.nodes }

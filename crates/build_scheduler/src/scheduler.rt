@@ -1,4 +1,19 @@
-ghost use Rattle.std.specs.Prelude.{◌≡◌, ◌+◌, ◌<◌, ◌≤◌, ◌++◌, map, ◌∷◌, [], IfOk, None, Some, true, length, option_copied};
+ghost use Rattle.std.specs.Prelude.{
+  ◌≡◌,
+  ◌+◌,
+  ◌<◌,
+  ◌≤◌,
+  ◌++◌,
+  map,
+  ◌∷◌,
+  [],
+  IfOk,
+  None,
+  Some,
+  true,
+  length,
+  option_copied,
+};
 ghost use Rattle.build_meaning.specs.declared.event.Event.TheVariants.{Assign};
 ghost use Rattle.build_meaning.specs.History.{AreOfNodes};
 ghost use Rattle.build_meaning.specs.Meaning.{most_instances};
@@ -29,9 +44,9 @@ use std::mem;
 
 /// The scheduler of a build.
 ///
-/// Requests have numbers, from the root's 0. A walk is here, or with a node that has its request. Each call that changes the
-/// core is one event of its history, which is legal; what the core holds shows the state after it. (MSBuild task; Building
-/// projects in parallel.)
+/// Requests have numbers, from the root's 0. A walk is here, or with a node that has its request.
+/// Each call that changes the core is one event of its history, which is legal; what the core holds
+/// shows the state after it. (MSBuild task; Building projects in parallel.)
 pub struct Core<W: Walker> {
     pub(crate) world: W::Origin,
     pub(crate) history: Log,
@@ -47,7 +62,8 @@ pub struct Core<W: Walker> {
     pub(crate) end: Option<End>,
     /// How requests have ended, for others of their keys.
     pub(crate) kept: KeptEnds<W>,
-    ghost legal: { ∥ Shown (seen_by W.world W.position W.asked W.learnt) (W.world_of world) history origins.items slots.items making.items table end ∥₁ },
+    ghost legal: { ∥ Shown (seen_by W.world W.position W.asked W.learnt) (W.world_of world) history
+        origins.items slots.items making.items table end ∥₁ },
     ghost indexed: { ∥ Indexed slots.items ready waiting.items ∥₁ },
     ghost counted: { ∥ AreCounted instances (map instance_asked origins.items) ∥₁ },
     ghost active: { AreOfNodes history.nodes history.events },
@@ -56,7 +72,8 @@ pub struct Core<W: Walker> {
     ghost stops: { ∥ ShowsStop (W.world_of world) history.events end ∥₁ },
     ghost kept_so: { ∥ AreKept (seen_by W.world W.position W.asked W.learnt) (W.world_of world)
         table.finished origins.items kept.ends.items ∥₁ },
-    ghost behind: { ∥ AreBehind (seen_by W.world W.position W.asked W.learnt) (W.world_of world) history.events slots.items ∥₁ },
+    ghost behind: { ∥ AreBehind (seen_by W.world W.position W.asked W.learnt) (W.world_of world)
+        history.events slots.items ∥₁ },
 }
 
 // A drop that is written out is proved here alone.
@@ -124,8 +141,9 @@ impl<W: Walker> Core<W> {
         self.ready.least()
     }
 
-    /// Hands a ready request to a node: its walk, with its next answer. Where the request is in a body and no node has retired,
-    /// the walk has used the tools that the history has of it. This takes no memory.
+    /// Hands a ready request to a node: its walk, with its next answer. Where the request is in a
+    /// body and no node has retired, the walk has used the tools that the history has of it. This
+    /// takes no memory.
     pub fn assign(&mut self, id: u64, node: u32) -> (W, Answer)
         requires running { self.old.end ≡ None }
         requires ready { ∥ IsReady (W.world_of self.old.world) self.old.history.events id ∥₁ }
@@ -135,8 +153,11 @@ impl<W: Walker> Core<W> {
         ensures end { self.new.end ≡ self.old.end }
         ensures nodes { self.new.history.nodes ≡ self.old.history.nodes }
         ensures room { self.old.history.room ≡ self.new.history.room + 1 }
-        ensures out { ∥ IsOut (W.world_of self.new.world) self.new.history.events self.new.table.finished id (seen_by W.world W.position W.asked W.learnt result.0) result.1 ∥₁ }
-        ensures behind { ∥ IsBehind (W.world_of self.old.world) self.old.history.events id (W.position result.0).place ∥₁ }
+        ensures out { ∥ IsOut (W.world_of self.new.world) self.new.history.events
+            self.new.table.finished id (seen_by W.world W.position W.asked W.learnt result.0)
+            result.1 ∥₁ }
+        ensures behind { ∥ IsBehind (W.world_of self.old.world) self.old.history.events id
+            (W.position result.0).place ∥₁ }
     {
         self.ready.remove(id);
         self.history.push(Event::Assign(id, node));

@@ -62,7 +62,12 @@ impl<W> Slot<W> {
 
 impl<W: Drop> Slot<W> {
     ghost use Rattle.std.specs.Prelude.{◌≡◌, Some, true};
-    ghost use Rattle.build_scheduler.specs.declared.slot.Slot.TheVariants.{Assigned, Calling, Ready, Waiting};
+    ghost use Rattle.build_scheduler.specs.declared.slot.Slot.TheVariants.{
+      Assigned,
+      Calling,
+      Ready,
+      Waiting,
+    };
     ghost use Rattle.build_scheduler.specs.Calls.{IsCalling};
     ghost use Rattle.build_scheduler.specs.Shown.{IsWaiting, is_ready};
     ghost use Rattle.build_scheduler.specs.Slots.{IsWithNode};
@@ -201,7 +206,8 @@ pub enum End {
     Root(RequestResult),
     /// A claim closes this cycle of runs.
     Circular(List<RunId>),
-    /// A call is nested too deep: the requests from the root to the one that calls, and the first of its call.
+    /// A call is nested too deep: the requests from the root to the one that calls, and the first
+    /// of its call.
     TooDeep(List<RequestKey>),
     /// A call asks for one instance too many.
     TooMany(InstanceKey),

@@ -76,8 +76,9 @@ impl Drop for Answer {
 
 /// A request that asks, is answered, and goes on.
 ///
-/// Contracts see the world that it is of, where it stands in it, how often it has asked, and the records that it has learnt.
-/// How it goes on with a record does not depend on who has made the run.
+/// Contracts see the world that it is of, where it stands in it, how often it has asked, and the
+/// records that it has learnt. How it goes on with a record does not depend on who has made the
+/// run.
 pub trait Walker: Sized + Drop {
     /// What a node has for every walk that it advances, such as the tools.
     type Place;
@@ -109,8 +110,8 @@ pub trait Walker: Sized + Drop {
     /// The records that it has learnt, the last one first.
     ghost learnt: { Self → Records };
 
-    /// Where it stood before its last `advance`, and how often it had asked; None where it was not advanced since it was made or
-    /// put back.
+    /// Where it stood before its last `advance`, and how often it had asked; None where it was not
+    /// advanced since it was made or put back.
     ghost earlier: { Self → Option (Position Self.Site Self.Input Self.Output × ℕ) };
 
     /// The tools that were used at a place, in order.
@@ -130,9 +131,11 @@ pub trait Walker: Sized + Drop {
     fn child(&self, key: &RequestKey) -> Result<Self, NoMemory>
         requires { IsCall key.now (ask_of (Self.position self.now)) }
         ensures world { IfOk result (λ child. Self.world child ≡ Self.world self.now) }
-        ensures begins { IfOk result (λ child. Self.position child ≡ begins (Self.world self.now) key.now (Self.position self.now).journal) }
+        ensures begins { IfOk result (λ child. Self.position child
+            ≡ begins (Self.world self.now) key.now (Self.position self.now).journal) }
         ensures asked { IfOk result (λ child. Self.asked child ≡ 0) }
-        ensures learnt { IfOk result (λ child. ArePartOf (Self.learnt child) (Self.learnt self.now)) }
+        ensures learnt { IfOk result
+            (λ child. ArePartOf (Self.learnt child) (Self.learnt self.now)) }
         ensures earlier { IfOk result (λ child. Self.earlier child ≡ None) };
 
     /// Takes over the journal of a request that this one has called and that is over. The runs of
@@ -168,14 +171,18 @@ pub trait Walker: Sized + Drop {
         ensures learnt { IfOk result (λ ended. Self.learnt ended ≡ []) }
         ensures earlier { IfOk result (λ ended. Self.earlier ended ≡ None) };
 
-    /// Learns the records that an answer needs, through all levels of calls: the answer then takes the walk where it would by
-    /// the whole table. Where there is no memory, the walk is as it was.
+    /// Learns the records that an answer needs, through all levels of calls: the answer then takes
+    /// the walk where it would by the whole table. Where there is no memory, the walk is as it was.
     fn learn(&mut self, table: &Table, answer: &Answer) -> Result<(), NoMemory>
         requires in_order { AreInOrder table.now.finished }
         requires known { ArePartOf (Self.learnt self.old) table.now.finished }
-        requires fits { IsSome (answered (Self.world self.old) table.now.finished (Self.position self.old) answer.now) }
-        ensures learns { OnOk result (answered (Self.world self.old) (Self.learnt self.new) (Self.position self.old) answer.now
-            ≡ answered (Self.world self.old) table.now.finished (Self.position self.old) answer.now) }
+        requires fits { IsSome
+            (answered (Self.world self.old) table.now.finished (Self.position self.old)
+            answer.now) }
+        ensures learns { OnOk result
+            (answered (Self.world self.old) (Self.learnt self.new) (Self.position self.old) answer.now
+            ≡ answered (Self.world self.old) table.now.finished (Self.position self.old)
+            answer.now) }
         ensures known { ArePartOf (Self.learnt self.new) table.now.finished }
         ensures err { OnErr result (Self.learnt self.new ≡ Self.learnt self.old) }
         ensures world { Self.world self.new ≡ Self.world self.old }
@@ -183,20 +190,28 @@ pub trait Walker: Sized + Drop {
         ensures asked { Self.asked self.new ≡ Self.asked self.old }
         ensures earlier { Self.earlier self.new ≡ Self.earlier self.old };
 
-    /// Goes on with an answer to the next ask. Where there is no memory, the walk is as it was, and the calls of tools begin with
-    /// those of before. The place fits the walk's world, before and after.
+    /// Goes on with an answer to the next ask. Where there is no memory, the walk is as it was, and
+    /// the calls of tools begin with those of before. The place fits the walk's world, before and
+    /// after.
     fn advance(&mut self, place: &mut Self::Place, answer: &Answer) -> Result<Ask, NoMemory>
-        requires fits { IsSome (answered (Self.world self.old) (Self.learnt self.old) (Self.position self.old) answer.now) }
+        requires fits { IsSome
+            (answered (Self.world self.old) (Self.learnt self.old) (Self.position self.old)
+            answer.now) }
         requires turn { IsInTurn (Self.asked self.old) answer.now }
         requires room { Self.asked self.old < 2 ^ 63 }
         requires place { Self.Fits place.old (Self.world self.old) }
         ensures place { Self.Fits place.new (Self.world self.old) }
         ensures lent { Self.lent place.new ≡ Self.lent place.old }
         ensures asks { IfOk result (λ ask. ask ≡ ask_of (Self.position self.new)) }
-        ensures goes_on { OnOk result (answered (Self.world self.old) (Self.learnt self.old) (Self.position self.old) answer.now ≡ Some (Self.position self.new)) }
+        ensures goes_on { OnOk result
+            (answered (Self.world self.old) (Self.learnt self.old) (Self.position self.old)
+            answer.now ≡ Some (Self.position self.new)) }
         ensures asked { OnOk result (Self.asked self.new ≡ Self.asked self.old + 1) }
-        ensures used { OnOk result (Self.used place.new ≡ Self.used place.old ++ used_between (Self.position self.old).place (Self.position self.new).place) }
-        ensures earlier { OnOk result (Self.earlier self.new ≡ Some (Self.position self.old, Self.asked self.old)) }
+        ensures used { OnOk result (Self.used place.new
+            ≡ Self.used place.old ++ used_between (Self.position self.old).place
+            (Self.position self.new).place) }
+        ensures earlier { OnOk result (Self.earlier self.new
+            ≡ Some (Self.position self.old, Self.asked self.old)) }
         ensures stays { OnErr result (Self.position self.new ≡ Self.position self.old) }
         ensures asked_err { OnErr result (Self.asked self.new ≡ Self.asked self.old) }
         ensures used_err { OnErr result (IsPrefix (Self.used place.old) (Self.used place.new)) }
@@ -206,7 +221,8 @@ pub trait Walker: Sized + Drop {
     /// Takes back the last `advance`: the walk stands as before it. This takes no memory.
     fn back(&mut self)
         requires advanced { IsSome (Self.earlier self.old) }
-        ensures stands { Self.earlier self.old ≡ Some (Self.position self.new, Self.asked self.new) }
+        ensures stands { Self.earlier self.old
+            ≡ Some (Self.position self.new, Self.asked self.new) }
         ensures earlier { Self.earlier self.new ≡ None }
         ensures world { Self.world self.new ≡ Self.world self.old }
         ensures learnt { Self.learnt self.new ≡ Self.learnt self.old };

@@ -23,7 +23,8 @@ use Rattle.build_meaning.specs.SoFar.{ToolUse}
 pub begins_same : {X : Type 0} (xs : List X) → IsPrefix xs xs
 begins_same xs = ([], append-nil xs)
 
-pub begins_then : {X : Type 0} (xs ys zs : List X) → IsPrefix xs ys → IsPrefix ys zs → IsPrefix xs zs
+pub begins_then : {X : Type 0} (xs ys zs : List X) → IsPrefix xs ys → IsPrefix ys zs
+    → IsPrefix xs zs
 begins_then xs ys zs p q =
     (p.0 ++ q.0, sym (append_assoc xs p.0 q.0) ∙ (ap (λ us. us ++ q.0) p.1 ∙ q.1))
 

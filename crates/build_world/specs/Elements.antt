@@ -1,4 +1,5 @@
--- Elements of project files, each with the file that holds it. (MSBuild project file schema reference)
+-- Elements of project files, each with the file that holds it. (MSBuild project file schema
+-- reference)
 use Rattle.std.specs.Prelude.{ℕ, List, map, Option, Result, Ok, Err}
 use Rattle.msb_values.specs.Pairs.{value_at}
 use Rattle.msb_values.specs.declared.cause.Cause.{Cause}

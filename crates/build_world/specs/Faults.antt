@@ -1,4 +1,5 @@
--- How a fault of evaluation is told: its file, its place and its cause. (MSBuild command-line reference)
+-- How a fault of evaluation is told: its file, its place and its cause. (MSBuild command-line
+-- reference)
 use Rattle.std.specs.Prelude.{ℕ, List, [], ◌++◌, codes}
 use Rattle.msb_values.specs.Causes.{shown_of}
 use Rattle.msb_values.specs.declared.cause.Cause.{Cause}
@@ -13,4 +14,5 @@ abbrev pub out_of_memory : EvalFault
 out_of_memory = fault_at [] [] Memory
 
 abbrev pub fault_text : EvalFault → List ℕ
-fault_text fault = fault.file ++ codes " " ++ shown_place fault.place ++ codes ": " ++ shown_of fault.cause
+fault_text fault = fault.file ++ codes " " ++ shown_place fault.place ++ codes ": "
+    ++ shown_of fault.cause

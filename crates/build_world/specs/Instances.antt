@@ -6,7 +6,8 @@ use Rattle.build_world.specs.declared.instance.Instance.{Instance as Made}
 use Rattle.build_world.specs.declared.instance.UsedTarget.{UsedTarget as MadeTarget}
 use Rattle.build_world.specs.Elements.{At, seen_placed}
 
--- the element that is used of a target's name, and whether any Target element of its file has Returns
+-- the element that is used of a target's name, and whether any Target element of its file has
+-- Returns
 pub record UsedTarget : Type 0 where
   pub name : List ℕ
   pub element : At
@@ -22,7 +23,8 @@ pub record Instance : Type 0 where
 
 -- the instance that the code gives
 abbrev pub seen_target : MadeTarget → UsedTarget
-seen_target made = record { name = made.name; element = seen_placed made.at; file_has_returns = made.file_has_returns }
+seen_target made = record
+    { name = made.name; element = seen_placed made.at; file_has_returns = made.file_has_returns }
 
 abbrev pub seen_instance : Made → Instance
 seen_instance made = record {

@@ -15,5 +15,8 @@ abbrev pub HasPlaces : {A S : Type 0} → List UsedTarget → HashMap (String A)
 HasPlaces targets places = (name : List ℕ) → get_by_text places name ≡ place_of name targets
 
 -- a name is told a place where it has none yet
-abbrev pub IsNoted : {A S : Type 0} → HashMap (String A) ℕ S → List ℕ → ℕ → HashMap (String A) ℕ S → Type 0
-IsNoted old name place new = (other : List ℕ) → get_by_text new other ≡ option_or (get_by_text old other) (cond (bytes_eq name other) (Some place) None)
+abbrev pub IsNoted : {A S : Type 0} → HashMap (String A) ℕ S → List ℕ → ℕ → HashMap (String A) ℕ S
+    → Type 0
+IsNoted old name place new = (other : List ℕ)
+    → get_by_text new other ≡ option_or (get_by_text old other)
+    (cond (bytes_eq name other) (Some place) None)

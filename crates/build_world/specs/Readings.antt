@@ -1,4 +1,5 @@
--- The project that a file holds, or the first fault of its elements. (MSBuild project file schema reference)
+-- The project that a file holds, or the first fault of its elements. (MSBuild project file schema
+-- reference)
 use Rattle.std.specs.Prelude.{ℕ, List, [], Result, Ok, Err}
 use Rattle.file_store.specs.declared.tree.File.{File}
 use Rattle.msb_values.specs.declared.cause.Cause.{Cause}
@@ -6,7 +7,16 @@ use Rattle.msb_values.specs.declared.cause.Cause.TheVariants as cause
 use Rattle.msb_elements.specs.Nodes.{Node}
 use Rattle.msb_elements.specs.Projects.{project_in}
 use Rattle.msb_elements.specs.declared.errors.ReadFault.{ReadFault}
-use Rattle.msb_elements.specs.declared.errors.ReadFault.TheVariants.{NotJson, NotElement, UnknownElement, Misplaced, MissingAttribute, BothAttributes, BadName, Memory}
+use Rattle.msb_elements.specs.declared.errors.ReadFault.TheVariants.{
+  NotJson,
+  NotElement,
+  UnknownElement,
+  Misplaced,
+  MissingAttribute,
+  BothAttributes,
+  BadName,
+  Memory,
+}
 use Rattle.build_world.specs.declared.fault.EvalFault.{EvalFault}
 use Rattle.build_world.specs.Faults.{fault_at}
 
@@ -33,7 +43,8 @@ cause_of_fault Memory = cause.Memory
 
 abbrev pub project_or_fault : List ℕ → Result Node ReadFault → Result Node EvalFault
 project_or_fault file (Ok project) = Ok project
-project_or_fault file (Err fault) = Err (fault_at file (place_of_fault fault) (cause_of_fault fault))
+project_or_fault file (Err fault) = Err
+    (fault_at file (place_of_fault fault) (cause_of_fault fault))
 
 abbrev pub project_of : File → Result Node EvalFault
 project_of file = project_or_fault file.path (project_in file.bytes)

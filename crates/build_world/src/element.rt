@@ -36,7 +36,8 @@ impl<'a> PlacedElement<'a> {
         }
     }
 
-    /// This cause as a fault of the element; want of memory for its file or its place is want of memory.
+    /// This cause as a fault of the element; want of memory for its file or its place is want of
+    /// memory.
     pub fn fault(&self, alloc: Global, cause: Cause) -> EvalFault
         ensures { UnlessMemory result.cause (result ≡ fault_of (seen_element self.now) cause) }
     {

@@ -6,7 +6,8 @@ use std::alloc::Global;
 
 /// Why a project is refused: the cause, with the file and the place of the element.
 ///
-/// A fault whose cause is [`Cause::Memory`] is want of memory; its file and place say nothing, and it is not printed.
+/// A fault whose cause is [`Cause::Memory`] is want of memory; its file and place say nothing, and
+/// it is not printed.
 pub struct EvalFault {
     pub file: Text,
     pub place: Place,

@@ -6,7 +6,8 @@ use target_order::TargetRow;
 pub struct UsedTarget {
     pub name: Name,
     pub at: Placed,
-    /// Whether any Target element of its file has Returns, so that Outputs are not returned instead.
+    /// Whether any Target element of its file has Returns, so that Outputs are not returned
+    /// instead.
     pub file_has_returns: bool,
 }
 

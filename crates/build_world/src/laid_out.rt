@@ -19,10 +19,11 @@ impl Drop for Placed {
     }
 }
 
-/// A project whose imports and Choose elements are put in their places. (How MSBuild builds projects, evaluation phase.)
+/// A project whose imports and Choose elements are put in their places. (How MSBuild builds
+/// projects, evaluation phase.)
 pub struct LaidOut {
-    /// The Project element of each file, without its children, and behind it its groups and targets in order, those of
-    /// an import in its place. The first is the root file's Project.
+    /// The Project element of each file, without its children, and behind it its groups and targets
+    /// in order, those of an import in its place. The first is the root file's Project.
     pub elements: Vec<Placed>,
     /// The value of each property, of the global ones too.
     pub props: Pairs,
@@ -48,7 +49,8 @@ impl Drop for LaidOut {
 }
 
 impl LaidOut {
-    /// Its elements, its properties, the imports that were ignored, the initial targets and the default ones.
+    /// Its elements, its properties, the imports that were ignored, the initial targets and the
+    /// default ones.
     pub fn parts(self) -> (Vec<Placed>, Pairs, List<Text>, List<Name>, List<Name>)
         ensures elements { result.0 ≡ self.elements }
         ensures props { result.1 ≡ self.props }

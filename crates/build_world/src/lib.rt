@@ -1,4 +1,5 @@
-//! What a build is made of, as plain data: the world, the elements of a project laid out, and the evaluated project.
+//! What a build is made of, as plain data: the world, the elements of a project laid out, and the
+//! evaluated project.
 //!
 //! It also says how a fault of evaluation is told.
 #![tactic(auto)]

@@ -1,7 +1,12 @@
 ghost use Rattle.std.specs.Prelude.{◌≡◌, Err};
 ghost use Rattle.msb_elements.specs.View.{view};
 ghost use Rattle.build_world.specs.Answers.{GivesFault};
-ghost use Rattle.build_world.specs.Readings.{place_of_fault, cause_of_fault, project_of, project_or_fault};
+ghost use Rattle.build_world.specs.Readings.{
+  place_of_fault,
+  cause_of_fault,
+  project_of,
+  project_or_fault,
+};
 
 use crate::EvalFault;
 use file_store::File;
@@ -9,7 +14,8 @@ use msb_elements::{Place, Project, ReadFault, read_project};
 use msb_values::{Cause, Copied};
 use std::alloc::Global;
 
-/// Reads a project file, or says which element of it has the first fault. (MSBuild project file schema reference.)
+/// Reads a project file, or says which element of it has the first fault. (MSBuild project file
+/// schema reference.)
 pub fn read_file(alloc: Global, file: &File) -> Result<Project, EvalFault>
     ensures { GivesFault (λ project. view project.root) result (project_of file.now) }
 {

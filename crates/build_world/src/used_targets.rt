@@ -10,7 +10,8 @@ use std::alloc::Global;
 use std::collections::HashMap;
 use std::marker::Model;
 
-/// The targets of a project that are used, in order. Each is found by its name in near-constant time.
+/// The targets of a project that are used, in order. Each is found by its name in near-constant
+/// time.
 ///
 /// Contracts see the list.
 pub struct UsedTargets {
@@ -63,7 +64,8 @@ impl UsedTargets {
 
     /// The first target of this name. This takes no memory.
     pub fn find(&self, name: &Name) -> Option<&UsedTarget>
-        ensures { option_map seen_target (option_copied result) ≡ find (λ t. bytes_eq t.name name.now) (map seen_target self.now) }
+        ensures { option_map seen_target (option_copied result)
+            ≡ find (λ t. bytes_eq t.name name.now) (map seen_target self.now) }
     {
         match self.places.get(name.key()) {
             Some(place) => self.targets.get(*place),

@@ -75,26 +75,33 @@ module _ {P I A : Type 0} (w : World P I A) where
 
   own-still : (before more events : List Event) (old table : Records) (id : ℕ) (walk : Seen P I A)
       (s : State P I A) (o : IsOwn w before old id walk) → o.stands.state.table ≡ old →
-      events ≡ before ++ more → AreOfOthers id more → IsHistory w events s → table ≡ s.table → IsOwn w events table id walk
+      events ≡ before ++ more → AreOfOthers id more → IsHistory w events s → table ≡ s.table
+      → IsOwn w events table id walk
   own-still before more events old table id walk s o was e others h is =
-      let g : after_all w o.stands.state more ≡ Some s = goes-on before more (start w) o.stands.state s o.stands.history (subst (λ es. IsHistory w es s) e h) in
+      let g : after_all w o.stands.state more
+      ≡ Some s = goes-on before more (start w) o.stands.state s o.stands.history
+      (subst (λ es. IsHistory w es s) e h) in
       record {
         stands = record {
           state = s;
           origin = o.stands.origin;
           node = o.stands.node;
           history = h;
-          there = stays w o.stands.state s more id o.stands.node (placed o.stands.origin walk.position (assigned o.stands.node)) walk.position.place o.stands.there refl others g;
+          there = stays w o.stands.state s more id o.stands.node
+              (placed o.stands.origin walk.position (assigned o.stands.node)) walk.position.place
+              o.stands.there refl others g;
         };
         world = o.world;
         learnt = record {
           in_order = o.learnt.in_order;
           shared = λ run made f.
               let a = subst (λ t. found t run ≡ Some made) (sym was) (o.learnt.shared run made f) in
-              subst (λ t. found t run ≡ Some made) (sym is) (records_stay w before more o.stands.state s o.stands.history g run made a).0;
+              subst (λ t. found t run ≡ Some made) (sym is)
+              (records_stay w before more o.stands.state s o.stands.history g run made a).0;
         };
         asked = o.asked;
-        few = let a = o.few in let b = ap length e in let c = length-append before more in omega arith;
+        few = let a = o.few in let b = ap length e in let c = length-append before more in omega
+            arith;
       }
 
 module _ {P I A : Type 0} (w : World P I A) {W : Type 0} {seen : W → Seen P I A} {log : Logged}
@@ -104,8 +111,10 @@ module _ {P I A : Type 0} (w : World P I A) {W : Type 0} {seen : W → Seen P I 
       (id number : ℕ) (walk : Seen P I A) → WasOwn w log.events id number walk →
       AreOfOthers id (drop number log.events) → IsOwn w log.events table.finished id walk
   asking-still x id number walk k others =
-      let behind : drop number log.events ≡ k.more = ap (λ n. drop n log.events) k.number_is ∙ (ap (drop (length k.before)) k.continues ∙ drop-front k.before k.more) in
-      own-still w k.before k.more log.events k.table table.finished id walk x.state k.own k.table_is k.continues (subst (AreOfOthers id) behind others) x.history x.finished
+      let behind : drop number log.events ≡ k.more = ap (λ n. drop n log.events) k.number_is
+      ∙ (ap (drop (length k.before)) k.continues ∙ drop-front k.before k.more) in
+      own-still w k.before k.more log.events k.table table.finished id walk x.state k.own k.table_is
+      k.continues (subst (AreOfOthers id) behind others) x.history x.finished
 
   -- the walk is its request's own now
   asking-now : Shown seen w log origins slots making table end →
@@ -125,10 +134,13 @@ module _ {P I A : Type 0} (w : World P I A) {W : Type 0} {seen : W → Seen P I 
 
   module _ (legal : ∥ Shown seen w log origins slots making table end ∥₁) (id number : ℕ)
       (walk : Seen P I A) (ask : Ask) where
-    pub still-own : IsAsking w log.events id number walk ask → AreOfOthers id (drop number log.events) → ∥ IsOwn w log.events table.finished id walk ∥₁
-    still-own asking others = ∥∥₁_map₂ legal asking.1 (λ x k. asking-still x id number walk k others)
+    pub still-own : IsAsking w log.events id number walk ask
+        → AreOfOthers id (drop number log.events) → ∥ IsOwn w log.events table.finished id walk ∥₁
+    still-own asking others = ∥∥₁_map₂ legal asking.1
+        (λ x k. asking-still x id number walk k others)
 
-    pub asks-now : number ≡ length log.events → ask ≡ ask_of walk.position → ∥ IsOwn w log.events table.finished id walk ∥₁ → IsAsking w log.events id number walk ask
+    pub asks-now : number ≡ length log.events → ask ≡ ask_of walk.position
+        → ∥ IsOwn w log.events table.finished id walk ∥₁ → IsAsking w log.events id number walk ask
     asks-now is asks own = (sym asks, ∥∥₁_map₂ legal own (λ x o. asking-now x id number walk is o))
 
 -- a request still asks after more events, in the same world
@@ -181,12 +193,16 @@ others-none (x ∷ xs) zero id = tt
 others-none (x ∷ xs) (suc n) id = others-none xs n id
 
 -- one more event of another request
-pub others-more : (xs : List Event) (n k id : ℕ) (d : Event) → n ≤ k → k < length xs → (whose (get_or xs k d) ≡ id → ⊥) → AreOfOthers id (drop n (take k xs)) → AreOfOthers id (drop n (take (suc k) xs))
+pub others-more : (xs : List Event) (n k id : ℕ) (d : Event) → n ≤ k → k < length xs
+    → (whose (get_or xs k d) ≡ id → ⊥) → AreOfOthers id (drop n (take k xs))
+    → AreOfOthers id (drop n (take (suc k) xs))
 others-more [] n k id d le lt other h = absurd (omega arith)
 others-more (x ∷ xs) zero zero id d le lt other h = (other, tt)
-others-more (x ∷ xs) zero (suc k) id d le lt other h = (h.0, others-more xs zero k id d (omega arith) (omega arith) other h.1)
+others-more (x ∷ xs) zero (suc k) id d le lt other h =
+    (h.0, others-more xs zero k id d (omega arith) (omega arith) other h.1)
 others-more (x ∷ xs) (suc n) zero id d le lt other h = absurd (omega arith)
-others-more (x ∷ xs) (suc n) (suc k) id d le lt other h = others-more xs n k id d (omega arith) (omega arith) other h
+others-more (x ∷ xs) (suc n) (suc k) id d le lt other h = others-more xs n k id d (omega arith)
+    (omega arith) other h
 
 pub take-whole : {X : Type 0} (xs : List X) (k : ℕ) → length xs ≤ k → take k xs ≡ xs
 take-whole [] zero le = refl
@@ -194,5 +210,7 @@ take-whole [] (suc k) le = refl
 take-whole (x ∷ xs) zero le = absurd (omega arith)
 take-whole (x ∷ xs) (suc k) le = ap (λ l. x ∷ l) (take-whole xs k (omega arith))
 
-pub all-removed : {X : Type 0} (P : X → Type 0) (xs : List X) (n : ℕ) → All P xs → All P (remove xs n)
-all-removed P xs n h = All-append P (take n xs) (drop (suc n) xs) (All-take P n xs h) (All-drop P (suc n) xs h)
+pub all-removed : {X : Type 0} (P : X → Type 0) (xs : List X) (n : ℕ) → All P xs
+    → All P (remove xs n)
+all-removed P xs n h = All-append P (take n xs) (drop (suc n) xs) (All-take P n xs h)
+    (All-drop P (suc n) xs h)

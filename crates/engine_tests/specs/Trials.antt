@@ -21,4 +21,5 @@ pub record WasOwn {P I A : Type 0} (w : World P I A) (events : List Event) (id n
 -- and it asks this
 abbrev pub IsAsking : {P I A : Type 0} → World P I A → List Event → ℕ → ℕ → Seen P I A → Ask →
     Type 0
-IsAsking w events id number walk ask = (ask_of walk.position ≡ ask) × ∥ WasOwn w events id number walk ∥₁
+IsAsking w events id number walk ask = (ask_of walk.position ≡ ask)
+    × ∥ WasOwn w events id number walk ∥₁

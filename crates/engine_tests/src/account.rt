@@ -238,7 +238,8 @@ impl Account {
         self.runs.len()
     }
 
-    /// The core tells the same runs, the same least ready request and the same end; and somebody can go on until then.
+    /// The core tells the same runs, the same least ready request and the same end; and somebody
+    /// can go on until then.
     fn compare(&mut self, table: &Table, ready: Option<u64>, end: Option<&End>) {
         self.rule(
             self.agrees(table),
@@ -254,7 +255,8 @@ impl Account {
         self.rule(end.is_some() || self.goes_on(), "somebody can go on");
     }
 
-    /// Whether the table has each run with its maker, or with the record that it got, and no other record.
+    /// Whether the table has each run with its maker, or with the record that it got, and no other
+    /// record.
     fn agrees(&self, table: &Table) -> bool {
         let mut finished = 0usize;
         for begun in &self.runs {

@@ -1,7 +1,23 @@
 //! A build on several nodes, step by step: each request that is with a node has asked, and any of
 //! them is answered next. One that is ready may be over at once, by what another one of its key has
 //! given.
-ghost use Rattle.std.specs.Prelude.{◌≡◌, ◌+◌, ◌^◌, ◌<◌, [], true, All, drop, length, None, Some, IfOk, IfSome, IsSome, OnOk};
+ghost use Rattle.std.specs.Prelude.{
+  ◌≡◌,
+  ◌+◌,
+  ◌^◌,
+  ◌<◌,
+  [],
+  true,
+  All,
+  drop,
+  length,
+  None,
+  Some,
+  IfOk,
+  IfSome,
+  IsSome,
+  OnOk,
+};
 ghost use Rattle.build_meaning.specs.History.{AreOfOthers};
 ghost use Rattle.build_meaning.specs.Step.{whose};
 ghost use Rattle.build_scheduler.specs.declared.walker.Ask.TheVariants.{Want, Call, Done as IsOver};
@@ -48,7 +64,9 @@ struct Next<W> {
 pub struct AnyOrder<W: Walker> {
     pub core: Core<W>,
     out: Vec<Asking<W>>,
-    ghost asking: { All (λ a. IsAsking (W.world_of core.world) core.history.events a.id a.number (seen_by W.world W.position W.asked W.learnt a.walk) a.ask) out.items },
+    ghost asking: { All
+        (λ a. IsAsking (W.world_of core.world) core.history.events a.id a.number
+        (seen_by W.world W.position W.asked W.learnt a.walk) a.ask) out.items },
 }
 
 impl<W: Walker> AnyOrder<W> {
@@ -187,10 +205,17 @@ const MOST_TURNS: usize = 100_000;
 /// Answers one of the requests that ask, or assigns the least one that is ready.
 fn next_of<W: Walker>(core: &mut Core<W>, out: &mut Vec<Asking<W>>, choice: u64) -> Option<Next<W>>
     requires running { core.old.end ≡ None }
-    requires out { All (λ a. IsAsking (W.world_of core.old.world) core.old.history.events a.id a.number (seen_by W.world W.position W.asked W.learnt a.walk) a.ask) out.old.items }
+    requires out { All
+        (λ a. IsAsking (W.world_of core.old.world) core.old.history.events a.id a.number
+        (seen_by W.world W.position W.asked W.learnt a.walk) a.ask) out.old.items }
     ensures world { W.world_of core.new.world ≡ W.world_of core.old.world }
-    ensures out { All (λ a. IsAsking (W.world_of core.new.world) core.new.history.events a.id a.number (seen_by W.world W.position W.asked W.learnt a.walk) a.ask) out.new.items }
-    ensures next { IfSome result (λ next. ∥ IsOut (W.world_of core.new.world) core.new.history.events core.new.table.finished next.id (seen_by W.world W.position W.asked W.learnt next.walk) next.answer ∥₁) }
+    ensures out { All
+        (λ a. IsAsking (W.world_of core.new.world) core.new.history.events a.id a.number
+        (seen_by W.world W.position W.asked W.learnt a.walk) a.ask) out.new.items }
+    ensures next { IfSome result
+        (λ next.
+        ∥ IsOut (W.world_of core.new.world) core.new.history.events core.new.table.finished next.id
+        (seen_by W.world W.position W.asked W.learnt next.walk) next.answer ∥₁) }
 {
     let at = (choice % (out.len() as u64 + 1)) as usize;
     if at < out.len() {
@@ -252,10 +277,14 @@ fn is_repeated<W: Walker>(core: &mut Core<W>, id: u64, node: u32) -> bool
 /// Answers a request, unless it has moved since it asked.
 fn bring_back<W: Walker>(core: &mut Core<W>, asking: Asking<W>) -> Option<Next<W>>
     requires running { core.old.end ≡ None }
-    requires asking { IsAsking (W.world_of core.old.world) core.old.history.events asking.id asking.number (seen_by W.world W.position W.asked W.learnt asking.walk) asking.ask }
+    requires asking { IsAsking (W.world_of core.old.world) core.old.history.events asking.id
+        asking.number (seen_by W.world W.position W.asked W.learnt asking.walk) asking.ask }
     ensures world { W.world_of core.new.world ≡ W.world_of core.old.world }
     ensures continues { Continues core.old.history.events core.new.history.events }
-    ensures next { IfSome result (λ next. ∥ IsOut (W.world_of core.old.world) core.new.history.events core.new.table.finished next.id (seen_by W.world W.position W.asked W.learnt next.walk) next.answer ∥₁) }
+    ensures next { IfSome result
+        (λ next.
+        ∥ IsOut (W.world_of core.old.world) core.new.history.events core.new.table.finished next.id
+        (seen_by W.world W.position W.asked W.learnt next.walk) next.answer ∥₁) }
 {
     let Asking {
         id,
@@ -296,14 +325,19 @@ fn request_of(event: &Event) -> u64
     }
 }
 
-/// Answers what a request with a node asks. A cycle of runs, a limit that is passed and want of memory end the build.
+/// Answers what a request with a node asks. A cycle of runs, a limit that is passed and want of
+/// memory end the build.
 fn answer_ask<W: Walker>(core: &mut Core<W>, id: u64, walk: W, ask: Ask) -> Option<Next<W>>
     requires running { core.old.end ≡ None }
-    requires own { ∥ IsOwn (W.world_of core.old.world) core.old.history.events core.old.table.finished id (seen_by W.world W.position W.asked W.learnt walk) ∥₁ }
+    requires own { ∥ IsOwn (W.world_of core.old.world) core.old.history.events
+        core.old.table.finished id (seen_by W.world W.position W.asked W.learnt walk) ∥₁ }
     requires asks { ask_of (W.position walk) ≡ ask }
     ensures world { W.world_of core.new.world ≡ W.world_of core.old.world }
     ensures continues { Continues core.old.history.events core.new.history.events }
-    ensures next { IfSome result (λ next. ∥ IsOut (W.world_of core.old.world) core.new.history.events core.new.table.finished next.id (seen_by W.world W.position W.asked W.learnt next.walk) next.answer ∥₁) }
+    ensures next { IfSome result
+        (λ next.
+        ∥ IsOut (W.world_of core.old.world) core.new.history.events core.new.table.finished next.id
+        (seen_by W.world W.position W.asked W.learnt next.walk) next.answer ∥₁) }
 {
     match ask {
         Ask::Want(run) => claim(core, id, walk, &run),
@@ -339,11 +373,15 @@ fn end_request<W: Walker>(core: &mut Core<W>, id: u64, walk: W, told: RequestRes
 
 fn claim<W: Walker>(core: &mut Core<W>, id: u64, walk: W, run: &RunId) -> Option<Next<W>>
     requires running { core.old.end ≡ None }
-    requires own { ∥ IsOwn (W.world_of core.old.world) core.old.history.events core.old.table.finished id (seen_by W.world W.position W.asked W.learnt walk) ∥₁ }
+    requires own { ∥ IsOwn (W.world_of core.old.world) core.old.history.events
+        core.old.table.finished id (seen_by W.world W.position W.asked W.learnt walk) ∥₁ }
     requires asks { ask_of (W.position walk) ≡ Want run.now }
     ensures world { W.world_of core.new.world ≡ W.world_of core.old.world }
     ensures continues { Continues core.old.history.events core.new.history.events }
-    ensures next { IfSome result (λ next. ∥ IsOut (W.world_of core.old.world) core.new.history.events core.new.table.finished next.id (seen_by W.world W.position W.asked W.learnt next.walk) next.answer ∥₁) }
+    ensures next { IfSome result
+        (λ next.
+        ∥ IsOut (W.world_of core.old.world) core.new.history.events core.new.table.finished next.id
+        (seen_by W.world W.position W.asked W.learnt next.walk) next.answer ∥₁) }
 {
     match core.claim(id, walk, run) {
         Ok(Claimed::Go(walk)) => Some(Next {
@@ -370,7 +408,8 @@ fn claim<W: Walker>(core: &mut Core<W>, id: u64, walk: W, run: &RunId) -> Option
 
 fn call<W: Walker>(core: &mut Core<W>, id: u64, walk: W, calls: List<RequestKey>) -> Option<Next<W>>
     requires running { core.old.end ≡ None }
-    requires own { ∥ IsOwn (W.world_of core.old.world) core.old.history.events core.old.table.finished id (seen_by W.world W.position W.asked W.learnt walk) ∥₁ }
+    requires own { ∥ IsOwn (W.world_of core.old.world) core.old.history.events
+        core.old.table.finished id (seen_by W.world W.position W.asked W.learnt walk) ∥₁ }
     requires asks { ask_of (W.position walk) ≡ Call calls }
     ensures world { W.world_of core.new.world ≡ W.world_of core.old.world }
     ensures continues { Continues core.old.history.events core.new.history.events }
@@ -403,8 +442,12 @@ fn advance<W: Walker>(
     place: &mut W::Place,
     next: Next<W>,
 ) -> Result<(), NoMemory>
-    requires out { All (λ a. IsAsking (W.world_of core.now.world) core.now.history.events a.id a.number (seen_by W.world W.position W.asked W.learnt a.walk) a.ask) out.old.items }
-    requires next { ∥ IsOut (W.world_of core.now.world) core.now.history.events core.now.table.finished next.id (seen_by W.world W.position W.asked W.learnt next.walk) next.answer ∥₁ }
+    requires out { All
+        (λ a. IsAsking (W.world_of core.now.world) core.now.history.events a.id a.number
+        (seen_by W.world W.position W.asked W.learnt a.walk) a.ask) out.old.items }
+    requires next { ∥ IsOut (W.world_of core.now.world) core.now.history.events
+        core.now.table.finished next.id (seen_by W.world W.position W.asked W.learnt next.walk)
+        next.answer ∥₁ }
     requires place { W.Fits place.old (W.world_of core.now.world) }
     ensures place { W.Fits place.new (W.world_of core.now.world) }
     ensures out { All (λ a. IsAsking (W.world_of core.now.world) core.now.history.events a.id
@@ -442,13 +485,16 @@ fn step<W: Walker>(
 ) -> Result<Ask, NoMemory>
     requires in_order { AreInOrder table.now.finished }
     requires known { ArePartOf (W.learnt walk.old) table.now.finished }
-    requires fits { IsSome (answered (W.world walk.old) table.now.finished (W.position walk.old) answer.now) }
+    requires fits { IsSome
+        (answered (W.world walk.old) table.now.finished (W.position walk.old) answer.now) }
     requires turn { IsInTurn (W.asked walk.old) answer.now }
     requires room { W.asked walk.old < 2 ^ 63 }
     requires place { W.Fits place.old (W.world walk.old) }
     ensures place { W.Fits place.new (W.world walk.old) }
     ensures asks { IfOk result (λ ask. ask ≡ ask_of (W.position walk.new)) }
-    ensures goes_on { OnOk result (answered (W.world walk.old) table.now.finished (W.position walk.old) answer.now ≡ Some (W.position walk.new)) }
+    ensures goes_on { OnOk result
+        (answered (W.world walk.old) table.now.finished (W.position walk.old) answer.now
+        ≡ Some (W.position walk.new)) }
     ensures asked { OnOk result (W.asked walk.new ≡ W.asked walk.old + 1) }
     ensures known { ArePartOf (W.learnt walk.new) table.now.finished }
     ensures world { W.world walk.new ≡ W.world walk.old }

@@ -1,5 +1,5 @@
-//! Builds of random sets: events come in many orders, or from several nodes, and what comes of them is what the program makes of the
-//! set on one node.
+//! Builds of random sets: events come in many orders, or from several nodes, and what comes of them
+//! is what the program makes of the set on one node.
 use crate::any_order::{Watched, in_any_order};
 use crate::random::set;
 use crate::runs::{Outside, is_number, is_so, is_text, outside_of, status, status_alone};

@@ -29,8 +29,9 @@ impl Random {
     }
 }
 
-/// Three to six projects with two targets each, `p0`, `p1` and so on. A target calls some of the projects behind its own, or of
-/// all where it may, with one target or both, tallies, and writes what they return.
+/// Three to six projects with two targets each, `p0`, `p1` and so on. A target calls some of the
+/// projects behind its own, or of all where it may, with one target or both, tallies, and writes
+/// what they return.
 pub fn set(alloc: Global, seed: u64, may_call_all: bool) -> Result<Tree, Fail> {
     let mut random = Random::new(seed);
     let projects = (random.next() % 4).saturating_add(3);

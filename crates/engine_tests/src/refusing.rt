@@ -1,4 +1,5 @@
-//! Builds in which a walk is refused memory once: of two nodes the other one goes on, and on one node the build ends.
+//! Builds in which a walk is refused memory once: of two nodes the other one goes on, and on one
+//! node the build ends.
 ghost use Rattle.std.specs.Prelude.{◌≡◌, ◌<◌, ◌≤◌, [], All, IfOk, IsSome, vec_len};
 ghost use Rattle.build_scheduler.specs.Position.{begins};
 

@@ -40,8 +40,8 @@ const CLEANED: &str = "a.proj : clean ran\nreturned 0\nbuild succeeded\n";
 const REBUILT: &str =
     "a.proj : clean ran\na.proj : build ran\na.proj : rebuild ran\nreturned 0\nbuild succeeded\n";
 
-/// Words, the call of the store that fails (0 is its listing, 1 to 7 are its reads, and 8 to 10 its acts), the status, what is
-/// printed, and how many acts are done.
+/// Words, the call of the store that fails (0 is its listing, 1 to 7 are its reads, and 8 to 10 its
+/// acts), the status, what is printed, and how many acts are done.
 type Row = (&'static str, u64, u64, &'static str, u64);
 
 /// No call of the store has this number.
@@ -98,7 +98,8 @@ fn ends<R: Abort>(rt: &R, row: &Row, status: u8, on: &Outside) {
     is_number(rt, on.store.faults(), u64::from(status == 5), line);
 }
 
-/// The first of the acts, so many, are done: the output is gone, or made anew. The others are as they were.
+/// The first of the acts, so many, are done: the output is gone, or made anew. The others are as
+/// they were.
 fn has_done<R: Abort>(rt: &R, tree: &Tree, line: &str, done: u64) {
     for (place, (path, text)) in MADE.iter().enumerate() {
         if place as u64 >= done {

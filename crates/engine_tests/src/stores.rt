@@ -66,8 +66,9 @@ build succeeded
 
 const TRIAL: &str = "trial 7 size 2 nodes 2\nruns 3\nfiles 2\nbytes 17\nequal\n";
 
-/// Words, the call of the store that fails (0 is its listing, 1 to 9 are its reads, and 10 to 14 its writes), the write of the sink
-/// that does, the status, what is printed, and how many files are written.
+/// Words, the call of the store that fails (0 is its listing, 1 to 9 are its reads, and 10 to 14
+/// its writes), the write of the sink that does, the status, what is printed, and how many files
+/// are written.
 type Row = (&'static str, u64, Option<u64>, u64, &'static str, u64);
 
 /// No call of the store has this number.
@@ -163,7 +164,8 @@ fn a_chosen_write_of_a_sink_fails(rt: HostRuntime) -> Result<(), Fail> {
     Ok(())
 }
 
-/// The files of the set of seed 7 and size 2. The first draw is 1,059,165,278, so project 2 draws two numbers, both 1.
+/// The files of the set of seed 7 and size 2. The first draw is 1,059,165,278, so project 2 draws
+/// two numbers, both 1.
 const SEVEN: [(&str, &str); 3] = [
     (
         "all.proj",

@@ -1,4 +1,5 @@
-//! Tools: two nodes that meet, how often they are called, what they are handed, and what is taken from them.
+//! Tools: two nodes that meet, how often they are called, what they are handed, and what is taken
+//! from them.
 ghost use Rattle.std.specs.Prelude.{[], true, false, codes};
 ghost use Rattle.std.specs.Str.{bytes_eq};
 ghost use Rattle.task_trait.specs.declared.tools.ToolAnswer.TheVariants.{Made, Unknown};
@@ -70,7 +71,11 @@ fn two_nodes_work_at_once(rt: HostRuntime) -> Result<(), Fail> {
 struct Echo;
 
 impl Tools for Echo {
-    ghost answer = { λ name input. elim (bytes_eq name (codes "echo")) [ true ↦ Made (record { ok = true; outputs = input.params; acts = []; notes = [] }) | false ↦ Unknown ] };
+    ghost answer = { λ name input. elim (bytes_eq name (codes "echo")) [
+      | true ↦ Made (record { ok = true; outputs = input.params; acts = []; notes = [] })
+      | false
+          ↦ Unknown
+    ] };
 
     fn call(&self, alloc: Global, name: &Name, input: &ToolInput) -> Result<ToolAnswer, NoMemory> {
         if name.key() == "echo" {
@@ -120,7 +125,8 @@ returned 1
 build succeeded
 ";
 
-/// The calls of tools: their parameters with their items and metadata, and each file of Sources with its content, if it is there.
+/// The calls of tools: their parameters with their items and metadata, and each file of Sources
+/// with its content, if it is there.
 const CALLED: &str = "echo sources: one.c new.c no.c text: a;b <app/one.c 1> <app/new.c > <app/no.c>
 echo of: a k=red b k=RED to: red
 echo of: c k=blue to: blue
@@ -185,8 +191,9 @@ fn push_files(shown: &mut String, files: &[FileIn]) -> Result<(), Fail> {
     Ok(())
 }
 
-/// Whether a tool succeeds, the paths at which it writes three bytes each, those behind a minus, which it removes, how much its
-/// run has written before, and what is taken: whether it succeeded, how many acts, and the last note.
+/// Whether a tool succeeds, the paths at which it writes three bytes each, those behind a minus,
+/// which it removes, how much its run has written before, and what is taken: whether it succeeded,
+/// how many acts, and the last note.
 type Taken = (bool, &'static str, u64, &'static str);
 
 const TAKEN: [Taken; 14] = [

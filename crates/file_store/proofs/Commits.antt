@@ -1,5 +1,35 @@
 -- A list of acts is done.
-use Rattle.std.proofs.Common.{◌≡◌, ◌≢◌, ℕ, ◌+◌, ◌<◌, ◌≤◌, List, [], ◌∷◌, ◌++◌, length, take, get_or, Bool, true, false, cond, Option, Some, None, IfSome, IsSomeAnd, MatchOption, option_map, refl, sym, ap, ◌∙◌, subst}
+use Rattle.std.proofs.Common.{
+  ◌≡◌,
+  ◌≢◌,
+  ℕ,
+  ◌+◌,
+  ◌<◌,
+  ◌≤◌,
+  List,
+  [],
+  ◌∷◌,
+  ◌++◌,
+  length,
+  take,
+  get_or,
+  Bool,
+  true,
+  false,
+  cond,
+  Option,
+  Some,
+  None,
+  IfSome,
+  IsSomeAnd,
+  MatchOption,
+  option_map,
+  refl,
+  sym,
+  ap,
+  ◌∙◌,
+  subst,
+}
 use Rattle.std.specs.Option.{option_or}
 use Rattle.std.specs.Str.{bytes_eq}
 use Rattle.std.proofs.lemmas.Slice.Eq.{bytes_eq-Decides}
@@ -14,7 +44,8 @@ use Rattle.file_store.specs.declared.tree.File.{File}
 use Rattle.file_store.proofs.Loaded.{take_past}
 
 AreDone-push : (acts : List Act) (act : Act) (before between after : List File)
-    → AreDone acts before between → IsDone act between after → AreDone (acts ++ act ∷ []) before after
+    → AreDone acts before between → IsDone act between after
+    → AreDone (acts ++ act ∷ []) before after
 AreDone-push [] act before between after h d = (after, subst (λ fs. IsDone act fs after) h d, refl)
 AreDone-push (a ∷ acts) act before between after h d =
     (h.0, h.1, AreDone-push acts act h.0 between after h.2 d)

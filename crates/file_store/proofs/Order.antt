@@ -1,5 +1,27 @@
 -- Files in byte order of their paths.
-use Rattle.std.proofs.Common.{◌≡◌, ℕ, zero, suc, ◌+◌, ◌<◌, List, [], ◌∷◌, length, get_or, Bool, true, false, ◌&&◌, refl, sym, ap, ◌∙◌, arith, add-one}
+use Rattle.std.proofs.Common.{
+  ◌≡◌,
+  ℕ,
+  zero,
+  suc,
+  ◌+◌,
+  ◌<◌,
+  List,
+  [],
+  ◌∷◌,
+  length,
+  get_or,
+  Bool,
+  true,
+  false,
+  ◌&&◌,
+  refl,
+  sym,
+  ap,
+  ◌∙◌,
+  arith,
+  add-one,
+}
 use Rattle.std.specs.List.{list_all, IsAllAdjacentAnswer}
 use Rattle.std.specs.declared.cmp.Ordering.{Ordering}
 use Rattle.std.specs.declared.cmp.Ordering.TheVariants.{Less, Equal, Greater}
@@ -46,44 +68,59 @@ pub bytes_eq-same : (p : List ℕ) → bytes_eq p p ≡ true
 bytes_eq-same p = (bytes_eq-Decides p p).1 refl
 
 -- a path that stands before all files stands before each
-pub before_each : (p : List ℕ) (fs : List File) (k : ℕ) (d : File) → list_all (is_before p) (paths_of fs) ≡ true → k < length fs → is_before p (get_or fs k d).path ≡ true
+pub before_each : (p : List ℕ) (fs : List File) (k : ℕ) (d : File)
+    → list_all (is_before p) (paths_of fs) ≡ true → k < length fs
+    → is_before p (get_or fs k d).path ≡ true
 before_each p [] k d h w = absurd (omega arith)
 before_each p (f ∷ fs) zero d h w = (and_true _ _ h).0
 before_each p (f ∷ fs) (suc k) d h w = before_each p fs k d (and_true _ _ h).1 (omega arith)
 
 -- each file stands before all later ones
-pub before_later : (fs : List File) (i j : ℕ) (d : File) → are_in_order fs ≡ true → i < j → j < length fs → is_before (get_or fs i d).path (get_or fs j d).path ≡ true
+pub before_later : (fs : List File) (i j : ℕ) (d : File) → are_in_order fs ≡ true → i < j
+    → j < length fs → is_before (get_or fs i d).path (get_or fs j d).path ≡ true
 before_later [] i j d h lt w = absurd (omega arith)
 before_later (f ∷ fs) i zero d h lt w = absurd (omega arith)
-before_later (f ∷ fs) zero (suc j) d h lt w = before_each f.path fs j d (and_true _ _ h).0 (omega arith)
-before_later (f ∷ fs) (suc i) (suc j) d h lt w = before_later fs i j d (and_true _ _ h).1 (omega arith) (omega arith)
+before_later (f ∷ fs) zero (suc j) d h lt w = before_each f.path fs j d (and_true _ _ h).0
+    (omega arith)
+before_later (f ∷ fs) (suc i) (suc j) d h lt w = before_later fs i j d (and_true _ _ h).1
+    (omega arith) (omega arith)
 
-pub all_further : (p q : List ℕ) (fs : List File) → is_before p q ≡ true → list_all (is_before q) (paths_of fs) ≡ true → list_all (is_before p) (paths_of fs) ≡ true
+pub all_further : (p q : List ℕ) (fs : List File) → is_before p q ≡ true
+    → list_all (is_before q) (paths_of fs) ≡ true → list_all (is_before p) (paths_of fs) ≡ true
 all_further p q [] b h = refl
 all_further p q (f ∷ fs) b h =
     let both = and_true _ _ h in
     both_true _ _ (chain p q f.path b both.0) (all_further p q fs b both.1)
 
-ordered_front : (f g : File) (gs : List File) → is_before f.path g.path ≡ true → are_in_order (g ∷ gs) ≡ true → are_in_order (f ∷ (g ∷ gs)) ≡ true
-ordered_front f g gs b h = both_true _ _ (both_true _ _ b (all_further f.path g.path gs b (and_true _ _ h).0)) h
+ordered_front : (f g : File) (gs : List File) → is_before f.path g.path ≡ true
+    → are_in_order (g ∷ gs) ≡ true → are_in_order (f ∷ (g ∷ gs)) ≡ true
+ordered_front f g gs b h = both_true _ _
+    (both_true _ _ b (all_further f.path g.path gs b (and_true _ _ h).0)) h
 
 -- where each file stands before the next, they are in order
-pub ordered_by_next : (fs : List File) → ((k : ℕ) (d : File) → suc k < length fs → is_before (get_or fs k d).path (get_or fs (suc k) d).path ≡ true) → are_in_order fs ≡ true
+pub ordered_by_next : (fs : List File)
+    → ((k : ℕ) (d : File) → suc k < length fs
+    → is_before (get_or fs k d).path (get_or fs (suc k) d).path ≡ true) → are_in_order fs ≡ true
 ordered_by_next [] h = refl
 ordered_by_next (f ∷ []) h = refl
-ordered_by_next (f ∷ (g ∷ gs)) h = ordered_front f g gs (h zero f (omega arith)) (ordered_by_next (g ∷ gs) (λ k d w. h (suc k) d (omega arith)))
+ordered_by_next (f ∷ (g ∷ gs)) h = ordered_front f g gs (h zero f (omega arith))
+    (ordered_by_next (g ∷ gs) (λ k d w. h (suc k) d (omega arith)))
 
 pub not_true : (b : Bool) → (b ≡ true → ⊥) → b ≡ false
 not_true true h = absurd (h refl)
 not_true false h = refl
 
 -- where one doesn't, they are not
-pub unordered : (fs : List File) (k : ℕ) (d : File) → k + 1 < length fs → is_before (get_or fs k d).path (get_or fs (k + 1) d).path ≡ false → are_in_order fs ≡ false
-unordered fs k d w h = not_true (are_in_order fs) (λ t. let b = before_later fs k (k + 1) d t (omega arith) w in cc)
+pub unordered : (fs : List File) (k : ℕ) (d : File) → k + 1 < length fs
+    → is_before (get_or fs k d).path (get_or fs (k + 1) d).path ≡ false → are_in_order fs ≡ false
+unordered fs k d w h = not_true (are_in_order fs)
+    (λ t. let b = before_later fs k (k + 1) d t (omega arith) w in cc)
 
 -- a test of neighbours answers whether they are
-pub order_answer : (fs : List File) (r : Bool) → IsAllAdjacentAnswer (λ f g b. b ≡ is_before f.path g.path) fs r → r ≡ are_in_order fs
-order_answer fs true h = sym (ordered_by_next fs (λ k d w. rw add-one at (sym (h k d (omega arith)))))
+pub order_answer : (fs : List File) (r : Bool)
+    → IsAllAdjacentAnswer (λ f g b. b ≡ is_before f.path g.path) fs r → r ≡ are_in_order fs
+order_answer fs true h = sym
+    (ordered_by_next fs (λ k d w. rw add-one at (sym (h k d (omega arith)))))
 order_answer [] false h = absurd (omega (arith, h.1))
 order_answer (f ∷ fs) false h = sym (unordered (f ∷ fs) h.0 f h.1 (sym (h.2 f)))
 
@@ -92,5 +129,7 @@ paths_in-entries_of [] = refl
 paths_in-entries_of (f ∷ fs) = ap (λ ps. f.path ∷ ps) (paths_in-entries_of fs)
 
 -- what a listing says of files in order is in order
-pub entries_of-ordered : (fs : List File) (entries : List Entry) → are_in_order fs ≡ true → entries ≡ entries_of fs → are_listed_in_order entries ≡ true
-entries_of-ordered fs entries h is = ap are_listed_in_order is ∙ ap are_rising (paths_in-entries_of fs) ∙ h
+pub entries_of-ordered : (fs : List File) (entries : List Entry) → are_in_order fs ≡ true
+    → entries ≡ entries_of fs → are_listed_in_order entries ≡ true
+entries_of-ordered fs entries h is = ap are_listed_in_order is
+    ∙ ap are_rising (paths_in-entries_of fs) ∙ h

@@ -14,7 +14,16 @@ use Rattle.file_store.specs.Files.{paths_of, are_in_order, file_at}
 use Rattle.file_store.specs.Writes.{is_at_side, taken_out, IsRemoved}
 use Rattle.file_store.specs.declared.tree.File.{File}
 use Rattle.file_store.proofs.Order.{and_true, both_true, all_further, not_true}
-use Rattle.file_store.proofs.Puts.{side, before_is, after_is, passes, ordered-filter, file_at-joined, file_at-filter, of_sides}
+use Rattle.file_store.proofs.Puts.{
+  side,
+  before_is,
+  after_is,
+  passes,
+  ordered-filter,
+  file_at-joined,
+  file_at-filter,
+  of_sides,
+}
 
 -- ---- they stand in order
 
@@ -41,7 +50,8 @@ pub taken_out-ordered : (path : List ℕ) (fs : List File) → are_in_order fs �
 taken_out-ordered path fs h =
     ordered_joined path (filter (is_at_side path Less) fs) (filter (is_at_side path Greater) fs)
     (ordered-filter (is_at_side path Less) fs h) (ordered-filter (is_at_side path Greater) fs h)
-    (passes (is_at_side path Less) (λ g. is_before g.path path) (λ f e. sym (before_is path f) ∙ e) fs)
+    (passes (is_at_side path Less) (λ g. is_before g.path path) (λ f e. sym (before_is path f) ∙ e)
+    fs)
     (list_all-map (is_before path) (λ f. f.path) (filter (is_at_side path Greater) fs)
     ∙ passes (is_at_side path Greater) (λ g. is_before path g.path)
     (λ f e. sym (after_is path f) ∙ e) fs)

@@ -1,5 +1,20 @@
 -- A list of acts, done in order. (MSBuild targets; Delete task.)
-use Rattle.std.specs.Prelude.{◌≡◌, ℕ, List, [], ◌∷◌, take, slice_get, Option, Some, None, option_map, IsSomeAnd, MatchOption, if◌then◌else◌}
+use Rattle.std.specs.Prelude.{
+  ◌≡◌,
+  ℕ,
+  List,
+  [],
+  ◌∷◌,
+  take,
+  slice_get,
+  Option,
+  Some,
+  None,
+  option_map,
+  IsSomeAnd,
+  MatchOption,
+  if◌then◌else◌,
+}
 use Rattle.std.specs.Option.{option_or}
 use Rattle.std.specs.Str.{bytes_eq}
 use Rattle.msb_laws.specs.Faults.{Rose}
@@ -25,12 +40,14 @@ MayBeDone (Remove path) before after = IsOldOrGone path before after
 -- each was done, one after the other
 abbrev pub AreDone : List Act → List File → List File → Type 0
 AreDone [] before after = after ≡ before
-AreDone (act ∷ acts) before after = (between : List File) × IsDone act before between × AreDone acts between after
+AreDone (act ∷ acts) before after = (between : List File) × IsDone act before between
+    × AreDone acts between after
 
 -- what the last act of the list on a path leaves there, which is nothing where it removes the file
 abbrev pub last_bytes : List ℕ → List Act → Option (Option (List ℕ))
 last_bytes path [] = None
-last_bytes path (act ∷ acts) = option_or (last_bytes path acts) (if bytes_eq (act_path act) path then Some (act_bytes act) else None)
+last_bytes path (act ∷ acts) = option_or (last_bytes path acts)
+    (if bytes_eq (act_path act) path then Some (act_bytes act) else None)
 
 -- the bytes of the file at a path, if it is there
 abbrev pub bytes_there : List ℕ → List File → Option (List ℕ)

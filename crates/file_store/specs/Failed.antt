@@ -9,7 +9,8 @@ has_failed (Ok x) = false
 has_failed (Err Failed) = true
 has_failed (Err Memory) = false
 
--- how often a listing has failed, and how often a read of a path, among which a store may count its other reads
+-- how often a listing has failed, and how often a read of a path, among which a store may count its
+-- other reads
 pub record Failures : Type 0 where
   pub listings : ℕ
   pub reads : List ℕ → ℕ
@@ -19,12 +20,14 @@ abbrev pub counted : ℕ → ℕ → Failures
 counted listings reads = record { listings = listings; reads = λ path. reads }
 
 -- a listing that fails is counted as one
-pub record CountsListing {T : Type 0} (before now : Failures) (result : Result T StoreError) : Type 0 where
+pub record CountsListing {T : Type 0} (before now : Failures) (result : Result T StoreError) : Type
+    0 where
   pub listing : HasCause Failed before.listings now.listings result
   pub no_read : (path : List ℕ) → now.reads path ≡ before.reads path
 
 -- a read of a path that fails is counted as one
-pub record CountsRead {T : Type 0} (path : List ℕ) (before now : Failures) (result : Result T StoreError) : Type 0 where
+pub record CountsRead {T : Type 0} (path : List ℕ) (before now : Failures)
+    (result : Result T StoreError) : Type 0 where
   pub reading : HasCause Failed (before.reads path) (now.reads path) result
   pub later : (other : List ℕ) → before.reads other ≤ now.reads other
   pub no_listing : now.listings ≡ before.listings

@@ -1,5 +1,20 @@
 -- What a load answers.
-use Rattle.std.specs.Prelude.{◌≡◌, ◌≤◌, ℕ, true, List, [], ◌∷◌, length, Contains, Option, Some, None, IfSome, IsSome}
+use Rattle.std.specs.Prelude.{
+  ◌≡◌,
+  ◌≤◌,
+  ℕ,
+  true,
+  List,
+  [],
+  ◌∷◌,
+  length,
+  Contains,
+  Option,
+  Some,
+  None,
+  IfSome,
+  IsSome,
+}
 use Rattle.msb_laws.specs.Faults.{Rose}
 use Rattle.file_store.specs.Failed.{Failures}
 use Rattle.file_store.specs.Files.{file_at}
@@ -8,9 +23,18 @@ use Rattle.file_store.specs.Limits.{limit_fault}
 use Rattle.file_store.specs.declared.tree.File.{File}
 use Rattle.file_store.specs.declared.store.Entry.{Entry}
 use Rattle.file_store.specs.declared.loading.LoadFault.{LoadFault}
-use Rattle.file_store.specs.declared.loading.LoadFault.TheVariants.{Listing, Reading, Files, Bytes, Large, BadPath, Memory}
+use Rattle.file_store.specs.declared.loading.LoadFault.TheVariants.{
+  Listing,
+  Reading,
+  Files,
+  Bytes,
+  Large,
+  BadPath,
+  Memory,
+}
 
--- P holds of the listing that was got: that of the told files, or where none are told some listing in byte order
+-- P holds of the listing that was got: that of the told files, or where none are told some listing
+-- in byte order
 abbrev pub OfListing : Option (List File) → (List Entry → Type 0) → Type 0
 OfListing None P = (listing : List Entry) × (are_listed_in_order listing ≡ true) × P listing
 OfListing (Some files) P = P (entries_of files)
@@ -20,7 +44,8 @@ pub record IsLoaded (paths : List (List ℕ)) (listing : List Entry) : Type 0 wh
   pub within : limit_fault listing ≡ None
   pub paths_are : paths ≡ paths_in listing
 
--- files that were read by the entries of a listing: each has the path of its entry, and at most its size
+-- files that were read by the entries of a listing: each has the path of its entry, and at most its
+-- size
 abbrev pub AreAsListed : List Entry → List File → Type 0
 AreAsListed [] [] = Unit {0}
 AreAsListed [] (f ∷ fs) = ⊥
@@ -36,11 +61,12 @@ pub record IsLoading (path : List ℕ) (listing : List Entry) : Type 0 where
 abbrev pub IsPast : LoadFault → List Entry → Type 0
 IsPast fault listing = limit_fault listing ≡ Some fault
 
--- Why a load failed: the store's count has risen, in its listing or in the read of a file of a listing within the
--- limits; or the listing passes a limit. Want of memory has no cause.
+-- Why a load failed: the store's count has risen, in its listing or in the read of a file of a
+-- listing within the limits; or the listing passes a limit. Want of memory has no cause.
 abbrev pub IsCaused : ℕ → ℕ → Option (List File) → LoadFault → Type 0
 IsCaused before now tree Listing = Rose before now
-IsCaused before now tree (Reading path) = Rose before now × IfSome tree (λ files. IsSome (file_at path files)) × OfListing tree (IsLoading path)
+IsCaused before now tree (Reading path) = Rose before now
+    × IfSome tree (λ files. IsSome (file_at path files)) × OfListing tree (IsLoading path)
 IsCaused before now tree (Files number) = OfListing tree (IsPast (Files number))
 IsCaused before now tree (Bytes total) = OfListing tree (IsPast (Bytes total))
 IsCaused before now tree (Large path) = OfListing tree (IsPast (Large path))

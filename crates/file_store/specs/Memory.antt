@@ -1,5 +1,18 @@
 -- What a store in memory does at a call.
-use Rattle.std.specs.Prelude.{◌≡◌, ◌+◌, ◌-◌, ◌^◌, ◌⊎◌, ℕ, min, List, Contains, Any, Bool, if◌then◌else◌}
+use Rattle.std.specs.Prelude.{
+  ◌≡◌,
+  ◌+◌,
+  ◌-◌,
+  ◌^◌,
+  ◌⊎◌,
+  ℕ,
+  min,
+  List,
+  Contains,
+  Any,
+  Bool,
+  if◌then◌else◌,
+}
 use Rattle.file_store.specs.Failed.{Failures, counted}
 use Rattle.file_store.specs.declared.tree.File.{File}
 use Rattle.file_store.specs.declared.memory.MemStore.{MemStore}
@@ -24,7 +37,8 @@ pub record IsNewStore (tree : List File) (to_fail : List ℕ) (store : MemStore)
 abbrev pub IsToFail : MemStore → Type 0
 IsToFail store = Contains store.fail.items store.calls
 
--- the next call is a write that can't be made: it is to fail, or a file has the last stamp, after which none is newer
+-- the next call is a write that can't be made: it is to fail, or a file has the last stamp, after
+-- which none is newer
 abbrev pub IsNoWrite : MemStore → Type 0
 IsNoWrite store = IsToFail store ⊎ Any (λ f. f.stamp ≡ 2 ^ 64 - 1) (files_in store)
 

@@ -1,5 +1,18 @@
 -- What a sink in memory does at a call.
-use Rattle.std.specs.Prelude.{◌≡◌, ◌<◌, ◌+◌, ◌⊎◌, ℕ, List, [], length, Option, Some, Bool, if◌then◌else◌}
+use Rattle.std.specs.Prelude.{
+  ◌≡◌,
+  ◌<◌,
+  ◌+◌,
+  ◌⊎◌,
+  ℕ,
+  List,
+  [],
+  length,
+  Option,
+  Some,
+  Bool,
+  if◌then◌else◌,
+}
 use Rattle.file_store.specs.Memory.{one_more}
 use Rattle.file_store.specs.declared.memory_sink.TheConstants.{ROOM}
 use Rattle.file_store.specs.declared.memory_sink.MemSink.{MemSink}
@@ -17,7 +30,8 @@ pub record IsNewSink (to_fail : Option ℕ) (sink : MemSink) : Type 0 where
 
 -- the call is the one that is to fail, or its piece doesn't fit
 abbrev pub IsRefused : MemSink → List ℕ → Type 0
-IsRefused sink piece = (sink.fail_at ≡ Some sink.calls) ⊎ (ROOM < length (bytes_in sink) + length piece)
+IsRefused sink piece = (sink.fail_at ≡ Some sink.calls)
+    ⊎ (ROOM < length (bytes_in sink) + length piece)
 
 -- the call has its number, and only a failed one is a fault; which call is to fail stays
 pub record CountsWrite (failed : Bool) (before after : MemSink) : Type 0 where

@@ -1,5 +1,23 @@
 -- What a write and a removal make of a tree.
-use Rattle.std.specs.Prelude.{◌≡◌, ◌≢◌, ◌<◌, ◌≤◌, ◌⊎◌, ◌==◌, ℕ, List, ◌∷◌, ◌++◌, length, take, drop, None, IfSome, IsSomeAnd, Bool}
+use Rattle.std.specs.Prelude.{
+  ◌≡◌,
+  ◌≢◌,
+  ◌<◌,
+  ◌≤◌,
+  ◌⊎◌,
+  ◌==◌,
+  ℕ,
+  List,
+  ◌∷◌,
+  ◌++◌,
+  length,
+  take,
+  drop,
+  None,
+  IfSome,
+  IsSomeAnd,
+  Bool,
+}
 use Rattle.std.specs.List.{filter}
 use Rattle.std.specs.declared.cmp.Ordering.{Ordering}
 use Rattle.std.specs.declared.cmp.Ordering.TheVariants.{Less, Greater}
@@ -11,7 +29,8 @@ use Rattle.file_store.specs.declared.tree.File.{File}
 -- the path has just these bytes, and a stamp that is greater than those of all other files
 abbrev pub HasNew : List ℕ → List ℕ → List File → Type 0
 HasNew path bytes files = IsSomeAnd (file_at path files) (λ f.
-    (f.bytes ≡ bytes) × ((q : List ℕ) → q ≢ path → IfSome (file_at q files) (λ g. g.stamp < f.stamp)))
+    (f.bytes ≡ bytes)
+    × ((q : List ℕ) → q ≢ path → IfSome (file_at q files) (λ g. g.stamp < f.stamp)))
 
 -- every other path is as it was
 abbrev pub KeepsOthers : List ℕ → List File → List File → Type 0
@@ -43,13 +62,15 @@ is_at_side path side f = ordering_index (slice_cmp nat_cmp f.path path) == order
 
 -- the files before a path, a new file there, and the files after it
 abbrev pub put_in : List ℕ → List ℕ → ℕ → List File → List File
-put_in path bytes stamp files = filter (is_at_side path Less) files ++ record { path = path; bytes = bytes; stamp = stamp } ∷ filter (is_at_side path Greater) files
+put_in path bytes stamp files = filter (is_at_side path Less) files
+    ++ record { path = path; bytes = bytes; stamp = stamp } ∷ filter (is_at_side path Greater) files
 
 -- the files before a path and those after it
 abbrev pub taken_out : List ℕ → List File → List File
 taken_out path files = filter (is_at_side path Less) files ++ filter (is_at_side path Greater) files
 
--- the files before place i stand before the path, those from i up to j have it, and those from j on stand after it
+-- the files before place i stand before the path, those from i up to j have it, and those from j on
+-- stand after it
 pub record IsPlace (path : List ℕ) (files : List File) (i j : ℕ) : Type 0 where
   pub front : take i files ≡ filter (is_at_side path Less) files
   pub back : drop j files ≡ filter (is_at_side path Greater) files

@@ -1,13 +1,22 @@
 ghost use Rattle.std.specs.Prelude.{◌≤◌, ◌<◌, length, IfErr, OnOk, OnErr, IfSome, IsSomeAnd};
 ghost use Rattle.msb_laws.specs.Faults.{HasCause};
-ghost use Rattle.file_store.specs.Commits.{AreDone, AreDoneTo, HasContents, IsCommitCaused, IsDone, MayBeDone, place_of};
+ghost use Rattle.file_store.specs.Commits.{
+  AreDone,
+  AreDoneTo,
+  HasContents,
+  IsCommitCaused,
+  IsDone,
+  MayBeDone,
+  place_of,
+};
 ghost use Rattle.file_store.specs.declared.store.StoreError.TheVariants.{Failed};
 
 use crate::{Store, StoreError};
 use msb_values::{Act, List};
 use std::alloc::Global;
 
-/// Why a list of acts was not done whole, with the place in the list at which it stopped. All before it were done.
+/// Why a list of acts was not done whole, with the place in the list at which it stopped. All
+/// before it were done.
 #[derive(Clone, Copy, Debug, PartialEq, Eq)]
 pub enum CommitFault {
     /// The store failed to do the act there.
@@ -15,7 +24,8 @@ pub enum CommitFault {
     Memory(u64),
 }
 
-/// Does acts in order, and stops at the first that the store doesn't do. (MSBuild targets; Delete task.)
+/// Does acts in order, and stops at the first that the store doesn't do. (MSBuild targets; Delete
+/// task.)
 pub fn commit<S: Store>(alloc: Global, store: &mut S, list: &List<Act>) -> Result<(), CommitFault>
     ensures whole { OnOk result (IfSome (S.tree store.old) (λ t.
         IsSomeAnd (S.tree store.new) (AreDone list.now t))) }
@@ -25,7 +35,8 @@ pub fn commit<S: Store>(alloc: Global, store: &mut S, list: &List<Act>) -> Resul
         IsSomeAnd (S.tree store.new) (AreDoneTo (place_of e) list.now t))) }
     ensures place { IfErr result (λ e. place_of e < length list.now) }
     ensures later { S.fault_count store.old ≤ S.fault_count store.new }
-    ensures cause { IfErr result (IsCommitCaused (S.fault_count store.old) (S.fault_count store.new)) }
+    ensures cause { IfErr result
+        (IsCommitCaused (S.fault_count store.old) (S.fault_count store.new)) }
 {
     for (place, act) in list.as_slice().iter().enumerate() {
         match do_act(alloc, store, act) {

@@ -17,9 +17,10 @@ use std::rt::Files;
 
 /// A real folder. It tells nothing.
 ///
-/// Its files are the regular files in it and below, without links, each by its path from the folder, with `/` between
-/// names. A stamp is the time of the last change, in nanoseconds since 1970, and 0 for an earlier time. A listing within
-/// the limits of a load reads the files, so that what it lists can be read later, whatever has vanished since.
+/// Its files are the regular files in it and below, without links, each by its path from the
+/// folder, with `/` between names. A stamp is the time of the last change, in nanoseconds since
+/// 1970, and 0 for an earlier time. A listing within the limits of a load reads the files, so that
+/// what it lists can be read later, whatever has vanished since.
 #[derive(Drop)]
 pub struct DirStore<'a, R: Files> {
     rt: &'a R,
@@ -33,7 +34,8 @@ pub struct DirStore<'a, R: Files> {
 impl<'a, R: Files> DirStore<'a, R> {
     /// The store of a folder, which is given by its path from the working folder.
     pub fn new(rt: &'a R, alloc: Global, folder: &str) -> Result<DirStore<'a, R>, NoMemory>
-        ensures { IfOk result (λ s. (s.folder ≡ folder.now) × (s.faults ≡ 0) × (s.failed_listings ≡ 0) × (s.failed_reads ≡ 0)) }
+        ensures { IfOk result (λ s. (s.folder ≡ folder.now) × (s.faults ≡ 0)
+            × (s.failed_listings ≡ 0) × (s.failed_reads ≡ 0)) }
     {
         Ok(DirStore {
             rt,
@@ -64,7 +66,8 @@ impl<'a, R: Files> DirStore<'a, R> {
         ensures later { self.old.faults ≤ self.new.faults }
         ensures rose { result ≡ StoreError.Failed → Rose self.old.faults self.new.faults }
         ensures later_listings { self.old.failed_listings ≤ self.new.failed_listings }
-        ensures listings { result ≡ StoreError.Failed → Rose self.old.failed_listings self.new.failed_listings }
+        ensures listings { result ≡ StoreError.Failed
+            → Rose self.old.failed_listings self.new.failed_listings }
         ensures reads { self.new.failed_reads ≡ self.old.failed_reads }
     {
         let fault = self.fault(error);

@@ -1,7 +1,9 @@
-//! Stores of files and sinks of bytes, in memory and real, and the tree that is loaded from a store.
+//! Stores of files and sinks of bytes, in memory and real, and the tree that is loaded from a
+//! store.
 //!
-//! These are the only ways to the outside. Each counts its own faults, so that a caller can tell a failed call from
-//! a wrong answer. One in memory also tells what it holds; a real one tells nothing.
+//! These are the only ways to the outside. Each counts its own faults, so that a caller can tell a
+//! failed call from a wrong answer. One in memory also tells what it holds; a real one tells
+//! nothing.
 #![tactic(auto)]
 
 mod committing;

@@ -1,5 +1,5 @@
-//! The listing of a real folder, and the bytes of its files. No contract says what a folder holds, so all here that has
-//! no clause is trusted.
+//! The listing of a real folder, and the bytes of its files. No contract says what a folder holds,
+//! so all here that has no clause is trusted.
 ghost use Rattle.std.specs.Prelude.{◌≡◌, ◌<ℤ◌, ◌+◌, ◌-◌, ◌*◌, ◌^◌, ◌≤◌, ℕ, pos, min, length, IfOk};
 
 use crate::writing::NEW;
@@ -28,7 +28,8 @@ pub(crate) fn joined(alloc: Global, folder: &str, name: &str) -> io::Result<Stri
     Ok(path)
 }
 
-/// All regular files in a folder and below, without following links. A name that vanishes meanwhile is not there.
+/// All regular files in a folder and below, without following links. A name that vanishes meanwhile
+/// is not there.
 pub(crate) fn list_folder<R: Files>(rt: &(&R, Global), folder: &str) -> io::Result<Found> {
     let mut found = BTreeMap::new(rt.alloc());
     let mut left: Vec<String> = Vec::new(rt.alloc());
@@ -94,7 +95,8 @@ pub(crate) fn is_gone(error: &io::Error) -> bool {
 // A time since 1970 in nanoseconds, as far as they can be counted, and 0 for an earlier time.
 fn stamp_of(seconds: i64, nanoseconds: u64) -> u64
     ensures early { seconds <ℤ pos 0 → result ≡ 0 }
-    ensures since { (n : ℕ) → seconds ≡ pos n → result ≡ min (n * 1000000000 + nanoseconds) (2 ^ 64 - 1) }
+    ensures since { (n : ℕ) → seconds ≡ pos n
+        → result ≡ min (n * 1000000000 + nanoseconds) (2 ^ 64 - 1) }
 {
     match u64::try_from(seconds) {
         Ok(seconds) => seconds
@@ -104,8 +106,8 @@ fn stamp_of(seconds: i64, nanoseconds: u64) -> u64
     }
 }
 
-/// Reads the files that were found. One that has vanished is found no more; one that can't be read stays found, so that
-/// its path is told when it is read for itself.
+/// Reads the files that were found. One that has vanished is found no more; one that can't be read
+/// stays found, so that its path is told when it is read for itself.
 pub(crate) fn read_found<R: Files>(
     rt: &(&R, Global),
     folder: &str,
@@ -126,7 +128,8 @@ pub(crate) fn read_found<R: Files>(
     Ok((there, held))
 }
 
-/// The first `most` bytes of a file: of those that are held, which are held no more, or else of those in the folder.
+/// The first `most` bytes of a file: of those that are held, which are held no more, or else of
+/// those in the folder.
 pub(crate) fn take_or_read<R: Files>(
     held: &mut Held,
     rt: &(&R, Global),

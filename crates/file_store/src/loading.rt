@@ -1,8 +1,28 @@
-ghost use Rattle.std.specs.Prelude.{◌≡◌, ◌≤◌, ℕ, List, true, None, length, take, Contains, IfOk, IfErr, IfSome};
+ghost use Rattle.std.specs.Prelude.{
+  ◌≡◌,
+  ◌≤◌,
+  ℕ,
+  List,
+  true,
+  None,
+  length,
+  take,
+  Contains,
+  IfOk,
+  IfErr,
+  IfSome,
+};
 ghost use Rattle.file_store.specs.Files.{paths_of, bytes_at};
 ghost use Rattle.file_store.specs.Entries.{entries_of, paths_in, are_listed_in_order};
 ghost use Rattle.file_store.specs.Limits.{limit_fault};
-ghost use Rattle.file_store.specs.Loads.{OfListing, IsLoaded, AreAsListed, IsCaused, IsOfKind, IsReadCaused};
+ghost use Rattle.file_store.specs.Loads.{
+  OfListing,
+  IsLoaded,
+  AreAsListed,
+  IsCaused,
+  IsOfKind,
+  IsReadCaused,
+};
 ghost use Rattle.file_store.specs.declared.loading.LoadFault.TheVariants.{Memory};
 
 use crate::limits::check_limits;
@@ -38,16 +58,18 @@ impl From<NoMemory> for LoadFault {
 
 /// Loads all files of a store: its listing, and then each listed file up to its listed size.
 ///
-/// A listing that passes a limit is refused before any file is read: for its number of files, or else for their bytes
-/// in all, or else for the first file whose path is not normal, or which is too large. No more than its listed size is
-/// asked of a file, so that what is loaded is within the limits too, whatever the store tells.
+/// A listing that passes a limit is refused before any file is read: for its number of files, or
+/// else for their bytes in all, or else for the first file whose path is not normal, or which is
+/// too large. No more than its listed size is asked of a file, so that what is loaded is within the
+/// limits too, whatever the store tells.
 pub fn load<S: Store>(alloc: Global, store: &mut S) -> Result<Tree, LoadFault>
     ensures whole { IfOk result (λ t. IfSome (S.tree store.old) (λ files. t.files ≡ files)) }
     ensures within { IfOk result (λ t. OfListing (S.tree store.old) (IsLoaded (paths_of t.files))) }
     ensures limited { IfOk result (λ t. limit_fault (entries_of t.files) ≡ None) }
     ensures kept { S.tree store.new ≡ S.tree store.old }
     ensures later { S.fault_count store.old ≤ S.fault_count store.new }
-    ensures cause { IfErr result (IsCaused (S.fault_count store.old) (S.fault_count store.new) (S.tree store.old)) }
+    ensures cause { IfErr result
+        (IsCaused (S.fault_count store.old) (S.fault_count store.new) (S.tree store.old)) }
     ensures kind { IfErr result (IsOfKind (S.failures store.old) (S.failures store.new)) }
 {
     let entries = match store.list(alloc) {
@@ -61,14 +83,19 @@ pub fn load<S: Store>(alloc: Global, store: &mut S) -> Result<Tree, LoadFault>
 
 fn load_files<S: Store>(alloc: Global, store: &mut S, entries: &[Entry]) -> Result<Tree, LoadFault>
     requires { are_listed_in_order entries.now ≡ true }
-    ensures whole { IfOk result (λ t. IfSome (S.tree store.old) (λ files. entries.now ≡ entries_of files → t.files ≡ files)) }
+    ensures whole { IfOk result
+        (λ t. IfSome (S.tree store.old) (λ files. entries.now ≡ entries_of files
+        → t.files ≡ files)) }
     ensures paths { IfOk result (λ t. paths_of t.files ≡ paths_in entries.now) }
     ensures as_listed { IfOk result (λ t. AreAsListed entries.now t.files) }
     ensures kept { S.tree store.new ≡ S.tree store.old }
     ensures later { S.fault_count store.old ≤ S.fault_count store.new }
-    ensures cause { IfErr result (IsReadCaused (S.fault_count store.old) (S.fault_count store.new) (Contains (paths_in entries.now))) }
+    ensures cause { IfErr result
+        (IsReadCaused (S.fault_count store.old) (S.fault_count store.new)
+        (Contains (paths_in entries.now))) }
     ensures kind { IfErr result (IsOfKind (S.failures store.old) (S.failures store.new)) }
-    ensures reads_later { (path : List ℕ) → (S.failures store.old).reads path ≤ (S.failures store.new).reads path }
+    ensures reads_later { (path : List ℕ) → (S.failures store.old).reads path
+        ≤ (S.failures store.new).reads path }
 {
     let mut files = List::new(alloc);
     for entry in entries {
@@ -81,12 +108,18 @@ fn load_file<S: Store>(alloc: Global, store: &mut S, entry: &Entry) -> Result<Fi
     ensures path { IfOk result (λ f. f.path ≡ entry.now.path) }
     ensures size { IfOk result (λ f. length f.bytes ≤ entry.now.size) }
     ensures stamp { IfOk result (λ f. f.stamp ≡ entry.now.stamp) }
-    ensures bytes { IfOk result (λ f. IfSome (S.tree store.old) (λ files. f.bytes ≡ take entry.now.size (bytes_at entry.now.path files))) }
+    ensures bytes { IfOk result
+        (λ f.
+        IfSome (S.tree store.old) (λ files. f.bytes
+        ≡ take entry.now.size (bytes_at entry.now.path files))) }
     ensures kept { S.tree store.new ≡ S.tree store.old }
     ensures later { S.fault_count store.old ≤ S.fault_count store.new }
-    ensures cause { IfErr result (IsReadCaused (S.fault_count store.old) (S.fault_count store.new) (λ path. path ≡ entry.now.path)) }
+    ensures cause { IfErr result
+        (IsReadCaused (S.fault_count store.old) (S.fault_count store.new)
+        (λ path. path ≡ entry.now.path)) }
     ensures kind { IfErr result (IsOfKind (S.failures store.old) (S.failures store.new)) }
-    ensures reads_later { (path : List ℕ) → (S.failures store.old).reads path ≤ (S.failures store.new).reads path }
+    ensures reads_later { (path : List ℕ) → (S.failures store.old).reads path
+        ≤ (S.failures store.new).reads path }
 {
     match store.read(alloc, entry.path.as_str(), entry.size) {
         Ok(bytes) => Ok(File {

@@ -1,4 +1,22 @@
-ghost use Rattle.std.specs.Prelude.{◌≡◌, ◌↔◌, Some, Ok, Err, IfOk, OnOk, OnErr, length, take, ◌<◌, ◌≤◌, ◌-◌, ◌^◌, true, IsTrue, IfSome};
+ghost use Rattle.std.specs.Prelude.{
+  ◌≡◌,
+  ◌↔◌,
+  Some,
+  Ok,
+  Err,
+  IfOk,
+  OnOk,
+  OnErr,
+  length,
+  take,
+  ◌<◌,
+  ◌≤◌,
+  ◌-◌,
+  ◌^◌,
+  true,
+  IsTrue,
+  IfSome,
+};
 ghost use Rattle.std.specs.List.{All, Any};
 ghost use Rattle.std.specs.Option.{IfNone};
 ghost use Rattle.msb_laws.specs.Faults.{HasCause};
@@ -14,7 +32,8 @@ use std::alloc::Global;
 
 /// A store in memory, which tells its files.
 ///
-/// Its calls of `list`, `read`, `write` and `remove` are numbered from 0, and some numbers may be chosen to fail.
+/// Its calls of `list`, `read`, `write` and `remove` are numbered from 0, and some numbers may be
+/// chosen to fail.
 pub struct MemStore {
     tree: Tree,
     fail: Vec<u64>,
@@ -126,9 +145,11 @@ impl Store for MemStore {
         Ok(front(alloc, &self.tree, path, most)?)
     }
 
-    /// It fails exactly at the chosen numbers, and where a file has the last stamp. The files then are as they were.
+    /// It fails exactly at the chosen numbers, and where a file has the last stamp. The files then
+    /// are as they were.
     fn write(&mut self, alloc: Global, path: &str, bytes: &[u8]) -> Result<(), StoreError>
-        ensures written { OnOk result (IsWritten path.now bytes.now (files_in self.old) (files_in self.new)) }
+        ensures written { OnOk result
+            (IsWritten path.now bytes.now (files_in self.old) (files_in self.new)) }
         ensures stopped { OnErr result (files_in self.new ≡ files_in self.old) }
         ensures cause { HasCause Failed self.old.faults self.new.faults result }
         ensures kind { CountsNeither (failures_of self.old) (failures_of self.new) }

@@ -1,4 +1,20 @@
-ghost use Rattle.std.specs.Prelude.{◌≡◌, ◌≤◌, ◌↔◌, [], Some, Err, IfOk, IsErr, OnOk, OnErr, vec_capacity, vec_len, length, is_err, if◌then◌else◌};
+ghost use Rattle.std.specs.Prelude.{
+  ◌≡◌,
+  ◌≤◌,
+  ◌↔◌,
+  [],
+  Some,
+  Err,
+  IfOk,
+  IsErr,
+  OnOk,
+  OnErr,
+  vec_capacity,
+  vec_len,
+  length,
+  is_err,
+  if◌then◌else◌,
+};
 ghost use Rattle.msb_laws.specs.Faults.{HasCause};
 ghost use Rattle.msb_laws.specs.Gains.{Appends, AppendsFront};
 ghost use Rattle.file_store.specs.declared.memory_sink.TheConstants.{ROOM};
@@ -25,8 +41,8 @@ pub struct MemSink {
 impl MemSink {
     ghost use Rattle.file_store.specs.MemorySink.{IsNewSink, bytes_in};
 
-    /// A sink that holds no bytes yet. Its room is taken here. Its writes are numbered from 0, and the one of the
-    /// number `fail_at` is to fail.
+    /// A sink that holds no bytes yet. Its room is taken here. Its writes are numbered from 0, and
+    /// the one of the number `fail_at` is to fail.
     pub fn new(alloc: Global, fail_at: Option<u64>) -> Result<MemSink, NoMemory>
         ensures { IfOk result (IsNewSink fail_at) }
     {
@@ -53,10 +69,13 @@ impl Sink for MemSink {
 
     ghost fault_count = { λ s. s.faults };
 
-    /// It fails at its one number and where the piece doesn't fit, and nowhere else; it then takes nothing.
+    /// It fails at its one number and where the piece doesn't fit, and nowhere else; it then takes
+    /// nothing.
     fn write(&mut self, piece: &[u8]) -> Result<(), SinkError>
-        ensures whole { OnOk result (Appends (Some (bytes_in self.old)) (Some (bytes_in self.new)) piece.now) }
-        ensures part { OnErr result (AppendsFront (Some (bytes_in self.old)) (Some (bytes_in self.new)) piece.now) }
+        ensures whole { OnOk result
+            (Appends (Some (bytes_in self.old)) (Some (bytes_in self.new)) piece.now) }
+        ensures part { OnErr result
+            (AppendsFront (Some (bytes_in self.old)) (Some (bytes_in self.new)) piece.now) }
         ensures cause { HasCause Failed self.old.faults self.new.faults result }
         ensures refused { IsErr result ↔ IsRefused self.old piece.now }
         ensures nothing { OnErr result (bytes_in self.new ≡ bytes_in self.old) }

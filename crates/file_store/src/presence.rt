@@ -18,10 +18,12 @@ impl Present for Tree {
     }
 }
 
-// Whether a file lies below a folder: if any does, so does the first that does not stand ahead of all these.
+// Whether a file lies below a folder: if any does, so does the first that does not stand ahead of
+// all these.
 fn has_below(files: &[File], folder: &str) -> bool
     requires { are_in_order files.now ≡ true }
-    ensures { result ≡ list_any (λ file. starts_with nat_eq file.path (folder.now ++ 47 ∷ [])) files.now }
+    ensures { result ≡ list_any (λ file. starts_with nat_eq file.path (folder.now ++ 47 ∷ []))
+        files.now }
 {
     let first = files.partition_point(|file| is_ahead(file.path.as_str(), folder));
     first < files.len() && is_below(files[first].path.as_str(), folder)

@@ -1,4 +1,5 @@
-//! The removal of a file of a real folder. No contract says what a folder holds, so all here is trusted.
+//! The removal of a file of a real folder. No contract says what a folder holds, so all here is
+//! trusted.
 use crate::listing::{is_gone, joined};
 use msb_paths::is_normal;
 use std::alloc::Global;
@@ -6,8 +7,9 @@ use std::io::ErrorKind;
 use std::rt::Files;
 use std::{fs, io};
 
-/// Takes the file at a path away, and its folder stays, be it empty or not. Where no file is, all stays as it is. A link, a
-/// pipe or a device at the path is taken away as a file is, and what it names stays; a folder there is an error.
+/// Takes the file at a path away, and its folder stays, be it empty or not. Where no file is, all
+/// stays as it is. A link, a pipe or a device at the path is taken away as a file is, and what it
+/// names stays; a folder there is an error.
 pub(crate) fn remove_file<R: Files>(rt: &(&R, Global), folder: &str, path: &str) -> io::Result<()> {
     if !is_normal(path) {
         return Err(io::Error::from(ErrorKind::InvalidInput));
@@ -26,7 +28,8 @@ fn unlink<R: Files>(rt: &(&R, Global), folder: &str, path: &str) -> io::Result<(
     fs::remove_file(rt, whole.as_str())
 }
 
-// A link on the way to a file, also one to a folder, is an error, as it is to a file that is written.
+// A link on the way to a file, also one to a folder, is an error, as it is to a file that is
+// written.
 fn refuse_links<R: Files>(rt: &(&R, Global), folder: &str, parents: &str) -> io::Result<()> {
     let mut whole = String::from_str(rt.alloc(), folder)?;
     for name in parents.split('/') {

@@ -1,4 +1,18 @@
-ghost use Rattle.std.specs.Prelude.{◌≡◌, ◌≤◌, List, ℕ, Option, length, take, IfOk, OnOk, OnErr, IfSome, IsSomeAnd, true};
+ghost use Rattle.std.specs.Prelude.{
+  ◌≡◌,
+  ◌≤◌,
+  List,
+  ℕ,
+  Option,
+  length,
+  take,
+  IfOk,
+  OnOk,
+  OnErr,
+  IfSome,
+  IsSomeAnd,
+  true,
+};
 ghost use Rattle.msb_laws.specs.Faults.{HasCause};
 ghost use Rattle.file_store.specs.Files.{are_in_order, bytes_at};
 ghost use Rattle.file_store.specs.Entries.{entries_of, are_listed_in_order};
@@ -26,8 +40,8 @@ impl From<NoMemory> for StoreError {
     }
 }
 
-/// What a listing says of a file: its path from the root of the store, its size in bytes, and the time of its last
-/// change, in a unit of the store.
+/// What a listing says of a file: its path from the root of the store, its size in bytes, and the
+/// time of its last change, in a unit of the store.
 #[derive(Drop)]
 pub struct Entry {
     pub path: Text,
@@ -57,19 +71,25 @@ pub trait Store {
     /// The first `most` bytes of a listed file, and never more.
     fn read(&mut self, alloc: Global, path: &str, most: u64) -> Result<Text8, StoreError>
         ensures most { IfOk result (λ b. length b ≤ most) }
-        ensures front { IfOk result (λ b. IfSome (tree self.old) (λ t. b ≡ take most (bytes_at path.now t))) }
+        ensures front { IfOk result
+            (λ b. IfSome (tree self.old) (λ t. b ≡ take most (bytes_at path.now t))) }
         ensures kept { tree self.new ≡ tree self.old }
         ensures cause { HasCause Failed (fault_count self.old) (fault_count self.new) result }
         ensures kind { CountsRead path.now (failures self.old) (failures self.new) result };
 
     /// Gives a path just these bytes, in folders that are made as needed.
     fn write(&mut self, alloc: Global, path: &str, bytes: &[u8]) -> Result<(), StoreError>
-        ensures written { OnOk result (IfSome (tree self.old) (λ t. IsSomeAnd (tree self.new) (IsWritten path.now bytes.now t))) }
-        ensures stopped { OnErr result (IfSome (tree self.old) (λ t. IsSomeAnd (tree self.new) (IsOldOrNew path.now bytes.now t))) }
+        ensures written { OnOk result
+            (IfSome (tree self.old)
+            (λ t. IsSomeAnd (tree self.new) (IsWritten path.now bytes.now t))) }
+        ensures stopped { OnErr result
+            (IfSome (tree self.old)
+            (λ t. IsSomeAnd (tree self.new) (IsOldOrNew path.now bytes.now t))) }
         ensures cause { HasCause Failed (fault_count self.old) (fault_count self.new) result }
         ensures kind { CountsNeither (failures self.old) (failures self.new) };
 
-    /// Takes the file at a path away. Where none is there, all stays as it is. (MSBuild Delete task.)
+    /// Takes the file at a path away. Where none is there, all stays as it is. (MSBuild Delete
+    /// task.)
     fn remove(&mut self, alloc: Global, path: &str) -> Result<(), StoreError>
         ensures removed { OnOk result (IfSome (tree self.old) (λ t.
             IsSomeAnd (tree self.new) (IsRemoved path.now t))) }

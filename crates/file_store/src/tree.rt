@@ -1,4 +1,16 @@
-ghost use Rattle.std.specs.Prelude.{◌≡◌, ◌↔◌, ◌+◌, option_copied, IsSome, IfSome, IfOk, IfErr, OnOk, OnErr, true};
+ghost use Rattle.std.specs.Prelude.{
+  ◌≡◌,
+  ◌↔◌,
+  ◌+◌,
+  option_copied,
+  IsSome,
+  IfSome,
+  IfOk,
+  IfErr,
+  OnOk,
+  OnErr,
+  true,
+};
 ghost use Rattle.file_store.specs.Files.{are_in_order, file_at};
 ghost use Rattle.file_store.specs.Writes.{put_in, taken_out, IsPlace};
 
@@ -6,7 +18,8 @@ use msb_values::{Copied, List, NoMemory, Text, Text8};
 use std::alloc::Global;
 use std::mem;
 
-/// A file: its path from the root of the store, its bytes, and the time of its last change in a unit of the store.
+/// A file: its path from the root of the store, its bytes, and the time of its last change in a
+/// unit of the store.
 pub struct File {
     pub path: Text,
     pub bytes: Text8,
@@ -66,9 +79,11 @@ impl Tree {
 }
 
 impl Tree {
-    // Puts a file at its path, in place of the one that may be there. Want of memory leaves the tree as it was.
+    // Puts a file at its path, in place of the one that may be there. Want of memory leaves the
+    // tree as it was.
     pub(crate) fn put(&mut self, alloc: Global, file: File) -> Result<(), NoMemory>
-        ensures ok { OnOk result (self.new.files ≡ put_in file.path file.bytes file.stamp self.old.files) }
+        ensures ok { OnOk result (self.new.files
+            ≡ put_in file.path file.bytes file.stamp self.old.files) }
         ensures err { OnErr result (self.new.files ≡ self.old.files) }
     {
         let none = Tree {
@@ -107,7 +122,8 @@ impl Copied for Tree {
 
 fn put_at_place(files: &mut Vec<File>, file: File) -> Result<(), NoMemory>
     requires { are_in_order files.old.items ≡ true }
-    ensures ok { OnOk result (files.new.items ≡ put_in file.path file.bytes file.stamp files.old.items) }
+    ensures ok { OnOk result (files.new.items
+        ≡ put_in file.path file.bytes file.stamp files.old.items) }
     ensures err { OnErr result (files.new.items ≡ files.old.items) }
 {
     match place_of(files, file.path.as_str()) {

@@ -1,4 +1,5 @@
-//! The writing of a whole file into a real folder. No contract says what a folder holds, so all here is trusted.
+//! The writing of a whole file into a real folder. No contract says what a folder holds, so all
+//! here is trusted.
 use crate::listing::joined;
 use msb_paths::is_normal;
 use std::alloc::Global;
@@ -10,8 +11,9 @@ use std::{fs, io};
 /// How the name of a new file begins until it is whole. No listing has such a name.
 pub(crate) const NEW: &str = ".msb-";
 
-/// Gives a path just these bytes: they are written to a new file beside it, which then takes its name. So a file there
-/// is whole at each moment, a link, a pipe or a device is replaced, and what it names stays as it is.
+/// Gives a path just these bytes: they are written to a new file beside it, which then takes its
+/// name. So a file there is whole at each moment, a link, a pipe or a device is replaced, and what
+/// it names stays as it is.
 pub(crate) fn write_file<R: Files>(
     rt: &(&R, Global),
     folder: &str,
@@ -49,7 +51,8 @@ fn make_folders<R: Files>(rt: &(&R, Global), folder: &str, path: &str) -> io::Re
     Ok(whole)
 }
 
-// Makes a folder where none is. A link, also one to a folder, is none, and what has its name is an error.
+// Makes a folder where none is. A link, also one to a folder, is none, and what has its name is an
+// error.
 fn make_folder<R: Files>(rt: &(&R, Global), path: &str) -> io::Result<()> {
     let made = fs::create_dir(rt, path);
     if made.is_err() && fs::symlink_metadata(rt, path)?.is_dir() {

@@ -12,4 +12,5 @@ success = record { ok = true; outputs = []; acts = []; notes = [] }
 
 -- there are two tools, and both succeed
 abbrev pub gate_answer : List ℕ → ToolInput → ToolAnswer
-gate_answer name input = unwrap_or (value_at name ((codes "gate", Made success) ∷ (codes "tally", Made success) ∷ [])) Unknown
+gate_answer name input = unwrap_or
+    (value_at name ((codes "gate", Made success) ∷ (codes "tally", Made success) ∷ [])) Unknown

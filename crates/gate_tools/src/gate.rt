@@ -14,8 +14,9 @@ const MOST_TURNS: u64 = 400_000_000;
 
 /// Tools for tests: the tasks `gate` and `tally`, which succeed and make nothing.
 ///
-/// The first call of `gate` returns once a second one has come, or after 400,000,000 turns of its loop: so a test can tell
-/// whether two nodes work at the same time. No contract speaks of what was met and counted.
+/// The first call of `gate` returns once a second one has come, or after 400,000,000 turns of its
+/// loop: so a test can tell whether two nodes work at the same time. No contract speaks of what was
+/// met and counted.
 #[derive(Drop)]
 pub struct Gate {
     gates: AtomicU64,

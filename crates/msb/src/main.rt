@@ -15,8 +15,8 @@ const NO_WORDS: u8 = 11;
 /// The status for want of memory.
 const NO_MEMORY: u8 = 7;
 
-/// The stack that the first thread takes before it begins: so many blocks of so many bytes, which is
-/// more than any build needs.
+/// The stack that the first thread takes before it begins: so many blocks of so many bytes, which
+/// is more than any build needs.
 const BLOCKS: usize = 32;
 
 const BLOCK: usize = 16 * 1024;

@@ -2,7 +2,12 @@
 use Rattle.std.specs.Prelude.{◌≡◌, Result, Ok, Err}
 use Rattle.msb_laws.specs.Results.{map_ok}
 use Rattle.msb_batching.specs.declared.faults.BatchFault.{BatchFault}
-use Rattle.msb_batching.specs.declared.faults.BatchFault.TheVariants.{NoList, NoValue, Expand, Memory}
+use Rattle.msb_batching.specs.declared.faults.BatchFault.TheVariants.{
+  NoList,
+  NoValue,
+  Expand,
+  Memory,
+}
 
 abbrev pub Gives : {T : Type 0} → Result T BatchFault → Result T BatchFault → Type 0
 Gives (Ok value) answer = answer ≡ Ok value

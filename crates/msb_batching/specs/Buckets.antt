@@ -1,5 +1,19 @@
 -- The buckets of an element: one for each tuple that its batched items have. (MSBuild batching)
-use Rattle.std.specs.Prelude.{ℕ, Bool, List, [], ◌∷◌, map, filter, fold, Option, Some, None, Result, Err}
+use Rattle.std.specs.Prelude.{
+  ℕ,
+  Bool,
+  List,
+  [],
+  ◌∷◌,
+  map,
+  filter,
+  fold,
+  Option,
+  Some,
+  None,
+  Result,
+  Err,
+}
 use Rattle.std.specs.List.{flat_map}
 use Rattle.std.specs.BTreeMap.{insert_entry}
 use Rattle.std.specs.Ordering.{nat_cmp}
@@ -26,27 +40,34 @@ abbrev pub kept : List (List ℕ) → List (Item × List (List ℕ)) → List It
 kept tuple rows = map (λ row. row.0) (filter (λ row. is_same_tuple row.1 tuple) rows)
 
 -- a list that a bucket sees, put beside those that it has
-abbrev pub with_list : List (List ℕ) → List (List ℕ × List Item) → List ℕ × List (Item × List (List ℕ)) → List (List ℕ × List Item)
+abbrev pub with_list : List (List ℕ) → List (List ℕ × List Item)
+    → List ℕ × List (Item × List (List ℕ)) → List (List ℕ × List Item)
 with_list tuple lists batch = insert_entry (slice_cmp nat_cmp) lists batch.0 (kept tuple batch.1)
 
 -- each reference with its value
 abbrev pub values_of : List Reference → List (List ℕ) → List (Option (List ℕ) × List ℕ × List ℕ)
 values_of [] tuple = []
 values_of (reference ∷ references) [] = []
-values_of (reference ∷ references) (value ∷ tuple) = (reference.kind, reference.name, value) ∷ values_of references tuple
+values_of (reference ∷ references) (value ∷ tuple) = (reference.kind, reference.name, value)
+    ∷ values_of references tuple
 
 -- the bucket of a tuple sees of each batched list the items of this tuple
-abbrev pub bucket_of : List Reference → List (List ℕ × List (Item × List (List ℕ))) → List (List ℕ) → Bucket
-bucket_of references batches tuple = record { values = values_of references tuple; lists = fold (with_list tuple) [] batches }
+abbrev pub bucket_of : List Reference → List (List ℕ × List (Item × List (List ℕ))) → List (List ℕ)
+    → Bucket
+bucket_of references batches tuple = record
+    { values = values_of references tuple; lists = fold (with_list tuple) [] batches }
 
 -- the tuples, or this one where there is none
 abbrev pub or_this : List (List ℕ) → List (List (List ℕ)) → List (List (List ℕ))
 or_this empty [] = empty ∷ []
 or_this empty (tuple ∷ tuples) = tuple ∷ tuples
 
--- the tuples in their first spelling, in order of first appearance, or the one whose values are empty
-abbrev pub tuples_of : List Reference → List (List ℕ × List (Item × List (List ℕ))) → List (List (List ℕ))
-tuples_of references batches = or_this (map (λ reference. []) references) (distinct is_same_tuple (flat_map (λ batch. map (λ row. row.1) batch.1) batches))
+-- the tuples in their first spelling, in order of first appearance, or the one whose values are
+-- empty
+abbrev pub tuples_of : List Reference → List (List ℕ × List (Item × List (List ℕ)))
+    → List (List (List ℕ))
+tuples_of references batches = or_this (map (λ reference. []) references)
+    (distinct is_same_tuple (flat_map (λ batch. map (λ row. row.1) batch.1) batches))
 
 abbrev pub buckets_of : List Reference → List (List ℕ × List (Item × List (List ℕ))) → List Bucket
 buckets_of references batches = map (bucket_of references batches) (tuples_of references batches)

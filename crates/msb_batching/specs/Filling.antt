@@ -13,18 +13,24 @@ abbrev pub bucket_begun : List Reference → List (List ℕ) → Bucket
 bucket_begun references tuple = record { values = values_of references tuple; lists = [] }
 
 abbrev pub with_items : List ℕ → Bucket → Option (List Item) → Bucket
-with_items kind bucket (Some items) = record { values = bucket.values; lists = insert_entry (slice_cmp nat_cmp) bucket.lists kind items }
+with_items kind bucket (Some items) = record
+    { values = bucket.values; lists = insert_entry (slice_cmp nat_cmp) bucket.lists kind items }
 with_items kind bucket None = bucket
 
 -- to each bucket its list
 abbrev pub put_beside : List ℕ → List Bucket → List (List Item) → List Bucket
 put_beside kind [] lists = []
 put_beside kind (bucket ∷ buckets) [] = with_items kind bucket None ∷ put_beside kind buckets []
-put_beside kind (bucket ∷ buckets) (items ∷ lists) = with_items kind bucket (Some items) ∷ put_beside kind buckets lists
+put_beside kind (bucket ∷ buckets) (items ∷ lists) = with_items kind bucket (Some items)
+    ∷ put_beside kind buckets lists
 
 -- of each list in turn
-abbrev pub filled_with : List (List (List ℕ)) → List Bucket → List (List ℕ × List (Item × ℕ)) → List Bucket
-filled_with tuples buckets lists = fold (λ so_far list. put_beside list.0 so_far (spread_over (map (λ tuple. []) tuples) list.1)) buckets lists
+abbrev pub filled_with : List (List (List ℕ)) → List Bucket → List (List ℕ × List (Item × ℕ))
+    → List Bucket
+filled_with tuples buckets lists = fold
+    (λ so_far list. put_beside list.0 so_far (spread_over (map (λ tuple. []) tuples) list.1))
+    buckets lists
 
-abbrev pub buckets_by : List Reference → List (List (List ℕ)) → List (List ℕ × List (Item × ℕ)) → List Bucket
+abbrev pub buckets_by : List Reference → List (List (List ℕ)) → List (List ℕ × List (Item × ℕ))
+    → List Bucket
 buckets_by references tuples lists = filled_with tuples (map (bucket_begun references) tuples) lists

@@ -10,7 +10,13 @@ use Rattle.msb_batching.specs.declared.mentions.Mentions.{Mentions}
 use Rattle.msb_batching.specs.References.{Spoken, same_reference, part_references, part_names}
 
 abbrev pub spoken_of : Mentions → Spoken
-spoken_of m = record { references = m.references.keys; named = m.named.keys; qualified = m.qualified.keys; mentioned = m.mentioned.keys }
+spoken_of m = record {
+  references = m.references.keys;
+  named = m.named.keys;
+  qualified = m.qualified.keys;
+  mentioned
+      = m.mentioned.keys;
+}
 
 abbrev pub nothing : Spoken
 nothing = record { references = []; named = []; qualified = []; mentioned = [] }
@@ -42,7 +48,9 @@ with_references s references = record {
 abbrev pub with_part : Spoken → Part → Spoken
 with_part s part =
     let references = part_references part in
-    with_named (with_qualifiers (with_references s references) (flat_map (λ reference. option_to_list reference.kind) references)) (part_names part)
+    with_named
+    (with_qualifiers (with_references s references)
+    (flat_map (λ reference. option_to_list reference.kind) references)) (part_names part)
 
 abbrev pub with_parts : Spoken → List Part → Spoken
 with_parts s parts = fold with_part s parts

@@ -33,17 +33,21 @@ abbrev pub with_rows : List (List (List ℕ)) → List (Item × List (List ℕ))
 with_rows tuples rows = insert_all is_same_tuple tuples (rows_tuples rows)
 
 -- and of these lists
-abbrev pub with_batches : List (List (List ℕ)) → List (List ℕ × List (Item × List (List ℕ))) → List (List (List ℕ))
+abbrev pub with_batches : List (List (List ℕ)) → List (List ℕ × List (Item × List (List ℕ)))
+    → List (List (List ℕ))
 with_batches tuples batches = fold (λ so_far batch. with_rows so_far batch.1) tuples batches
 
 -- an item has the first place of its tuple, or the next
 abbrev pub numbered_from : List (List (List ℕ)) → List (Item × List (List ℕ)) → List (Item × ℕ)
 numbered_from tuples [] = []
-numbered_from tuples (row ∷ rows) = (row.0, position_or_len (is_same_tuple row.1) tuples) ∷ numbered_from (insert_key is_same_tuple tuples row.1) rows
+numbered_from tuples (row ∷ rows) = (row.0, position_or_len (is_same_tuple row.1) tuples)
+    ∷ numbered_from (insert_key is_same_tuple tuples row.1) rows
 
-abbrev pub lists_from : List (List (List ℕ)) → List (List ℕ × List (Item × List (List ℕ))) → List (List ℕ × List (Item × ℕ))
+abbrev pub lists_from : List (List (List ℕ)) → List (List ℕ × List (Item × List (List ℕ)))
+    → List (List ℕ × List (Item × ℕ))
 lists_from tuples [] = []
-lists_from tuples (batch ∷ batches) = (batch.0, numbered_from tuples batch.1) ∷ lists_from (with_rows tuples batch.1) batches
+lists_from tuples (batch ∷ batches) = (batch.0, numbered_from tuples batch.1)
+    ∷ lists_from (with_rows tuples batch.1) batches
 
 -- behind the list of this number
 abbrev pub put_at : ℕ → Item → List (List Item) → List (List Item)

@@ -1,5 +1,20 @@
 -- What the texts of an element speak of: metadata, and lists. (MSBuild batching)
-use Rattle.std.specs.Prelude.{ℕ, Bool, ◌||◌, ◌&&◌, is_none, List, [], ◌∷◌, ◌++◌, filter, Option, Some, None, option_to_list}
+use Rattle.std.specs.Prelude.{
+  ℕ,
+  Bool,
+  ◌||◌,
+  ◌&&◌,
+  is_none,
+  List,
+  [],
+  ◌∷◌,
+  ◌++◌,
+  filter,
+  Option,
+  Some,
+  None,
+  option_to_list,
+}
 use Rattle.std.specs.List.{list_any, flat_map}
 use Rattle.std.specs.Str.{bytes_eq}
 use Rattle.msb_expression.specs.declared.expression.Expr.{Expr}
@@ -43,7 +58,8 @@ part_mentions part = part_qualifiers part ++ part_names part
 abbrev pub of_parts : {X : Type 0} → (Part → List X) → List Expr → List X
 of_parts of texts = flat_map (λ text. flat_map of text.parts) texts
 
--- What an element speaks of, each once and in order. Its own item type counts as named after all others.
+-- What an element speaks of, each once and in order. Its own item type counts as named after all
+-- others.
 pub record Spoken : Type 0 where
   pub references : List Reference
   pub named : List (List ℕ)
@@ -66,7 +82,8 @@ is_unqualified reference = is_none reference.kind
 
 -- `%(X.M)` batches list X, and `%(M)` every list that is named
 abbrev pub is_batched : Spoken → List ℕ → Bool
-is_batched s kind = has kind s.qualified || (list_any is_unqualified s.references && has kind s.named)
+is_batched s kind = has kind s.qualified
+    || (list_any is_unqualified s.references && has kind s.named)
 
 -- the batched lists, in order of first mention
 abbrev pub batched : Spoken → List (List ℕ)
@@ -79,7 +96,8 @@ name_or (Some kind) name other = other
 
 abbrev pub unqualified : List Reference → Option (List ℕ)
 unqualified [] = None
-unqualified (reference ∷ references) = name_or reference.kind reference.name (unqualified references)
+unqualified (reference ∷ references) = name_or reference.kind reference.name
+    (unqualified references)
 
 -- such a reference, where no list is named
 abbrev pub listless_in : List (List ℕ) → List Reference → Option (List ℕ)

@@ -19,19 +19,22 @@ use msb_expression::Expr;
 use msb_values::{Copied, List, Name, NoMemory, Text};
 use std::alloc::Global;
 
-/// The buckets of an element in a target that has these texts, in order: for each bucket the element is treated once.
-/// A reference `%(..)` has one value in a bucket, and each batched list only the items that have it. `own` is the item
-/// type of an item element.
+/// The buckets of an element in a target that has these texts, in order: for each bucket the
+/// element is treated once. A reference `%(..)` has one value in a bucket, and each batched list
+/// only the items that have it. `own` is the item type of an item element.
 ///
-/// `%(X.M)` batches list X by metadata M, and `%(M)` every list that the texts name by `@(..)`, and `own`. Values are compared
-/// without case, and have their first spelling. Where no item is, there is one bucket, with empty values. (MSBuild batching.)
+/// `%(X.M)` batches list X by metadata M, and `%(M)` every list that the texts name by `@(..)`, and
+/// `own`. Values are compared without case, and have their first spelling. Where no item is, there
+/// is one bucket, with empty values. (MSBuild batching.)
 pub fn buckets(
     alloc: Global,
     lens: &Lens<'_>,
     texts: &[&Expr],
     own: Option<&Name>,
 ) -> Result<List<Bucket>, BatchFault>
-    ensures { Gives result (buckets_value (scene_of lens.now) (map (λ text. text.now) texts.now) (option_copied own.entry)) }
+    ensures { Gives result
+        (buckets_value (scene_of lens.now) (map (λ text. text.now) texts.now)
+        (option_copied own.entry)) }
 {
     let mentions = Mentions::of(alloc, texts, own)?;
     if let Some(name) = mentions.listless() {
@@ -55,7 +58,8 @@ fn bucketed(
     references: &[Reference],
     batches: Vec<Batch>,
 ) -> Result<List<Bucket>, NoMemory>
-    ensures { IfOk result (λ buckets. buckets ≡ buckets_of references.now (map pairs_of batches.items)) }
+    ensures { IfOk result (λ buckets. buckets
+        ≡ buckets_of references.now (map pairs_of batches.items)) }
 {
     let mut tuples = Tuples::new(alloc);
     let lists = tuples.number_lists(alloc, batches)?;
@@ -82,7 +86,8 @@ fn bucketed_by(
     tuples: &[List<Text>],
     lists: Vec<NumberedList>,
 ) -> Result<List<Bucket>, NoMemory>
-    ensures { IfOk result (λ buckets. buckets ≡ buckets_by references.now tuples.now (map numbered_list_of lists.items)) }
+    ensures { IfOk result (λ buckets. buckets
+        ≡ buckets_by references.now tuples.now (map numbered_list_of lists.items)) }
 {
     let buckets = begin_buckets(alloc, references, tuples)?;
     Ok(List::from(fill(alloc, buckets, lists, tuples)?))
@@ -95,7 +100,8 @@ fn fill(
     lists: Vec<NumberedList>,
     tuples: &[List<Text>],
 ) -> Result<Vec<Bucket>, NoMemory>
-    ensures { IfOk result (λ filled. filled.items ≡ filled_with tuples.now buckets.items (map numbered_list_of lists.items)) }
+    ensures { IfOk result (λ filled. filled.items
+        ≡ filled_with tuples.now buckets.items (map numbered_list_of lists.items)) }
 {
     let mut filled = buckets;
     for list in lists {

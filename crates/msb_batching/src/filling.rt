@@ -25,7 +25,8 @@ pub(crate) fn begin_buckets(
     references: &[Reference],
     tuples: &[List<Text>],
 ) -> Result<Vec<Bucket>, NoMemory>
-    ensures { IfOk result (λ buckets. buckets.items ≡ map (bucket_begun references.now) tuples.now) }
+    ensures { IfOk result (λ buckets. buckets.items
+        ≡ map (bucket_begun references.now) tuples.now) }
 {
     let mut buckets = Vec::with_capacity(alloc, tuples.len())?;
     for tuple in tuples {

@@ -1,7 +1,33 @@
-ghost use Rattle.std.specs.Prelude.{◌≡◌, ◌||◌, ◌&&◌, IfOk, OnOk, Some, map, option_copied, option_to_list};
+ghost use Rattle.std.specs.Prelude.{
+  ◌≡◌,
+  ◌||◌,
+  ◌&&◌,
+  IfOk,
+  OnOk,
+  Some,
+  map,
+  option_copied,
+  option_to_list,
+};
 ghost use Rattle.std.specs.List.{list_any};
-ghost use Rattle.msb_batching.specs.References.{spoken, has, is_unqualified, batched, unqualified, listless};
-ghost use Rattle.msb_batching.specs.Growing.{spoken_of, nothing, with_named, with_qualifiers, with_references, with_part, with_parts, with_texts};
+ghost use Rattle.msb_batching.specs.References.{
+  spoken,
+  has,
+  is_unqualified,
+  batched,
+  unqualified,
+  listless,
+};
+ghost use Rattle.msb_batching.specs.Growing.{
+  spoken_of,
+  nothing,
+  with_named,
+  with_qualifiers,
+  with_references,
+  with_part,
+  with_parts,
+  with_texts,
+};
 
 use crate::reference::{Reference, read_reference};
 use indexmap::IndexSet;
@@ -40,7 +66,8 @@ impl Mentions {
         texts: &[&Expr],
         own: Option<&Name>,
     ) -> Result<Mentions, NoMemory>
-        ensures { IfOk result (λ m. spoken_of m ≡ spoken (map (λ text. text.now) texts.now) (option_copied own.entry)) }
+        ensures { IfOk result (λ m. spoken_of m
+            ≡ spoken (map (λ text. text.now) texts.now) (option_copied own.entry)) }
     {
         let mut mentions = Mentions::new(alloc);
         mentions.read_texts(alloc, texts)?;
@@ -50,7 +77,8 @@ impl Mentions {
 
     /// The batched lists, in order of first mention.
     pub(crate) fn batched(&self, alloc: Global) -> Result<Vec<&Name>, NoMemory>
-        ensures { IfOk result (λ kinds. map (λ kind. kind.now) kinds.items ≡ batched (spoken_of self.now)) }
+        ensures { IfOk result (λ kinds. map (λ kind. kind.now) kinds.items
+            ≡ batched (spoken_of self.now)) }
     {
         let all_named = self.has_unqualified();
         let mut kinds = Vec::new(alloc);
@@ -63,7 +91,9 @@ impl Mentions {
     }
 
     fn is_batched(&self, kind: &Name, all_named: bool) -> bool
-        ensures { result ≡ (has kind.now (spoken_of self.now).qualified || (all_named && has kind.now (spoken_of self.now).named)) }
+        ensures { result
+            ≡ (has kind.now (spoken_of self.now).qualified
+            || (all_named && has kind.now (spoken_of self.now).named)) }
     {
         self.qualified.contains(kind) || (all_named && self.named.contains(kind))
     }
@@ -100,7 +130,8 @@ impl Mentions {
     }
 
     fn read_texts(&mut self, alloc: Global, texts: &[&Expr]) -> Result<(), NoMemory>
-        ensures { OnOk result (spoken_of self.new ≡ with_texts (spoken_of self.old) (map (λ text. text.now) texts.now)) }
+        ensures { OnOk result (spoken_of self.new
+            ≡ with_texts (spoken_of self.old) (map (λ text. text.now) texts.now)) }
     {
         for text in texts {
             self.read_parts(alloc, text.parts.as_slice())?;
@@ -135,7 +166,8 @@ impl Mentions {
     }
 
     fn add_own(&mut self, own: Option<&Name>) -> Result<(), NoMemory>
-        ensures { OnOk result (spoken_of self.new ≡ with_named (spoken_of self.old) (option_to_list (option_copied own.entry))) }
+        ensures { OnOk result (spoken_of self.new
+            ≡ with_named (spoken_of self.old) (option_to_list (option_copied own.entry))) }
     {
         match own {
             Some(kind) => self.add_named(kind.copy()?),
@@ -144,7 +176,8 @@ impl Mentions {
     }
 
     fn add_named(&mut self, kind: Name) -> Result<(), NoMemory>
-        ensures { OnOk result (spoken_of self.new ≡ with_named (spoken_of self.old) (option_to_list (Some kind))) }
+        ensures { OnOk result (spoken_of self.new
+            ≡ with_named (spoken_of self.old) (option_to_list (Some kind))) }
     {
         self.mentioned.insert(kind.copy()?)?;
         self.named.insert(kind)?;
@@ -152,7 +185,10 @@ impl Mentions {
     }
 
     fn add_reference(&mut self, reference: Reference) -> Result<(), NoMemory>
-        ensures { OnOk result (spoken_of self.new ≡ with_qualifiers (with_references (spoken_of self.old) (option_to_list (Some reference))) (option_to_list reference.kind)) }
+        ensures { OnOk result (spoken_of self.new
+            ≡ with_qualifiers
+            (with_references (spoken_of self.old) (option_to_list (Some reference)))
+            (option_to_list reference.kind)) }
     {
         if let Some(kind) = &reference.kind {
             self.mentioned.insert(kind.copy()?)?;

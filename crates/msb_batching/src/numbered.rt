@@ -24,7 +24,8 @@ pub(crate) fn spread(
     items: Vec<Numbered>,
     tuples: &[List<Text>],
 ) -> Result<Vec<List<Item>>, NoMemory>
-    ensures { IfOk result (λ lists. lists.items ≡ spread_over (map (λ tuple. []) tuples.now) (map numbered_of items.items)) }
+    ensures { IfOk result (λ lists. lists.items
+        ≡ spread_over (map (λ tuple. []) tuples.now) (map numbered_of items.items)) }
 {
     let mut lists = empty_lists(alloc, tuples)?;
     for numbered in items {

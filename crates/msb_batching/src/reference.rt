@@ -1,4 +1,12 @@
-ghost use Rattle.std.specs.Prelude.{◌≡◌, IfOk, None, Some, option_map, option_and_then, option_to_list};
+ghost use Rattle.std.specs.Prelude.{
+  ◌≡◌,
+  IfOk,
+  None,
+  Some,
+  option_map,
+  option_and_then,
+  option_to_list,
+};
 ghost use Rattle.msb_expand.specs.Tokens.{reference_key};
 ghost use Rattle.msb_batching.specs.References.{keyed};
 
@@ -26,7 +34,8 @@ pub(crate) fn read_reference(
     qualifier: &Option<Word>,
     name: &Word,
 ) -> Result<Option<Reference>, NoMemory>
-    ensures { IfOk result (λ reference. option_to_list reference ≡ keyed (reference_key qualifier.now name.now)) }
+    ensures { IfOk result (λ reference. option_to_list reference
+        ≡ keyed (reference_key qualifier.now name.now)) }
 {
     match qualifier {
         None => Ok(unqualified(Name::written(alloc, name.as_str())?)),
@@ -45,7 +54,8 @@ fn unqualified(name: Option<Name>) -> Option<Reference>
 }
 
 fn qualified(kind: Option<Name>, name: Option<Name>) -> Option<Reference>
-    ensures { option_to_list result ≡ keyed (option_and_then (λ kind. option_map (λ key. (Some kind, key)) name) kind) }
+    ensures { option_to_list result
+        ≡ keyed (option_and_then (λ kind. option_map (λ key. (Some kind, key)) name) kind) }
 {
     let kind = kind?;
     let name = name?;

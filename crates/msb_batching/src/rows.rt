@@ -3,7 +3,15 @@ ghost use Rattle.msb_values.specs.Pairs.{value_at};
 ghost use Rattle.msb_expand.specs.Scenes.{scene_of, defaults_at};
 ghost use Rattle.msb_batching.specs.declared.faults.BatchFault.TheVariants.{NoValue};
 ghost use Rattle.msb_batching.specs.Answers.{Gives, GivesAs};
-ghost use Rattle.msb_batching.specs.Values.{metadata_for, has_metadata, value_for, tuple_of, rows_of, batch_of, batches_of};
+ghost use Rattle.msb_batching.specs.Values.{
+  metadata_for,
+  has_metadata,
+  value_for,
+  tuple_of,
+  rows_of,
+  batch_of,
+  batches_of,
+};
 ghost use Rattle.msb_batching.specs.Growing.{spoken_of};
 ghost use Rattle.msb_batching.specs.Rows.{row_of, pairs_of};
 
@@ -28,13 +36,15 @@ pub(crate) struct Batch {
     pub(crate) rows: Vec<Row>,
 }
 
-/// The batched lists with their items, or the first fault: list by list, item by item, reference by reference.
+/// The batched lists with their items, or the first fault: list by list, item by item, reference by
+/// reference.
 pub(crate) fn batches(
     alloc: Global,
     lens: &Lens<'_>,
     mentions: &Mentions,
 ) -> Result<Vec<Batch>, BatchFault>
-    ensures { GivesAs (λ batches. map pairs_of batches.items) result (batches_of (scene_of lens.now) (spoken_of mentions.now)) }
+    ensures { GivesAs (λ batches. map pairs_of batches.items) result
+        (batches_of (scene_of lens.now) (spoken_of mentions.now)) }
 {
     let kinds = mentions.batched(alloc)?;
     let mut batches = Vec::new(alloc);
@@ -50,7 +60,8 @@ fn read_batch(
     mentions: &Mentions,
     kind: &Name,
 ) -> Result<Batch, BatchFault>
-    ensures { GivesAs pairs_of result (batch_of (scene_of lens.now) (spoken_of mentions.now) kind.now) }
+    ensures { GivesAs pairs_of result
+        (batch_of (scene_of lens.now) (spoken_of mentions.now) kind.now) }
 {
     let list = BatchedList {
         lens,
@@ -77,7 +88,9 @@ struct BatchedList<'l, 'a> {
 
 impl<'l, 'a> BatchedList<'l, 'a> {
     fn rows(&self, alloc: Global, items: &[Item]) -> Result<Vec<Row>, BatchFault>
-        ensures { GivesAs (λ rows. map row_of rows.items) result (rows_of (scene_of self.now.lens.now) self.now.is_named self.now.kind.now self.now.references.now items.now) }
+        ensures { GivesAs (λ rows. map row_of rows.items) result
+            (rows_of (scene_of self.now.lens.now) self.now.is_named self.now.kind.now
+            self.now.references.now items.now) }
     {
         let mut rows = Vec::new(alloc);
         for item in items {
@@ -91,7 +104,9 @@ impl<'l, 'a> BatchedList<'l, 'a> {
     }
 
     fn tuple(&self, alloc: Global, item: &Item) -> Result<List<Text>, BatchFault>
-        ensures { Gives result (tuple_of (scene_of self.now.lens.now) self.now.is_named self.now.kind.now self.now.references.now item.now) }
+        ensures { Gives result
+            (tuple_of (scene_of self.now.lens.now) self.now.is_named self.now.kind.now
+            self.now.references.now item.now) }
     {
         let mut tuple = List::new(alloc);
         for reference in self.references {
@@ -101,7 +116,9 @@ impl<'l, 'a> BatchedList<'l, 'a> {
     }
 
     fn value(&self, alloc: Global, item: &Item, reference: &Reference) -> Result<Text, BatchFault>
-        ensures { Gives result (value_for (scene_of self.now.lens.now) self.now.is_named self.now.kind.now item.now reference.now.kind reference.now.name) }
+        ensures { Gives result
+            (value_for (scene_of self.now.lens.now) self.now.is_named self.now.kind.now item.now
+            reference.now.kind reference.now.name) }
     {
         match &reference.kind {
             Some(kind) if kind != self.kind => Ok(Text::of(alloc, "")?),
@@ -113,20 +130,24 @@ impl<'l, 'a> BatchedList<'l, 'a> {
     }
 
     fn metadata_for(&self, alloc: Global, item: &Item, name: &Name) -> Result<Text, BatchFault>
-        ensures { Gives result (metadata_for (scene_of self.now.lens.now) self.now.kind.now item.now name.now) }
+        ensures { Gives result
+            (metadata_for (scene_of self.now.lens.now) self.now.kind.now item.now name.now) }
     {
         Ok(metadata(alloc, self.lens, self.kind, item, name)?)
     }
 
     /// Whether the item has this metadata: well-known, its own or its type's default.
     fn has_metadata(&self, item: &Item, name: &Name) -> bool
-        ensures { result ≡ has_metadata (scene_of self.now.lens.now) self.now.kind.now item.now name.now }
+        ensures { result ≡ has_metadata (scene_of self.now.lens.now) self.now.kind.now item.now
+            name.now }
     {
         is_well_known(name) || item.meta.get(name).is_some() || self.is_default(name)
     }
 
     fn is_default(&self, name: &Name) -> bool
-        ensures { result ≡ is_some (value_at name.now (defaults_at (scene_of self.now.lens.now) self.now.kind.now)) }
+        ensures { result
+            ≡ is_some
+            (value_at name.now (defaults_at (scene_of self.now.lens.now) self.now.kind.now)) }
     {
         match self.lens.scope.defaults.get(self.kind) {
             Some(defaults) => defaults.get(name).is_some(),

@@ -3,7 +3,16 @@ ghost use Rattle.std.specs.List.{position_or_len};
 ghost use Rattle.indexmap.specs.IndexSet.{insert_key};
 ghost use Rattle.msb_values.specs.Folded.{folded_bytes};
 ghost use Rattle.msb_batching.specs.Buckets.{is_same_tuple};
-ghost use Rattle.msb_batching.specs.Numbers.{tuples_in, IsKeyed, with_rows, with_batches, numbered_of, numbered_list_of, numbered_from, lists_from};
+ghost use Rattle.msb_batching.specs.Numbers.{
+  tuples_in,
+  IsKeyed,
+  with_rows,
+  with_batches,
+  numbered_of,
+  numbered_list_of,
+  numbered_from,
+  lists_from,
+};
 ghost use Rattle.msb_batching.specs.Rows.{row_of, pairs_of};
 
 use crate::numbered::{Numbered, NumberedList};
@@ -12,7 +21,8 @@ use indexmap::IndexSet;
 use msb_values::{Folded, List, NoMemory, Text};
 use std::alloc::Global;
 
-/// The tuples that the items of batched lists have, each once, in order of first appearance and in their first spelling.
+/// The tuples that the items of batched lists have, each once, in order of first appearance and in
+/// their first spelling.
 #[derive(Drop)]
 pub(crate) struct Tuples {
     /// The tuples folded, so that each is found without comparing it with all.
@@ -35,8 +45,10 @@ impl Tuples {
     fn number(&mut self, alloc: Global, tuple: List<Text>) -> Result<usize, NoMemory>
         requires { IsKeyed self.old }
         ensures keyed { OnOk result (IsKeyed self.new) }
-        ensures tuples { OnOk result (tuples_in self.new ≡ insert_key is_same_tuple (tuples_in self.old) tuple) }
-        ensures number { IfOk result (λ n. n ≡ position_or_len (is_same_tuple tuple) (tuples_in self.old)) }
+        ensures tuples { OnOk result (tuples_in self.new
+            ≡ insert_key is_same_tuple (tuples_in self.old) tuple) }
+        ensures number { IfOk result
+            (λ n. n ≡ position_or_len (is_same_tuple tuple) (tuples_in self.old)) }
     {
         let (number, is_new) = self.keys.insert_full(folded(alloc, tuple.as_slice())?)?;
         self.spell_if(is_new, tuple)?;
@@ -46,7 +58,8 @@ impl Tuples {
     /// Puts a tuple behind the others, if it is a new one.
     fn spell_if(&mut self, is_new: bool, tuple: List<Text>) -> Result<(), NoMemory>
         ensures keys { self.new.keys ≡ self.old.keys }
-        ensures tuples { OnOk result (tuples_in self.new ≡ (if is_new then tuples_in self.old ++ tuple ∷ [] else tuples_in self.old)) }
+        ensures tuples { OnOk result (tuples_in self.new
+            ≡ (if is_new then tuples_in self.old ++ tuple ∷ [] else tuples_in self.old)) }
     {
         if is_new {
             self.spelled.push(tuple)?;
@@ -58,8 +71,10 @@ impl Tuples {
     fn number_rows(&mut self, alloc: Global, rows: Vec<Row>) -> Result<Vec<Numbered>, NoMemory>
         requires { IsKeyed self.old }
         ensures keyed { OnOk result (IsKeyed self.new) }
-        ensures tuples { OnOk result (tuples_in self.new ≡ with_rows (tuples_in self.old) (map row_of rows.items)) }
-        ensures numbers { IfOk result (λ items. map numbered_of items.items ≡ numbered_from (tuples_in self.old) (map row_of rows.items)) }
+        ensures tuples { OnOk result (tuples_in self.new
+            ≡ with_rows (tuples_in self.old) (map row_of rows.items)) }
+        ensures numbers { IfOk result (λ items. map numbered_of items.items
+            ≡ numbered_from (tuples_in self.old) (map row_of rows.items)) }
     {
         let mut items = Vec::new(alloc);
         for row in rows {
@@ -79,8 +94,10 @@ impl Tuples {
         batches: Vec<Batch>,
     ) -> Result<Vec<NumberedList>, NoMemory>
         requires { IsKeyed self.old }
-        ensures tuples { OnOk result (tuples_in self.new ≡ with_batches (tuples_in self.old) (map pairs_of batches.items)) }
-        ensures numbers { IfOk result (λ lists. map numbered_list_of lists.items ≡ lists_from (tuples_in self.old) (map pairs_of batches.items)) }
+        ensures tuples { OnOk result (tuples_in self.new
+            ≡ with_batches (tuples_in self.old) (map pairs_of batches.items)) }
+        ensures numbers { IfOk result (λ lists. map numbered_list_of lists.items
+            ≡ lists_from (tuples_in self.old) (map pairs_of batches.items)) }
     {
         let mut lists = Vec::new(alloc);
         for batch in batches {

@@ -8,4 +8,5 @@ use Rattle.msb_condition.specs.Trees.{Tree, truth}
 use Rattle.msb_condition.specs.View.{tree_of, view_step, operand_of}
 
 pub truth_tree : (left : Operand) → tree_of (Truth left) ≡ truth (operand_of left)
-truth_tree left = ap tree_of (sym (rolls-Truth left)) ∙ fold-roll-Cond Tree view_step (open_cond.Truth left)
+truth_tree left = ap tree_of (sym (rolls-Truth left))
+    ∙ fold-roll-Cond Tree view_step (open_cond.Truth left)

@@ -3,7 +3,13 @@ use Rattle.std.specs.Prelude.{◌≡◌, ℕ, List, Result, Ok, Err}
 use Rattle.msb_expand.specs.Scenes.{scene_of}
 use Rattle.msb_expand.specs.declared.lens.Lens.{Lens}
 use Rattle.msb_condition.specs.declared.faults.CondFault.{CondFault}
-use Rattle.msb_condition.specs.declared.faults.CondFault.TheVariants.{Syntax, NotBoolean, NotNumbers, Expand, Memory}
+use Rattle.msb_condition.specs.declared.faults.CondFault.TheVariants.{
+  Syntax,
+  NotBoolean,
+  NotNumbers,
+  Expand,
+  Memory,
+}
 use Rattle.msb_condition.specs.Truth.{View}
 
 abbrev pub Gives : {T : Type 0} → Result T CondFault → Result T CondFault → Type 0

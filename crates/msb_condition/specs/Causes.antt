@@ -5,7 +5,13 @@ use Rattle.msb_expand.specs.Causes as expand
 use Rattle.msb_expand.specs.declared.faults.ExpandFault.{ExpandFault}
 use Rattle.msb_expand.specs.declared.faults.ExpandFault.TheVariants.{Memory as NoMemory}
 use Rattle.msb_condition.specs.declared.faults.CondFault.{CondFault}
-use Rattle.msb_condition.specs.declared.faults.CondFault.TheVariants.{Syntax, NotBoolean, NotNumbers, Expand, Memory}
+use Rattle.msb_condition.specs.declared.faults.CondFault.TheVariants.{
+  Syntax,
+  NotBoolean,
+  NotNumbers,
+  Expand,
+  Memory,
+}
 
 abbrev pub cause_of : CondFault → Cause
 cause_of (Syntax place) = cause.Syntax place

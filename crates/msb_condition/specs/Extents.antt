@@ -1,10 +1,11 @@
--- How far a quoted text and a reference go. In an item reference a quote ends no text that holds the reference, and in
--- its own quotes a parenthesis closes nothing.
+-- How far a quoted text and a reference go. In an item reference a quote ends no text that holds
+-- the reference, and in its own quotes a parenthesis closes nothing.
 use Rattle.std.specs.Prelude.{ℕ, ◌+◌, ◌-◌, Bool, true, false, ◌==◌, List, [], ◌∷◌, if◌then◌else◌}
 use Rattle.msb_condition.specs.declared.extents.Inside.{Inside}
 use Rattle.msb_condition.specs.declared.extents.Inside.TheVariants.{Text, AtSign, Reference, Quotes}
 
--- inside what the next byte stands: a reference has so many parentheses open in it, one for each but the first
+-- inside what the next byte stands: a reference has so many parentheses open in it, one for each
+-- but the first
 abbrev pub behind_text : ℕ → Inside
 behind_text b = if b == 64 then AtSign else Text
 
@@ -36,7 +37,8 @@ ends_text (Quotes depth) b = false
 -- how many bytes come before that quote, or before the end where there is none
 abbrev pub text_len : Inside → List ℕ → ℕ
 text_len inside [] = 0
-text_len inside (b ∷ bs) = elim (ends_text inside b) [ true ↦ 0 | false ↦ text_len (behind inside b) bs + 1 ]
+text_len inside (b ∷ bs) = elim (ends_text inside b)
+    [ true ↦ 0 | false ↦ text_len (behind inside b) bs + 1 ]
 
 abbrev pub is_text : Inside → Bool
 is_text Text = true
@@ -44,10 +46,12 @@ is_text AtSign = false
 is_text (Reference depth) = false
 is_text (Quotes depth) = false
 
--- how many bytes a reference has, through the parenthesis that closes it, or to the end where there is none
+-- how many bytes a reference has, through the parenthesis that closes it, or to the end where there
+-- is none
 abbrev pub reference_len : Inside → List ℕ → ℕ
 reference_len inside [] = 0
-reference_len inside (b ∷ bs) = elim (is_text inside) [ true ↦ 0 | false ↦ reference_len (behind inside b) bs + 1 ]
+reference_len inside (b ∷ bs) = elim (is_text inside)
+    [ true ↦ 0 | false ↦ reference_len (behind inside b) bs + 1 ]
 
 -- how many parentheses are open in a reference, besides its own
 abbrev pub depth_of : Inside → ℕ

@@ -1,26 +1,61 @@
 -- How an answer of the code is a step of the machine over the tokens of the text.
-use Rattle.std.specs.Prelude.{◌≡◌, ℕ, ◌+◌, ◌<◌, ◌≤◌, Bool, true, false, List, [], ◌∷◌, length, Result, Ok, Err}
+use Rattle.std.specs.Prelude.{
+  ◌≡◌,
+  ℕ,
+  ◌+◌,
+  ◌<◌,
+  ◌≤◌,
+  Bool,
+  true,
+  false,
+  List,
+  [],
+  ◌∷◌,
+  length,
+  Result,
+  Ok,
+  Err,
+}
 use Rattle.msb_expression.specs.declared.faults.ExprFault.{ExprFault}
-use Rattle.msb_expression.specs.declared.faults.ExprFault.TheVariants.{Unclosed, BadName, BadTransform, NestedTransform, Memory as NoRoom}
+use Rattle.msb_expression.specs.declared.faults.ExprFault.TheVariants.{
+  Unclosed,
+  BadName,
+  BadTransform,
+  NestedTransform,
+  Memory as NoRoom,
+}
 use Rattle.msb_expand.specs.declared.faults.ExpandFault.TheVariants.{Expr}
 use Rattle.msb_condition.specs.declared.faults.CondFault.{CondFault}
 use Rattle.msb_condition.specs.declared.faults.CondFault.TheVariants.{Expand, Memory}
 use Rattle.msb_condition.specs.declared.tokens.Kind.{Kind}
 use Rattle.msb_condition.specs.declared.tokens.Kind.TheVariants.{Open, Word}
 use Rattle.msb_condition.specs.declared.tokens.Token as code
-use Rattle.msb_condition.specs.Machine.{Refusal, Frame, or_of, group_of, State, Next, on, run, depth, moved}
+use Rattle.msb_condition.specs.Machine.{
+  Refusal,
+  Frame,
+  or_of,
+  group_of,
+  State,
+  Next,
+  on,
+  run,
+  depth,
+  moved,
+}
 use Rattle.msb_condition.specs.Places.{tokens_at, token_in}
 use Rattle.msb_condition.specs.Reading.{IsRefused}
 use Rattle.msb_condition.specs.Tokens.{Token, is_and, is_or}
 use Rattle.msb_condition.specs.Trees.{Tree}
 
 -- what was found leads on to an outcome of the tokens that are left, or the fault is the outcome's
-abbrev pub Leads : {X : Type 0} → List ℕ → Result (X × ℕ) CondFault → Result Tree Refusal → (X → List Token → Result Tree Refusal) → Type 0
+abbrev pub Leads : {X : Type 0} → List ℕ → Result (X × ℕ) CondFault → Result Tree Refusal
+    → (X → List Token → Result Tree Refusal) → Type 0
 Leads text (Ok found) outcome go_on = outcome ≡ go_on found.0 (tokens_at found.1 text)
 Leads text (Err fault) outcome go_on = IsRefused fault outcome
 
 -- the same where only a place was found
-abbrev pub GoesOn : List ℕ → Result ℕ CondFault → Result Tree Refusal → (List Token → Result Tree Refusal) → Type 0
+abbrev pub GoesOn : List ℕ → Result ℕ CondFault → Result Tree Refusal
+    → (List Token → Result Tree Refusal) → Type 0
 GoesOn text (Ok place) outcome go_on = outcome ≡ go_on (tokens_at place text)
 GoesOn text (Err fault) outcome go_on = IsRefused fault outcome
 
@@ -85,7 +120,8 @@ starts_open (token ∷ tokens) = is_open token.kind
 
 pub record IsOpenAt (text : List ℕ) (at place end : ℕ) : Type 0 where
   pub bytes : List ℕ
-  pub next : tokens_at at text ≡ record { kind = Open; place = place; bytes = bytes } ∷ tokens_at end text
+  pub next : tokens_at at text ≡ record { kind = Open; place = place; bytes = bytes }
+      ∷ tokens_at end text
   pub order : place < end
   pub after : at < end
   pub within : end ≤ length text
@@ -94,7 +130,8 @@ pub record IsOpenAt (text : List ℕ) (at place end : ℕ) : Type 0 where
 pub record IsAt (test : List ℕ → Bool) (text : List ℕ) (at end : ℕ) : Type 0 where
   pub place : ℕ
   pub bytes : List ℕ
-  pub next : tokens_at at text ≡ record { kind = Word; place = place; bytes = bytes } ∷ tokens_at end text
+  pub next : tokens_at at text ≡ record { kind = Word; place = place; bytes = bytes }
+      ∷ tokens_at end text
   pub passes : test bytes ≡ true
   pub after : at < end
   pub within : end ≤ length text

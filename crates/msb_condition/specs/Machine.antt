@@ -1,20 +1,60 @@
--- How the grammar takes the tokens of a condition one after another: what is open around each place, and what may follow.
-use Rattle.std.specs.Prelude.{ℕ, ◌+◌, ◌-◌, Bool, true, false, nat_lt, ◌||◌, List, [], ◌∷◌, length, drop, Option, Some, None, Result, Ok, Err, if◌then◌else◌}
+-- How the grammar takes the tokens of a condition one after another: what is open around each
+-- place, and what may follow.
+use Rattle.std.specs.Prelude.{
+  ℕ,
+  ◌+◌,
+  ◌-◌,
+  Bool,
+  true,
+  false,
+  nat_lt,
+  ◌||◌,
+  List,
+  [],
+  ◌∷◌,
+  length,
+  drop,
+  Option,
+  Some,
+  None,
+  Result,
+  Ok,
+  Err,
+  if◌then◌else◌,
+}
 use Rattle.msb_expression.specs.declared.expression.Part.{Part}
 use Rattle.msb_expression.specs.declared.expression.Part.TheVariants.{Plain}
 use Rattle.msb_expression.specs.declared.faults.ExprFault.{ExprFault}
-use Rattle.msb_expression.specs.declared.faults.ExprFault.TheVariants.{Unclosed, BadName, BadTransform, NestedTransform, Memory}
+use Rattle.msb_expression.specs.declared.faults.ExprFault.TheVariants.{
+  Unclosed,
+  BadName,
+  BadTransform,
+  NestedTransform,
+  Memory,
+}
 use Rattle.msb_expression.specs.Reading.{reading}
 use Rattle.msb_condition.specs.declared.condition.Comparison.{Comparison}
 use Rattle.msb_condition.specs.declared.condition.Comparison.TheVariants.{NotEqual}
 use Rattle.msb_condition.specs.declared.condition.Function.{Function}
 use Rattle.msb_condition.specs.declared.tokens.Kind.{Kind}
-use Rattle.msb_condition.specs.declared.tokens.Kind.TheVariants.{Bang, Equals, Compare, Open, Close, Word, Quoted, Unended, Reference, Sign}
+use Rattle.msb_condition.specs.declared.tokens.Kind.TheVariants.{
+  Bang,
+  Equals,
+  Compare,
+  Open,
+  Close,
+  Word,
+  Quoted,
+  Unended,
+  Reference,
+  Sign,
+}
 use Rattle.msb_condition.specs.Tokens.{Token, is_and, is_or, keyword_len}
 use Rattle.msb_condition.specs.Grammar.{function_of, of_parts, inner_of}
 use Rattle.msb_condition.specs.Trees.{Operand, call, Tree, either, both, negated, compared, truth}
 
--- why a condition is not read: a byte that can't stand there, or the fault of an expression in it, with its place
+-- why a condition is not read: a byte that can't stand there, or the fault of an expression in it,
+-- with its place
 pub data Refusal : Type 0 where
   syntax : ℕ → Refusal
   inside : ExprFault → Refusal
@@ -28,8 +68,8 @@ pub data Frame : Type 0 where
   comparison_of : Comparison → (left : Operand) → Frame
   call_of : Function → Frame
 
--- what is read last: nothing or what wants an operand; the name of a function, which may also be a word; an operand; a
--- tree that no comparison can be a part of
+-- what is read last: nothing or what wants an operand; the name of a function, which may also be a
+-- word; an operand; a tree that no comparison can be a part of
 pub data State : Type 0 where
   wants : State
   named : Function → (word : List ℕ) → State
@@ -69,7 +109,8 @@ end_unary frames tree = go frames (done tree)
 
 -- an operand ends the comparison before it
 abbrev pub end_operand : List Frame → Operand → Next
-end_operand (comparison_of comparison left ∷ frames) right = end_unary frames (compared comparison left right)
+end_operand (comparison_of comparison left ∷ frames) right = end_unary frames
+    (compared comparison left right)
 end_operand frames right = go frames (operand right)
 
 -- the fault of a text that begins at a place
@@ -96,20 +137,23 @@ end_word frames word (Some function) = go frames (named function word)
 -- `and` and `or` may go on as longer words, so the byte behind them is bad
 abbrev pub word_step : List Frame → ℕ → List ℕ → Next
 word_step frames place word =
-    if is_and word || is_or word then stop (syntax (place + length word)) else end_word frames word (function_of word)
+    if is_and word || is_or word then stop (syntax (place + length word)) else end_word frames word
+    (function_of word)
 
 -- where an operand is wanted
 abbrev pub operand_step : List Frame → Kind → ℕ → List ℕ → Next
 operand_step frames Word place bytes = word_step frames place bytes
 operand_step frames Quoted place bytes = end_text frames (place + 1) (reading (inner_of bytes))
-operand_step frames Unended place bytes = end_unended (place + 1) (length bytes - 1) (reading (drop 1 bytes))
+operand_step frames Unended place bytes = end_unended (place + 1) (length bytes - 1)
+    (reading (drop 1 bytes))
 operand_step frames Reference place bytes = end_text frames place (reading bytes)
 operand_step frames Sign place bytes = stop (syntax (place + 1))
 operand_step frames _ place bytes = stop (syntax place)
 
 -- one more `!` or `(`, where there is room
 abbrev pub nested : List Frame → Frame → ℕ → Next
-nested frames frame place = if has_room frames then go (frame ∷ frames) wants else stop (syntax place)
+nested frames frame place = if has_room frames then go (frame ∷ frames) wants else stop
+    (syntax place)
 
 -- `!=` begins with a `!`
 abbrev pub nested_not_equal : List Frame → ℕ → Next
@@ -123,7 +167,8 @@ unary_step frames Open place bytes = nested frames group_of place
 unary_step frames kind place bytes = operand_step frames kind place bytes
 
 abbrev pub wants_step : List Frame → Kind → ℕ → List ℕ → Next
-wants_step frames kind place bytes = if wants_operand frames then operand_step frames kind place bytes else unary_step frames kind place bytes
+wants_step frames kind place bytes = if wants_operand frames then operand_step frames kind place
+    bytes else unary_step frames kind place bytes
 
 -- an `or` ends what stands before its `Or`
 abbrev pub end_or : List Frame → Tree → List Frame × Tree
@@ -152,10 +197,12 @@ on_tree next kind place bytes = next
 
 -- behind an operand that a comparison may follow
 abbrev pub comparable_step : List Frame → Operand → Kind → ℕ → List ℕ → Next
-comparable_step frames left (Compare comparison) place bytes = go (comparison_of comparison left ∷ frames) wants
+comparable_step frames left (Compare comparison) place bytes = go
+    (comparison_of comparison left ∷ frames) wants
 comparable_step frames left Equals place bytes = stop (syntax (place + 1))
 comparable_step frames left Bang place bytes = stop (syntax (place + 1))
-comparable_step frames left kind place bytes = on_tree (end_unary frames (truth left)) kind place bytes
+comparable_step frames left kind place bytes = on_tree (end_unary frames (truth left)) kind place
+    bytes
 
 -- behind the operand of a function
 abbrev pub call_step : List Frame → Function → Operand → Kind → ℕ → Next
@@ -164,7 +211,8 @@ call_step frames function inner _ place = stop (syntax place)
 
 -- behind an operand
 abbrev pub behind_step : List Frame → Operand → Kind → ℕ → List ℕ → Next
-behind_step (call_of function ∷ frames) inner kind place bytes = call_step frames function inner kind place
+behind_step (call_of function ∷ frames) inner kind place bytes = call_step frames function inner
+    kind place
 behind_step frames left kind place bytes = comparable_step frames left kind place bytes
 
 -- behind an operand, or the tree that it ended
@@ -175,11 +223,13 @@ on_operand next kind place bytes = on_tree next kind place bytes
 -- behind the name of a function, which is a word where no `(` follows
 abbrev pub named_step : List Frame → Function → List ℕ → Kind → ℕ → List ℕ → Next
 named_step frames function word Open place bytes = nested frames (call_of function) place
-named_step frames function word kind place bytes = on_operand (end_operand frames (of_parts (Plain word ∷ []))) kind place bytes
+named_step frames function word kind place bytes = on_operand
+    (end_operand frames (of_parts (Plain word ∷ []))) kind place bytes
 
 abbrev pub step_of : List Frame → State → Kind → ℕ → List ℕ → Next
 step_of frames wants kind place bytes = wants_step frames kind place bytes
-step_of frames (named function word) kind place bytes = named_step frames function word kind place bytes
+step_of frames (named function word) kind place bytes = named_step frames function word kind place
+    bytes
 step_of frames (operand left) kind place bytes = behind_step frames left kind place bytes
 step_of frames (done tree) kind place bytes = tree_step frames tree kind place bytes
 
@@ -202,7 +252,8 @@ finish_operand len next = finish_tree len next
 
 abbrev pub finish : ℕ → List Frame → State → Result Tree Refusal
 finish len frames wants = Err (syntax len)
-finish len frames (named function word) = finish_operand len (end_operand frames (of_parts (Plain word ∷ [])))
+finish len frames (named function word) = finish_operand len
+    (end_operand frames (of_parts (Plain word ∷ [])))
 finish len frames (operand left) = finish_left len frames left
 finish len frames (done tree) = finish_tree len (go frames (done tree))
 
@@ -213,4 +264,5 @@ on (stop refusal) more = Err refusal
 -- the tokens that are left, of a text of this length
 abbrev pub run : ℕ → List Token → List Frame → State → Result Tree Refusal
 run len [] frames state = finish len frames state
-run len (token ∷ tokens) frames state = on (step_of frames state token.kind token.place token.bytes) (run len tokens)
+run len (token ∷ tokens) frames state = on (step_of frames state token.kind token.place token.bytes)
+    (run len tokens)

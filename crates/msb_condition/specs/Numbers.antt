@@ -1,5 +1,28 @@
 -- Texts as numbers, exactly. (MSBuild conditions.)
-use Rattle.std.specs.Prelude.{ℕ, ◌+◌, ◌-◌, ◌*◌, ◌^◌, Bool, true, false, ◌&&◌, ◌==◌, nat_lt, nat_le, List, [], ◌∷◌, length, drop, Option, Some, None, option_map, if◌then◌else◌}
+use Rattle.std.specs.Prelude.{
+  ℕ,
+  ◌+◌,
+  ◌-◌,
+  ◌*◌,
+  ◌^◌,
+  Bool,
+  true,
+  false,
+  ◌&&◌,
+  ◌==◌,
+  nat_lt,
+  nat_le,
+  List,
+  [],
+  ◌∷◌,
+  length,
+  drop,
+  Option,
+  Some,
+  None,
+  option_map,
+  if◌then◌else◌,
+}
 use Rattle.std.specs.List.{list_all, before_first, after_first, position_or_len}
 use Rattle.std.specs.Char.{digit_value}
 use Rattle.std.specs.Str.Parse.{digits_value}
@@ -11,11 +34,13 @@ is_digit radix b = nat_lt (digit_value b) radix
 
 -- from 1 to so many digits
 abbrev pub are_digits : ℕ → ℕ → List ℕ → Bool
-are_digits radix most digits = nat_lt 0 (length digits) && nat_le (length digits) most && list_all (is_digit radix) digits
+are_digits radix most digits = nat_lt 0 (length digits) && nat_le (length digits) most
+    && list_all (is_digit radix) digits
 
 -- what they write
 abbrev pub written : ℕ → ℕ → List ℕ → Option ℕ
-written radix most digits = if are_digits radix most digits then Some (digits_value radix digits) else None
+written radix most digits = if are_digits radix most digits then Some (digits_value radix digits)
+    else None
 
 -- a number by its sign and its size, in units of 10^-18
 abbrev pub of_size : Bool → ℕ → Number
@@ -37,7 +62,8 @@ whole_number negative digits = of_whole negative (written 10 18 digits)
 
 -- a whole, and so many digits behind the point
 abbrev pub of_parts : Bool → ℕ → Option ℕ → Option ℕ → Option Number
-of_parts negative digits (Some whole) (Some fraction) = Some (of_size negative (whole * 10 ^ 18 + fraction * 10 ^ (18 - digits)))
+of_parts negative digits (Some whole) (Some fraction) = Some
+    (of_size negative (whole * 10 ^ 18 + fraction * 10 ^ (18 - digits)))
 of_parts negative digits (Some whole) None = None
 of_parts negative digits None fraction = None
 

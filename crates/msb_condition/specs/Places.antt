@@ -1,16 +1,42 @@
 -- The tokens of a text from a place on, as the code finds them.
-use Rattle.std.specs.Prelude.{◌≡◌, ℕ, ◌+◌, ◌-◌, ◌<◌, List, [], ◌∷◌, length, take, drop, Option, Some, None}
+use Rattle.std.specs.Prelude.{
+  ◌≡◌,
+  ℕ,
+  ◌+◌,
+  ◌-◌,
+  ◌<◌,
+  List,
+  [],
+  ◌∷◌,
+  length,
+  take,
+  drop,
+  Option,
+  Some,
+  None,
+}
 use Rattle.std.specs.Str.{IsCharBoundary}
 use Rattle.msb_condition.specs.declared.condition.Comparison.TheVariants.{Less, Greater}
 use Rattle.msb_condition.specs.declared.extents.Inside.TheVariants as inside
 use Rattle.msb_condition.specs.declared.tokens.Kind.{Kind}
-use Rattle.msb_condition.specs.declared.tokens.Kind.TheVariants.{Compare, Word, Quoted, Unended, Reference}
+use Rattle.msb_condition.specs.declared.tokens.Kind.TheVariants.{
+  Compare,
+  Word,
+  Quoted,
+  Unended,
+  Reference,
+}
 use Rattle.msb_condition.specs.declared.tokens.Token as code
 use Rattle.msb_condition.specs.Extents.{text_len}
 use Rattle.msb_condition.specs.Tokens.{Token, tokens_from}
 
 abbrev pub token_in : List ℕ → code.Token → Token
-token_in text token = record { kind = token.kind; place = token.start; bytes = take (token.end - token.start) (drop token.start text) }
+token_in text token = record {
+  kind = token.kind;
+  place = token.start;
+  bytes = take (token.end - token.start)
+      (drop token.start text);
+}
 
 abbrev pub tokens_at : ℕ → List ℕ → List Token
 tokens_at place text = tokens_from place 0 (drop place text)
@@ -32,9 +58,12 @@ Fits _ rest = Unit {0}
 -- the text can be cut at the ends of what a token is read of
 abbrev pub IsCutBy : Kind → List ℕ → ℕ → ℕ → Type 0
 IsCutBy Word text start end = (start < end) × IsCharBoundary text start × IsCharBoundary text end
-IsCutBy Quoted text start end = (start + 1 < end) × IsCharBoundary text (start + 1) × IsCharBoundary text (end - 1)
-IsCutBy Unended text start end = (start < end) × IsCharBoundary text (start + 1) × (end ≡ length text)
-IsCutBy Reference text start end = (start < end) × IsCharBoundary text start × IsCharBoundary text end
+IsCutBy Quoted text start end = (start + 1 < end) × IsCharBoundary text (start + 1)
+    × IsCharBoundary text (end - 1)
+IsCutBy Unended text start end = (start < end) × IsCharBoundary text (start + 1)
+    × (end ≡ length text)
+IsCutBy Reference text start end = (start < end) × IsCharBoundary text start
+    × IsCharBoundary text end
 IsCutBy _ text start end = Unit {0}
 
 abbrev pub IsCut : List ℕ → code.Token → Type 0

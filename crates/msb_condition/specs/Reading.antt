@@ -2,7 +2,12 @@
 use Rattle.std.specs.Prelude.{◌≡◌, ℕ, List, [], ◌∷◌, Result, Ok, Err, length}
 use Rattle.msb_condition.specs.declared.condition.Cond.{Cond}
 use Rattle.msb_condition.specs.declared.faults.CondFault.{CondFault}
-use Rattle.msb_condition.specs.declared.faults.CondFault.TheVariants.{Syntax, NotBoolean, NotNumbers, Expand}
+use Rattle.msb_condition.specs.declared.faults.CondFault.TheVariants.{
+  Syntax,
+  NotBoolean,
+  NotNumbers,
+  Expand,
+}
 use Rattle.msb_condition.specs.declared.faults.CondFault.TheVariants as fault
 use Rattle.msb_expand.specs.declared.faults.ExpandFault.TheVariants.{Expr}
 use Rattle.msb_condition.specs.Tokens.{Token, tokens_of}

@@ -1,7 +1,19 @@
--- The texts of a condition, from the left, also of what evaluation does not reach. (MSBuild conditions; MSBuild batching)
+-- The texts of a condition, from the left, also of what evaluation does not reach. (MSBuild
+-- conditions; MSBuild batching)
 use Rattle.std.specs.Prelude.{List, [], ◌∷◌, ◌++◌}
 use Rattle.msb_expression.specs.declared.expression.Expr.{Expr}
-use Rattle.msb_condition.specs.Trees.{Operand, text, call, Tree, empty, either, both, negated, compared, truth}
+use Rattle.msb_condition.specs.Trees.{
+  Operand,
+  text,
+  call,
+  Tree,
+  empty,
+  either,
+  both,
+  negated,
+  compared,
+  truth,
+}
 
 -- the text of an operand, which functions may stand around
 abbrev pub expr_of : Operand → Expr

@@ -1,11 +1,51 @@
 -- The tokens of a condition, with spaces, tabs, CR and LF between them.
-use Rattle.std.specs.Prelude.{ℕ, suc, zero, ◌+◌, Bool, true, false, ◌||◌, ◌==◌, nat_lt, nat_le, ◌&&◌, List, [], ◌∷◌, length, take, drop, codes, if◌then◌else◌}
+use Rattle.std.specs.Prelude.{
+  ℕ,
+  suc,
+  zero,
+  ◌+◌,
+  Bool,
+  true,
+  false,
+  ◌||◌,
+  ◌==◌,
+  nat_lt,
+  nat_le,
+  ◌&&◌,
+  List,
+  [],
+  ◌∷◌,
+  length,
+  take,
+  drop,
+  codes,
+  if◌then◌else◌,
+}
 use Rattle.std.specs.List.{prefix_len, common_prefix_len}
 use Rattle.std.specs.Char.{eq_ignore_ascii_case}
 use Rattle.std.specs.Str.{str_eq_ignore_ascii_case}
-use Rattle.msb_condition.specs.declared.condition.Comparison.TheVariants.{Equal, NotEqual, Less, Greater, LessOrEqual, GreaterOrEqual}
+use Rattle.msb_condition.specs.declared.condition.Comparison.TheVariants.{
+  Equal,
+  NotEqual,
+  Less,
+  Greater,
+  LessOrEqual,
+  GreaterOrEqual,
+}
 use Rattle.msb_condition.specs.declared.tokens.Kind.{Kind}
-use Rattle.msb_condition.specs.declared.tokens.Kind.TheVariants.{Bang, Equals, Compare, Open, Close, Word, Quoted, Unended, Reference, Sign, Other}
+use Rattle.msb_condition.specs.declared.tokens.Kind.TheVariants.{
+  Bang,
+  Equals,
+  Compare,
+  Open,
+  Close,
+  Word,
+  Quoted,
+  Unended,
+  Reference,
+  Sign,
+  Other,
+}
 use Rattle.msb_condition.specs.declared.extents.Inside.TheVariants as inside
 use Rattle.msb_condition.specs.Extents.{text_len, reference_len}
 
@@ -66,7 +106,8 @@ abbrev pub size_of : ℕ → List ℕ → ℕ
 size_of b rest = more_of (kind_of b rest) rest
 
 abbrev pub token_of : ℕ → ℕ → List ℕ → Token
-token_of place b rest = record { kind = kind_of b rest; place = place; bytes = b ∷ take (size_of b rest) rest }
+token_of place b rest = record
+    { kind = kind_of b rest; place = place; bytes = b ∷ take (size_of b rest) rest }
 
 -- the tokens of a text that begins at a place, behind so many bytes of the token before
 abbrev pub tokens_from : (place skipped : ℕ) → List ℕ → List Token
@@ -89,4 +130,5 @@ is_or word = str_eq_ignore_ascii_case word (codes "or")
 
 -- how many bytes of a word begin `and` or `or`
 abbrev pub keyword_len : List ℕ → ℕ
-keyword_len word = common_prefix_len eq_ignore_ascii_case word (codes "and") + common_prefix_len eq_ignore_ascii_case word (codes "or")
+keyword_len word = common_prefix_len eq_ignore_ascii_case word (codes "and")
+    + common_prefix_len eq_ignore_ascii_case word (codes "or")

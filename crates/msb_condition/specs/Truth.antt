@@ -1,5 +1,25 @@
 -- Whether a condition is true, from the left, or its first fault. (MSBuild conditions.)
-use Rattle.std.specs.Prelude.{ℕ, Bool, true, false, not, ◌&&◌, ◌==◌, List, [], ◌∷◌, length, codes, slice_index, Option, Some, None, Result, Ok, Err}
+use Rattle.std.specs.Prelude.{
+  ℕ,
+  Bool,
+  true,
+  false,
+  not,
+  ◌&&◌,
+  ◌==◌,
+  List,
+  [],
+  ◌∷◌,
+  length,
+  codes,
+  slice_index,
+  Option,
+  Some,
+  None,
+  Result,
+  Ok,
+  Err,
+}
 use Rattle.msb_paths.specs.Presence.{is_there}
 use Rattle.msb_paths.specs.Refused.{normal_path}
 use Rattle.msb_paths.specs.Segments.{is_separator}
@@ -12,14 +32,36 @@ use Rattle.msb_expand.specs.Scenes.{Scene}
 use Rattle.msb_expand.specs.Values.{text_value}
 use Rattle.msb_laws.specs.Results.{and_then, map_ok}
 use Rattle.msb_condition.specs.declared.condition.Comparison.{Comparison}
-use Rattle.msb_condition.specs.declared.condition.Comparison.TheVariants.{Equal, NotEqual, Less, Greater, LessOrEqual, GreaterOrEqual}
+use Rattle.msb_condition.specs.declared.condition.Comparison.TheVariants.{
+  Equal,
+  NotEqual,
+  Less,
+  Greater,
+  LessOrEqual,
+  GreaterOrEqual,
+}
 use Rattle.msb_condition.specs.declared.condition.Function.{Function}
 use Rattle.msb_condition.specs.declared.condition.Function.TheVariants.{Exists, HasTrailingSlash}
 use Rattle.msb_condition.specs.declared.faults.CondFault.{CondFault}
-use Rattle.msb_condition.specs.declared.faults.CondFault.TheVariants.{NotBoolean, NotNumbers, Expand}
+use Rattle.msb_condition.specs.declared.faults.CondFault.TheVariants.{
+  NotBoolean,
+  NotNumbers,
+  Expand,
+}
 use Rattle.msb_condition.specs.declared.numbers.Number.{Number}
 use Rattle.msb_condition.specs.Numbers.{number_of, is_less, is_equal}
-use Rattle.msb_condition.specs.Trees.{Operand, text, call, Tree, empty, either, both, negated, compared, truth}
+use Rattle.msb_condition.specs.Trees.{
+  Operand,
+  text,
+  call,
+  Tree,
+  empty,
+  either,
+  both,
+  negated,
+  compared,
+  truth,
+}
 
 -- what a condition sees: the scope, the folder that Exists starts from, and the paths of the files
 pub record View : Type 0 where
@@ -55,7 +97,8 @@ unescaped_text (Err fault) = Err (Expand fault)
 -- an operand as a text, without its escapes
 abbrev pub operand_text : View → Operand → Result (List ℕ) CondFault
 operand_text view (text expr) = unescaped_text (text_value view.scene expr.parts)
-operand_text view (call function inner) = map_ok (λ value. shown (function_result view function value)) (operand_text view inner)
+operand_text view (call function inner) = map_ok
+    (λ value. shown (function_result view function value)) (operand_text view inner)
 
 abbrev pub boolean_or_fault : List ℕ → Option Bool → Result Bool CondFault
 boolean_or_fault value (Some b) = Ok b
@@ -92,7 +135,8 @@ in_order Equal a b = is_equal a b
 in_order NotEqual a b = not (is_equal a b)
 
 -- the order comparisons need two numbers
-abbrev pub ordered : Comparison → List ℕ → List ℕ → Option Number → Option Number → Result Bool CondFault
+abbrev pub ordered : Comparison → List ℕ → List ℕ → Option Number → Option Number
+    → Result Bool CondFault
 ordered comparison left right (Some a) (Some b) = Ok (in_order comparison a b)
 ordered comparison left right (Some a) None = Err (NotNumbers left right)
 ordered comparison left right None b = Err (NotNumbers left right)
@@ -119,7 +163,8 @@ truth_of view (either left right) = or_else (truth_of view left) (truth_of view 
 truth_of view (both left right) = and_also (truth_of view left) (truth_of view right)
 truth_of view (negated tree) = map_ok not (truth_of view tree)
 truth_of view (compared comparison left right) =
-    and_then (operand_text view left) (λ a. and_then (operand_text view right) (λ b. compare comparison a b))
+    and_then (operand_text view left)
+    (λ a. and_then (operand_text view right) (λ b. compare comparison a b))
 truth_of view (truth operand) = and_then (operand_text view operand) is_true
 
 -- the truth of several conditions, of which any is enough

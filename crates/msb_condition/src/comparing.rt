@@ -21,7 +21,8 @@ pub(crate) fn compare(comparison: Comparison, left: Text, right: Text) -> Result
 
 /// Whether two texts are numbers in this order.
 fn ordered(comparison: Comparison, left: Text, right: Text) -> Result<bool, CondFault>
-    ensures { Gives result (ordered comparison left right (numbers.number_of left) (numbers.number_of right)) }
+    ensures { Gives result
+        (ordered comparison left right (numbers.number_of left) (numbers.number_of right)) }
 {
     match number_of(left.as_str().as_bytes()) {
         Some(a) => match number_of(right.as_str().as_bytes()) {
@@ -45,7 +46,8 @@ fn in_order(comparison: Comparison, left: Number, right: Number) -> bool
     }
 }
 
-/// Whether two texts are equal, as numbers if both are, else as truth values if both are, and else without case.
+/// Whether two texts are equal, as numbers if both are, else as truth values if both are, and else
+/// without case.
 fn equal(left: &str, right: &str) -> bool
     ensures { result ≡ equal left.now right.now }
 {

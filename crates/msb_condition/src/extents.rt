@@ -101,7 +101,8 @@ pub(crate) fn text_len(text: &[u8]) -> usize
     text.len()
 }
 
-/// How many bytes a reference has behind its first `(`, through the `)` that closes it, or to the end where there is none.
+/// How many bytes a reference has behind its first `(`, through the `)` that closes it, or to the
+/// end where there is none.
 pub(crate) fn reference_len(text: &[u8]) -> usize
     ensures value { result ≡ reference_len (Reference 0) text.now }
     ensures within { result ≤ length text.now }

@@ -9,7 +9,8 @@ use std::alloc::AllocFailed;
 /// Why a condition is not read, or has no truth value.
 #[derive(Drop)]
 pub enum CondFault {
-    /// The place of the first byte at which no text that begins so is a condition, or the text's length.
+    /// The place of the first byte at which no text that begins so is a condition, or the text's
+    /// length.
     Syntax(u64),
     /// A text that is needed as a truth value and is none.
     NotBoolean(Text),

@@ -5,7 +5,8 @@ use msb_paths::{NormalFault, Present, normal_path};
 use msb_values::NoMemory;
 use std::alloc::Global;
 
-/// Whether a text on a folder is the path of a file, or of a folder that a file lies below. (MSBuild conditions.)
+/// Whether a text on a folder is the path of a file, or of a folder that a file lies below.
+/// (MSBuild conditions.)
 pub(crate) fn exists<F: Present>(
     alloc: Global,
     folder: &str,

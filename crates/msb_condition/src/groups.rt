@@ -1,9 +1,57 @@
-ghost use Rattle.std.specs.Prelude.{◌≡◌, ℕ, ◌+◌, ◌-◌, ◌<◌, ◌≤◌, ◌^◌, true, false, List, [], ◌∷◌, Some, IfOk, IfSome, IfNone, IfErr, MatchOption, length, map};
+ghost use Rattle.std.specs.Prelude.{
+  ◌≡◌,
+  ℕ,
+  ◌+◌,
+  ◌-◌,
+  ◌<◌,
+  ◌≤◌,
+  ◌^◌,
+  true,
+  false,
+  List,
+  [],
+  ◌∷◌,
+  Some,
+  IfOk,
+  IfSome,
+  IfNone,
+  IfErr,
+  MatchOption,
+  length,
+  map,
+};
 ghost use Rattle.std.specs.List.{fold};
 ghost use Rattle.msb_condition.specs.declared.faults.CondFault.TheVariants.{Memory};
 ghost use Rattle.msb_condition.specs.declared.tokens.Kind.TheVariants as kind;
-ghost use Rattle.msb_condition.specs.Leads.{Leads, run_on, run_at, step_on, step_at, bytes_in, HasRoom, takes_or, takes_and, starts_and, starts_or, is_word, IsOrAt, IsAndAt};
-ghost use Rattle.msb_condition.specs.Machine.{Frame, not_of, group_of, operand, done, wants, wants_operand, end_unary, nested, unary_step, tree_step};
+ghost use Rattle.msb_condition.specs.Leads.{
+  Leads,
+  run_on,
+  run_at,
+  step_on,
+  step_at,
+  bytes_in,
+  HasRoom,
+  takes_or,
+  takes_and,
+  starts_and,
+  starts_or,
+  is_word,
+  IsOrAt,
+  IsAndAt,
+};
+ghost use Rattle.msb_condition.specs.Machine.{
+  Frame,
+  not_of,
+  group_of,
+  operand,
+  done,
+  wants,
+  wants_operand,
+  end_unary,
+  nested,
+  unary_step,
+  tree_step,
+};
 ghost use Rattle.msb_condition.specs.Places.{tokens_at, IsNext, IsCut};
 ghost use Rattle.msb_condition.specs.Tokens.{is_and, is_or};
 ghost use Rattle.msb_condition.specs.Reading.{IsRefused};
@@ -27,7 +75,8 @@ pub(crate) fn or(
 ) -> Result<(Cond, usize), CondFault>
     requires { at ≤ length text.now }
     ensures leads { (frames : List Frame) → HasRoom frames room → takes_or frames ≡ true
-        → Leads text.now result (run_at text.now at frames wants) (λ cond tokens. run_on text.now tokens frames (done (tree_of cond))) }
+        → Leads text.now result (run_at text.now at frames wants)
+        (λ cond tokens. run_on text.now tokens frames (done (tree_of cond))) }
     ensures no_and { IfOk result (λ found. starts_and (tokens_at found.1 text.now) ≡ false) }
     ensures no_or { IfOk result (λ found. starts_or (tokens_at found.1 text.now) ≡ false) }
     ensures after { IfOk result (λ found. at ≤ found.1) }
@@ -43,9 +92,11 @@ pub(crate) fn or(
 fn more_or(alloc: Global, text: &str, at: usize, room: u64) -> Result<(Vec<Cond>, usize), CondFault>
     requires within { at ≤ length text.now }
     requires no_and { starts_and (tokens_at at text.now) ≡ false }
-    ensures leads { (frames : List Frame) (left : Tree) → HasRoom frames room → takes_or frames ≡ true
+    ensures leads { (frames : List Frame) (left : Tree) → HasRoom frames room
+        → takes_or frames ≡ true
         → Leads text.now result (run_at text.now at frames (done left))
-        (λ others tokens. run_on text.now tokens frames (done (fold either left (map tree_of others.items)))) }
+        (λ others tokens. run_on text.now tokens frames
+        (done (fold either left (map tree_of others.items)))) }
     ensures no_and { IfOk result (λ found. starts_and (tokens_at found.1 text.now) ≡ false) }
     ensures no_or { IfOk result (λ found. starts_or (tokens_at found.1 text.now) ≡ false) }
     ensures after { IfOk result (λ found. at ≤ found.1) }
@@ -63,7 +114,8 @@ fn more_or(alloc: Global, text: &str, at: usize, room: u64) -> Result<(Vec<Cond>
 
 /// A condition, or one that holds where any of several do.
 fn any_of(alloc: Global, first: Cond, others: Vec<Cond>) -> Result<Cond, CondFault>
-    ensures tree { IfOk result (λ cond. tree_of cond ≡ fold either (tree_of first) (map tree_of others.items)) }
+    ensures tree { IfOk result (λ cond. tree_of cond
+        ≡ fold either (tree_of first) (map tree_of others.items)) }
     ensures memory { IfErr result (λ fault. fault ≡ Memory) }
 {
     if others.is_empty() {
@@ -77,7 +129,8 @@ fn any_of(alloc: Global, first: Cond, others: Vec<Cond>) -> Result<Cond, CondFau
 fn and(alloc: Global, text: &str, at: usize, room: u64) -> Result<(Cond, usize), CondFault>
     requires { at ≤ length text.now }
     ensures leads { (frames : List Frame) → HasRoom frames room → takes_and frames ≡ true
-        → Leads text.now result (run_at text.now at frames wants) (λ cond tokens. run_on text.now tokens frames (done (tree_of cond))) }
+        → Leads text.now result (run_at text.now at frames wants)
+        (λ cond tokens. run_on text.now tokens frames (done (tree_of cond))) }
     ensures no_and { IfOk result (λ found. starts_and (tokens_at found.1 text.now) ≡ false) }
     ensures after { IfOk result (λ found. at ≤ found.1) }
     ensures within { IfOk result (λ found. found.1 ≤ length text.now) }
@@ -96,9 +149,11 @@ fn more_and(
     room: u64,
 ) -> Result<(Vec<Cond>, usize), CondFault>
     requires within { at ≤ length text.now }
-    ensures leads { (frames : List Frame) (left : Tree) → HasRoom frames room → takes_and frames ≡ true
+    ensures leads { (frames : List Frame) (left : Tree) → HasRoom frames room
+        → takes_and frames ≡ true
         → Leads text.now result (run_at text.now at frames (done left))
-        (λ others tokens. run_on text.now tokens frames (done (fold both left (map tree_of others.items)))) }
+        (λ others tokens. run_on text.now tokens frames
+        (done (fold both left (map tree_of others.items)))) }
     ensures no_and { IfOk result (λ found. starts_and (tokens_at found.1 text.now) ≡ false) }
     ensures after { IfOk result (λ found. at ≤ found.1) }
     ensures within { IfOk result (λ found. found.1 ≤ length text.now) }
@@ -115,7 +170,8 @@ fn more_and(
 
 /// A condition, or one that holds where all of several do.
 fn all_of(alloc: Global, first: Cond, others: Vec<Cond>) -> Result<Cond, CondFault>
-    ensures tree { IfOk result (λ cond. tree_of cond ≡ fold both (tree_of first) (map tree_of others.items)) }
+    ensures tree { IfOk result (λ cond. tree_of cond
+        ≡ fold both (tree_of first) (map tree_of others.items)) }
     ensures memory { IfErr result (λ fault. fault ≡ Memory) }
 {
     if others.is_empty() {
@@ -165,7 +221,8 @@ fn and_end(text: &str, at: usize) -> Option<usize>
 fn unary(alloc: Global, text: &str, at: usize, room: u64) -> Result<(Cond, usize), CondFault>
     requires { at ≤ length text.now }
     ensures leads { (frames : List Frame) → HasRoom frames room → wants_operand frames ≡ false
-        → Leads text.now result (run_at text.now at frames wants) (λ cond tokens. step_on text.now (end_unary frames (tree_of cond)) tokens) }
+        → Leads text.now result (run_at text.now at frames wants)
+        (λ cond tokens. step_on text.now (end_unary frames (tree_of cond)) tokens) }
     ensures after { IfOk result (λ found. at ≤ found.1) }
     ensures within { IfOk result (λ found. found.1 ≤ length text.now) }
 {
@@ -183,11 +240,13 @@ fn unary(alloc: Global, text: &str, at: usize, room: u64) -> Result<(Cond, usize
     }
 }
 
-/// The refusal of a comparison without a left side. A `!=` is refused at its `=`, where a `!` has room.
+/// The refusal of a comparison without a left side. A `!=` is refused at its `=`, where a `!` has
+/// room.
 fn no_left_side(comparison: Comparison, start: usize, room: u64) -> CondFault
     requires { start < 2 ^ 63 }
     ensures { (frames : List Frame) (text bytes : List ℕ) (at : ℕ) → HasRoom frames room
-        → IsRefused result (step_at text (unary_step frames (kind.Compare comparison) start bytes) at) }
+        → IsRefused result
+        (step_at text (unary_step frames (kind.Compare comparison) start bytes) at) }
 {
     match comparison {
         Comparison::NotEqual if room > 0 => syntax(start + 1),
@@ -201,7 +260,8 @@ fn negation(alloc: Global, text: &str, bang: Token, room: u64) -> Result<(Cond, 
     requires order { bang.start < bang.end }
     requires within { bang.end ≤ length text.now }
     ensures leads { (frames : List Frame) → HasRoom frames room
-        → Leads text.now result (step_at text.now (nested frames not_of bang.start) bang.end) (λ cond tokens. step_on text.now (end_unary frames (tree_of cond)) tokens) }
+        → Leads text.now result (step_at text.now (nested frames not_of bang.start) bang.end)
+        (λ cond tokens. step_on text.now (end_unary frames (tree_of cond)) tokens) }
     ensures after { IfOk result (λ found. bang.end ≤ found.1) }
     ensures within { IfOk result (λ found. found.1 ≤ length text.now) }
 {
@@ -218,7 +278,9 @@ fn group(alloc: Global, text: &str, opening: Token, room: u64) -> Result<(Cond, 
     requires order { opening.start < opening.end }
     requires within { opening.end ≤ length text.now }
     ensures leads { (frames : List Frame) → HasRoom frames room
-        → Leads text.now result (step_at text.now (nested frames group_of opening.start) opening.end) (λ cond tokens. step_on text.now (end_unary frames (tree_of cond)) tokens) }
+        → Leads text.now result
+        (step_at text.now (nested frames group_of opening.start) opening.end)
+        (λ cond tokens. step_on text.now (end_unary frames (tree_of cond)) tokens) }
     ensures after { IfOk result (λ found. opening.end ≤ found.1) }
     ensures within { IfOk result (λ found. found.1 ≤ length text.now) }
 {
@@ -239,14 +301,19 @@ fn group(alloc: Global, text: &str, opening: Token, room: u64) -> Result<(Cond, 
     }
 }
 
-/// The refusal of a token behind an `or`: a word that begins like `and` or `or` is refused where it leaves them.
+/// The refusal of a token behind an `or`: a word that begins like `and` or `or` is refused where it
+/// leaves them.
 pub(crate) fn stray(text: &str, token: Token) -> CondFault
     requires order { token.start < token.end }
     requires within { token.end ≤ length text.now }
     requires cut { IsCut text.now token }
-    ensures { (frames : List Frame) (tree : Tree) → is_word is_and token.kind (bytes_in text.now token) ≡ false
-        → is_word is_or token.kind (bytes_in text.now token) ≡ false → (token.kind ≡ kind.Close → frames ≡ [])
-        → IsRefused result (step_at text.now (tree_step frames tree token.kind token.start (bytes_in text.now token)) token.end) }
+    ensures { (frames : List Frame) (tree : Tree)
+        → is_word is_and token.kind (bytes_in text.now token) ≡ false
+        → is_word is_or token.kind (bytes_in text.now token) ≡ false
+        → (token.kind ≡ kind.Close → frames ≡ [])
+        → IsRefused result
+        (step_at text.now (tree_step frames tree token.kind token.start (bytes_in text.now token))
+        token.end) }
 {
     match token.kind {
         Kind::Word => syntax(token.start + keyword_len(&text[token.start..token.end])),
@@ -254,7 +321,8 @@ pub(crate) fn stray(text: &str, token: Token) -> CondFault
     }
 }
 
-/// The comparison of an operand with the one behind `at`, if there is one, and else the operand as a truth value.
+/// The comparison of an operand with the one behind `at`, if there is one, and else the operand as
+/// a truth value.
 fn comparison(
     alloc: Global,
     text: &str,
@@ -264,7 +332,8 @@ fn comparison(
 ) -> Result<(Cond, usize), CondFault>
     requires { at ≤ length text.now }
     ensures leads { (frames : List Frame) → HasRoom frames room → wants_operand frames ≡ false
-        → Leads text.now result (run_at text.now at frames (operand (view.operand_of left))) (λ cond tokens. step_on text.now (end_unary frames (tree_of cond)) tokens) }
+        → Leads text.now result (run_at text.now at frames (operand (view.operand_of left)))
+        (λ cond tokens. step_on text.now (end_unary frames (tree_of cond)) tokens) }
     ensures after { IfOk result (λ found. at ≤ found.1) }
     ensures within { IfOk result (λ found. found.1 ≤ length text.now) }
 {
@@ -274,7 +343,8 @@ fn comparison(
     }
 }
 
-/// What an operand is where a token follows it behind `at`: the left side of a comparison, or a truth value.
+/// What an operand is where a token follows it behind `at`: the left side of a comparison, or a
+/// truth value.
 fn compared(
     alloc: Global,
     text: &str,
@@ -288,7 +358,8 @@ fn compared(
     requires order { token.start < token.end }
     requires within { token.end ≤ length text.now }
     ensures leads { (frames : List Frame) → HasRoom frames room → wants_operand frames ≡ false
-        → Leads text.now result (run_at text.now at frames (operand (view.operand_of left))) (λ cond tokens. step_on text.now (end_unary frames (tree_of cond)) tokens) }
+        → Leads text.now result (run_at text.now at frames (operand (view.operand_of left)))
+        (λ cond tokens. step_on text.now (end_unary frames (tree_of cond)) tokens) }
     ensures after { IfOk result (λ found. at ≤ found.1) }
     ensures within { IfOk result (λ found. found.1 ≤ length text.now) }
 {

@@ -1,6 +1,17 @@
 ghost use Rattle.std.specs.Prelude.{◌≡◌, ◌+◌, ◌-◌, ◌<◌, ◌≤◌, ◌*◌, ◌^◌, length, IfSome};
 ghost use Rattle.std.specs.List.{position_or_len};
-ghost use Rattle.msb_condition.specs.Numbers.{is_point, written, of_size, whole_number, parted_number, plain_number, hex_number, number_of, is_less, is_equal};
+ghost use Rattle.msb_condition.specs.Numbers.{
+  is_point,
+  written,
+  of_size,
+  whole_number,
+  parted_number,
+  plain_number,
+  hex_number,
+  number_of,
+  is_less,
+  is_equal,
+};
 
 /// A number, exactly. (MSBuild conditions.)
 #[derive(Clone, Copy)]
@@ -45,8 +56,8 @@ impl Number {
     }
 }
 
-/// The number that a text is, if it is one: an optional sign, digits, and optionally `.` and digits, with at most 18 digits
-/// in all; or `0x` and 1 to 16 hexadecimal digits.
+/// The number that a text is, if it is one: an optional sign, digits, and optionally `.` and
+/// digits, with at most 18 digits in all; or `0x` and 1 to 16 hexadecimal digits.
 pub(crate) fn number_of(text: &[u8]) -> Option<Number>
     ensures { result ≡ number_of text.now }
 {

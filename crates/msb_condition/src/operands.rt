@@ -1,4 +1,24 @@
-ghost use Rattle.std.specs.Prelude.{◌≡◌, ℕ, ◌+◌, ◌-◌, ◌<◌, ◌≤◌, ◌^◌, true, false, List, [], ◌∷◌, IfOk, IfErr, IfSome, IfNone, length, take, drop};
+ghost use Rattle.std.specs.Prelude.{
+  ◌≡◌,
+  ℕ,
+  ◌+◌,
+  ◌-◌,
+  ◌<◌,
+  ◌≤◌,
+  ◌^◌,
+  true,
+  false,
+  List,
+  [],
+  ◌∷◌,
+  IfOk,
+  IfErr,
+  IfSome,
+  IfNone,
+  length,
+  take,
+  drop,
+};
 ghost use Rattle.std.specs.Str.{IsCharBoundary};
 ghost use Rattle.msb_expression.specs.Reading.{reading};
 ghost use Rattle.msb_expression.specs.declared.expression.Part.TheVariants.{Plain};
@@ -7,9 +27,36 @@ ghost use Rattle.msb_condition.specs.declared.faults.CondFault.TheVariants.{Synt
 ghost use Rattle.msb_condition.specs.declared.condition.Function.{Function};
 ghost use Rattle.msb_condition.specs.declared.tokens.Kind.TheVariants as kind;
 ghost use Rattle.msb_condition.specs.Grammar.{of_parts};
-ghost use Rattle.msb_condition.specs.Leads.{Leads, GoesOn, run_at, step_on, step_at, bytes_in, HasRoom, IsOpenAt, starts_open, IsMoved, IsPlaced};
+ghost use Rattle.msb_condition.specs.Leads.{
+  Leads,
+  GoesOn,
+  run_at,
+  step_on,
+  step_at,
+  bytes_in,
+  HasRoom,
+  IsOpenAt,
+  starts_open,
+  IsMoved,
+  IsPlaced,
+};
 ghost use Rattle.msb_condition.specs.Machine as machine;
-ghost use Rattle.msb_condition.specs.Machine.{Frame, call_of, operand, wants, named, wants_operand, end_operand, end_text, end_unended, word_step, operand_step, nested, moved, inside};
+ghost use Rattle.msb_condition.specs.Machine.{
+  Frame,
+  call_of,
+  operand,
+  wants,
+  named,
+  wants_operand,
+  end_operand,
+  end_text,
+  end_unended,
+  word_step,
+  operand_step,
+  nested,
+  moved,
+  inside,
+};
 ghost use Rattle.msb_condition.specs.Places.{IsCut, tokens_at};
 ghost use Rattle.msb_condition.specs.Reading.{IsRefused};
 ghost use Rattle.msb_condition.specs.Trees as trees;
@@ -41,7 +88,8 @@ pub(crate) fn operand(
 ) -> Result<(Operand, usize), CondFault>
     requires { at ≤ length text.now }
     ensures leads { (frames : List Frame) → HasRoom frames room → wants_operand frames ≡ true
-        → Leads text.now result (run_at text.now at frames wants) (λ left tokens. step_on text.now (end_operand frames (view.operand_of left)) tokens) }
+        → Leads text.now result (run_at text.now at frames wants)
+        (λ left tokens. step_on text.now (end_operand frames (view.operand_of left)) tokens) }
     ensures after { IfOk result (λ found. at ≤ found.1) }
     ensures within { IfOk result (λ found. found.1 ≤ length text.now) }
 {
@@ -63,7 +111,10 @@ pub(crate) fn operand_of(
     requires order { token.start < token.end }
     requires cut { IsCut text.now token }
     ensures leads { (frames : List Frame) → HasRoom frames room
-        → Leads text.now result (step_at text.now (operand_step frames token.kind token.start (bytes_in text.now token)) token.end) (λ left tokens. step_on text.now (end_operand frames (view.operand_of left)) tokens) }
+        → Leads text.now result
+        (step_at text.now (operand_step frames token.kind token.start (bytes_in text.now token))
+        token.end)
+        (λ left tokens. step_on text.now (end_operand frames (view.operand_of left)) tokens) }
     ensures after { IfOk result (λ found. token.end ≤ found.1) }
     ensures within { IfOk result (λ found. found.1 ≤ length text.now) }
 {
@@ -90,7 +141,10 @@ fn expression(
     requires start_cut { IsCharBoundary text.now start }
     requires end_cut { IsCharBoundary text.now end }
     ensures leads { (frames : List Frame)
-        → Leads text.now result (step_at text.now (end_text frames start (reading (take (end - start) (drop start text.now)))) behind) (λ left tokens. step_on text.now (end_operand frames (view.operand_of left)) tokens) }
+        → Leads text.now result
+        (step_at text.now
+        (end_text frames start (reading (take (end - start) (drop start text.now)))) behind)
+        (λ left tokens. step_on text.now (end_operand frames (view.operand_of left)) tokens) }
     ensures behind { IfOk result (λ found. found.1 ≡ behind) }
 {
     match msb_expression::parse(alloc, &text[start..end]) {
@@ -99,10 +153,14 @@ fn expression(
     }
 }
 
-/// The refusal of a text that begins at `start` and has no quote at its end: its own, or the condition ends too early.
+/// The refusal of a text that begins at `start` and has no quote at its end: its own, or the
+/// condition ends too early.
 fn unended(alloc: Global, text: &str, start: usize) -> CondFault
     requires { IsCharBoundary text.now start }
-    ensures { (at : ℕ) → IsRefused result (step_at text.now (end_unended start (length text.now - start) (reading (drop start text.now))) at) }
+    ensures { (at : ℕ)
+        → IsRefused result
+        (step_at text.now
+        (end_unended start (length text.now - start) (reading (drop start text.now))) at) }
 {
     match msb_expression::parse(alloc, &text[start..]) {
         Ok(_) => syntax(text.len()),
@@ -135,14 +193,17 @@ fn moved(start: u64, fault: ExprFault) -> ExprFault
     }
 }
 
-/// The operand that begins with a word: the word itself, or the function of this name where a `(` follows.
+/// The operand that begins with a word: the word itself, or the function of this name where a `(`
+/// follows.
 #[cycle(operand)]
 fn word(alloc: Global, text: &str, token: Token, room: u64) -> Result<(Operand, usize), CondFault>
     requires kind { token.kind ≡ kind.Word }
     requires within { token.end ≤ length text.now }
     requires cut { IsCut text.now token }
     ensures leads { (frames : List Frame) → HasRoom frames room
-        → Leads text.now result (step_at text.now (word_step frames token.start (bytes_in text.now token)) token.end) (λ left tokens. step_on text.now (end_operand frames (view.operand_of left)) tokens) }
+        → Leads text.now result
+        (step_at text.now (word_step frames token.start (bytes_in text.now token)) token.end)
+        (λ left tokens. step_on text.now (end_operand frames (view.operand_of left)) tokens) }
     ensures after { IfOk result (λ found. token.end ≤ found.1) }
     ensures within { IfOk result (λ found. found.1 ≤ length text.now) }
 {
@@ -180,7 +241,9 @@ fn named(
     requires within { token.end ≤ length text.now }
     requires cut { IsCut text.now token }
     ensures leads { (frames : List Frame) → HasRoom frames room
-        → Leads text.now result (run_at text.now token.end frames (named function (bytes_in text.now token))) (λ left tokens. step_on text.now (end_operand frames (view.operand_of left)) tokens) }
+        → Leads text.now result
+        (run_at text.now token.end frames (named function (bytes_in text.now token)))
+        (λ left tokens. step_on text.now (end_operand frames (view.operand_of left)) tokens) }
     ensures after { IfOk result (λ found. token.end ≤ found.1) }
     ensures within { IfOk result (λ found. found.1 ≤ length text.now) }
 {
@@ -221,7 +284,8 @@ fn call(
     requires order { start < at }
     requires within { at ≤ length text.now }
     ensures leads { (frames : List Frame) → HasRoom frames room
-        → Leads text.now result (step_at text.now (nested frames (call_of function) start) at) (λ left tokens. step_on text.now (end_operand frames (view.operand_of left)) tokens) }
+        → Leads text.now result (step_at text.now (nested frames (call_of function) start) at)
+        (λ left tokens. step_on text.now (end_operand frames (view.operand_of left)) tokens) }
     ensures after { IfOk result (λ found. at ≤ found.1) }
     ensures within { IfOk result (λ found. found.1 ≤ length text.now) }
 {

@@ -12,9 +12,10 @@ use std::alloc::Global;
 
 /// Reads a condition. (MSBuild conditions.)
 ///
-/// Words and functions are without case, and a word goes as far as it can. A condition nests at most 64 `!` and `(`.
-/// A text that has no reading is refused as [`CondFault::Syntax`] at the first byte such that no text that begins with all
-/// bytes through it has one, or at its length; or, where that comes no later, by the fault of an expression in it.
+/// Words and functions are without case, and a word goes as far as it can. A condition nests at
+/// most 64 `!` and `(`. A text that has no reading is refused as [`CondFault::Syntax`] at the first
+/// byte such that no text that begins with all bytes through it has one, or at its length; or,
+/// where that comes no later, by the fault of an expression in it.
 pub fn parse(alloc: Global, text: &str) -> Result<Cond, CondFault>
     // What is read is a reading, and the only one.
     ensures found { IfOk result (λ cond. IsCondition text.now (tree_of cond)) }

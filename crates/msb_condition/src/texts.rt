@@ -8,11 +8,12 @@ use msb_expression::Expr;
 use msb_values::NoMemory;
 
 impl Cond {
-    /// Puts the condition's texts behind others, from the left, also those that evaluation does not reach.
-    /// (MSBuild conditions; MSBuild batching.)
+    /// Puts the condition's texts behind others, from the left, also those that evaluation does not
+    /// reach. (MSBuild conditions; MSBuild batching.)
     #[cycle(texts)]
     pub fn push_texts<'c>(&'c self, texts: &mut Vec<&'c Expr>) -> Result<(), NoMemory>
-        ensures { OnOk result (map (λ text. text.now) texts.new.items ≡ map (λ text. text.now) texts.old.items ++ texts_of (tree_of self.now)) }
+        ensures { OnOk result (map (λ text. text.now) texts.new.items
+            ≡ map (λ text. text.now) texts.old.items ++ texts_of (tree_of self.now)) }
     {
         match self {
             Cond::Empty => Ok(()),
@@ -36,7 +37,8 @@ impl Cond {
 
 #[cycle(texts)]
 fn push_all_texts<'c>(conds: &'c [Cond], texts: &mut Vec<&'c Expr>) -> Result<(), NoMemory>
-    ensures { OnOk result (map (λ text. text.now) texts.new.items ≡ map (λ text. text.now) texts.old.items ++ flat_map texts_of (map tree_of conds.now)) }
+    ensures { OnOk result (map (λ text. text.now) texts.new.items
+        ≡ map (λ text. text.now) texts.old.items ++ flat_map texts_of (map tree_of conds.now)) }
 {
     for cond in conds {
         cond.push_texts(texts)?;

@@ -1,7 +1,15 @@
 ghost use Rattle.std.specs.Prelude.{◌≡◌, ◌<◌, ◌≤◌, false, IfSome, length, drop};
 ghost use Rattle.std.specs.List.{prefix_len};
 ghost use Rattle.msb_condition.specs.Places.{IsNext, IsCut, Fits, tokens_at};
-ghost use Rattle.msb_condition.specs.Tokens.{is_space, is_word_byte, begins_with, joined, quoted_kind, kind_of, more_of};
+ghost use Rattle.msb_condition.specs.Tokens.{
+  is_space,
+  is_word_byte,
+  begins_with,
+  joined,
+  quoted_kind,
+  kind_of,
+  more_of,
+};
 
 use crate::Comparison;
 use crate::extents::{reference_len, text_len};

@@ -1,6 +1,12 @@
 ghost use Rattle.std.specs.Prelude.{map};
 ghost use Rattle.msb_condition.specs.Answers.{Gives, view_of};
-ghost use Rattle.msb_condition.specs.Truth.{truth_of, any_truth, every_truth, operand_text as text_of, is_true as truth_value};
+ghost use Rattle.msb_condition.specs.Truth.{
+  truth_of,
+  any_truth,
+  every_truth,
+  operand_text as text_of,
+  is_true as truth_value,
+};
 ghost use Rattle.msb_condition.specs.View.{tree_of, operand_of};
 ghost use Rattle.msb_laws.specs.Results.{and_then};
 
@@ -12,10 +18,11 @@ use msb_paths::Present;
 use msb_values::truth_of;
 use std::alloc::Global;
 
-/// Whether a condition is true in a scope and a view of files, or its first fault from the left. What comes behind the
-/// place where the truth is known is not looked at. (MSBuild conditions.)
+/// Whether a condition is true in a scope and a view of files, or its first fault from the left.
+/// What comes behind the place where the truth is known is not looked at. (MSBuild conditions.)
 ///
-/// `Exists` is true of the path of a file, or of a folder that a file lies below; its text is a path on the lens's folder.
+/// `Exists` is true of the path of a file, or of a folder that a file lies below; its text is a
+/// path on the lens's folder.
 #[cycle(holds)]
 pub fn holds<F: Present>(
     alloc: Global,
@@ -57,7 +64,8 @@ fn any_holds<F: Present>(
     files: &F,
     conds: &[Cond],
 ) -> Result<bool, CondFault>
-    ensures { Gives result (any_truth (view_of lens.now (F.files files.now)) (map tree_of conds.now)) }
+    ensures { Gives result
+        (any_truth (view_of lens.now (F.files files.now)) (map tree_of conds.now)) }
 {
     for cond in conds {
         if holds(alloc, lens, files, cond)? {
@@ -75,7 +83,8 @@ fn all_hold<F: Present>(
     files: &F,
     conds: &[Cond],
 ) -> Result<bool, CondFault>
-    ensures { Gives result (every_truth (view_of lens.now (F.files files.now)) (map tree_of conds.now)) }
+    ensures { Gives result
+        (every_truth (view_of lens.now (F.files files.now)) (map tree_of conds.now)) }
 {
     for cond in conds {
         if !holds(alloc, lens, files, cond)? {
@@ -92,7 +101,9 @@ fn is_true<F: Present>(
     files: &F,
     operand: &Operand,
 ) -> Result<bool, CondFault>
-    ensures { Gives result (and_then (text_of (view_of lens.now (F.files files.now)) (operand_of operand.now)) truth_value) }
+    ensures { Gives result
+        (and_then (text_of (view_of lens.now (F.files files.now)) (operand_of operand.now))
+        truth_value) }
 {
     let value = operand_text(alloc, lens, files, operand)?;
     match truth_of(value.as_str()) {

@@ -20,7 +20,8 @@ pub(crate) fn operand_text<F: Present>(
     files: &F,
     operand: &Operand,
 ) -> Result<Text, CondFault>
-    ensures { Gives result (operand_text (view_of lens.now (F.files files.now)) (operand_of operand.now)) }
+    ensures { Gives result
+        (operand_text (view_of lens.now (F.files files.now)) (operand_of operand.now)) }
 {
     match operand {
         Operand::Text(expr) => unescaped_text(alloc, lens, expr),
@@ -48,7 +49,8 @@ fn function_result<F: Present>(
     function: Function,
     path: &str,
 ) -> Result<bool, NoMemory>
-    ensures { IfOk result (λ b. b ≡ function_result (view_of lens.now (F.files files.now)) function path.now) }
+    ensures { IfOk result
+        (λ b. b ≡ function_result (view_of lens.now (F.files files.now)) function path.now) }
 {
     match function {
         Function::Exists => exists(alloc, lens.dir, files, path),

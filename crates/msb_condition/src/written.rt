@@ -17,7 +17,8 @@ pub fn condition_holds<F: Present>(
     files: &F,
     written: Option<&str>,
 ) -> Result<bool, Cause>
-    ensures { GivesCause result (condition_holds (view_of lens.now (F.files files.now)) (option_copied written.entry)) }
+    ensures { GivesCause result
+        (condition_holds (view_of lens.now (F.files files.now)) (option_copied written.entry)) }
 {
     match written {
         Some(written) => text_holds(alloc, lens, files, written),
@@ -31,7 +32,8 @@ fn text_holds<F: Present>(
     files: &F,
     written: &str,
 ) -> Result<bool, Cause>
-    ensures { GivesCause result (read_holds (view_of lens.now (F.files files.now)) (condition_of written.now)) }
+    ensures { GivesCause result
+        (read_holds (view_of lens.now (F.files files.now)) (condition_of written.now)) }
 {
     match parse(alloc, written) {
         Ok(condition) => match holds(alloc, lens, files, &condition) {

@@ -2,7 +2,16 @@
 use Rattle.std.specs.Prelude.{◌≡◌, Option, Some, None, Result, Ok, Err}
 use Rattle.std.specs.Result.{result_err}
 use Rattle.msb_elements.specs.declared.errors.ReadFault.{ReadFault}
-use Rattle.msb_elements.specs.declared.errors.ReadFault.TheVariants.{NotJson, NotElement, UnknownElement, Misplaced, MissingAttribute, BothAttributes, BadName, Memory}
+use Rattle.msb_elements.specs.declared.errors.ReadFault.TheVariants.{
+  NotJson,
+  NotElement,
+  UnknownElement,
+  Misplaced,
+  MissingAttribute,
+  BothAttributes,
+  BadName,
+  Memory,
+}
 
 -- the fault that is found, or want of memory
 abbrev pub IsFault : ReadFault → Option ReadFault → Type 0

@@ -1,5 +1,26 @@
--- The faults of an element where it stands, and of these the least. (MSBuild project file schema reference.)
-use Rattle.std.specs.Prelude.{ℕ, List, [], ◌∷◌, ◌&&◌, ◌||◌, ◌==◌, Bool, true, false, not, length, is_some, Option, Some, None, option_map, codes, if◌then◌else◌}
+-- The faults of an element where it stands, and of these the least. (MSBuild project file schema
+-- reference.)
+use Rattle.std.specs.Prelude.{
+  ℕ,
+  List,
+  [],
+  ◌∷◌,
+  ◌&&◌,
+  ◌||◌,
+  ◌==◌,
+  Bool,
+  true,
+  false,
+  not,
+  length,
+  is_some,
+  Option,
+  Some,
+  None,
+  option_map,
+  codes,
+  if◌then◌else◌,
+}
 use Rattle.std.specs.Str.{bytes_eq, str_to_ascii_lowercase}
 use Rattle.std.specs.Borrow.{Bor}
 use Rattle.std.specs.List.{list_any}
@@ -30,7 +51,8 @@ is_named _ = false
 
 -- UnknownElement: an attribute that the row does not allow, or a text where it gives none
 abbrev pub has_not_allowed : Kind → List Pair → List ℕ → Bool
-has_not_allowed kind attributes text = list_any (λ pair. is_not_allowed (role_of kind pair.0)) attributes || (not (length text == 0) && not (row_of kind).text)
+has_not_allowed kind attributes text = list_any (λ pair. is_not_allowed (role_of kind pair.0))
+    attributes || (not (length text == 0) && not (row_of kind).text)
 
 abbrev pub is_on_error : Option Kind → Bool
 is_on_error (Some OnError) = true
@@ -46,8 +68,8 @@ abbrev pub begins_otherwise : Trees → Bool
 begins_otherwise no_trees = false
 begins_otherwise (further t ts) = not (is_when t)
 
--- Misplaced: an Otherwise that is not last, a Choose that begins with another child than When, or a child other than
--- OnError after an OnError
+-- Misplaced: an Otherwise that is not last, a Choose that begins with another child than When, or a
+-- child other than OnError after an OnError
 abbrev pub is_out_of_order : Kind → Bool → Bool → Trees → Bool
 is_out_of_order Otherwise after last entries = not last || after
 is_out_of_order Choose after last entries = begins_otherwise entries || after
@@ -68,7 +90,8 @@ first_name (name ∷ names) = Some name
 abbrev pub first_unmet : List Need → List Pair → Option (List ℕ)
 first_unmet [] attributes = None
 first_unmet (need ∷ needs) attributes =
-    if has_or_no need.beside attributes && not (list_any (λ name. has name attributes) need.one_of) then first_name need.one_of else first_unmet needs attributes
+    if has_or_no need.beside attributes && not (list_any (λ name. has name attributes) need.one_of)
+    then first_name need.one_of else first_unmet needs attributes
 
 -- MissingAttribute: an attribute that the row needs, or the When of a Choose without children
 abbrev pub missing_in : Kind → List Pair → Trees → Option (List ℕ)
@@ -77,7 +100,8 @@ missing_in Choose attributes (further t ts) = None
 missing_in kind attributes entries = first_unmet (row_of kind).needs attributes
 
 abbrev pub is_clash : List Pair → List ℕ → List ℕ → Clash → Bool
-is_clash attributes one other clash = bytes_eq one clash.first && bytes_eq other clash.second && not (is_some clash.unless && has_or_no clash.unless attributes)
+is_clash attributes one other clash = bytes_eq one clash.first && bytes_eq other clash.second
+    && not (is_some clash.unless && has_or_no clash.unless attributes)
 
 -- the name, in lower case
 abbrev pub is_same : List ℕ → List ℕ → Bool
@@ -85,8 +109,10 @@ is_same key name = bytes_eq (str_to_ascii_lowercase name) key
 
 -- two metadata or parameters of one name without case, or two that the row keeps apart
 abbrev pub apart_as : Role → Kind → List Pair → List ℕ → List ℕ → Bool
-apart_as Named kind attributes one other = is_named (role_of kind other) && is_same (str_to_ascii_lowercase one) other
-apart_as _ kind attributes one other = list_any (is_clash attributes one other) (row_of kind).clashes
+apart_as Named kind attributes one other = is_named (role_of kind other)
+    && is_same (str_to_ascii_lowercase one) other
+apart_as _ kind attributes one other = list_any (is_clash attributes one other)
+    (row_of kind).clashes
 
 abbrev pub are_apart : Kind → List Pair → List ℕ → List ℕ → Bool
 are_apart kind attributes one other = apart_as (role_of kind one) kind attributes one other
@@ -98,7 +124,9 @@ first_other test (pair ∷ pairs) = if test pair.0 then Some pair.0 else first_o
 -- the first two names that may not stand together
 abbrev pub first_two : (List ℕ → List ℕ → Bool) → List Pair → Option (List ℕ × List ℕ)
 first_two apart [] = None
-first_two apart (pair ∷ pairs) = or_else (option_map (λ other. (pair.0, other)) (first_other (apart pair.0) pairs)) (first_two apart pairs)
+first_two apart (pair ∷ pairs) = or_else
+    (option_map (λ other. (pair.0, other)) (first_other (apart pair.0) pairs))
+    (first_two apart pairs)
 
 -- BothAttributes: the first two attributes that may not stand together
 abbrev pub both_in : Kind → List Pair → Option (List ℕ × List ℕ)
@@ -111,11 +139,13 @@ names_of (Some two) = Some (two.0.now, two.1.now)
 
 abbrev pub bad_value : List NameValue → Pair → Option ℕ
 bad_value [] pair = None
-bad_value (value ∷ values) pair = if bytes_eq pair.0 value.attribute then bad_place value.may_follow pair.1 else bad_value values pair
+bad_value (value ∷ values) pair = if bytes_eq pair.0 value.attribute then bad_place value.may_follow
+    pair.1 else bad_value values pair
 
 -- the name of a metadata or a parameter, or a value that is a name
 abbrev pub bad_attribute : Kind → Pair → Option ℕ
-bad_attribute kind pair = if is_named (role_of kind pair.0) then bad_place is_name_byte pair.0 else bad_value (row_of kind).values pair
+bad_attribute kind pair = if is_named (role_of kind pair.0) then bad_place is_name_byte pair.0 else
+    bad_value (row_of kind).values pair
 
 abbrev pub first_bad : Kind → List Pair → Option ℕ
 first_bad kind [] = None
@@ -131,21 +161,29 @@ bad_name_in kind name attributes = or_else (bad_own_name kind name) (first_bad k
 
 abbrev pub fault_of_attributes : Kind → List ℕ → List ℕ → List Pair → Trees → Option ReadFault
 fault_of_attributes kind place name attributes entries =
-    or_else (option_map (λ missed. fault.MissingAttribute place missed) (missing_in kind attributes entries))
+    or_else
+    (option_map (λ missed. fault.MissingAttribute place missed)
+    (missing_in kind attributes entries))
     (or_else (option_map (λ two. fault.BothAttributes place two.0 two.1) (both_in kind attributes))
     (option_map (λ at. fault.BadName place at) (bad_name_in kind name attributes)))
 
 -- of the faults of an element that may stand there the least
-abbrev pub fault_of_kind : Kind → Bool → Bool → List ℕ → List ℕ → List Pair → List ℕ → Trees → Option ReadFault
+abbrev pub fault_of_kind : Kind → Bool → Bool → List ℕ → List ℕ → List Pair → List ℕ → Trees
+    → Option ReadFault
 fault_of_kind kind after last place name attributes text entries =
     if has_not_allowed kind attributes text then Some (fault.UnknownElement place) else
     if is_out_of_order kind after last entries then Some (fault.Misplaced place) else
     fault_of_attributes kind place name attributes entries
 
--- the least fault of an element with these entries below it, after an OnError or not, and as the last child or not
-abbrev pub own_fault : Standing → Bool → Bool → List ℕ → List ℕ → List Pair → List ℕ → Trees → Option ReadFault
-own_fault (Stands kind) after last place name attributes text entries = fault_of_kind kind after last place name attributes text entries
+-- the least fault of an element with these entries below it, after an OnError or not, and as the
+-- last child or not
+abbrev pub own_fault : Standing → Bool → Bool → List ℕ → List ℕ → List Pair → List ℕ → Trees
+    → Option ReadFault
+own_fault (Stands kind) after last place name attributes text entries = fault_of_kind kind after
+    last place name attributes text entries
 own_fault (Misplaced (Some kind)) after last place name attributes text entries =
-    if has_not_allowed kind attributes text then Some (fault.UnknownElement place) else Some (fault.Misplaced place)
-own_fault (Misplaced None) after last place name attributes text entries = Some (fault.Misplaced place)
+    if has_not_allowed kind attributes text then Some (fault.UnknownElement place) else Some
+    (fault.Misplaced place)
+own_fault (Misplaced None) after last place name attributes text entries = Some
+    (fault.Misplaced place)
 own_fault Unknown after last place name attributes text entries = Some (fault.UnknownElement place)

@@ -1,12 +1,47 @@
 -- The element form of a project file: the element that a JSON text stands for.
 --
--- An element is an object with the members `e` (a text, its name), `a` (an object of texts, its attributes),
--- `t` (a text) and `c` (an array of elements). It has no other member, never both of `t` and `c`, and always `e`.
--- What is absent is empty.
-use Rattle.std.specs.Prelude.{ℕ, ◌+◌, List, [], ◌∷◌, ◌++◌, ◌&&◌, ◌||◌, Bool, true, false, not, Option, Some, None, is_some, option_map, option_and_then, if◌then◌else◌, codes}
+-- An element is an object with the members `e` (a text, its name), `a` (an object of texts, its
+-- attributes), `t` (a text) and `c` (an array of elements). It has no other member, never both of
+-- `t` and `c`, and always `e`. What is absent is empty.
+use Rattle.std.specs.Prelude.{
+  ℕ,
+  ◌+◌,
+  List,
+  [],
+  ◌∷◌,
+  ◌++◌,
+  ◌&&◌,
+  ◌||◌,
+  Bool,
+  true,
+  false,
+  not,
+  Option,
+  Some,
+  None,
+  is_some,
+  option_map,
+  option_and_then,
+  if◌then◌else◌,
+  codes,
+}
 use Rattle.std.specs.Option.{option_map_or}
 use Rattle.std.specs.Str.{bytes_eq, is_utf8}
-use Rattle.serde_json.specs.Data.{Data, null, boolean, number, string, array, object, Items, no_items, item, Members, no_members, member}
+use Rattle.serde_json.specs.Data.{
+  Data,
+  null,
+  boolean,
+  number,
+  string,
+  array,
+  object,
+  Items,
+  no_items,
+  item,
+  Members,
+  no_members,
+  member,
+}
 use Rattle.serde_json.specs.Find.{get, as_str, as_object}
 use Rattle.serde_json.specs.Read.{read}
 
@@ -15,7 +50,8 @@ unfoldable pub json_in : List ℕ → Option Data
 json_in bytes = if is_utf8 bytes then read bytes else None
 
 abbrev pub is_element_key : List ℕ → Bool
-is_element_key key = bytes_eq key (codes "e") || bytes_eq key (codes "a") || bytes_eq key (codes "t") || bytes_eq key (codes "c")
+is_element_key key = bytes_eq key (codes "e") || bytes_eq key (codes "a")
+    || bytes_eq key (codes "t") || bytes_eq key (codes "c")
 
 -- every member is one that an element may have
 abbrev pub has_element_keys : Members → Bool
@@ -25,7 +61,8 @@ has_element_keys (member key d ms) = is_element_key key && has_element_keys ms
 -- the members, each of which is a text, in their order
 abbrev pub texts_of : Members → Option (List (List ℕ × List ℕ))
 texts_of no_members = Some []
-texts_of (member key d ms) = option_and_then (λ text. option_map (λ texts. (key, text) ∷ texts) (texts_of ms)) (as_str d)
+texts_of (member key d ms) = option_and_then
+    (λ text. option_map (λ texts. (key, text) ∷ texts) (texts_of ms)) (as_str d)
 
 abbrev pub name_in : Data → Option (List ℕ)
 name_in d = option_and_then as_str (get (codes "e") d)
@@ -48,4 +85,5 @@ text_in d = text_at (get (codes "t") d)
 
 -- no member of another key, and a text does not stand beside children
 abbrev pub has_element_members : Data → Bool
-has_element_members d = option_map_or has_element_keys (as_object d) false && not (is_some (get (codes "t") d) && is_some (get (codes "c") d))
+has_element_members d = option_map_or has_element_keys (as_object d) false
+    && not (is_some (get (codes "t") d) && is_some (get (codes "c") d))

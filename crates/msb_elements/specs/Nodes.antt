@@ -4,7 +4,8 @@ use Rattle.std.specs.Prelude.{ℕ, List, [], ◌∷◌}
 -- its place, its name, its attributes in byte order of their names, its text and its children
 mutual
   pub data Node : Type 0 where
-    node : (place : List ℕ) → (name : List ℕ) → (attributes : List (List ℕ × List ℕ)) → (text : List ℕ) → (children : Nodes) → Node
+    node : (place : List ℕ) → (name : List ℕ) → (attributes : List (List ℕ × List ℕ))
+        → (text : List ℕ) → (children : Nodes) → Node
 
   pub data Nodes : Type 0 where
     no_nodes : Nodes
@@ -31,4 +32,5 @@ children_in (node place name attributes text children) = list_of children
 
 -- the element alone
 abbrev pub without_children : Node → Node
-without_children (node place name attributes text children) = node place name attributes text no_nodes
+without_children (node place name attributes text children) = node place name attributes text
+    no_nodes

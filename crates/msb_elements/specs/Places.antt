@@ -1,4 +1,5 @@
--- How the place of an element is printed: `/` for the root, and `/1/0` for the first child of its second child.
+-- How the place of an element is printed: `/` for the root, and `/1/0` for the first child of its
+-- second child.
 use Rattle.std.specs.Prelude.{ℕ, List, [], ◌∷◌}
 use Rattle.std.specs.Fmt.{decimal}
 use Rattle.std.specs.List.{flat_map}

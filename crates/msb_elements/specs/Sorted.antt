@@ -1,5 +1,17 @@
 -- The values of an object's members, by the keys that an element may have.
-use Rattle.std.specs.Prelude.{◌≡◌, ℕ, List, true, false, Option, Some, None, option_map, if◌then◌else◌, codes}
+use Rattle.std.specs.Prelude.{
+  ◌≡◌,
+  ℕ,
+  List,
+  true,
+  false,
+  Option,
+  Some,
+  None,
+  option_map,
+  if◌then◌else◌,
+  codes,
+}
 use Rattle.std.specs.Str.{bytes_eq}
 use Rattle.serde_json.specs.Data.{Members, object}
 use Rattle.serde_json.specs.Find.{get_member}

@@ -6,7 +6,13 @@ ghost use Rattle.serde_json.specs.View.{items_view};
 ghost use Rattle.msb_elements.specs.Rows.{names_items};
 ghost use Rattle.msb_elements.specs.Trees.{no_trees, trees_of};
 ghost use Rattle.msb_elements.specs.Stands.{role_of};
-ghost use Rattle.msb_elements.specs.Checks.{is_not_allowed, has, missing_in, bad_attribute, first_bad};
+ghost use Rattle.msb_elements.specs.Checks.{
+  is_not_allowed,
+  has,
+  missing_in,
+  bad_attribute,
+  first_bad,
+};
 ghost use Rattle.msb_elements.specs.declared.kind.Kind.TheVariants.{Output};
 
 use crate::element::value_of;
@@ -38,9 +44,11 @@ fn names_items(attributes: &[(Text, Text)]) -> bool
     has(attributes, "Include") || has(attributes, "Remove") || has(attributes, "Update")
 }
 
-/// The attribute that the element needs and does not have; and a Choose with nothing below it lacks its `When`.
+/// The attribute that the element needs and does not have; and a Choose with nothing below it lacks
+/// its `When`.
 pub fn missing(kind: Kind, attributes: &[(Text, Text)], entries: &[Value]) -> Option<&'static str>
-    ensures { option_copied result ≡ missing_in kind attributes.now (trees_of (items_view entries.now)) }
+    ensures { option_copied result ≡ missing_in kind attributes.now
+        (trees_of (items_view entries.now)) }
 {
     match kind {
         Kind::Choose => if entries.is_empty() {

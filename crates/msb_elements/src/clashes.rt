@@ -5,7 +5,15 @@ ghost use Rattle.std.specs.List.{list_any};
 ghost use Rattle.std.specs.Str.{str_to_ascii_lowercase};
 ghost use Rattle.msb_elements.specs.Rows.{row_of, item_clashes};
 ghost use Rattle.msb_elements.specs.Stands.{role_of, or_else};
-ghost use Rattle.msb_elements.specs.Checks.{both_in, is_clash, is_named, is_same, are_apart, first_other, names_of};
+ghost use Rattle.msb_elements.specs.Checks.{
+  both_in,
+  is_clash,
+  is_named,
+  is_same,
+  are_apart,
+  first_other,
+  names_of,
+};
 
 use crate::attributes::has;
 use crate::kind::{Kind, Role};
@@ -16,8 +24,8 @@ use std::collections::BTreeMap;
 /// Up to so many attributes are compared two by two, which takes no memory.
 const FEW: usize = 16;
 
-/// The first two attributes that may not stand together: two that the table keeps apart, or two metadata or parameters
-/// of one name without case.
+/// The first two attributes that may not stand together: two that the table keeps apart, or two
+/// metadata or parameters of one name without case.
 pub fn both<'a>(
     alloc: Global,
     kind: Kind,
@@ -60,7 +68,9 @@ fn other_of<'a>(
 
 /// The first of these metadata or parameters that has this name without case.
 fn same_name<'a>(kind: Kind, name: &str, rest: &'a [(Text, Text)]) -> Option<&'a str>
-    ensures { option_copied result ≡ first_other (λ other. is_named (role_of kind other) && is_same (str_to_ascii_lowercase name.now) other) rest.now }
+    ensures { option_copied result ≡ first_other
+        (λ other. is_named (role_of kind other) && is_same (str_to_ascii_lowercase name.now) other)
+        rest.now }
 {
     for (other, _) in rest {
         if is_named_same(kind, name, other.as_str()) {
@@ -71,7 +81,9 @@ fn same_name<'a>(kind: Kind, name: &str, rest: &'a [(Text, Text)]) -> Option<&'a
 }
 
 fn is_named_same(kind: Kind, name: &str, other: &str) -> bool
-    ensures { result ≡ (is_named (role_of kind other.now) && is_same (str_to_ascii_lowercase name.now) other.now) }
+    ensures { result
+        ≡ (is_named (role_of kind other.now) && is_same (str_to_ascii_lowercase name.now)
+        other.now) }
 {
     is_same(name, other) && matches!(kind.role(other), Role::Named)
 }
@@ -112,7 +124,9 @@ fn first_of<'a>(
     other: Option<&'a str>,
     found: Option<(&'a str, &'a str)>,
 ) -> Option<(&'a str, &'a str)>
-    ensures { names_of result ≡ or_else (option_map (λ o. (name.now, o)) (option_copied other.entry)) (names_of found.entry) }
+    ensures { names_of result
+        ≡ or_else (option_map (λ o. (name.now, o)) (option_copied other.entry))
+        (names_of found.entry) }
 {
     match other {
         Some(other) => Some((name, other)),
@@ -133,7 +147,9 @@ fn clashing<'a>(
     name: &str,
     rest: &'a [(Text, Text)],
 ) -> Option<&'a str>
-    ensures { option_copied result ≡ first_other (λ other. list_any (is_clash attributes.now name.now other) (row_of kind).clashes) rest.now }
+    ensures { option_copied result ≡ first_other
+        (λ other. list_any (is_clash attributes.now name.now other) (row_of kind).clashes)
+        rest.now }
 {
     if !kind.keeps_apart() {
         return None;

@@ -36,7 +36,8 @@ fn copied_each(alloc: Global, elements: &[Element]) -> Result<Vec<Element>, NoMe
 
 /// A copy of the element with these children in place of its own.
 fn alone(alloc: Global, element: &Element, children: Vec<Element>) -> Result<Element, NoMemory>
-    ensures { IfOk result (λ e. view e ≡ node (place_of (view element.now)) (name_of (view element.now))
+    ensures { IfOk result
+        (λ e. view e ≡ node (place_of (view element.now)) (name_of (view element.now))
         (attributes_of (view element.now)) (inner_text (view element.now)) (views children.items)) }
 {
     let place = element.place().copy()?;

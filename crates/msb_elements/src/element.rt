@@ -1,7 +1,15 @@
 ghost use Rattle.std.specs.Prelude.{◌≡◌, length, map, slice_get, option_map};
 ghost use Rattle.std.specs.Option.{option_copied};
 ghost use Rattle.msb_values.specs.Pairs.{value_at};
-ghost use Rattle.msb_elements.specs.Nodes.{node, place_of, name_of, attributes_of, inner_text, children_in, without_children};
+ghost use Rattle.msb_elements.specs.Nodes.{
+  node,
+  place_of,
+  name_of,
+  attributes_of,
+  inner_text,
+  children_in,
+  without_children,
+};
 
 use crate::Place;
 use msb_values::Text;
@@ -120,7 +128,8 @@ impl Element {
 
     /// The child with this number, counted from 0.
     pub fn child(&self, at: usize) -> Option<&Element>
-        ensures { option_map (λ child. view child.now) result ≡ slice_get (children_in (view self.now)) at }
+        ensures { option_map (λ child. view child.now) result
+            ≡ slice_get (children_in (view self.now)) at }
     {
         self.children().get(at)
     }

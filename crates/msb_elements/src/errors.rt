@@ -37,13 +37,14 @@ impl<T: Drop> From<AllocFailed<T>> for PartFault {
     }
 }
 
-/// Why a file is no project file, with the place of the element. (MSBuild project file schema reference.)
+/// Why a file is no project file, with the place of the element. (MSBuild project file schema
+/// reference.)
 #[derive(Drop)]
 pub enum ReadFault {
     /// The bytes are no JSON text.
     NotJson,
-    /// An entry that is no element: no object, one without a name, one with a member that no element has or whose value
-    /// is of another type, or one with both a text and children.
+    /// An entry that is no element: no object, one without a name, one with a member that no
+    /// element has or whose value is of another type, or one with both a text and children.
     NotElement(Place),
     /// A name that no element has, or an attribute or a text that the element may not have.
     UnknownElement(Place),

@@ -1,6 +1,7 @@
 //! Project files as trees of elements.
 //!
-//! A contract sees an [`Element`] as plain data: its place, its name, its attributes, its text and its children.
+//! A contract sees an [`Element`] as plain data: its place, its name, its attributes, its text and
+//! its children.
 #![tactic(auto)]
 
 mod attributes;

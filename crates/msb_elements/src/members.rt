@@ -4,13 +4,22 @@ ghost use Rattle.std.specs.Option.{option_map_or};
 ghost use Rattle.std.specs.Str.{bytes_eq};
 ghost use Rattle.serde_json.specs.Find.{get};
 ghost use Rattle.serde_json.specs.View.{view as value_of, members_view};
-ghost use Rattle.msb_elements.specs.Forms.{is_element_key, has_element_keys, has_element_members, name_in, attributes_in, text_in, texts_of};
+ghost use Rattle.msb_elements.specs.Forms.{
+  is_element_key,
+  has_element_keys,
+  has_element_members,
+  name_in,
+  attributes_in,
+  text_in,
+  texts_of,
+};
 ghost use Rattle.msb_elements.specs.Trees.{tree_of, entries_if};
 ghost use Rattle.msb_elements.specs.Checks.{is_when};
 
 use serde_json::{Map, Value};
 
-/// Whether the value is an element of the name When. It is looked at whole but for what stands below it.
+/// Whether the value is an element of the name When. It is looked at whole but for what stands
+/// below it.
 #[tactic(auto, using(crate::proofs::Growing::when_found))]
 pub fn is_when(value: &Value) -> bool
     ensures { result ≡ is_when (tree_of (value_of value.now)) }
@@ -24,7 +33,8 @@ pub fn is_when(value: &Value) -> bool
     has_entries(value) && is_named_when(value)
 }
 
-/// Whether the value is an object that has only members of an element, and not both a text and children.
+/// Whether the value is an object that has only members of an element, and not both a text and
+/// children.
 fn is_element_object(value: &Value) -> bool
     ensures { result ≡ has_element_members (value_of value.now) }
 {
@@ -55,7 +65,8 @@ pub fn is_key_of_element(key: &str) -> bool
 }
 
 fn is_named_when(value: &Value) -> bool
-    ensures { result ≡ option_map_or (λ name. bytes_eq name (codes "When")) (name_in (value_of value.now)) false }
+    ensures { result ≡ option_map_or (λ name. bytes_eq name (codes "When"))
+        (name_in (value_of value.now)) false }
 {
     match value.get("e") {
         Some(Value::String(name)) => name.as_str() == "When",

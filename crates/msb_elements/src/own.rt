@@ -2,7 +2,15 @@
 ghost use Rattle.std.specs.Prelude.{◌≡◌};
 ghost use Rattle.serde_json.specs.View.{items_view};
 ghost use Rattle.msb_elements.specs.Trees.{trees_of};
-ghost use Rattle.msb_elements.specs.Checks.{own_fault, fault_of_kind, fault_of_attributes, has_not_allowed, is_out_of_order, begins_otherwise, bad_name_in};
+ghost use Rattle.msb_elements.specs.Checks.{
+  own_fault,
+  fault_of_kind,
+  fault_of_attributes,
+  has_not_allowed,
+  is_out_of_order,
+  begins_otherwise,
+  bad_name_in,
+};
 ghost use Rattle.msb_elements.specs.Checked.{Checks};
 
 use crate::attributes::{first_bad, has_not_allowed, missing};
@@ -24,7 +32,9 @@ pub fn check_own(
     place: &Place,
     own: &Own,
 ) -> Result<(), ReadFault>
-    ensures { Checks result (own_fault standing position.after_on_error position.is_last place.now own.now.name own.now.attributes.items own.now.text (trees_of (items_view own.now.entries.items))) }
+    ensures { Checks result
+        (own_fault standing position.after_on_error position.is_last place.now own.now.name
+        own.now.attributes.items own.now.text (trees_of (items_view own.now.entries.items))) }
 {
     match standing {
         Standing::Stands(kind) => check_kind(alloc, kind, position, place, own),
@@ -55,9 +65,11 @@ fn begins_otherwise(entries: &[Value]) -> bool
     }
 }
 
-/// Whether an element of this kind stands at a wrong place among the others, or a Choose begins wrong.
+/// Whether an element of this kind stands at a wrong place among the others, or a Choose begins
+/// wrong.
 fn is_out_of_order(kind: Kind, position: Position, entries: &[Value]) -> bool
-    ensures { result ≡ is_out_of_order kind position.after_on_error position.is_last (trees_of (items_view entries.now)) }
+    ensures { result ≡ is_out_of_order kind position.after_on_error position.is_last
+        (trees_of (items_view entries.now)) }
 {
     match kind {
         Kind::Otherwise => !position.is_last || position.after_on_error,
@@ -74,7 +86,9 @@ fn check_kind(
     place: &Place,
     own: &Own,
 ) -> Result<(), ReadFault>
-    ensures { Checks result (fault_of_kind kind position.after_on_error position.is_last place.now own.now.name own.now.attributes.items own.now.text (trees_of (items_view own.now.entries.items))) }
+    ensures { Checks result
+        (fault_of_kind kind position.after_on_error position.is_last place.now own.now.name
+        own.now.attributes.items own.now.text (trees_of (items_view own.now.entries.items))) }
 {
     if is_not_allowed(kind, own) {
         return Err(ReadFault::UnknownElement(place.copy()?));
@@ -86,7 +100,9 @@ fn check_kind(
 }
 
 fn check_attributes(alloc: Global, kind: Kind, place: &Place, own: &Own) -> Result<(), ReadFault>
-    ensures { Checks result (fault_of_attributes kind place.now own.now.name own.now.attributes.items (trees_of (items_view own.now.entries.items))) }
+    ensures { Checks result
+        (fault_of_attributes kind place.now own.now.name own.now.attributes.items
+        (trees_of (items_view own.now.entries.items))) }
 {
     if let Some(name) = missing(kind, &own.attributes, &own.entries) {
         let name = Text::of(alloc, name)?;

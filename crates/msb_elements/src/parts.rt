@@ -5,7 +5,14 @@ ghost use Rattle.serde_json.specs.Find.{as_str};
 ghost use Rattle.serde_json.specs.View.{view as value_of, items_view, members_view};
 ghost use Rattle.msb_elements.specs.Forms.{texts_of, texts_at, text_at};
 ghost use Rattle.msb_elements.specs.Reads.{Gives};
-ghost use Rattle.msb_elements.specs.Trees.{element, tree_of, trees_of, entries_if, as_element, of_values};
+ghost use Rattle.msb_elements.specs.Trees.{
+  element,
+  tree_of,
+  trees_of,
+  entries_if,
+  as_element,
+  of_values,
+};
 ghost use Rattle.msb_elements.specs.Sorted.{Sorts, with_member};
 
 use crate::errors::PartFault;
@@ -25,7 +32,9 @@ pub struct Own {
 
 /// What a value has as an element; refused as [`PartFault::NotElement`] exactly where it is none.
 pub fn own_of(alloc: Global, value: Value) -> Result<Own, PartFault>
-    ensures { Gives (λ own. element own.name own.attributes.items own.text (trees_of (items_view own.entries.items))) result (as_element (tree_of (value_of value))) }
+    ensures { Gives
+        (λ own. element own.name own.attributes.items own.text
+        (trees_of (items_view own.entries.items))) result (as_element (tree_of (value_of value))) }
 {
     match value {
         Value::Object(members) => own_in(alloc, members),
@@ -34,7 +43,10 @@ pub fn own_of(alloc: Global, value: Value) -> Result<Own, PartFault>
 }
 
 fn own_in(alloc: Global, members: Map<String, Value>) -> Result<Own, PartFault>
-    ensures { Gives (λ own. element own.name own.attributes.items own.text (trees_of (items_view own.entries.items))) result (as_element (tree_of (object (members_view members.entries)))) }
+    ensures { Gives
+        (λ own. element own.name own.attributes.items own.text
+        (trees_of (items_view own.entries.items))) result
+        (as_element (tree_of (object (members_view members.entries)))) }
 {
     match sorted(members) {
         Some(values) => own_from(alloc, values),
@@ -43,7 +55,11 @@ fn own_in(alloc: Global, members: Map<String, Value>) -> Result<Own, PartFault>
 }
 
 fn own_from(alloc: Global, values: Values) -> Result<Own, PartFault>
-    ensures { Gives (λ own. element own.name own.attributes.items own.text (trees_of (items_view own.entries.items))) result (of_values (option_map value_of values.name) (option_map value_of values.attributes) (option_map value_of values.text) (option_map value_of values.entries)) }
+    ensures { Gives
+        (λ own. element own.name own.attributes.items own.text
+        (trees_of (items_view own.entries.items))) result
+        (of_values (option_map value_of values.name) (option_map value_of values.attributes)
+        (option_map value_of values.text) (option_map value_of values.entries)) }
 {
     let Values {
         name,
@@ -72,7 +88,8 @@ pub struct Values {
     entries: Option<Value>,
 }
 
-/// The values of members that are an element's; none where another is among them, or a text stands beside children.
+/// The values of members that are an element's; none where another is among them, or a text stands
+/// beside children.
 fn sorted(members: Map<String, Value>) -> Option<Values>
     ensures { Sorts result (members_view members.entries) }
 {
@@ -95,7 +112,8 @@ fn sorted(members: Map<String, Value>) -> Option<Values>
 }
 
 impl Values {
-    /// With the value of one more member. A map has each key once, and of equal keys the first would count.
+    /// With the value of one more member. A map has each key once, and of equal keys the first
+    /// would count.
     fn with(self, key: &str, value: Value) -> Values
         ensures { result ≡ with_member key.now value self }
     {
@@ -183,7 +201,8 @@ fn texts_in(alloc: Global, members: Map<String, Value>) -> Result<Vec<(Text, Tex
 }
 
 fn entries_of(alloc: Global, value: Option<Value>) -> Result<Vec<Value>, PartFault>
-    ensures { Gives (λ v. trees_of (items_view v.items)) result (entries_if (option_map value_of value)) }
+    ensures { Gives (λ v. trees_of (items_view v.items)) result
+        (entries_if (option_map value_of value)) }
 {
     match value {
         None => Ok(Vec::new(alloc)),

@@ -5,7 +5,8 @@ use std::alloc::Global;
 use std::fmt;
 use std::marker::Model;
 
-/// Where an element stands in its file: the numbers of the children, counted from 0, on the way to it from the root.
+/// Where an element stands in its file: the numbers of the children, counted from 0, on the way to
+/// it from the root.
 ///
 /// It is printed as `/` for the root, and as `/1/0` for the first child of the root's second child.
 pub struct Place {

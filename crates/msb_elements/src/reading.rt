@@ -4,7 +4,13 @@ ghost use Rattle.msb_elements.specs.Stands.{child_kind};
 ghost use Rattle.msb_elements.specs.Trees.{tree_of, trees_of};
 ghost use Rattle.msb_elements.specs.Checks.{is_on_error};
 ghost use Rattle.msb_elements.specs.Checked.{Finds};
-ghost use Rattle.msb_elements.specs.Projects.{project_in, root_or_fault, element_or_fault, children_or_fault, below_or_fault};
+ghost use Rattle.msb_elements.specs.Projects.{
+  project_in,
+  root_or_fault,
+  element_or_fault,
+  children_or_fault,
+  below_or_fault,
+};
 ghost use Rattle.msb_elements.specs.View.{view, views};
 
 use crate::errors::PartFault;
@@ -15,12 +21,13 @@ use crate::{Element, Place, Project, ReadFault};
 use serde_json::Value;
 use std::alloc::Global;
 
-/// Reads a project file: a JSON text whose value is a tree of elements, each of which stands where it may and has what
-/// it may have. (MSBuild project file schema reference.)
+/// Reads a project file: a JSON text whose value is a tree of elements, each of which stands where
+/// it may and has what it may have. (MSBuild project file schema reference.)
 ///
-/// The bytes are refused as [`ReadFault::NotJson`] exactly where `serde_json` reads no value from them. Else the elements
-/// are looked at in document order, parents first; below ProjectExtensions nothing is looked at and nothing is kept. The
-/// first element with a fault gives the refusal, and of its faults the first in the order of [`ReadFault`].
+/// The bytes are refused as [`ReadFault::NotJson`] exactly where `serde_json` reads no value from
+/// them. Else the elements are looked at in document order, parents first; below ProjectExtensions
+/// nothing is looked at and nothing is kept. The first element with a fault gives the refusal, and
+/// of its faults the first in the order of [`ReadFault`].
 pub fn read_project(alloc: Global, bytes: &[u8]) -> Result<Project, ReadFault>
     ensures { Finds (λ project. view project.root) result (project_in bytes.now) }
 {
@@ -63,7 +70,9 @@ fn element(
     place: Place,
     value: Value,
 ) -> Result<Element, ReadFault>
-    ensures { Finds view result (element_or_fault position.parent position.after_on_error position.is_last place (tree_of (value_of value))) }
+    ensures { Finds view result
+        (element_or_fault position.parent position.after_on_error position.is_last place
+        (tree_of (value_of value))) }
 {
     let own = match own_of(alloc, value) {
         Ok(own) => own,
@@ -90,7 +99,8 @@ fn below(
     place: &Place,
     entries: Vec<Value>,
 ) -> Result<Vec<Element>, ReadFault>
-    ensures { Finds (λ v. views v.items) result (below_or_fault standing place.now (trees_of (items_view entries.items))) }
+    ensures { Finds (λ v. views v.items) result
+        (below_or_fault standing place.now (trees_of (items_view entries.items))) }
 {
     match standing {
         Standing::Stands(kind) => {
@@ -111,7 +121,8 @@ fn children(
     place: &Place,
     entries: Vec<Value>,
 ) -> Result<Vec<Element>, ReadFault>
-    ensures { Finds (λ v. views v.items) result (children_or_fault (Some kind) false place.now 0 (trees_of (items_view entries.items))) }
+    ensures { Finds (λ v. views v.items) result
+        (children_or_fault (Some kind) false place.now 0 (trees_of (items_view entries.items))) }
 {
     let count = entries.len();
     let mut all = Vec::with_capacity(alloc, count)?;

@@ -2,7 +2,16 @@
 use Rattle.std.specs.Prelude.{◌≡◌, Result, Ok, Err}
 use Rattle.msb_laws.specs.Results.{map_ok}
 use Rattle.msb_expand.specs.declared.faults.ExpandFault.{ExpandFault}
-use Rattle.msb_expand.specs.declared.faults.ExpandFault.TheVariants.{ItemsHere, MetadataHere, UnknownFunction, TooLong, MixedList, BadPath, Expr, Memory}
+use Rattle.msb_expand.specs.declared.faults.ExpandFault.TheVariants.{
+  ItemsHere,
+  MetadataHere,
+  UnknownFunction,
+  TooLong,
+  MixedList,
+  BadPath,
+  Expr,
+  Memory,
+}
 
 abbrev pub Gives : {T : Type 0} → Result T ExpandFault → Result T ExpandFault → Type 0
 Gives (Ok value) answer = answer ≡ Ok value

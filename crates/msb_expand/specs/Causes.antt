@@ -2,9 +2,24 @@
 use Rattle.msb_values.specs.declared.cause.Cause.{Cause}
 use Rattle.msb_values.specs.declared.cause.Cause.TheVariants as cause
 use Rattle.msb_expression.specs.declared.faults.ExprFault.{ExprFault}
-use Rattle.msb_expression.specs.declared.faults.ExprFault.TheVariants.{Unclosed, BadName, BadTransform, NestedTransform, Memory as NoRoom}
+use Rattle.msb_expression.specs.declared.faults.ExprFault.TheVariants.{
+  Unclosed,
+  BadName,
+  BadTransform,
+  NestedTransform,
+  Memory as NoRoom,
+}
 use Rattle.msb_expand.specs.declared.faults.ExpandFault.{ExpandFault}
-use Rattle.msb_expand.specs.declared.faults.ExpandFault.TheVariants.{ItemsHere, MetadataHere, UnknownFunction, TooLong, MixedList, BadPath, Expr, Memory}
+use Rattle.msb_expand.specs.declared.faults.ExpandFault.TheVariants.{
+  ItemsHere,
+  MetadataHere,
+  UnknownFunction,
+  TooLong,
+  MixedList,
+  BadPath,
+  Expr,
+  Memory,
+}
 
 abbrev pub expression_cause_of : ExprFault → Cause
 expression_cause_of (Unclosed place) = cause.Unclosed place

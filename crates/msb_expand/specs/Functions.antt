@@ -1,5 +1,25 @@
 -- What the steps of an item reference do to its items. (MSBuild transforms; Item functions)
-use Rattle.std.specs.Prelude.{ℕ, Bool, true, false, ◌==◌, not, List, [], ◌∷◌, length, map, reverse, Option, Some, option_and_then, Result, Ok, Err, codes}
+use Rattle.std.specs.Prelude.{
+  ℕ,
+  Bool,
+  true,
+  false,
+  ◌==◌,
+  not,
+  List,
+  [],
+  ◌∷◌,
+  length,
+  map,
+  reverse,
+  Option,
+  Some,
+  option_and_then,
+  Result,
+  Ok,
+  Err,
+  codes,
+}
 use Rattle.std.specs.Fmt.{decimal}
 use Rattle.std.specs.List.{list_any, flat_map}
 use Rattle.msb_values.specs.Pairs.{value_at}
@@ -13,7 +33,15 @@ use Rattle.msb_expression.specs.declared.expression.Step.TheVariants.{Transform,
 use Rattle.msb_expand.specs.declared.faults.ExpandFault.{ExpandFault}
 use Rattle.msb_expand.specs.declared.faults.ExpandFault.TheVariants.{UnknownFunction}
 use Rattle.msb_expand.specs.declared.functions.Function.{Function}
-use Rattle.msb_expand.specs.declared.functions.Function.TheVariants.{Count, Distinct, Reverse, HasMetadata, WithMetadataValue, AnyHaveMetadataValue, ClearMetadata}
+use Rattle.msb_expand.specs.declared.functions.Function.TheVariants.{
+  Count,
+  Distinct,
+  Reverse,
+  HasMetadata,
+  WithMetadataValue,
+  AnyHaveMetadataValue,
+  ClearMetadata,
+}
 use Rattle.msb_values.specs.Keys.{key_of}
 use Rattle.msb_laws.specs.Results.{and_then, map_ok, all_ok}
 use Rattle.msb_expand.specs.Limits.{grown_by}
@@ -56,13 +84,16 @@ kept_if false item items = items
 abbrev pub filtered : List ℕ → List ℕ → (List ℕ → Bool) → List Item → Result (List Item) ExpandFault
 filtered project name passes [] = Ok []
 filtered project name passes (item ∷ items) =
-    and_then (metadata_of project item name) (λ value. map_ok (kept_if (passes value) item) (filtered project name passes items))
+    and_then (metadata_of project item name)
+    (λ value. map_ok (kept_if (passes value) item) (filtered project name passes items))
 
 -- whether any passes, which ends at the first that does
 abbrev pub any_passes : List ℕ → List ℕ → (List ℕ → Bool) → List Item → Result Bool ExpandFault
 any_passes project name passes [] = Ok false
 any_passes project name passes (item ∷ items) =
-    and_then (metadata_of project item name) (λ value. elim (passes value) [ true ↦ Ok true | false ↦ any_passes project name passes items ])
+    and_then (metadata_of project item name)
+    (λ value.
+    elim (passes value) [ true ↦ Ok true | false ↦ any_passes project name passes items ])
 
 abbrev pub truth_text : Bool → List ℕ
 truth_text true = codes "true"
@@ -72,14 +103,18 @@ abbrev pub is_some_text : List ℕ → Bool
 is_some_text text = not (length text == 0)
 
 -- a function's result; another name or number of arguments is refused
-abbrev pub function_result : List ℕ → List ℕ → Option Function → List (List ℕ) → List Item → Result (List Item) ExpandFault
+abbrev pub function_result : List ℕ → List ℕ → Option Function → List (List ℕ) → List Item
+    → Result (List Item) ExpandFault
 function_result project name (Some Count) [] items = Ok (plain_item (decimal (length items)) ∷ [])
 function_result project name (Some Distinct) [] items = Ok (distinct_from [] items)
 function_result project name (Some Reverse) [] items = Ok (reverse items)
-function_result project name (Some HasMetadata) (of ∷ []) items = filtered project of is_some_text items
-function_result project name (Some WithMetadataValue) (of ∷ value ∷ []) items = filtered project of (is_same_text value) items
+function_result project name (Some HasMetadata) (of ∷ []) items = filtered project of is_some_text
+    items
+function_result project name (Some WithMetadataValue) (of ∷ value ∷ []) items = filtered project of
+    (is_same_text value) items
 function_result project name (Some AnyHaveMetadataValue) (of ∷ value ∷ []) items =
-    map_ok (λ any. plain_item (truth_text any) ∷ []) (any_passes project of (is_same_text value) items)
+    map_ok (λ any. plain_item (truth_text any) ∷ [])
+    (any_passes project of (is_same_text value) items)
 function_result project name (Some ClearMetadata) [] items = Ok (map without_metadata items)
 function_result project name function args items = Err (UnknownFunction name)
 
@@ -92,7 +127,8 @@ piece_value scene item (Meta name) = metadata_of scene.project item name
 -- a transform replaces the identity and keeps the rest of the item
 abbrev pub transformed : Scene → List Piece → Item → Result Item ExpandFault
 transformed scene pieces item =
-    map_ok (λ text. record { ident = text; recursive = item.recursive; meta = item.meta }) (grown_by (piece_value scene item) [] pieces)
+    map_ok (λ text. record { ident = text; recursive = item.recursive; meta = item.meta })
+    (grown_by (piece_value scene item) [] pieces)
 
 -- a part of an argument or of a separator, where properties alone have values
 abbrev pub quoted_piece : Scene → Piece → List ℕ
@@ -106,9 +142,12 @@ quoted_value scene pieces = flat_map (quoted_piece scene) pieces
 abbrev pub stepped : Scene → Step → List Item → Result (List Item) ExpandFault
 stepped scene (Transform pieces) items = all_ok (transformed scene pieces) items
 stepped scene (Call name args) items =
-    function_result scene.project name (option_and_then (λ key. value_at key functions) (key_of name)) (map (quoted_value scene) args) items
+    function_result scene.project name
+    (option_and_then (λ key. value_at key functions) (key_of name))
+    (map (quoted_value scene) args) items
 
 -- one step after the other
 abbrev pub after_steps : Scene → List Step → List Item → Result (List Item) ExpandFault
 after_steps scene [] items = Ok items
-after_steps scene (step ∷ steps) items = and_then (stepped scene step items) (λ made. after_steps scene steps made)
+after_steps scene (step ∷ steps) items = and_then (stepped scene step items)
+    (λ made. after_steps scene steps made)

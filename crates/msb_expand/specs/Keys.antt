@@ -1,4 +1,5 @@
--- The key of a name, as the names of properties, item types and metadata are looked up. (MSBuild properties)
+-- The key of a name, as the names of properties, item types and metadata are looked up. (MSBuild
+-- properties)
 use Rattle.std.specs.Prelude.{ℕ, List, Option}
 use Rattle.msb_values.specs.Keys as values
 

@@ -1,5 +1,17 @@
 -- How long an expansion may be: 4 MiB.
-use Rattle.std.specs.Prelude.{ℕ, nat_lt, List, [], ◌∷◌, ◌++◌, length, Result, Ok, Err, if◌then◌else◌}
+use Rattle.std.specs.Prelude.{
+  ℕ,
+  nat_lt,
+  List,
+  [],
+  ◌∷◌,
+  ◌++◌,
+  length,
+  Result,
+  Ok,
+  Err,
+  if◌then◌else◌,
+}
 use Rattle.msb_expand.specs.declared.faults.ExpandFault.{ExpandFault}
 use Rattle.msb_expand.specs.declared.faults.ExpandFault.TheVariants.{TooLong}
 use Rattle.msb_laws.specs.Results.{and_then}
@@ -17,6 +29,7 @@ grown text (Ok more) = if_short (text ++ more)
 grown text (Err fault) = Err fault
 
 -- a text that grows by the values of some parts, from the left
-abbrev pub grown_by : {X : Type 0} → (X → Result (List ℕ) ExpandFault) → List ℕ → List X → Result (List ℕ) ExpandFault
+abbrev pub grown_by : {X : Type 0} → (X → Result (List ℕ) ExpandFault) → List ℕ → List X
+    → Result (List ℕ) ExpandFault
 grown_by value text [] = Ok text
 grown_by value text (x ∷ xs) = and_then (grown text (value x)) (λ longer. grown_by value longer xs)

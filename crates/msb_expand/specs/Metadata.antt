@@ -9,7 +9,16 @@ use Rattle.msb_values.specs.declared.item.Item.{Item}
 use Rattle.msb_expand.specs.declared.faults.ExpandFault.{ExpandFault}
 use Rattle.msb_expand.specs.declared.faults.ExpandFault.TheVariants.{BadPath}
 use Rattle.msb_expand.specs.declared.well_known.WellKnown.{WellKnown}
-use Rattle.msb_expand.specs.declared.well_known.WellKnown.TheVariants.{Identity, FullPath, RootDir, Directory, RelativeDir, Filename, Extension, RecursiveDir}
+use Rattle.msb_expand.specs.declared.well_known.WellKnown.TheVariants.{
+  Identity,
+  FullPath,
+  RootDir,
+  Directory,
+  RelativeDir,
+  Filename,
+  Extension,
+  RecursiveDir,
+}
 use Rattle.msb_values.specs.Keys.{key_of}
 use Rattle.msb_laws.specs.Results.{map_ok}
 use Rattle.msb_expand.specs.Reserved.{folder_of, from_root}
@@ -36,10 +45,12 @@ path_of project ident = or_bad_path ident (normal_path (folder_of project) ident
 
 -- of an identity as it stands in its item
 abbrev pub full_path : List ℕ → List ℕ → Result (List ℕ) ExpandFault
-full_path project ident = map_ok (λ path. escaped (from_root path)) (path_of project (unescaped ident))
+full_path project ident = map_ok (λ path. escaped (from_root path))
+    (path_of project (unescaped ident))
 
 abbrev pub directory : List ℕ → List ℕ → Result (List ℕ) ExpandFault
-directory project ident = map_ok (λ path. escaped (relative_dir path)) (path_of project (unescaped ident))
+directory project ident = map_ok (λ path. escaped (relative_dir path))
+    (path_of project (unescaped ident))
 
 -- by the project's file and an item, whose identity is unescaped
 abbrev pub well_known_value : List ℕ → Item → WellKnown → Result (List ℕ) ExpandFault
@@ -60,7 +71,8 @@ abbrev pub value_if : List ℕ → Item → List ℕ → Option WellKnown → Re
 value_if project item key (Some known) = well_known_value project item known
 value_if project item key None = Ok (text_or_none (value_at key item.meta))
 
--- the metadata of a key, of an item that has the defaults of its type: well-known, or its own, or empty
+-- the metadata of a key, of an item that has the defaults of its type: well-known, or its own, or
+-- empty
 abbrev pub metadata_at : List ℕ → Item → List ℕ → Result (List ℕ) ExpandFault
 metadata_at project item key = value_if project item key (value_at key well_known)
 

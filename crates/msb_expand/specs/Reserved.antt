@@ -1,12 +1,34 @@
 -- The properties that the engine itself sets. (MSBuild reserved and well-known properties)
-use Rattle.std.specs.Prelude.{ℕ, List, [], ◌∷◌, Option, Some, None, Bool, is_some, codes, if◌then◌else◌}
+use Rattle.std.specs.Prelude.{
+  ℕ,
+  List,
+  [],
+  ◌∷◌,
+  Option,
+  Some,
+  None,
+  Bool,
+  is_some,
+  codes,
+  if◌then◌else◌,
+}
 use Rattle.std.specs.List.{list_any, before_last}
 use Rattle.msb_paths.specs.Segments.{is_slash}
 use Rattle.msb_paths.specs.Parts.{file_of, relative_dir, filename, extension}
 use Rattle.msb_values.specs.Escapes.{escaped}
 use Rattle.msb_values.specs.Pairs.{value_at}
 use Rattle.msb_expand.specs.declared.reserved.Reserved.{Reserved}
-use Rattle.msb_expand.specs.declared.reserved.Reserved.TheVariants.{ProjectDirectory, ProjectFile, ProjectName, ProjectExtension, ProjectFullPath, ThisFile, ThisFileName, ThisFileFullPath, ThisFileDirectory}
+use Rattle.msb_expand.specs.declared.reserved.Reserved.TheVariants.{
+  ProjectDirectory,
+  ProjectFile,
+  ProjectName,
+  ProjectExtension,
+  ProjectFullPath,
+  ThisFile,
+  ThisFileName,
+  ThisFileFullPath,
+  ThisFileDirectory,
+}
 use Rattle.msb_values.specs.Keys.{key_of}
 use Rattle.msb_expand.specs.Scenes.{Scene}
 
@@ -54,7 +76,8 @@ value_or scene None None = []
 
 -- the value of the property of a key
 abbrev pub property_at : Scene → Option (List ℕ) → List ℕ
-property_at scene (Some key) = value_or scene (value_at key reserved) (value_at key scene.scope.props)
+property_at scene (Some key) = value_or scene (value_at key reserved)
+    (value_at key scene.scope.props)
 property_at scene None = []
 
 -- the value of a property

@@ -7,4 +7,9 @@ use Rattle.msb_expand.specs.Scenes.{pairs_or_none}
 use Rattle.msb_expand.specs.CowTexts.{cow_text}
 
 abbrev pub seen_item : Seen → Item
-seen_item seen = record { ident = cow_text seen.ident; recursive = seen.recursive.now; meta = overlaid (pairs_or_none (option_copied seen.defaults)) (pairs_or_none (option_copied seen.meta)) }
+seen_item seen = record {
+  ident = cow_text seen.ident;
+  recursive = seen.recursive.now;
+  meta = overlaid
+      (pairs_or_none (option_copied seen.defaults)) (pairs_or_none (option_copied seen.meta));
+}

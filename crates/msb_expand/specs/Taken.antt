@@ -3,7 +3,16 @@ use Rattle.std.specs.Prelude.{◌≡◌, List, [], ◌∷◌, map, option_copied
 use Rattle.msb_expand.specs.declared.tokens.Token.{Token as Taken}
 use Rattle.msb_expand.specs.declared.tokens.Token.TheVariants.{Plain, Value, Kept, Items, Again}
 use Rattle.msb_expand.specs.declared.faults.ExpandFault.{ExpandFault}
-use Rattle.msb_expand.specs.declared.faults.ExpandFault.TheVariants.{ItemsHere, MetadataHere, UnknownFunction, TooLong, MixedList, BadPath, Expr, Memory}
+use Rattle.msb_expand.specs.declared.faults.ExpandFault.TheVariants.{
+  ItemsHere,
+  MetadataHere,
+  UnknownFunction,
+  TooLong,
+  MixedList,
+  BadPath,
+  Expr,
+  Memory,
+}
 use Rattle.msb_expand.specs.CowTexts.{cow_text}
 use Rattle.msb_expand.specs.Tokens.{Token, written, referred, faulty, again_token}
 
@@ -11,7 +20,8 @@ abbrev pub taken_tokens : Taken → List Token
 taken_tokens (Plain text) = written text.now ∷ []
 taken_tokens (Value text) = written (cow_text text) ∷ []
 taken_tokens (Kept text) = written text ∷ []
-taken_tokens (Items reference) = referred reference.kind.now reference.steps.now (option_copied reference.separator) ∷ []
+taken_tokens (Items reference) = referred reference.kind.now reference.steps.now
+    (option_copied reference.separator) ∷ []
 taken_tokens (Again expr) = map again_token expr.parts
 
 -- what is handed on is these tokens, but for want of memory

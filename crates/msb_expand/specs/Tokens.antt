@@ -1,6 +1,24 @@
 -- What stands in place of each part of an expression, by where the expression stands.
 -- (MSBuild properties; MSBuild items; MSBuild item metadata)
-use Rattle.std.specs.Prelude.{ℕ, Bool, true, false, not, List, [], ◌∷◌, map, Option, Some, None, option_map, option_and_then, Result, Ok, Err}
+use Rattle.std.specs.Prelude.{
+  ℕ,
+  Bool,
+  true,
+  false,
+  not,
+  List,
+  [],
+  ◌∷◌,
+  map,
+  Option,
+  Some,
+  None,
+  option_map,
+  option_and_then,
+  Result,
+  Ok,
+  Err,
+}
 use Rattle.std.specs.List.{flat_map}
 use Rattle.std.specs.Str.{bytes_eq}
 use Rattle.msb_values.specs.Pairs.{value_at}
@@ -9,7 +27,11 @@ use Rattle.msb_expression.specs.Reading.{reading}
 use Rattle.msb_expression.specs.Written.{part_text}
 use Rattle.msb_expression.specs.declared.faults.ExprFault.{ExprFault}
 use Rattle.msb_expression.specs.declared.expression.Piece.{Piece}
-use Rattle.msb_expression.specs.declared.expression.Piece.TheVariants.{Plain as PlainPiece, Prop as PropPiece, Meta as MetaPiece}
+use Rattle.msb_expression.specs.declared.expression.Piece.TheVariants.{
+  Plain as PlainPiece,
+  Prop as PropPiece,
+  Meta as MetaPiece,
+}
 use Rattle.msb_expression.specs.declared.expression.Step.{Step}
 use Rattle.msb_expression.specs.declared.expression.Step.TheVariants.{Transform, Call}
 use Rattle.msb_expression.specs.declared.expression.Part.{Part}
@@ -17,7 +39,13 @@ use Rattle.msb_expression.specs.declared.expression.Part.TheVariants.{Plain, Pro
 use Rattle.msb_expand.specs.declared.faults.ExpandFault.{ExpandFault}
 use Rattle.msb_expand.specs.declared.faults.ExpandFault.TheVariants.{ItemsHere, MetadataHere, Expr}
 use Rattle.msb_expand.specs.declared.lens.Use.{Use}
-use Rattle.msb_expand.specs.declared.lens.Use.TheVariants.{Properties, Definition, Metadata, All, Batched}
+use Rattle.msb_expand.specs.declared.lens.Use.TheVariants.{
+  Properties,
+  Definition,
+  Metadata,
+  All,
+  Batched,
+}
 use Rattle.msb_expand.specs.declared.lens.Bucket.{Bucket}
 use Rattle.msb_values.specs.Keys.{key_of}
 use Rattle.msb_expand.specs.Scenes.{Scene, defaults_at, with_defaults}
@@ -48,14 +76,16 @@ filled_step scene (Transform pieces) = Transform (filled scene pieces)
 filled_step scene (Call function args) = Call function (map (filled scene) args)
 
 abbrev pub kept_text : Scene → List ℕ → List Step → Option (List Piece) → List ℕ
-kept_text scene kind steps separator = part_text (Items kind (map (filled_step scene) steps) (option_map (filled scene) separator))
+kept_text scene kind steps separator = part_text
+    (Items kind (map (filled_step scene) steps) (option_map (filled scene) separator))
 
 abbrev pub items_token : Use → Scene → List ℕ → List Step → Option (List Piece) → Token
 items_token Properties scene kind steps separator = written (kept_text scene kind steps separator)
 items_token Definition scene kind steps separator = faulty ItemsHere
 items_token _ scene kind steps separator = referred kind steps separator
 
--- The value of a property is read again for item references where these have values; its other references stay text.
+-- The value of a property is read again for item references where these have values; its other
+-- references stay text.
 abbrev pub again_token : Part → Token
 again_token (Items kind steps separator) = referred kind steps separator
 again_token part = written (part_text part)
@@ -87,7 +117,9 @@ abbrev pub default_token : Scene → Option (List ℕ × Item) → Option (List 
 default_token scene None qualifier name = faulty MetadataHere
 default_token scene (Some own) qualifier name =
     unless (is_foreign own.0 qualifier)
-    (written (text_or_none (option_and_then (λ key. value_at key (defaults_at scene own.0)) (key_of name))))
+    (written
+    (text_or_none
+    (option_and_then (λ key. value_at key (defaults_at scene own.0)) (key_of name))))
 
 abbrev pub own_token : Scene → Option (List ℕ × Item) → Option (List ℕ) → List ℕ → Token
 own_token scene None qualifier name = faulty MetadataHere
@@ -102,7 +134,8 @@ is_qualifier (Some a) (Some b) = bytes_eq a b
 is_qualifier None (Some b) = false
 is_qualifier (Some a) None = false
 
-abbrev pub value_in : Option (List ℕ) → List ℕ → List (Option (List ℕ) × List ℕ × List ℕ) → Option (List ℕ)
+abbrev pub value_in : Option (List ℕ) → List ℕ → List (Option (List ℕ) × List ℕ × List ℕ)
+    → Option (List ℕ)
 value_in qualifier name [] = None
 value_in qualifier name (v ∷ values) =
     elim (is_qualifier v.0 qualifier) [
@@ -113,9 +146,11 @@ value_in qualifier name (v ∷ values) =
 -- the keys of a reference's qualifier and name
 abbrev pub reference_key : Option (List ℕ) → List ℕ → Option (Option (List ℕ) × List ℕ)
 reference_key None name = option_map (λ key. (None, key)) (key_of name)
-reference_key (Some qualifier) name = option_and_then (λ kind. option_map (λ key. (Some kind, key)) (key_of name)) (key_of qualifier)
+reference_key (Some qualifier) name = option_and_then
+    (λ kind. option_map (λ key. (Some kind, key)) (key_of name)) (key_of qualifier)
 
-abbrev pub value_by : Option (Option (List ℕ) × List ℕ) → List (Option (List ℕ) × List ℕ × List ℕ) → Option (List ℕ)
+abbrev pub value_by : Option (Option (List ℕ) × List ℕ) → List (Option (List ℕ) × List ℕ × List ℕ)
+    → Option (List ℕ)
 value_by (Some reference) values = value_in reference.0 reference.1 values
 value_by None values = None
 
@@ -139,7 +174,8 @@ abbrev pub part_tokens : Scene → Part → List Token
 part_tokens scene (Plain text) = written text ∷ []
 part_tokens scene (Prop name) = property_tokens scene.usage (property_of scene name)
 part_tokens scene (Meta qualifier name) = metadata_token scene.usage scene qualifier name ∷ []
-part_tokens scene (Items kind steps separator) = items_token scene.usage scene kind steps separator ∷ []
+part_tokens scene (Items kind steps separator) = items_token scene.usage scene kind steps separator
+    ∷ []
 
 abbrev pub tokens : Scene → List Part → List Token
 tokens scene parts = flat_map (part_tokens scene) parts

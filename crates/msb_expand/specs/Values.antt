@@ -1,6 +1,30 @@
 -- The text and the list that an expression denotes in a scene, or the first fault from the left.
 -- (MSBuild properties; MSBuild items)
-use Rattle.std.specs.Prelude.{ℕ, ◌+◌, nat_lt, ◌==◌, not, Bool, true, false, List, [], ◌∷◌, ◌++◌, length, map, filter, Option, Some, None, Result, Ok, Err, codes, if◌then◌else◌}
+use Rattle.std.specs.Prelude.{
+  ℕ,
+  ◌+◌,
+  nat_lt,
+  ◌==◌,
+  not,
+  Bool,
+  true,
+  false,
+  List,
+  [],
+  ◌∷◌,
+  ◌++◌,
+  length,
+  map,
+  filter,
+  Option,
+  Some,
+  None,
+  Result,
+  Ok,
+  Err,
+  codes,
+  if◌then◌else◌,
+}
 use Rattle.std.specs.List.{list_all, slice_split, join_by, flat_map, sum}
 use Rattle.msb_values.specs.Lists.{is_list_space, trimmed}
 use Rattle.msb_values.specs.declared.item.Item.{Item}
@@ -36,7 +60,8 @@ joined separator items = join_by (λ item. item.ident) separator items
 
 abbrev pub token_text : Scene → Token → Result (List ℕ) ExpandFault
 token_text scene (written text) = Ok text
-token_text scene (referred kind steps separator) = map_ok (joined (separator_of scene separator)) (referred_items scene kind steps)
+token_text scene (referred kind steps separator) = map_ok (joined (separator_of scene separator))
+    (referred_items scene kind steps)
 token_text scene (faulty fault) = Err fault
 
 -- the text of an expression
@@ -47,7 +72,8 @@ text_value scene parts = grown_by (token_text scene) [] (tokens scene parts)
 abbrev pub entry_of : Bool → Item → Entry
 entry_of is_written item = record { item = item; written = is_written }
 
--- An entry as far as it is read: text, or the items of a reference that nothing but spaces may stand beside.
+-- An entry as far as it is read: text, or the items of a reference that nothing but spaces may
+-- stand beside.
 pub data OpenEntry : Type 0 where
   begun : List ℕ → OpenEntry
   given : List Item → OpenEntry
@@ -71,7 +97,8 @@ text_entry is_written (b ∷ bs) = entry_of is_written (plain_item (b ∷ bs)) �
 -- an empty entry is dropped, and so is an item of empty identity
 abbrev pub entries_in : OpenEntry → List Entry
 entries_in (begun piece) = text_entry true (trimmed piece)
-entries_in (given items) = map (entry_of false) (filter (λ item. not (length item.ident == 0)) items)
+entries_in (given items) = map (entry_of false)
+    (filter (λ item. not (length item.ident == 0)) items)
 
 -- the bytes of the identities, with one more for each
 abbrev pub size_of : List Entry → ℕ
@@ -112,22 +139,28 @@ uncut_byte b = if b == 59 then codes "%3B" else b ∷ []
 abbrev pub one_item : List ℕ → List Item
 one_item joined_text = plain_item (flat_map uncut_byte joined_text) ∷ []
 
-abbrev pub given_items : Scene → List ℕ → List Step → Option (List Piece) → Result (List Item) ExpandFault
+abbrev pub given_items : Scene → List ℕ → List Step → Option (List Piece)
+    → Result (List Item) ExpandFault
 given_items scene kind steps None = referred_items scene kind steps
-given_items scene kind steps (Some separator) = map_ok (λ list. one_item (joined (quoted_value scene separator) list)) (referred_items scene kind steps)
+given_items scene kind steps (Some separator) = map_ok
+    (λ list. one_item (joined (quoted_value scene separator) list))
+    (referred_items scene kind steps)
 
 -- whether a reference may stand behind an entry
 abbrev pub is_open : OpenEntry → Bool
 is_open (begun piece) = is_blank piece
 is_open (given items) = false
 
-abbrev pub with_reference : Bool → Scene → Reading → List ℕ → List Step → Option (List Piece) → Result Reading ExpandFault
-with_reference true scene r kind steps separator = map_ok (λ items. reading r.whole (given items)) (given_items scene kind steps separator)
+abbrev pub with_reference : Bool → Scene → Reading → List ℕ → List Step → Option (List Piece)
+    → Result Reading ExpandFault
+with_reference true scene r kind steps separator = map_ok (λ items. reading r.whole (given items))
+    (given_items scene kind steps separator)
 with_reference false scene r kind steps separator = Err MixedList
 
 abbrev pub with_token : Scene → Reading → Token → Result Reading ExpandFault
 with_token scene r (written text) = with_pieces r (slice_split (λ b. b == 59) text)
-with_token scene r (referred kind steps separator) = with_reference (is_open r.entry) scene r kind steps separator
+with_token scene r (referred kind steps separator) = with_reference (is_open r.entry) scene r kind
+    steps separator
 with_token scene r (faulty fault) = Err fault
 
 abbrev pub read_on : Scene → Reading → List Token → Result (List Entry) ExpandFault

@@ -1,4 +1,5 @@
--- What a text of a project file denotes, as it is written. (MSBuild properties; MSBuild items; MSBuild targets)
+-- What a text of a project file denotes, as it is written. (MSBuild properties; MSBuild items;
+-- MSBuild targets)
 use Rattle.std.specs.Prelude.{ℕ, List, Option, Some, None, Result, Ok, Err}
 use Rattle.std.specs.Str.{str_to_ascii_lowercase}
 use Rattle.msb_laws.specs.Results.{and_then, all_ok}
@@ -26,15 +27,18 @@ or_unread (Err fault) = Err (expression_cause_of fault)
 
 -- its text
 abbrev pub expanded : Scene → List ℕ → Result (List ℕ) Cause
-expanded scene written = and_then (or_unread (reading written)) (λ parts. or_cause (text_value scene parts))
+expanded scene written = and_then (or_unread (reading written))
+    (λ parts. or_cause (text_value scene parts))
 
 -- the entries of its list
 abbrev pub expanded_entries : Scene → List ℕ → Result (List Entry) Cause
-expanded_entries scene written = and_then (or_unread (reading written)) (λ parts. or_cause (entries_value scene parts))
+expanded_entries scene written = and_then (or_unread (reading written))
+    (λ parts. or_cause (entries_value scene parts))
 
 -- its list
 abbrev pub expanded_items : Scene → List ℕ → Result (List Item) Cause
-expanded_items scene written = and_then (or_unread (reading written)) (λ parts. or_cause (list_value scene parts))
+expanded_items scene written = and_then (or_unread (reading written))
+    (λ parts. or_cause (list_value scene parts))
 
 -- an entry of a list of targets is a target's name, or refused at its first bad byte
 abbrev pub name_if : List ℕ → Option ℕ → Result (List ℕ) Cause

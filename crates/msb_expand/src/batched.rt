@@ -1,7 +1,14 @@
 ghost use Rattle.std.specs.Prelude.{◌≡◌, [], ◌∷◌, IfOk, option_copied};
 ghost use Rattle.msb_expand.specs.Scenes.{scene_of};
 ghost use Rattle.msb_expand.specs.Taken.{Takes};
-ghost use Rattle.msb_expand.specs.Tokens.{token_if, bucket_value, reference_key, value_by, value_in, is_qualifier};
+ghost use Rattle.msb_expand.specs.Tokens.{
+  token_if,
+  bucket_value,
+  reference_key,
+  value_by,
+  value_in,
+  is_qualifier,
+};
 
 use crate::properties::CowText;
 use crate::tokens::Token;
@@ -10,14 +17,16 @@ use msb_expression::Word;
 use msb_values::{Name, NoMemory, Text};
 use std::alloc::Global;
 
-/// The bucket's value of a metadata reference, which is refused where the bucket holds none. (MSBuild batching.)
+/// The bucket's value of a metadata reference, which is refused where the bucket holds none.
+/// (MSBuild batching.)
 pub(crate) fn bucket_token<'a, 'e>(
     alloc: Global,
     lens: &Lens<'a>,
     qualifier: &'e Option<Word>,
     name: &'e str,
 ) -> Result<Token<'a, 'e>, ExpandFault>
-    ensures { Takes result (token_if (bucket_value (scene_of lens.now).bucket qualifier.now name.now) ∷ []) }
+    ensures { Takes result
+        (token_if (bucket_value (scene_of lens.now).bucket qualifier.now name.now) ∷ []) }
 {
     match lens.bucket {
         None => Err(ExpandFault::MetadataHere),
@@ -34,7 +43,8 @@ fn value_of_bucket<'a>(
     qualifier: &Option<Word>,
     name: &str,
 ) -> Result<Option<&'a str>, NoMemory>
-    ensures { IfOk result (λ value. option_copied value ≡ value_by (reference_key qualifier.now name.now) bucket.now.values) }
+    ensures { IfOk result (λ value. option_copied value
+        ≡ value_by (reference_key qualifier.now name.now) bucket.now.values) }
 {
     let Some(name) = Name::written(alloc, name)? else {
         return Ok(None);

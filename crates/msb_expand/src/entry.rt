@@ -4,7 +4,7 @@ use msb_values::Item;
 #[derive(Drop)]
 pub struct Entry {
     pub item: Item,
-    /// Whether it was written as text, into which properties and metadata are put; else a reference gave it, and
-    /// its identity is no pattern.
+    /// Whether it was written as text, into which properties and metadata are put; else a reference
+    /// gave it, and its identity is no pattern.
     pub written: bool,
 }

@@ -11,8 +11,8 @@ use msb_expression::Expr;
 use msb_values::{Item, List, NoMemory, Text};
 use std::alloc::Global;
 
-/// The text that an expression denotes, with its escapes as they are written, or the first fault from the left.
-/// (MSBuild properties; MSBuild items; MSBuild transforms.)
+/// The text that an expression denotes, with its escapes as they are written, or the first fault
+/// from the left. (MSBuild properties; MSBuild items; MSBuild transforms.)
 pub fn text(alloc: Global, lens: &Lens<'_>, expr: &Expr) -> Result<Text, ExpandFault>
     ensures { Gives result (text_value (scene_of lens.now) expr.now.parts) }
 {
@@ -21,14 +21,16 @@ pub fn text(alloc: Global, lens: &Lens<'_>, expr: &Expr) -> Result<Text, ExpandF
     Ok(text)
 }
 
-/// The entries that an expression denotes as a list, or the first fault from the left. (MSBuild items.)
+/// The entries that an expression denotes as a list, or the first fault from the left. (MSBuild
+/// items.)
 pub fn entries(alloc: Global, lens: &Lens<'_>, expr: &Expr) -> Result<List<Entry>, ExpandFault>
     ensures { Gives result (entries_value (scene_of lens.now) expr.now.parts) }
 {
     Ok(List::from(read_entries(alloc, lens, expr)?))
 }
 
-/// The items that an expression denotes as a list, or the first fault from the left. (MSBuild items.)
+/// The items that an expression denotes as a list, or the first fault from the left. (MSBuild
+/// items.)
 pub fn list(alloc: Global, lens: &Lens<'_>, expr: &Expr) -> Result<List<Item>, ExpandFault>
     ensures { Gives result (list_value (scene_of lens.now) expr.now.parts) }
 {
@@ -46,7 +48,8 @@ fn items_of(alloc: Global, entries: Vec<Entry>) -> Result<List<Item>, NoMemory>
 }
 
 fn read_entries(alloc: Global, lens: &Lens<'_>, expr: &Expr) -> Result<Vec<Entry>, ExpandFault>
-    ensures { GivesAs (λ entries. entries.items) result (entries_value (scene_of lens.now) expr.now.parts) }
+    ensures { GivesAs (λ entries. entries.items) result
+        (entries_value (scene_of lens.now) expr.now.parts) }
 {
     let mut reading = Reading::new(alloc);
     read_parts(alloc, &mut reading, lens, expr.parts.as_slice())?;

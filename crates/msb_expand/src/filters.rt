@@ -26,7 +26,8 @@ pub(crate) enum Wanted {
 impl Wanted {
     /// That it equals a value without case.
     fn value(alloc: Global, value: &str) -> Result<Wanted, NoMemory>
-        ensures { IfOk result (λ wanted. (text : List ℕ) → passes wanted text ≡ is_same_text value.now text) }
+        ensures { IfOk result (λ wanted. (text : List ℕ)
+            → passes wanted text ≡ is_same_text value.now text) }
     {
         Ok(Wanted::Value(Folded::of(alloc, value)?))
     }
@@ -48,7 +49,8 @@ pub(crate) fn with_some<'a>(
     of: &str,
     items: Vec<Seen<'a>>,
 ) -> Result<Vec<Seen<'a>>, ExpandFault>
-    ensures { GivesAs (λ seen. map seen_item seen.items) result (filtered project.now of.now is_some_text (map seen_item items.entry.items)) }
+    ensures { GivesAs (λ seen. map seen_item seen.items) result
+        (filtered project.now of.now is_some_text (map seen_item items.entry.items)) }
 {
     filtered(alloc, project, of, &Wanted::Some, items)
 }
@@ -61,7 +63,8 @@ pub(crate) fn with_value<'a>(
     value: &str,
     items: Vec<Seen<'a>>,
 ) -> Result<Vec<Seen<'a>>, ExpandFault>
-    ensures { GivesAs (λ seen. map seen_item seen.items) result (filtered project.now of.now (is_same_text value.now) (map seen_item items.entry.items)) }
+    ensures { GivesAs (λ seen. map seen_item seen.items) result
+        (filtered project.now of.now (is_same_text value.now) (map seen_item items.entry.items)) }
 {
     let wanted = Wanted::value(alloc, value)?;
     filtered(alloc, project, of, &wanted, items)
@@ -75,7 +78,8 @@ pub(crate) fn any_with_value(
     value: &str,
     items: &[Seen<'_>],
 ) -> Result<bool, ExpandFault>
-    ensures { Gives result (any_passes project.now of.now (is_same_text value.now) (map seen_item items.now)) }
+    ensures { Gives result
+        (any_passes project.now of.now (is_same_text value.now) (map seen_item items.now)) }
 {
     let wanted = Wanted::value(alloc, value)?;
     any_passes(alloc, project, of, &wanted, items)
@@ -89,7 +93,8 @@ fn filtered<'a>(
     wanted: &Wanted,
     items: Vec<Seen<'a>>,
 ) -> Result<Vec<Seen<'a>>, ExpandFault>
-    ensures { GivesAs (λ seen. map seen_item seen.items) result (filtered project.now of.now (passes wanted.now) (map seen_item items.entry.items)) }
+    ensures { GivesAs (λ seen. map seen_item seen.items) result
+        (filtered project.now of.now (passes wanted.now) (map seen_item items.entry.items)) }
 {
     let key = Name::written(alloc, of)?;
     let mut kept = Vec::new(alloc);
@@ -108,7 +113,8 @@ fn any_passes(
     wanted: &Wanted,
     items: &[Seen<'_>],
 ) -> Result<bool, ExpandFault>
-    ensures { Gives result (any_passes project.now of.now (passes wanted.now) (map seen_item items.now)) }
+    ensures { Gives result
+        (any_passes project.now of.now (passes wanted.now) (map seen_item items.now)) }
 {
     let key = Name::written(alloc, of)?;
     for item in items {
@@ -126,7 +132,8 @@ fn item_passes(
     wanted: &Wanted,
     item: &Seen<'_>,
 ) -> Result<bool, ExpandFault>
-    ensures { Gives result (map_ok (passes wanted.now) (metadata_if project.now (seen_item item.now) key.now)) }
+    ensures { Gives result
+        (map_ok (passes wanted.now) (metadata_if project.now (seen_item item.now) key.now)) }
 {
     let value = item.metadata_if(alloc, project, key)?;
     Ok(wanted.passes(alloc, value.as_str())?)

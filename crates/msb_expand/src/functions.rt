@@ -6,7 +6,13 @@ ghost use Rattle.msb_expand.specs.declared.faults.ExpandFault.TheVariants.{Unkno
 ghost use Rattle.msb_expand.specs.Answers.{GivesAs};
 ghost use Rattle.msb_values.specs.Keys.{key_of};
 ghost use Rattle.msb_laws.specs.Results.{map_ok};
-ghost use Rattle.msb_expand.specs.Functions.{functions, function_result, any_passes, plain_item, truth_text};
+ghost use Rattle.msb_expand.specs.Functions.{
+  functions,
+  function_result,
+  any_passes,
+  plain_item,
+  truth_text,
+};
 ghost use Rattle.msb_expand.specs.Seen.{seen_item};
 
 use crate::ExpandFault;
@@ -31,7 +37,8 @@ pub enum Function {
 impl Function {
     /// The function of this name, in whatever case.
     fn named(alloc: Global, name: &str) -> Result<Option<Function>, NoMemory>
-        ensures { IfOk result (λ function. function ≡ option_and_then (λ key. value_at key functions) (key_of name.now)) }
+        ensures { IfOk result (λ function. function
+            ≡ option_and_then (λ key. value_at key functions) (key_of name.now)) }
     {
         match Name::written(alloc, name)? {
             Some(key) => Ok(Function::of_key(key.key())),
@@ -63,7 +70,10 @@ pub(crate) fn call<'a>(
     args: &[Text],
     items: Vec<Seen<'a>>,
 ) -> Result<Vec<Seen<'a>>, ExpandFault>
-    ensures { GivesAs (λ seen. map seen_item seen.items) result (function_result project.now name.now (option_and_then (λ key. value_at key functions) (key_of name.now)) args.now (map seen_item items.entry.items)) }
+    ensures { GivesAs (λ seen. map seen_item seen.items) result
+        (function_result project.now name.now
+        (option_and_then (λ key. value_at key functions) (key_of name.now)) args.now
+        (map seen_item items.entry.items)) }
 {
     let function = Function::named(alloc, name)?;
     match args {
@@ -81,7 +91,8 @@ fn call_plain<'a>(
     function: Option<Function>,
     items: Vec<Seen<'a>>,
 ) -> Result<Vec<Seen<'a>>, ExpandFault>
-    ensures { GivesAs (λ seen. map seen_item seen.items) result (function_result project.now name.now function [] (map seen_item items.entry.items)) }
+    ensures { GivesAs (λ seen. map seen_item seen.items) result
+        (function_result project.now name.now function [] (map seen_item items.entry.items)) }
 {
     match function {
         Some(Function::Count) => Ok(count(alloc, items.len())?),
@@ -100,7 +111,9 @@ fn call_of<'a>(
     of: &Text,
     items: Vec<Seen<'a>>,
 ) -> Result<Vec<Seen<'a>>, ExpandFault>
-    ensures { GivesAs (λ seen. map seen_item seen.items) result (function_result project.now name.now function (of.now ∷ []) (map seen_item items.entry.items)) }
+    ensures { GivesAs (λ seen. map seen_item seen.items) result
+        (function_result project.now name.now function (of.now ∷ [])
+        (map seen_item items.entry.items)) }
 {
     match function {
         Some(Function::HasMetadata) => with_some(alloc, project, of.as_str(), items),
@@ -117,7 +130,9 @@ fn call_with<'a>(
     value: &Text,
     items: Vec<Seen<'a>>,
 ) -> Result<Vec<Seen<'a>>, ExpandFault>
-    ensures { GivesAs (λ seen. map seen_item seen.items) result (function_result project.now name.now function (of.now ∷ value.now ∷ []) (map seen_item items.entry.items)) }
+    ensures { GivesAs (λ seen. map seen_item seen.items) result
+        (function_result project.now name.now function (of.now ∷ value.now ∷ [])
+        (map seen_item items.entry.items)) }
 {
     match function {
         Some(Function::WithMetadataValue) => with_value(
@@ -152,7 +167,9 @@ fn any_truth<'a>(
     value: &str,
     items: &[Seen<'_>],
 ) -> Result<Vec<Seen<'a>>, ExpandFault>
-    ensures { GivesAs (λ seen. map seen_item seen.items) result (map_ok (λ any. plain_item (truth_text any) ∷ []) (any_passes project.now of.now (is_same_text value.now) (map seen_item items.now))) }
+    ensures { GivesAs (λ seen. map seen_item seen.items) result
+        (map_ok (λ any. plain_item (truth_text any) ∷ [])
+        (any_passes project.now of.now (is_same_text value.now) (map seen_item items.now))) }
 {
     let any = any_with_value(alloc, project, of, value, items)?;
     Ok(truth(alloc, any)?)

@@ -17,21 +17,25 @@ pub fn metadata(
     item: &Item,
     name: &Name,
 ) -> Result<Text, ExpandFault>
-    ensures { Gives result (metadata_at lens.now.project.now (with_defaults (defaults_at (scene_of lens.now) of.now) item.now) name.now) }
+    ensures { Gives result
+        (metadata_at lens.now.project.now
+        (with_defaults (defaults_at (scene_of lens.now) of.now) item.now) name.now) }
 {
     let item = Seen::of(item, lens.scope.defaults.get(of));
     let value = item.metadata(alloc, lens.project, name)?;
     Ok(value.into_text(alloc)?)
 }
 
-/// An item of this type with the type's defaults put in, as a reference copies it. (MSBuild item definitions.)
+/// An item of this type with the type's defaults put in, as a reference copies it. (MSBuild item
+/// definitions.)
 pub fn with_defaults(
     alloc: Global,
     lens: &Lens<'_>,
     of: &Name,
     item: &Item,
 ) -> Result<Item, NoMemory>
-    ensures { IfOk result (λ copy. copy ≡ with_defaults (defaults_at (scene_of lens.now) of.now) item.now) }
+    ensures { IfOk result
+        (λ copy. copy ≡ with_defaults (defaults_at (scene_of lens.now) of.now) item.now) }
 {
     Seen::of(item, lens.scope.defaults.get(of)).item(alloc)
 }

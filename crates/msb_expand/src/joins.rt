@@ -10,13 +10,15 @@ use crate::limits::grow;
 use crate::seen::Seen;
 use msb_values::Text;
 
-/// Puts identities behind a text, with the separator between each two, where what comes of it is not too long.
+/// Puts identities behind a text, with the separator between each two, where what comes of it is
+/// not too long.
 pub(crate) fn push_joined(
     text: &mut Text,
     items: &[Seen<'_>],
     separator: &str,
 ) -> Result<(), ExpandFault>
-    ensures { GivesAs (λ _. text.new) result (if_short (text.old ++ joined separator.now (map seen_item items.now))) }
+    ensures { GivesAs (λ _. text.new) result
+        (if_short (text.old ++ joined separator.now (map seen_item items.now))) }
 {
     match items {
         // Nothing comes of no items, but the text alone may be too long.
@@ -30,7 +32,8 @@ pub(crate) fn push_joined(
 
 /// Puts identities behind a text, each behind a separator.
 fn push_each(text: &mut Text, items: &[Seen<'_>], separator: &str) -> Result<(), ExpandFault>
-    ensures { GivesAs (λ _. text.new) result (if_short (text.old ++ each_behind separator.now (map seen_item items.now))) }
+    ensures { GivesAs (λ _. text.new) result
+        (if_short (text.old ++ each_behind separator.now (map seen_item items.now))) }
 {
     for item in items {
         grow(text, separator)?;

@@ -9,7 +9,8 @@ use std::collections::BTreeSet;
 
 /// The first item of each identity, without case.
 pub(crate) fn distinct<'a>(alloc: Global, items: Vec<Seen<'a>>) -> Result<Vec<Seen<'a>>, NoMemory>
-    ensures { IfOk result (λ kept. map seen_item kept.items ≡ distinct_from [] (map seen_item items.entry.items)) }
+    ensures { IfOk result (λ kept. map seen_item kept.items
+        ≡ distinct_from [] (map seen_item items.entry.items)) }
 {
     let mut idents = BTreeSet::new(alloc);
     let mut kept = Vec::new(alloc);
@@ -34,7 +35,8 @@ pub(crate) fn without_metadata<'a>(
     alloc: Global,
     items: Vec<Seen<'a>>,
 ) -> Result<Vec<Seen<'a>>, NoMemory>
-    ensures { IfOk result (λ cleared. map seen_item cleared.items ≡ map without_metadata (map seen_item items.entry.items)) }
+    ensures { IfOk result (λ cleared. map seen_item cleared.items
+        ≡ map without_metadata (map seen_item items.entry.items)) }
 {
     let mut cleared = Vec::new(alloc);
     for item in items {
@@ -45,7 +47,8 @@ pub(crate) fn without_metadata<'a>(
 
 /// Puts an item behind the others.
 pub(crate) fn keep<'a>(kept: &mut Vec<Seen<'a>>, item: Seen<'a>) -> Result<(), NoMemory>
-    ensures { OnOk result (map seen_item kept.new.items ≡ map seen_item kept.old.items ++ seen_item item.entry ∷ []) }
+    ensures { OnOk result (map seen_item kept.new.items
+        ≡ map seen_item kept.old.items ++ seen_item item.entry ∷ []) }
 {
     Ok(kept.push(item)?)
 }
@@ -56,7 +59,8 @@ pub(crate) fn keep_if<'a>(
     is: bool,
     item: Seen<'a>,
 ) -> Result<(), NoMemory>
-    ensures { OnOk result (map seen_item kept.new.items ≡ map seen_item kept.old.items ++ kept_if is (seen_item item.entry) []) }
+    ensures { OnOk result (map seen_item kept.new.items
+        ≡ map seen_item kept.old.items ++ kept_if is (seen_item item.entry) []) }
 {
     if is { keep(kept, item) } else { Ok(()) }
 }

@@ -1,5 +1,12 @@
 ghost use Rattle.std.specs.Prelude.{◌≡◌, option_copied};
-ghost use Rattle.msb_expand.specs.Scenes.{scene_of, scene_at, with_own, with_bucket, list_in, list_or};
+ghost use Rattle.msb_expand.specs.Scenes.{
+  scene_of,
+  scene_at,
+  with_own,
+  with_bucket,
+  list_in,
+  list_or,
+};
 ghost use Rattle.msb_expand.specs.Reserved.{folder_of};
 
 use crate::parts::folder_of;
@@ -10,8 +17,9 @@ use msb_values::{Item, List, Lists, Name, Scope, SharedItems, Text};
 pub enum Use {
     /// A property's value in evaluation: item and metadata references stay text.
     Properties,
-    /// Where no item reference may stand: the conditions and lists of the property pass, and item definitions.
-    /// With an item type at hand a metadata reference is that type's default so far, else it may not stand there.
+    /// Where no item reference may stand: the conditions and lists of the property pass, and item
+    /// definitions. With an item type at hand a metadata reference is that type's default so far,
+    /// else it may not stand there.
     Definition,
     /// Metadata of an item in evaluation, where a metadata reference is the item's own.
     Metadata,
@@ -21,7 +29,8 @@ pub enum Use {
     Batched,
 }
 
-/// The items of the batched lists that have the same metadata, and this metadata. (MSBuild batching.)
+/// The items of the batched lists that have the same metadata, and this metadata. (MSBuild
+/// batching.)
 #[derive(Drop)]
 pub struct Bucket {
     /// The value of each metadata reference, with the item type that qualifies it, if one does.
@@ -47,9 +56,11 @@ pub struct Lens<'a> {
 }
 
 impl<'a> Lens<'a> {
-    /// In a file of a project, where no item is at hand and nothing is batched. Exists starts from the project's folder.
+    /// In a file of a project, where no item is at hand and nothing is batched. Exists starts from
+    /// the project's folder.
     pub fn new(scope: &'a Scope, project: &'a str, file: &'a str, usage: Use) -> Lens<'a>
-        ensures scene { scene_of result ≡ scene_at scope.entry.now project.entry.now file.entry.now usage }
+        ensures scene { scene_of result ≡ scene_at scope.entry.now project.entry.now file.entry.now
+            usage }
         ensures folder { result.dir.now ≡ folder_of project.entry.now }
     {
         Lens {
@@ -65,7 +76,8 @@ impl<'a> Lens<'a> {
 
     /// The same with an item of this type at hand.
     pub fn with_own(self, kind: &'a Name, item: &'a Item) -> Lens<'a>
-        ensures scene { scene_of result ≡ with_own (scene_of self.entry) kind.entry.now item.entry.now }
+        ensures scene { scene_of result ≡ with_own (scene_of self.entry) kind.entry.now
+            item.entry.now }
         ensures folder { result.dir.now ≡ self.entry.dir.now }
     {
         Lens {
@@ -85,9 +97,11 @@ impl<'a> Lens<'a> {
         }
     }
 
-    /// The items of a type, as they stand in the scope: the bucket's, where it holds this list, else all.
+    /// The items of a type, as they stand in the scope: the bucket's, where it holds this list,
+    /// else all.
     pub fn items(&self, kind: &Name) -> &'a [Item]
-        ensures { result.now ≡ list_in (option_copied self.now.bucket) self.now.scope.now.items kind.now }
+        ensures { result.now ≡ list_in (option_copied self.now.bucket) self.now.scope.now.items
+            kind.now }
     {
         let all = items_or(self.scope.items.get(kind), &[]);
         match self.bucket {

@@ -1,7 +1,7 @@
 //! Expressions as texts and lists of items, in a scope of properties, items and metadata.
 //!
-//! What an expression denotes stands in `specs/Values.antt`: what stands in place of each part, and the text or the
-//! list that comes of it from the left.
+//! What an expression denotes stands in `specs/Values.antt`: what stands in place of each part, and
+//! the text or the list that comes of it from the left.
 #![tactic(auto)]
 
 mod batched;

@@ -20,7 +20,9 @@ pub(crate) fn read_parts<'a>(
     lens: &Lens<'a>,
     parts: &[Part],
 ) -> Result<(), ExpandFault>
-    ensures { GivesAs (λ _. reading_of reading.new) result (with_tokens (scene_of lens.now) (reading_of reading.old) (flat_map (part_tokens (scene_of lens.now)) parts.now)) }
+    ensures { GivesAs (λ _. reading_of reading.new) result
+        (with_tokens (scene_of lens.now) (reading_of reading.old)
+        (flat_map (part_tokens (scene_of lens.now)) parts.now)) }
 {
     for part in parts {
         read_part(alloc, reading, lens, part)?;
@@ -34,7 +36,9 @@ fn read_part<'a>(
     lens: &Lens<'a>,
     part: &Part,
 ) -> Result<(), ExpandFault>
-    ensures { GivesAs (λ _. reading_of reading.new) result (with_tokens (scene_of lens.now) (reading_of reading.old) (part_tokens (scene_of lens.now) part.now)) }
+    ensures { GivesAs (λ _. reading_of reading.new) result
+        (with_tokens (scene_of lens.now) (reading_of reading.old)
+        (part_tokens (scene_of lens.now) part.now)) }
 {
     let token = part_token(alloc, lens, part)?;
     read_token(alloc, reading, lens, &token)
@@ -46,7 +50,8 @@ fn read_token<'a>(
     lens: &Lens<'a>,
     token: &Token<'_, '_>,
 ) -> Result<(), ExpandFault>
-    ensures { GivesAs (λ _. reading_of reading.new) result (with_tokens (scene_of lens.now) (reading_of reading.old) (taken_tokens token.now)) }
+    ensures { GivesAs (λ _. reading_of reading.new) result
+        (with_tokens (scene_of lens.now) (reading_of reading.old) (taken_tokens token.now)) }
 {
     match token {
         Token::Plain(text) => reading.push_text(alloc, text),
@@ -70,7 +75,8 @@ fn read_again<'a>(
     lens: &Lens<'a>,
     parts: &[Part],
 ) -> Result<(), ExpandFault>
-    ensures { GivesAs (λ _. reading_of reading.new) result (with_tokens (scene_of lens.now) (reading_of reading.old) (map again_token parts.now)) }
+    ensures { GivesAs (λ _. reading_of reading.new) result
+        (with_tokens (scene_of lens.now) (reading_of reading.old) (map again_token parts.now)) }
 {
     for part in parts {
         read_again_part(alloc, reading, lens, part)?;
@@ -84,7 +90,8 @@ fn read_again_part<'a>(
     lens: &Lens<'a>,
     part: &Part,
 ) -> Result<(), ExpandFault>
-    ensures { GivesAs (λ _. reading_of reading.new) result (with_token (scene_of lens.now) (reading_of reading.old) (again_token part.now)) }
+    ensures { GivesAs (λ _. reading_of reading.new) result
+        (with_token (scene_of lens.now) (reading_of reading.old) (again_token part.now)) }
 {
     match part {
         Part::Items(kind, steps, separator) => reading.push_items(

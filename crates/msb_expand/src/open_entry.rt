@@ -33,7 +33,9 @@ impl<'a> OpenEntry<'a> {
         steps: &Steps,
         separator: Option<&Pieces>,
     ) -> Result<OpenEntry<'a>, ExpandFault>
-        ensures { GivesAs open_entry_of result (map_ok given (given_items (scene_of lens.now) kind.now steps.now (option_copied separator.entry))) }
+        ensures { GivesAs open_entry_of result
+            (map_ok given
+            (given_items (scene_of lens.now) kind.now steps.now (option_copied separator.entry))) }
     {
         let items = referred_items(alloc, lens, kind, steps)?;
         match separator {
@@ -54,7 +56,8 @@ impl<'a> OpenEntry<'a> {
 
     /// Adds text without `;`.
     pub(crate) fn push_text(&mut self, more: &str) -> Result<(), ExpandFault>
-        ensures { GivesAs (λ _. open_entry_of self.new) result (entry_with (open_entry_of self.old) more.now) }
+        ensures { GivesAs (λ _. open_entry_of self.new) result
+            (entry_with (open_entry_of self.old) more.now) }
     {
         match self {
             OpenEntry::Begun(text) => Ok(text.push_str(more)?),

@@ -23,7 +23,8 @@ pub(crate) fn default_token<'a, 'e>(
     qualifier: &'e Option<Word>,
     name: &'e str,
 ) -> Result<Token<'a, 'e>, ExpandFault>
-    ensures { Takes result (default_token (scene_of lens.now) (scene_of lens.now).own qualifier.now name.now ∷ []) }
+    ensures { Takes result
+        (default_token (scene_of lens.now) (scene_of lens.now).own qualifier.now name.now ∷ []) }
 {
     match lens.own {
         None => Err(ExpandFault::MetadataHere),
@@ -41,7 +42,8 @@ pub(crate) fn own_token<'a, 'e>(
     qualifier: &'e Option<Word>,
     name: &'e str,
 ) -> Result<Token<'a, 'e>, ExpandFault>
-    ensures { Takes result (own_token (scene_of lens.now) (scene_of lens.now).own qualifier.now name.now ∷ []) }
+    ensures { Takes result
+        (own_token (scene_of lens.now) (scene_of lens.now).own qualifier.now name.now ∷ []) }
 {
     match lens.own {
         None => Err(ExpandFault::MetadataHere),
@@ -69,7 +71,11 @@ fn default_value<'a>(
     kind: &Name,
     name: &str,
 ) -> Result<&'a str, NoMemory>
-    ensures { IfOk result (λ text. text.now ≡ text_or_none (option_and_then (λ key. value_at key (defaults_at (scene_of lens.now) kind.now)) (key_of name.now))) }
+    ensures { IfOk result
+        (λ text. text.now
+        ≡ text_or_none
+        (option_and_then (λ key. value_at key (defaults_at (scene_of lens.now) kind.now))
+        (key_of name.now))) }
 {
     match (lens.scope.defaults.get(kind), Name::written(alloc, name)?) {
         (Some(defaults), Some(key)) => Ok(text_or_empty(defaults.get(&key))),
@@ -84,7 +90,9 @@ fn own_value<'a>(
     item: &'a Item,
     name: &str,
 ) -> Result<CowText<'a>, ExpandFault>
-    ensures { GivesAs cow_text result (metadata_of lens.now.project.now (with_defaults (defaults_at (scene_of lens.now) kind.now) item.now) name.now) }
+    ensures { GivesAs cow_text result
+        (metadata_of lens.now.project.now
+        (with_defaults (defaults_at (scene_of lens.now) kind.now) item.now) name.now) }
 {
     let item = Seen::of(item, lens.scope.defaults.get(kind));
     item.metadata_named(alloc, lens.project, name)

@@ -5,7 +5,14 @@ ghost use Rattle.msb_expand.specs.Entries.{reading_of};
 ghost use Rattle.msb_laws.specs.Results.{map_ok};
 ghost use Rattle.msb_expand.specs.Scenes.{scene_of};
 ghost use Rattle.msb_expand.specs.Tokens.{referred, written};
-ghost use Rattle.msb_expand.specs.Values.{reading, begun, closed, with_text, with_pieces, with_token};
+ghost use Rattle.msb_expand.specs.Values.{
+  reading,
+  begun,
+  closed,
+  with_text,
+  with_pieces,
+  with_token,
+};
 
 use crate::open_entry::OpenEntry;
 use crate::whole::Whole;
@@ -48,7 +55,8 @@ impl<'a> Reading<'a> {
 
     /// Adds text, which is cut at each `;`.
     pub(crate) fn push_text(&mut self, alloc: Global, text: &str) -> Result<(), ExpandFault>
-        ensures { GivesAs (λ _. reading_of self.new) result (with_pieces (reading_of self.old) (slice_split (λ b. b == 59) text.now)) }
+        ensures { GivesAs (λ _. reading_of self.new) result
+            (with_pieces (reading_of self.old) (slice_split (λ b. b == 59) text.now)) }
     {
         let mut rest = text;
         while let Some((piece, after)) = rest.split_once(';') {
@@ -60,14 +68,16 @@ impl<'a> Reading<'a> {
     }
 
     fn push_piece(&mut self, piece: &str) -> Result<(), ExpandFault>
-        ensures { GivesAs (λ _. reading_of self.new) result (with_text (reading_of self.old) piece.now) }
+        ensures { GivesAs (λ _. reading_of self.new) result
+            (with_text (reading_of self.old) piece.now) }
     {
         self.entry.push_text(piece)
     }
 
     /// Makes the open entry whole, and begins the next.
     fn close(&mut self, alloc: Global) -> Result<(), ExpandFault>
-        ensures { GivesAs (λ _. reading_of self.new) result (map_ok (λ whole. reading whole (begun [])) (closed (reading_of self.old))) }
+        ensures { GivesAs (λ _. reading_of self.new) result
+            (map_ok (λ whole. reading whole (begun [])) (closed (reading_of self.old))) }
     {
         self.whole.push_entry(alloc, &self.entry)?;
         self.entry = OpenEntry::Begun(Text::from(String::new(alloc)));
@@ -83,7 +93,9 @@ impl<'a> Reading<'a> {
         steps: &Steps,
         separator: Option<&Pieces>,
     ) -> Result<(), ExpandFault>
-        ensures { GivesAs (λ _. reading_of self.new) result (with_token (scene_of lens.now) (reading_of self.old) (referred kind.now steps.now (option_copied separator.entry))) }
+        ensures { GivesAs (λ _. reading_of self.new) result
+            (with_token (scene_of lens.now) (reading_of self.old)
+            (referred kind.now steps.now (option_copied separator.entry))) }
     {
         if !self.entry.is_open() {
             return Err(ExpandFault::MixedList);

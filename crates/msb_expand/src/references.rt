@@ -21,7 +21,8 @@ pub(crate) fn referred_items<'a>(
     kind: &str,
     steps: &Steps,
 ) -> Result<Vec<Seen<'a>>, ExpandFault>
-    ensures { GivesAs (λ seen. map seen_item seen.items) result (referred_items (scene_of lens.now) kind.now steps.now) }
+    ensures { GivesAs (λ seen. map seen_item seen.items) result
+        (referred_items (scene_of lens.now) kind.now steps.now) }
 {
     let items = named_items(alloc, lens, kind)?;
     after_steps(alloc, lens, steps.as_slice(), items)
@@ -29,7 +30,8 @@ pub(crate) fn referred_items<'a>(
 
 /// The items of a type, each with the defaults; a text that is no name names none.
 fn named_items<'a>(alloc: Global, lens: &Lens<'a>, kind: &str) -> Result<Vec<Seen<'a>>, NoMemory>
-    ensures { IfOk result (λ seen. map seen_item seen.items ≡ named_items (scene_of lens.now) (key_of kind.now)) }
+    ensures { IfOk result (λ seen. map seen_item seen.items
+        ≡ named_items (scene_of lens.now) (key_of kind.now)) }
 {
     match Name::written(alloc, kind)? {
         Some(kind) => all_seen(alloc, lens.items(&kind), lens.scope.defaults.get(&kind)),
@@ -42,7 +44,8 @@ fn all_seen<'a>(
     items: &'a [Item],
     defaults: Option<&'a Pairs>,
 ) -> Result<Vec<Seen<'a>>, NoMemory>
-    ensures { IfOk result (λ seen. map seen_item seen.items ≡ map (with_defaults (pairs_or_none (option_copied defaults.entry))) items.now) }
+    ensures { IfOk result (λ seen. map seen_item seen.items
+        ≡ map (with_defaults (pairs_or_none (option_copied defaults.entry))) items.now) }
 {
     let mut seen = Vec::new(alloc);
     for item in items {

@@ -70,7 +70,8 @@ impl Reserved {
     }
 }
 
-/// Whether the engine itself sets the property of this name. (MSBuild reserved and well-known properties.)
+/// Whether the engine itself sets the property of this name. (MSBuild reserved and well-known
+/// properties.)
 pub fn is_reserved(name: &Name) -> bool
     ensures { result ≡ is_reserved name.now }
 {

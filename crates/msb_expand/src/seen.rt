@@ -13,7 +13,8 @@ use crate::{ExpandFault, WellKnown};
 use msb_values::{Copied, Item, Name, NoMemory, Pairs, Text, put_all_missing};
 use std::alloc::Global;
 
-/// An item of a reference, as the steps hand it on: nothing of the scope is copied before it has to be.
+/// An item of a reference, as the steps hand it on: nothing of the scope is copied before it has to
+/// be.
 #[derive(Drop)]
 pub(crate) struct Seen<'a> {
     pub(crate) ident: CowText<'a>,
@@ -27,7 +28,8 @@ pub(crate) struct Seen<'a> {
 impl<'a> Seen<'a> {
     /// An item as it stands in the scope, with the defaults of its type.
     pub(crate) fn of(item: &'a Item, defaults: Option<&'a Pairs>) -> Seen<'a>
-        ensures { seen_item result ≡ with_defaults (pairs_or_none (option_copied defaults.entry)) item.now }
+        ensures { seen_item result ≡ with_defaults (pairs_or_none (option_copied defaults.entry))
+            item.now }
     {
         Seen {
             ident: CowText::Borrowed(item.ident.as_str()),
@@ -135,9 +137,12 @@ fn text_in<'a>(pairs: Option<&'a Pairs>, name: &Name) -> Option<&'a Text>
     }
 }
 
-/// An item's own metadata, and the defaults that it does not have itself. (MSBuild item definitions.)
+/// An item's own metadata, and the defaults that it does not have itself. (MSBuild item
+/// definitions.)
 fn overlaid(alloc: Global, defaults: Option<&Pairs>, own: Option<&Pairs>) -> Result<Pairs, NoMemory>
-    ensures { IfOk result (λ meta. meta ≡ overlaid (pairs_or_none (option_copied defaults.entry)) (pairs_or_none (option_copied own.entry))) }
+    ensures { IfOk result
+        (λ meta. meta ≡ overlaid (pairs_or_none (option_copied defaults.entry))
+        (pairs_or_none (option_copied own.entry))) }
 {
     let mut meta = copied(alloc, own)?;
     match defaults {

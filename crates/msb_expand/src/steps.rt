@@ -3,7 +3,13 @@ ghost use Rattle.msb_expand.specs.Answers.{Gives, GivesAs};
 ghost use Rattle.msb_expand.specs.Limits.{grown, grown_by};
 ghost use Rattle.msb_laws.specs.Results.{all_ok};
 ghost use Rattle.msb_expand.specs.Scenes.{scene_of};
-ghost use Rattle.msb_expand.specs.Functions.{piece_value, transformed, stepped, after_steps, quoted_value};
+ghost use Rattle.msb_expand.specs.Functions.{
+  piece_value,
+  transformed,
+  stepped,
+  after_steps,
+  quoted_value,
+};
 ghost use Rattle.msb_expand.specs.Seen.{seen_item};
 
 use crate::functions::call;
@@ -24,7 +30,8 @@ pub(crate) fn after_steps<'a>(
     steps: &[Step],
     items: Vec<Seen<'a>>,
 ) -> Result<Vec<Seen<'a>>, ExpandFault>
-    ensures { GivesAs (λ seen. map seen_item seen.items) result (after_steps (scene_of lens.now) steps.now (map seen_item items.entry.items)) }
+    ensures { GivesAs (λ seen. map seen_item seen.items) result
+        (after_steps (scene_of lens.now) steps.now (map seen_item items.entry.items)) }
 {
     let mut items = items;
     for step in steps {
@@ -39,7 +46,8 @@ fn take_step<'a>(
     step: &Step,
     items: Vec<Seen<'a>>,
 ) -> Result<Vec<Seen<'a>>, ExpandFault>
-    ensures { GivesAs (λ seen. map seen_item seen.items) result (stepped (scene_of lens.now) step.now (map seen_item items.entry.items)) }
+    ensures { GivesAs (λ seen. map seen_item seen.items) result
+        (stepped (scene_of lens.now) step.now (map seen_item items.entry.items)) }
 {
     match step {
         Step::Transform(pieces) => transform(alloc, lens, pieces.as_slice(), items),
@@ -67,7 +75,8 @@ fn transform<'a>(
     pieces: &[Piece],
     items: Vec<Seen<'a>>,
 ) -> Result<Vec<Seen<'a>>, ExpandFault>
-    ensures { GivesAs (λ seen. map seen_item seen.items) result (all_ok (transformed (scene_of lens.now) pieces.now) (map seen_item items.entry.items)) }
+    ensures { GivesAs (λ seen. map seen_item seen.items) result
+        (all_ok (transformed (scene_of lens.now) pieces.now) (map seen_item items.entry.items)) }
 {
     let mut made = Vec::new(alloc);
     for item in items {
@@ -83,7 +92,8 @@ fn transform_item<'a>(
     pieces: &[Piece],
     item: Seen<'a>,
 ) -> Result<Seen<'a>, ExpandFault>
-    ensures { GivesAs seen_item result (transformed (scene_of lens.now) pieces.now (seen_item item.entry)) }
+    ensures { GivesAs seen_item result
+        (transformed (scene_of lens.now) pieces.now (seen_item item.entry)) }
 {
     let ident = transform_text(alloc, lens, pieces, &item)?;
     Ok(Seen {
@@ -100,7 +110,8 @@ fn transform_text(
     pieces: &[Piece],
     item: &Seen<'_>,
 ) -> Result<Text, ExpandFault>
-    ensures { Gives result (grown_by (piece_value (scene_of lens.now) (seen_item item.now)) [] pieces.now) }
+    ensures { Gives result
+        (grown_by (piece_value (scene_of lens.now) (seen_item item.now)) [] pieces.now) }
 {
     let mut text = Text::of(alloc, "")?;
     for piece in pieces {
@@ -116,7 +127,8 @@ fn push_value(
     text: &mut Text,
     piece: &Piece,
 ) -> Result<(), ExpandFault>
-    ensures { GivesAs (λ _. text.new) result (grown text.old (piece_value (scene_of lens.now) (seen_item item.now) piece.now)) }
+    ensures { GivesAs (λ _. text.new) result
+        (grown text.old (piece_value (scene_of lens.now) (seen_item item.now) piece.now)) }
 {
     match piece {
         Piece::Plain(plain) => grow(text, plain.as_str()),

@@ -23,7 +23,9 @@ pub(crate) fn push_parts(
     lens: &Lens<'_>,
     parts: &[Part],
 ) -> Result<(), ExpandFault>
-    ensures { GivesAs (λ _. text.new) result (grown_by (token_text (scene_of lens.now)) text.old (flat_map (part_tokens (scene_of lens.now)) parts.now)) }
+    ensures { GivesAs (λ _. text.new) result
+        (grown_by (token_text (scene_of lens.now)) text.old
+        (flat_map (part_tokens (scene_of lens.now)) parts.now)) }
 {
     for part in parts {
         push_part(alloc, text, lens, part)?;
@@ -37,7 +39,9 @@ fn push_part(
     lens: &Lens<'_>,
     part: &Part,
 ) -> Result<(), ExpandFault>
-    ensures { GivesAs (λ _. text.new) result (grown_by (token_text (scene_of lens.now)) text.old (part_tokens (scene_of lens.now) part.now)) }
+    ensures { GivesAs (λ _. text.new) result
+        (grown_by (token_text (scene_of lens.now)) text.old
+        (part_tokens (scene_of lens.now) part.now)) }
 {
     let token = part_token(alloc, lens, part)?;
     push_token(alloc, text, lens, &token)
@@ -49,7 +53,8 @@ fn push_token(
     lens: &Lens<'_>,
     token: &Token<'_, '_>,
 ) -> Result<(), ExpandFault>
-    ensures { GivesAs (λ _. text.new) result (grown_by (token_text (scene_of lens.now)) text.old (taken_tokens token.now)) }
+    ensures { GivesAs (λ _. text.new) result
+        (grown_by (token_text (scene_of lens.now)) text.old (taken_tokens token.now)) }
 {
     match token {
         Token::Plain(plain) => grow(text, plain),
@@ -74,7 +79,8 @@ fn push_again(
     lens: &Lens<'_>,
     parts: &[Part],
 ) -> Result<(), ExpandFault>
-    ensures { GivesAs (λ _. text.new) result (grown_by (token_text (scene_of lens.now)) text.old (map again_token parts.now)) }
+    ensures { GivesAs (λ _. text.new) result
+        (grown_by (token_text (scene_of lens.now)) text.old (map again_token parts.now)) }
 {
     for part in parts {
         push_again_part(alloc, text, lens, part)?;
@@ -88,7 +94,8 @@ fn push_again_part(
     lens: &Lens<'_>,
     part: &Part,
 ) -> Result<(), ExpandFault>
-    ensures { GivesAs (λ _. text.new) result (grown text.old (token_text (scene_of lens.now) (again_token part.now))) }
+    ensures { GivesAs (λ _. text.new) result
+        (grown text.old (token_text (scene_of lens.now) (again_token part.now))) }
 {
     match part {
         Part::Items(kind, steps, separator) => push_items(
@@ -114,7 +121,10 @@ fn push_items(
     steps: &Steps,
     separator: Option<&Pieces>,
 ) -> Result<(), ExpandFault>
-    ensures { GivesAs (λ _. text.new) result (grown text.old (token_text (scene_of lens.now) (referred kind.now steps.now (option_copied separator.entry)))) }
+    ensures { GivesAs (λ _. text.new) result
+        (grown text.old
+        (token_text (scene_of lens.now)
+        (referred kind.now steps.now (option_copied separator.entry)))) }
 {
     let items = referred_items(alloc, lens, kind, steps)?;
     match separator {

@@ -7,7 +7,12 @@ ghost use Rattle.msb_expand.specs.Scenes.{scene_of};
 ghost use Rattle.msb_expand.specs.Again.{read_again};
 ghost use Rattle.msb_expand.specs.Reserved.{property_of};
 ghost use Rattle.msb_expand.specs.Taken.{Takes};
-ghost use Rattle.msb_expand.specs.Tokens.{part_tokens, property_tokens, metadata_token, items_token};
+ghost use Rattle.msb_expand.specs.Tokens.{
+  part_tokens,
+  property_tokens,
+  metadata_token,
+  items_token,
+};
 
 use crate::batched::bucket_token;
 use crate::filled::kept_text;
@@ -67,7 +72,8 @@ fn property_token<'a, 'e>(
     lens: &Lens<'a>,
     name: &'e str,
 ) -> Result<Token<'a, 'e>, ExpandFault>
-    ensures { Takes result (property_tokens lens.now.usage (property_of (scene_of lens.now) name.now)) }
+    ensures { Takes result
+        (property_tokens lens.now.usage (property_of (scene_of lens.now) name.now)) }
 {
     let value = property(alloc, lens, name)?;
     match lens.usage {
@@ -97,7 +103,8 @@ fn metadata_token<'a, 'e>(
     name: &'e Word,
 ) -> Result<Token<'a, 'e>, ExpandFault>
     requires { part.now ≡ Meta qualifier.now name.now }
-    ensures { Takes result (metadata_token lens.now.usage (scene_of lens.now) qualifier.now name.now ∷ []) }
+    ensures { Takes result
+        (metadata_token lens.now.usage (scene_of lens.now) qualifier.now name.now ∷ []) }
 {
     match lens.usage {
         Use::Properties => Ok(Token::Kept(part.text(alloc)?)),
@@ -115,7 +122,8 @@ fn items_token<'a, 'e>(
     steps: &'e Steps,
     separator: &'e Option<Pieces>,
 ) -> Result<Token<'a, 'e>, ExpandFault>
-    ensures { Takes result (items_token lens.now.usage (scene_of lens.now) kind.now steps.now separator.now ∷ []) }
+    ensures { Takes result
+        (items_token lens.now.usage (scene_of lens.now) kind.now steps.now separator.now ∷ []) }
 {
     match lens.usage {
         Use::Properties => Ok(Token::Kept(kept_text(alloc, lens, kind, steps, separator)?)),

@@ -5,7 +5,16 @@ ghost use Rattle.msb_expand.specs.Entries.{open_entry_of, size_with};
 ghost use Rattle.msb_expand.specs.Functions.{plain_item};
 ghost use Rattle.msb_expand.specs.Limits.{limit};
 ghost use Rattle.msb_expand.specs.Seen.{seen_item};
-ghost use Rattle.msb_expand.specs.Values.{given, begun, entries_in, text_entry, if_small, one_item, joined, uncut_byte};
+ghost use Rattle.msb_expand.specs.Values.{
+  given,
+  begun,
+  entries_in,
+  text_entry,
+  if_small,
+  one_item,
+  joined,
+  uncut_byte,
+};
 
 use crate::joins::push_joined;
 use crate::limits::LIMIT;
@@ -59,7 +68,8 @@ impl Whole {
         alloc: Global,
         entry: &OpenEntry<'_>,
     ) -> Result<(), ExpandFault>
-        ensures { GivesAs (λ _. self.new) result (if_small (self.old ++ entries_in (open_entry_of entry.now))) }
+        ensures { GivesAs (λ _. self.new) result
+            (if_small (self.old ++ entries_in (open_entry_of entry.now))) }
     {
         match entry {
             OpenEntry::Begun(text) => self.push_text(alloc, trim(text.as_str()), true),
@@ -74,7 +84,8 @@ impl Whole {
 
     /// Adds an item of this identity, unless it is empty.
     fn push_text(&mut self, alloc: Global, ident: &str, written: bool) -> Result<(), ExpandFault>
-        ensures { GivesAs (λ _. self.new) result (if_small (self.old ++ text_entry written ident.now)) }
+        ensures { GivesAs (λ _. self.new) result
+            (if_small (self.old ++ text_entry written ident.now)) }
     {
         let size = self.size;
         if ident.is_empty() {
@@ -89,7 +100,8 @@ impl Whole {
 
     /// Adds the items that have an identity.
     fn push_items(&mut self, alloc: Global, items: &[Seen<'_>]) -> Result<(), ExpandFault>
-        ensures { GivesAs (λ _. self.new) result (if_small (self.old ++ entries_in (given (map seen_item items.now)))) }
+        ensures { GivesAs (λ _. self.new) result
+            (if_small (self.old ++ entries_in (given (map seen_item items.now)))) }
     {
         for item in items {
             self.push_item(alloc, item)?;
@@ -99,7 +111,8 @@ impl Whole {
     }
 
     fn push_item(&mut self, alloc: Global, item: &Seen<'_>) -> Result<(), ExpandFault>
-        ensures { GivesAs (λ _. self.new) result (if_small (self.old ++ entries_in (given (seen_item item.now ∷ [])))) }
+        ensures { GivesAs (λ _. self.new) result
+            (if_small (self.old ++ entries_in (given (seen_item item.now ∷ [])))) }
     {
         let size = self.size;
         let ident = item.ident.as_str();
@@ -124,7 +137,10 @@ impl Whole {
         items: &[Seen<'_>],
         separator: &str,
     ) -> Result<(), ExpandFault>
-        ensures { GivesAs (λ _. self.new) result (if_small (self.old ++ entries_in (given (one_item (joined separator.now (map seen_item items.now)))))) }
+        ensures { GivesAs (λ _. self.new) result
+            (if_small
+            (self.old
+            ++ entries_in (given (one_item (joined separator.now (map seen_item items.now)))))) }
     {
         let mut text = Text::of(alloc, "")?;
         push_joined(&mut text, items, separator)?;

@@ -1,14 +1,21 @@
 ghost use Rattle.msb_laws.specs.Results.{all_ok};
 ghost use Rattle.msb_values.specs.Caused.{GivesCause};
 ghost use Rattle.msb_expand.specs.Scenes.{scene_of};
-ghost use Rattle.msb_expand.specs.Written.{expanded, expanded_entries, expanded_items, target_name, target_names};
+ghost use Rattle.msb_expand.specs.Written.{
+  expanded,
+  expanded_entries,
+  expanded_items,
+  target_name,
+  target_names,
+};
 
 use crate::{Entry, Lens, entries, expression_cause, list, text};
 use msb_expression::parse;
 use msb_values::{Cause, Item, List, Name, NameFault, Text};
 use std::alloc::Global;
 
-/// The text that a text of a project file denotes where it stands. (MSBuild properties; MSBuild items.)
+/// The text that a text of a project file denotes where it stands. (MSBuild properties; MSBuild
+/// items.)
 pub fn expand_text(alloc: Global, lens: &Lens<'_>, written: &str) -> Result<Text, Cause>
     ensures { GivesCause result (expanded (scene_of lens.now) written.now) }
 {
@@ -47,8 +54,9 @@ pub fn expand_list(alloc: Global, lens: &Lens<'_>, written: &str) -> Result<List
     }
 }
 
-/// The targets that a text of a project file names as a list where it stands. An entry that is no target's name is
-/// refused as [`Cause::BadName`] with the place of its first bad byte in the entry. (MSBuild targets.)
+/// The targets that a text of a project file names as a list where it stands. An entry that is no
+/// target's name is refused as [`Cause::BadName`] with the place of its first bad byte in the
+/// entry. (MSBuild targets.)
 pub fn expand_names(alloc: Global, lens: &Lens<'_>, written: &str) -> Result<List<Name>, Cause>
     ensures { GivesCause result (target_names (scene_of lens.now) written.now) }
 {

@@ -1,5 +1,23 @@
 -- What is added to a text that is read.
-use Rattle.std.proofs.Common.{◌≡◌, ℕ, false, List, [], ◌∷◌, ◌++◌, Option, Some, None, refl, sym, ap, ◌∙◌, subst, append_assoc, arith}
+use Rattle.std.proofs.Common.{
+  ◌≡◌,
+  ℕ,
+  false,
+  List,
+  [],
+  ◌∷◌,
+  ◌++◌,
+  Option,
+  Some,
+  None,
+  refl,
+  sym,
+  ap,
+  ◌∙◌,
+  subst,
+  append_assoc,
+  arith,
+}
 use Rattle.std.specs.Prelude.{IsTrue, eqb}
 use Rattle.std.proofs.lemmas.List.{append-nil}
 use Rattle.msb_expression.specs.declared.starts.Inside.{Inside}
@@ -9,25 +27,85 @@ use Rattle.msb_expression.specs.declared.expression.Part.TheVariants.{Plain, Pro
 use Rattle.msb_expression.specs.declared.expression.Step.{Step}
 use Rattle.msb_expression.specs.declared.expression.Step.TheVariants.{Transform as Transforms, Call}
 use Rattle.msb_expression.specs.declared.expression.Piece.{Piece}
-use Rattle.msb_expression.specs.declared.expression.Piece.TheVariants.{Plain as PlainPiece, Prop as PropPiece, Meta as MetaPiece}
-use Rattle.msb_expression.specs.Grammar.{IsName, IsSpaces, IsNamed, IsPlain, Joins, IsPiece, is_plain_piece, IsQuoted, IsListed, IsArgs, IsAct, IsStep, IsSeparator, IsPart, is_plain, is_name_byte}
-use Rattle.msb_expression.specs.Machine.{Heads, Place, in_transform, in_separator, in_argument, Host, whole, inner, unmarked, Named, property, metadata, qualified, place_inside, host_inside, flushed_parts, flushed_pieces, flushed, referred, with_step, left}
+use Rattle.msb_expression.specs.declared.expression.Piece.TheVariants.{
+  Plain as PlainPiece,
+  Prop as PropPiece,
+  Meta as MetaPiece,
+}
+use Rattle.msb_expression.specs.Grammar.{
+  IsName,
+  IsSpaces,
+  IsNamed,
+  IsPlain,
+  Joins,
+  IsPiece,
+  is_plain_piece,
+  IsQuoted,
+  IsListed,
+  IsArgs,
+  IsAct,
+  IsStep,
+  IsSeparator,
+  IsPart,
+  is_plain,
+  is_name_byte,
+}
+use Rattle.msb_expression.specs.Machine.{
+  Heads,
+  Place,
+  in_transform,
+  in_separator,
+  in_argument,
+  Host,
+  whole,
+  inner,
+  unmarked,
+  Named,
+  property,
+  metadata,
+  qualified,
+  place_inside,
+  host_inside,
+  flushed_parts,
+  flushed_pieces,
+  flushed,
+  referred,
+  with_step,
+  left,
+}
 use Rattle.msb_expression.proofs.Joined.{Joins-more, Apart-more, Apart-fresh, Every-append}
-use Rattle.msb_expression.proofs.Behind.{PartsAt, FreshParts, PiecesAt, FreshPieces, HeadsAt, ArrowAt, QuoteOpened, LeftAt, Fresh, TextAt, Stepping, Behind}
+use Rattle.msb_expression.proofs.Behind.{
+  PartsAt,
+  FreshParts,
+  PiecesAt,
+  FreshPieces,
+  HeadsAt,
+  ArrowAt,
+  QuoteOpened,
+  LeftAt,
+  Fresh,
+  TextAt,
+  Stepping,
+  Behind,
+}
 
 -- a text with its plain part
 abbrev pub FlushedAt : Host → List ℕ → Type 0
 FlushedAt (whole parts) front = PartsAt parts front
 FlushedAt (inner place pieces) front = PiecesAt place pieces front
 
-pub parts-flushed : (parts : List Part) (front plain : List ℕ) → FreshParts parts front → IsPlain Whole plain → PartsAt (flushed_parts parts plain) (front ++ plain)
-parts-flushed parts front [] h p = record { joins = subst (λ t. Joins IsPart t parts) (sym (append-nil front)) h.joins; apart = h.apart }
+pub parts-flushed : (parts : List Part) (front plain : List ℕ) → FreshParts parts front
+    → IsPlain Whole plain → PartsAt (flushed_parts parts plain) (front ++ plain)
+parts-flushed parts front [] h p = record
+    { joins = subst (λ t. Joins IsPart t parts) (sym (append-nil front)) h.joins; apart = h.apart }
 parts-flushed parts front (b ∷ bs) h p = record {
   joins = Joins-more IsPart front (b ∷ bs) parts (Plain (b ∷ bs)) h.joins ((omega arith, p), refl);
   apart = h.fresh (Plain (b ∷ bs));
 }
 
-pub pieces-flushed : (place : Place) (pieces : List Piece) (front plain : List ℕ) → FreshPieces place pieces front → IsPlain (place_inside place) plain → PiecesAt place (flushed_pieces pieces plain) (front ++ plain)
+pub pieces-flushed : (place : Place) (pieces : List Piece) (front plain : List ℕ)
+    → FreshPieces place pieces front → IsPlain (place_inside place) plain
+    → PiecesAt place (flushed_pieces pieces plain) (front ++ plain)
 pieces-flushed place pieces front [] h p = record {
   base = h.base;
   text = h.text;
@@ -41,11 +119,13 @@ pieces-flushed place pieces front (b ∷ bs) h p = record {
   text = h.text ++ b ∷ bs;
   split = ap (λ t. t ++ b ∷ bs) h.split ∙ append_assoc h.base h.text (b ∷ bs);
   opened = h.opened;
-  joins = Joins-more (IsPiece (place_inside place)) h.text (b ∷ bs) pieces (PlainPiece (b ∷ bs)) h.joins ((omega arith, p), refl);
+  joins = Joins-more (IsPiece (place_inside place)) h.text (b ∷ bs) pieces (PlainPiece (b ∷ bs))
+      h.joins ((omega arith, p), refl);
   apart = h.fresh (PlainPiece (b ∷ bs));
 }
 
-pub host-flushed : (host : Host) (front plain : List ℕ) → Fresh host front → IsPlain (host_inside host) plain → FlushedAt (flushed host plain) (front ++ plain)
+pub host-flushed : (host : Host) (front plain : List ℕ) → Fresh host front
+    → IsPlain (host_inside host) plain → FlushedAt (flushed host plain) (front ++ plain)
 host-flushed (whole parts) front plain h p = parts-flushed parts front plain h p
 host-flushed (inner place pieces) front plain h p = pieces-flushed place pieces front plain h p
 
@@ -58,14 +138,18 @@ Refers (inner place pieces) property name text = IsPiece (place_inside place) te
 Refers (inner place pieces) metadata name text = IsPiece (place_inside place) text (MetaPiece name)
 Refers (inner place pieces) (qualified kind) name text = ⊥
 
-pub part-added : (parts : List Part) (front text : List ℕ) (part : Part) → is_plain part ≡ false → PartsAt parts front → IsPart text part → FreshParts (parts ++ part ∷ []) (front ++ text)
+pub part-added : (parts : List Part) (front text : List ℕ) (part : Part) → is_plain part ≡ false
+    → PartsAt parts front → IsPart text part → FreshParts (parts ++ part ∷ []) (front ++ text)
 part-added parts front text part e h p = record {
   joins = Joins-more IsPart front text parts part h.joins p;
   apart = Apart-more is_plain parts part e h.apart;
   fresh = λ next. Apart-fresh is_plain parts part next e h.apart;
 }
 
-piece-added : (place : Place) (pieces : List Piece) (front text : List ℕ) (piece : Piece) → is_plain_piece piece ≡ false → PiecesAt place pieces front → IsPiece (place_inside place) text piece → FreshPieces place (pieces ++ piece ∷ []) (front ++ text)
+piece-added : (place : Place) (pieces : List Piece) (front text : List ℕ) (piece : Piece)
+    → is_plain_piece piece ≡ false → PiecesAt place pieces front
+    → IsPiece (place_inside place) text piece
+    → FreshPieces place (pieces ++ piece ∷ []) (front ++ text)
 piece-added place pieces front text piece e h p = record {
   base = h.base;
   text = h.text ++ text;
@@ -76,56 +160,83 @@ piece-added place pieces front text piece e h p = record {
   fresh = λ next. Apart-fresh is_plain_piece pieces piece next e h.apart;
 }
 
-pub reference-added : (host : Host) (which : Named) (name front text : List ℕ) → FlushedAt host front → Refers host which name text → Fresh (referred host which name) (front ++ text)
-reference-added (whole parts) property name front text h r = part-added parts front text (Prop name) refl h r
-reference-added (whole parts) metadata name front text h r = part-added parts front text (Meta None name) refl h r
-reference-added (whole parts) (qualified kind) name front text h r = part-added parts front text (Meta (Some kind) name) refl h r
-reference-added (inner place pieces) property name front text h r = piece-added place pieces front text (PropPiece name) refl h r
-reference-added (inner place pieces) metadata name front text h r = piece-added place pieces front text (MetaPiece name) refl h r
+pub reference-added : (host : Host) (which : Named) (name front text : List ℕ)
+    → FlushedAt host front → Refers host which name text
+    → Fresh (referred host which name) (front ++ text)
+reference-added (whole parts) property name front text h r = part-added parts front text (Prop name)
+    refl h r
+reference-added (whole parts) metadata name front text h r = part-added parts front text
+    (Meta None name) refl h r
+reference-added (whole parts) (qualified kind) name front text h r = part-added parts front text
+    (Meta (Some kind) name) refl h r
+reference-added (inner place pieces) property name front text h r = piece-added place pieces front
+    text (PropPiece name) refl h r
+reference-added (inner place pieces) metadata name front text h r = piece-added place pieces front
+    text (MetaPiece name) refl h r
 reference-added (inner place pieces) (qualified kind) name front text h r = absurd r
 
 -- one byte more
 pub space_is : (b : ℕ) → b ≡ 32 → IsSpaces (b ∷ [])
 space_is b e = (subst (λ c. IsTrue (eqb c 32)) (sym e) refl, tt)
 
-pub IsSpaces-more : (spaces : List ℕ) (b : ℕ) → b ≡ 32 → IsSpaces spaces → IsSpaces (spaces ++ b ∷ [])
+pub IsSpaces-more : (spaces : List ℕ) (b : ℕ) → b ≡ 32 → IsSpaces spaces
+    → IsSpaces (spaces ++ b ∷ [])
 IsSpaces-more spaces b e h = Every-append _ spaces (b ∷ []) h (space_is b e)
 
 pub IsSpaces-cons : (spaces : List ℕ) (b : ℕ) → b ≡ 32 → IsSpaces spaces → IsSpaces (b ∷ spaces)
 IsSpaces-cons spaces b e h = ((space_is b e).0, h)
 
-pub IsNamed-spaced : (text name : List ℕ) (b : ℕ) → b ≡ 32 → IsNamed text name → IsNamed (b ∷ text) name
-IsNamed-spaced text name b e h = (b ∷ h.0, h.1, IsSpaces-cons h.0 b e h.2, h.3, h.4, ap (λ t. b ∷ t) h.5)
+pub IsNamed-spaced : (text name : List ℕ) (b : ℕ) → b ≡ 32 → IsNamed text name
+    → IsNamed (b ∷ text) name
+IsNamed-spaced text name b e h =
+    (b ∷ h.0, h.1, IsSpaces-cons h.0 b e h.2, h.3, h.4, ap (λ t. b ∷ t) h.5)
 
-pub IsNamed-more : (text name : List ℕ) (b : ℕ) → b ≡ 32 → IsNamed text name → IsNamed (text ++ b ∷ []) name
-IsNamed-more text name b e h =
-    (h.0, h.1 ++ b ∷ [], h.2, h.3, IsSpaces-more h.1 b e h.4, ap (λ t. t ++ b ∷ []) h.5 ∙ append_assoc (h.0 ++ name) h.1 (b ∷ []))
+pub IsNamed-more : (text name : List ℕ) (b : ℕ) → b ≡ 32 → IsNamed text name
+    → IsNamed (text ++ b ∷ []) name
+IsNamed-more text name b e h = (
+  h.0,
+  h.1 ++ b ∷ [],
+  h.2,
+  h.3,
+  IsSpaces-more h.1 b e h.4,
+  ap (λ t. t ++ b ∷ []) h.5
+      ∙ append_assoc (h.0 ++ name) h.1 (b ∷ []),
+)
 
-pub IsNamed-of : (spaces name : List ℕ) → IsSpaces spaces → IsName name → IsNamed (spaces ++ name) name
+pub IsNamed-of : (spaces name : List ℕ) → IsSpaces spaces → IsName name
+    → IsNamed (spaces ++ name) name
 IsNamed-of spaces name s n = (spaces, [], s, n, tt, sym (append-nil (spaces ++ name)))
 
-pub IsName-more : (name : List ℕ) (b : ℕ) → IsTrue (is_name_byte b) → IsName name → IsName (name ++ b ∷ [])
+pub IsName-more : (name : List ℕ) (b : ℕ) → IsTrue (is_name_byte b) → IsName name
+    → IsName (name ++ b ∷ [])
 IsName-more [] b e h = absurd h
 IsName-more (x ∷ xs) b e h = (h.0, Every-append is_name_byte xs (b ∷ []) h.1 (e, tt))
 
-pub IsQuoted-spaced : (inside : Inside) (text : List ℕ) (pieces : List Piece) (b : ℕ) → b ≡ 32 → IsQuoted inside text pieces → IsQuoted inside (b ∷ text) pieces
-IsQuoted-spaced inside text pieces b e h = (b ∷ h.0, h.1, IsSpaces-cons h.0 b e h.2, h.3, h.4, ap (λ t. b ∷ t) h.5)
+pub IsQuoted-spaced : (inside : Inside) (text : List ℕ) (pieces : List Piece) (b : ℕ) → b ≡ 32
+    → IsQuoted inside text pieces → IsQuoted inside (b ∷ text) pieces
+IsQuoted-spaced inside text pieces b e h =
+    (b ∷ h.0, h.1, IsSpaces-cons h.0 b e h.2, h.3, h.4, ap (λ t. b ∷ t) h.5)
 
-pub IsListed-spaced : (text : List ℕ) (pieces : List Piece) (b : ℕ) → b ≡ 32 → IsListed text pieces → IsListed (b ∷ text) pieces
-IsListed-spaced text pieces b e h = (b ∷ h.0, h.1, IsSpaces-cons h.0 b e h.2, h.3, ap (λ t. b ∷ t) h.4)
+pub IsListed-spaced : (text : List ℕ) (pieces : List Piece) (b : ℕ) → b ≡ 32 → IsListed text pieces
+    → IsListed (b ∷ text) pieces
+IsListed-spaced text pieces b e h =
+    (b ∷ h.0, h.1, IsSpaces-cons h.0 b e h.2, h.3, ap (λ t. b ∷ t) h.4)
 
-pub IsArgs-spaced : (text : List ℕ) (args : List (List Piece)) (b : ℕ) → b ≡ 32 → IsArgs text args → IsArgs (b ∷ text) args
+pub IsArgs-spaced : (text : List ℕ) (args : List (List Piece)) (b : ℕ) → b ≡ 32 → IsArgs text args
+    → IsArgs (b ∷ text) args
 IsArgs-spaced text [] b e h = IsSpaces-cons text b e h
 IsArgs-spaced text (arg ∷ args) b e h =
     (b ∷ h.0, h.1, h.2, IsQuoted-spaced Quoted h.0 arg b e h.3, h.4, h.5, ap (λ t. b ∷ t) h.6)
 
-pub IsAct-spaced : (text : List ℕ) (step : Step) (b : ℕ) → b ≡ 32 → IsAct text step → IsAct (b ∷ text) step
+pub IsAct-spaced : (text : List ℕ) (step : Step) (b : ℕ) → b ≡ 32 → IsAct text step
+    → IsAct (b ∷ text) step
 IsAct-spaced text (Transforms pieces) b e h = IsQuoted-spaced Transform text pieces b e h
 IsAct-spaced text (Call function args) b e h =
     (b ∷ h.0, h.1, IsNamed-spaced h.0 function b e h.2, h.3, ap (λ t. b ∷ t) h.4)
 
 -- a step behind spaces
-pub arrow_at : (heads : Heads) (base spaces : List ℕ) → HeadsAt heads base → IsSpaces spaces → ArrowAt heads (base ++ (spaces ++ 45 ∷ 62 ∷ []))
+pub arrow_at : (heads : Heads) (base spaces : List ℕ) → HeadsAt heads base → IsSpaces spaces
+    → ArrowAt heads (base ++ (spaces ++ 45 ∷ 62 ∷ []))
 arrow_at heads base spaces h s = λ rest step a. record {
   base = h.base;
   spaces = h.spaces;
@@ -134,34 +245,65 @@ arrow_at heads base spaces h s = λ rest step a. record {
   parts = h.parts;
   are_spaces = h.are_spaces;
   is_name = h.is_name;
-  steps = Joins-more IsStep h.stepped (spaces ++ 45 ∷ 62 ∷ rest) heads.steps step h.steps (spaces, rest, s, a, simp append_assoc);
+  steps = Joins-more IsStep h.stepped (spaces ++ 45 ∷ 62 ∷ rest) heads.steps step h.steps
+      (spaces, rest, s, a, simp append_assoc);
 }
 
 -- the whole item reference
-pub items_at : (heads : Heads) (base separated after : List ℕ) (separator : Option (List Piece)) → HeadsAt heads base → IsSeparator separated separator → IsSpaces after → FreshParts (heads.parts ++ Items heads.kind heads.steps separator ∷ []) (base ++ (separated ++ (after ++ 41 ∷ [])))
+pub items_at : (heads : Heads) (base separated after : List ℕ) (separator : Option (List Piece))
+    → HeadsAt heads base → IsSeparator separated separator → IsSpaces after
+    → FreshParts (heads.parts ++ Items heads.kind heads.steps separator ∷ [])
+    (base ++ (separated ++ (after ++ 41 ∷ [])))
 items_at heads base separated after separator h s a =
-    let text : List ℕ = 64 ∷ 40 ∷ (h.spaces ++ (heads.kind ++ (h.stepped ++ (separated ++ (after ++ 41 ∷ []))))) in
-    let split : h.base ++ text ≡ base ++ (separated ++ (after ++ 41 ∷ [])) = sym (ap (λ t. t ++ (separated ++ (after ++ 41 ∷ []))) h.split ∙ simp append_assoc) in
+    let text : List ℕ = 64 ∷ 40
+    ∷ (h.spaces ++ (heads.kind ++ (h.stepped ++ (separated ++ (after ++ 41 ∷ []))))) in
+    let split : h.base ++ text ≡ base ++ (separated ++ (after ++ 41 ∷ [])) = sym
+    (ap (λ t. t ++ (separated ++ (after ++ 41 ∷ []))) h.split ∙ simp append_assoc) in
     subst (λ t. FreshParts (heads.parts ++ Items heads.kind heads.steps separator ∷ []) t) split
-    (part-added heads.parts h.base text (Items heads.kind heads.steps separator) refl h.parts
-    (h.spaces, h.stepped, separated, after, h.are_spaces, h.is_name, h.steps, s, a, simp append_assoc))
+    (part-added heads.parts h.base text (Items heads.kind heads.steps separator) refl h.parts (
+      h.spaces,
+      h.stepped,
+      separated,
+      after,
+      h.are_spaces,
+      h.is_name,
+      h.steps,
+      s,
+      a,
+      simp
+          append_assoc,
+    ))
 
 -- a text between quotes begins
-pub quote_begun : (place : Place) (front : List ℕ) → QuoteOpened place front → TextAt (inner place []) [] unmarked front
+pub quote_begun : (place : Place) (front : List ℕ) → QuoteOpened place front
+    → TextAt (inner place []) [] unmarked front
 quote_begun place front h = record {
   base = front;
   split = sym (append-nil front);
-  fresh = record { base = front; text = []; split = sym (append-nil front); opened = h; joins = refl; apart = tt; fresh = λ piece. tt };
+  fresh = record {
+    base = front;
+    text = [];
+    split = sym (append-nil front);
+    opened = h;
+    joins = refl;
+    apart =
+        tt;
+    fresh = λ piece. tt;
+  };
   so_far = λ more k. k;
 }
 
 pub text_begun : (host : Host) (front : List ℕ) → Fresh host front → TextAt host [] unmarked front
-text_begun host front h = record { base = front; split = sym (append-nil front); fresh = h; so_far = λ more k. k }
+text_begun host front h = record
+    { base = front; split = sym (append-nil front); fresh = h; so_far = λ more k. k }
 
 pub stepping_at : (heads : Heads) (front : List ℕ) → HeadsAt heads front → Stepping heads front
-stepping_at heads front h = record { base = front; spaces = []; split = sym (append-nil front); heads_at = h; are_spaces = tt }
+stepping_at heads front h = record
+    { base = front; spaces = []; split = sym (append-nil front); heads_at = h; are_spaces = tt }
 
-pub left_at : (place : Place) (pieces : List Piece) (front : List ℕ) → LeftAt place pieces front → Behind (left place pieces) front
-left_at (in_transform heads) pieces front h = stepping_at (with_step heads (Transforms pieces)) front h
+pub left_at : (place : Place) (pieces : List Piece) (front : List ℕ) → LeftAt place pieces front
+    → Behind (left place pieces) front
+left_at (in_transform heads) pieces front h = stepping_at (with_step heads (Transforms pieces))
+    front h
 left_at (in_separator heads) pieces front h = h
 left_at (in_argument heads function args) pieces front h = h

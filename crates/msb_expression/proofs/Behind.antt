@@ -7,8 +7,63 @@ use Rattle.msb_expression.specs.declared.expression.Part.TheVariants.{Items}
 use Rattle.msb_expression.specs.declared.expression.Step.{Step}
 use Rattle.msb_expression.specs.declared.expression.Step.TheVariants.{Transform as Transforms, Call}
 use Rattle.msb_expression.specs.declared.expression.Piece.{Piece}
-use Rattle.msb_expression.specs.Grammar.{IsName, IsSpaces, IsNamed, IsPlain, Joins, Apart, IsPiece, is_plain_piece, IsQuoted, IsListed, IsArgs, IsAct, IsStep, IsPart, is_plain}
-use Rattle.msb_expression.specs.Machine.{Heads, Place, in_transform, in_separator, in_argument, Host, whole, inner, Mark, Named, property, metadata, qualified, Mode, in_text, name_opened, in_name, name_ended, type_opened, in_type, type_dashed, stepping, dashed, arrow, function_named, function_ended, args_opened, arg_ended, arg_wanted, separator_wanted, separator_ended, place_inside, host_inside, spelled, settled, referred, heads_of, with_step}
+use Rattle.msb_expression.specs.Grammar.{
+  IsName,
+  IsSpaces,
+  IsNamed,
+  IsPlain,
+  Joins,
+  Apart,
+  IsPiece,
+  is_plain_piece,
+  IsQuoted,
+  IsListed,
+  IsArgs,
+  IsAct,
+  IsStep,
+  IsPart,
+  is_plain,
+}
+use Rattle.msb_expression.specs.Machine.{
+  Heads,
+  Place,
+  in_transform,
+  in_separator,
+  in_argument,
+  Host,
+  whole,
+  inner,
+  Mark,
+  Named,
+  property,
+  metadata,
+  qualified,
+  Mode,
+  in_text,
+  name_opened,
+  in_name,
+  name_ended,
+  type_opened,
+  in_type,
+  type_dashed,
+  stepping,
+  dashed,
+  arrow,
+  function_named,
+  function_ended,
+  args_opened,
+  arg_ended,
+  arg_wanted,
+  separator_wanted,
+  separator_ended,
+  place_inside,
+  host_inside,
+  spelled,
+  settled,
+  referred,
+  heads_of,
+  with_step,
+}
 
 -- whole parts, of which the last is no plain one where anything may follow
 pub record PartsAt (parts : List Part) (front : List ℕ) : Type 0 where
@@ -28,20 +83,25 @@ pub record HeadsAt (heads : Heads) (front : List ℕ) : Type 0 where
 
 -- what becomes of the text if an action follows
 abbrev pub ArrowAt : Heads → List ℕ → Type 0
-ArrowAt heads front = (rest : List ℕ) (step : Step) → IsAct rest step → HeadsAt (with_step heads step) (front ++ rest)
+ArrowAt heads front = (rest : List ℕ) (step : Step) → IsAct rest step
+    → HeadsAt (with_step heads step) (front ++ rest)
 
 abbrev pub ArgsOpened : Heads → List ℕ → List ℕ → Type 0
 ArgsOpened heads function front =
-    (rest : List ℕ) (args : List (List Piece)) → IsArgs rest args → HeadsAt (with_step heads (Call function args)) (front ++ (rest ++ 41 ∷ []))
+    (rest : List ℕ) (args : List (List Piece)) → IsArgs rest args
+    → HeadsAt (with_step heads (Call function args)) (front ++ (rest ++ 41 ∷ []))
 
 abbrev pub ArgEnded : Heads → List ℕ → List (List Piece) → List ℕ → Type 0
 ArgEnded heads function args front =
-    (others : List ℕ) (more : List (List Piece)) (after : List ℕ) → Joins IsListed others more → IsSpaces after
-    → HeadsAt (with_step heads (Call function (args ++ more))) (front ++ (others ++ (after ++ 41 ∷ [])))
+    (others : List ℕ) (more : List (List Piece)) (after : List ℕ) → Joins IsListed others more
+    → IsSpaces after
+    → HeadsAt (with_step heads (Call function (args ++ more)))
+    (front ++ (others ++ (after ++ 41 ∷ [])))
 
 abbrev pub ArgWanted : Heads → List ℕ → List (List Piece) → List ℕ → Type 0
 ArgWanted heads function args front =
-    (quoted : List ℕ) (pieces : List Piece) → IsQuoted Quoted quoted pieces → ArgEnded heads function (args ++ pieces ∷ []) (front ++ quoted)
+    (quoted : List ℕ) (pieces : List Piece) → IsQuoted Quoted quoted pieces
+    → ArgEnded heads function (args ++ pieces ∷ []) (front ++ quoted)
 
 -- whole parts, of which the last is no plain one
 pub record FreshParts (parts : List Part) (front : List ℕ) : Type 0 where
@@ -52,21 +112,25 @@ pub record FreshParts (parts : List Part) (front : List ℕ) : Type 0 where
 abbrev pub SeparatorEnded : Heads → List Piece → List ℕ → Type 0
 SeparatorEnded heads pieces front =
     (after : List ℕ) → IsSpaces after
-    → FreshParts (heads.parts ++ Items heads.kind heads.steps (Some pieces) ∷ []) (front ++ (after ++ 41 ∷ []))
+    → FreshParts (heads.parts ++ Items heads.kind heads.steps (Some pieces) ∷ [])
+    (front ++ (after ++ 41 ∷ []))
 
 abbrev pub SeparatorWanted : Heads → List ℕ → Type 0
 SeparatorWanted heads front =
-    (quoted : List ℕ) (pieces : List Piece) → IsQuoted Quoted quoted pieces → SeparatorEnded heads pieces (front ++ quoted)
+    (quoted : List ℕ) (pieces : List Piece) → IsQuoted Quoted quoted pieces
+    → SeparatorEnded heads pieces (front ++ quoted)
 
 abbrev pub LeftAt : Place → List Piece → List ℕ → Type 0
 LeftAt (in_transform heads) pieces front = HeadsAt (with_step heads (Transforms pieces)) front
 LeftAt (in_separator heads) pieces front = SeparatorEnded heads pieces front
-LeftAt (in_argument heads function args) pieces front = ArgEnded heads function (args ++ pieces ∷ []) front
+LeftAt (in_argument heads function args) pieces front = ArgEnded heads function
+    (args ++ pieces ∷ []) front
 
 -- what becomes of the text if a text and a quote follow
 abbrev pub QuoteOpened : Place → List ℕ → Type 0
 QuoteOpened place front =
-    (text : List ℕ) (pieces : List Piece) → Joins (IsPiece (place_inside place)) text pieces → Apart is_plain_piece pieces
+    (text : List ℕ) (pieces : List Piece) → Joins (IsPiece (place_inside place)) text pieces
+    → Apart is_plain_piece pieces
     → LeftAt place pieces (front ++ (text ++ 39 ∷ []))
 
 pub record PiecesAt (place : Place) (pieces : List Piece) (front : List ℕ) : Type 0 where
@@ -92,7 +156,8 @@ Fresh (inner place pieces) front = FreshPieces place pieces front
 
 -- plain text, whatever plain text follows that may follow its mark
 abbrev pub IsPlainSoFar : Inside → List ℕ → Mark → Type 0
-IsPlainSoFar inside plain mark = (more : List ℕ) → IsPlain inside (spelled mark ++ more) → IsPlain inside (plain ++ (spelled mark ++ more))
+IsPlainSoFar inside plain mark = (more : List ℕ) → IsPlain inside (spelled mark ++ more)
+    → IsPlain inside (plain ++ (spelled mark ++ more))
 
 pub record TextAt (host : Host) (plain : List ℕ) (mark : Mark) (front : List ℕ) : Type 0 where
   pub base : List ℕ
@@ -103,12 +168,14 @@ pub record TextAt (host : Host) (plain : List ℕ) (mark : Mark) (front : List �
 -- what becomes of the text if a name and a `)` follow
 abbrev pub Closes : Host → Named → List ℕ → Type 0
 Closes host which front =
-    (text : List ℕ) (name : List ℕ) → IsNamed text name → Fresh (referred host which name) (front ++ (text ++ 41 ∷ []))
+    (text : List ℕ) (name : List ℕ) → IsNamed text name
+    → Fresh (referred host which name) (front ++ (text ++ 41 ∷ []))
 
 -- and if a name and a `.` follow
 abbrev pub Dots : Host → Named → List ℕ → Type 0
 Dots (whole parts) metadata front =
-    (text : List ℕ) (kind : List ℕ) → IsNamed text kind → Closes (whole parts) (qualified kind) (front ++ (text ++ 46 ∷ []))
+    (text : List ℕ) (kind : List ℕ) → IsNamed text kind
+    → Closes (whole parts) (qualified kind) (front ++ (text ++ 46 ∷ []))
 Dots (whole parts) property front = Unit {0}
 Dots (whole parts) (qualified kind) front = Unit {0}
 Dots (inner place pieces) which front = Unit {0}

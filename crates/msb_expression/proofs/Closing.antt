@@ -2,7 +2,35 @@
 use Rattle.std.proofs.Common.{◌≡◌, ℕ, List, [], ◌∷◌, refl}
 use Rattle.msb_expression.specs.declared.expression.Part.{Part}
 use Rattle.msb_expression.specs.Refusals.{CanGoOn}
-use Rattle.msb_expression.specs.Machine.{in_transform, in_separator, in_argument, Host, whole, inner, Mark, Mode, in_text, name_opened, in_name, name_ended, type_opened, in_type, type_dashed, stepping, dashed, arrow, function_named, function_ended, args_opened, arg_ended, arg_wanted, separator_wanted, separator_ended, run, done}
+use Rattle.msb_expression.specs.Machine.{
+  in_transform,
+  in_separator,
+  in_argument,
+  Host,
+  whole,
+  inner,
+  Mark,
+  Mode,
+  in_text,
+  name_opened,
+  in_name,
+  name_ended,
+  type_opened,
+  in_type,
+  type_dashed,
+  stepping,
+  dashed,
+  arrow,
+  function_named,
+  function_ended,
+  args_opened,
+  arg_ended,
+  arg_wanted,
+  separator_wanted,
+  separator_ended,
+  run,
+  done,
+}
 use Rattle.msb_expression.proofs.Behind.{Behind}
 use Rattle.msb_expression.proofs.Sound.{run_sound_from}
 
@@ -14,7 +42,8 @@ unfolding run
 text_closes (whole parts) plain mark = ([], _, refl)
 text_closes (inner (in_transform heads) pieces) plain mark = (39 ∷ 41 ∷ [], _, refl)
 text_closes (inner (in_separator heads) pieces) plain mark = (39 ∷ 41 ∷ [], _, refl)
-text_closes (inner (in_argument heads function args) pieces) plain mark = (39 ∷ 41 ∷ 41 ∷ [], _, refl)
+text_closes (inner (in_argument heads function args) pieces) plain mark =
+    (39 ∷ 41 ∷ 41 ∷ [], _, refl)
 
 pub mode_closes : (mode : Mode) → Closes mode
 unfolding run
@@ -37,4 +66,5 @@ mode_closes (separator_wanted heads) = (39 ∷ 39 ∷ 41 ∷ [], _, refl)
 mode_closes (separator_ended heads pieces) = (41 ∷ [], _, refl)
 
 pub goes_on : (mode : Mode) (front : List ℕ) → Behind mode front → CanGoOn front
-goes_on mode front h = let c = mode_closes mode in (c.0, c.1, run_sound_from c.0 mode front c.1 h c.2)
+goes_on mode front h = let c = mode_closes mode
+    in (c.0, c.1, run_sound_from c.0 mode front c.1 h c.2)

@@ -1,5 +1,22 @@
 -- Plain text, byte by byte.
-use Rattle.std.proofs.Common.{◌≡◌, ℕ, Bool, true, false, eqb, List, [], ◌∷◌, ◌++◌, refl, sym, ap, ◌∙◌, subst, append_assoc}
+use Rattle.std.proofs.Common.{
+  ◌≡◌,
+  ℕ,
+  Bool,
+  true,
+  false,
+  eqb,
+  List,
+  [],
+  ◌∷◌,
+  ◌++◌,
+  refl,
+  sym,
+  ap,
+  ◌∙◌,
+  subst,
+  append_assoc,
+}
 use Rattle.std.specs.Prelude.{◌==◌, ◌&&◌, ◌||◌}
 use Rattle.std.proofs.lemmas.List.{append-nil}
 use Rattle.std.proofs.lemmas.Bool.{false≢true}
@@ -8,7 +25,16 @@ use Rattle.msb_expression.specs.declared.starts.Inside.TheVariants.{Whole, Trans
 use Rattle.msb_expression.specs.declared.sorts.Sort.{Sort}
 use Rattle.msb_expression.specs.declared.sorts.Sort.TheVariants.{Quote, Open, Dollar, Percent, At}
 use Rattle.msb_expression.specs.Grammar.{opens, begins_reference, is_end_quote, IsPlain}
-use Rattle.msb_expression.specs.Machine.{sort_of, Mark, unmarked, dollar, percent, at_sign, spelled, settled}
+use Rattle.msb_expression.specs.Machine.{
+  sort_of,
+  Mark,
+  unmarked,
+  dollar,
+  percent,
+  at_sign,
+  spelled,
+  settled,
+}
 use Rattle.msb_expression.proofs.Bytes.{other_byte}
 use Rattle.msb_expression.proofs.Behind.{IsPlainSoFar}
 
@@ -27,10 +53,12 @@ is_common Quote = false
 is_common Open = false
 is_common _ = true
 
-pub uncommon : (b k : ℕ) (sort : Sort) → sort_of b ≡ sort → is_common sort ≡ true → is_common (sort_of k) ≡ false → eqb b k ≡ false
+pub uncommon : (b k : ℕ) (sort : Sort) → sort_of b ≡ sort → is_common sort ≡ true
+    → is_common (sort_of k) ≡ false → eqb b k ≡ false
 uncommon b k sort e c d = other_byte b k (λ h. false≢true (sym d ∙ ap is_common (sym h ∙ e) ∙ c))
 
-pub common_ordinary : (b : ℕ) (sort : Sort) → sort_of b ≡ sort → is_common sort ≡ true → IsOrdinary b
+pub common_ordinary : (b : ℕ) (sort : Sort) → sort_of b ≡ sort → is_common sort ≡ true
+    → IsOrdinary b
 common_ordinary b sort e c = record {
   no_dollar = uncommon b 36 sort e c refl;
   no_percent = uncommon b 37 sort e c refl;
@@ -41,9 +69,20 @@ pub opens-other : (b k : ℕ) (more : List ℕ) → (b == k) ≡ false → opens
 opens-other b k [] e = refl
 opens-other b k (c ∷ more) e = ap (λ t. t && (c == 40)) e
 
-pub begins-ordinary : (inside : Inside) (b : ℕ) (more : List ℕ) → IsOrdinary b → begins_reference inside (b ∷ more) ≡ false
-begins-ordinary Whole b more o = rw (opens-other b 36 more o.no_dollar, opens-other b 37 more o.no_percent, opens-other b 64 more o.no_at) refl
-begins-ordinary Transform b more o = rw (opens-other b 36 more o.no_dollar, opens-other b 37 more o.no_percent, opens-other b 64 more o.no_at) refl
+pub begins-ordinary : (inside : Inside) (b : ℕ) (more : List ℕ) → IsOrdinary b
+    → begins_reference inside (b ∷ more) ≡ false
+begins-ordinary Whole b more o = rw (
+  opens-other b 36 more o.no_dollar,
+  opens-other b 37 more o.no_percent,
+  opens-other b 64 more
+      o.no_at,
+) refl
+begins-ordinary Transform b more o = rw (
+  opens-other b 36 more o.no_dollar,
+  opens-other b 37 more o.no_percent,
+  opens-other b 64 more
+      o.no_at,
+) refl
 begins-ordinary Quoted b more o = opens-other b 36 more o.no_dollar
 
 pub no_end_quote : (inside : Inside) (b : ℕ) → (b == 39) ≡ false → is_end_quote inside b ≡ false
@@ -51,27 +90,36 @@ no_end_quote Whole b e = refl
 no_end_quote Transform b e = e
 no_end_quote Quoted b e = e
 
-pub IsPlain-ordinary : (inside : Inside) (b : ℕ) (more : List ℕ) → IsOrdinary b → is_end_quote inside b ≡ false → IsPlain inside more → IsPlain inside (b ∷ more)
+pub IsPlain-ordinary : (inside : Inside) (b : ℕ) (more : List ℕ) → IsOrdinary b
+    → is_end_quote inside b ≡ false → IsPlain inside more → IsPlain inside (b ∷ more)
 IsPlain-ordinary inside b more o q h = (begins-ordinary inside b more o, q, h)
 
-pub opens-unopened : (b c k : ℕ) (more : List ℕ) → (c == 40) ≡ false → opens k (b ∷ c ∷ more) ≡ false
+pub opens-unopened : (b c k : ℕ) (more : List ℕ) → (c == 40) ≡ false
+    → opens k (b ∷ c ∷ more) ≡ false
 opens-unopened b c k more e = go (b == k)
   where
     go : (t : Bool) → (t && (c == 40)) ≡ false
     go true = e
     go false = refl
 
-begins-unopened : (inside : Inside) (b c : ℕ) (more : List ℕ) → (c == 40) ≡ false → begins_reference inside (b ∷ c ∷ more) ≡ false
-begins-unopened Whole b c more e = rw (opens-unopened b c 36 more e, opens-unopened b c 37 more e, opens-unopened b c 64 more e) refl
-begins-unopened Transform b c more e = rw (opens-unopened b c 36 more e, opens-unopened b c 37 more e, opens-unopened b c 64 more e) refl
+begins-unopened : (inside : Inside) (b c : ℕ) (more : List ℕ) → (c == 40) ≡ false
+    → begins_reference inside (b ∷ c ∷ more) ≡ false
+begins-unopened Whole b c more e = rw
+    (opens-unopened b c 36 more e, opens-unopened b c 37 more e, opens-unopened b c 64 more e) refl
+begins-unopened Transform b c more e = rw
+    (opens-unopened b c 36 more e, opens-unopened b c 37 more e, opens-unopened b c 64 more e) refl
 begins-unopened Quoted b c more e = opens-unopened b c 36 more e
 
 -- behind a mark stands what is no `(`
-pub IsPlain-marked : (inside : Inside) (mark : Mark) (c : ℕ) (more : List ℕ) → (c == 40) ≡ false → IsPlain inside (c ∷ more) → IsPlain inside (spelled mark ++ c ∷ more)
+pub IsPlain-marked : (inside : Inside) (mark : Mark) (c : ℕ) (more : List ℕ) → (c == 40) ≡ false
+    → IsPlain inside (c ∷ more) → IsPlain inside (spelled mark ++ c ∷ more)
 IsPlain-marked inside unmarked c more e h = h
-IsPlain-marked inside dollar c more e h = (begins-unopened inside 36 c more e, no_end_quote inside 36 refl, h)
-IsPlain-marked inside percent c more e h = (begins-unopened inside 37 c more e, no_end_quote inside 37 refl, h)
-IsPlain-marked inside at_sign c more e h = (begins-unopened inside 64 c more e, no_end_quote inside 64 refl, h)
+IsPlain-marked inside dollar c more e h =
+    (begins-unopened inside 36 c more e, no_end_quote inside 36 refl, h)
+IsPlain-marked inside percent c more e h =
+    (begins-unopened inside 37 c more e, no_end_quote inside 37 refl, h)
+IsPlain-marked inside at_sign c more e h =
+    (begins-unopened inside 64 c more e, no_end_quote inside 64 refl, h)
 
 begins-alone : (inside : Inside) (b : ℕ) → begins_reference inside (b ∷ []) ≡ false
 begins-alone Whole b = refl
@@ -84,7 +132,8 @@ IsPlain-mark inside dollar = (begins-alone inside 36, no_end_quote inside 36 ref
 IsPlain-mark inside percent = (begins-alone inside 37, no_end_quote inside 37 refl, tt)
 IsPlain-mark inside at_sign = (begins-alone inside 64, no_end_quote inside 64 refl, tt)
 
-opens-front : (k b : ℕ) (xs ys : List ℕ) → opens k (b ∷ (xs ++ ys)) ≡ false → opens k (b ∷ xs) ≡ false
+opens-front : (k b : ℕ) (xs ys : List ℕ) → opens k (b ∷ (xs ++ ys)) ≡ false
+    → opens k (b ∷ xs) ≡ false
 opens-front k b [] ys e = refl
 opens-front k b (x ∷ xs) ys e = e
 
@@ -96,7 +145,9 @@ or_right : (a b : Bool) → (a || b) ≡ false → b ≡ false
 or_right true b e = cc
 or_right false b e = e
 
-none_front : (b : ℕ) (xs ys : List ℕ) → (opens 36 (b ∷ (xs ++ ys)) || (opens 37 (b ∷ (xs ++ ys)) || opens 64 (b ∷ (xs ++ ys)))) ≡ false → (opens 36 (b ∷ xs) || (opens 37 (b ∷ xs) || opens 64 (b ∷ xs))) ≡ false
+none_front : (b : ℕ) (xs ys : List ℕ)
+    → (opens 36 (b ∷ (xs ++ ys)) || (opens 37 (b ∷ (xs ++ ys)) || opens 64 (b ∷ (xs ++ ys))))
+    ≡ false → (opens 36 (b ∷ xs) || (opens 37 (b ∷ xs) || opens 64 (b ∷ xs))) ≡ false
 none_front b xs ys e =
     let o36 : Bool = opens 36 (b ∷ (xs ++ ys)) in
     let o37 : Bool = opens 37 (b ∷ (xs ++ ys)) in
@@ -107,24 +158,33 @@ none_front b xs ys e =
     let q : opens 64 (b ∷ xs) ≡ false = opens-front 64 b xs ys (or_right o37 o64 r) in
     rw (a, p, q) refl
 
-pub begins-front : (inside : Inside) (b : ℕ) (xs ys : List ℕ) → begins_reference inside (b ∷ (xs ++ ys)) ≡ false → begins_reference inside (b ∷ xs) ≡ false
+pub begins-front : (inside : Inside) (b : ℕ) (xs ys : List ℕ)
+    → begins_reference inside (b ∷ (xs ++ ys)) ≡ false → begins_reference inside (b ∷ xs) ≡ false
 begins-front Whole b xs ys e = none_front b xs ys e
 begins-front Transform b xs ys e = none_front b xs ys e
 begins-front Quoted b xs ys e = opens-front 36 b xs ys e
 
-pub IsPlain-front : (inside : Inside) (xs ys : List ℕ) → IsPlain inside (xs ++ ys) → IsPlain inside xs
+pub IsPlain-front : (inside : Inside) (xs ys : List ℕ) → IsPlain inside (xs ++ ys)
+    → IsPlain inside xs
 IsPlain-front inside [] ys h = tt
-IsPlain-front inside (x ∷ xs) ys h = (begins-front inside x xs ys h.0, h.1, IsPlain-front inside xs ys h.2)
+IsPlain-front inside (x ∷ xs) ys h =
+    (begins-front inside x xs ys h.0, h.1, IsPlain-front inside xs ys h.2)
 
 -- so far with its mark, and without it
-pub IsPlain-settled : (inside : Inside) (plain : List ℕ) (mark : Mark) → IsPlainSoFar inside plain mark → IsPlain inside (settled plain mark)
-IsPlain-settled inside plain mark h = subst (λ t. IsPlain inside (plain ++ t)) (append-nil (spelled mark)) (h [] (IsPlain-mark inside mark))
+pub IsPlain-settled : (inside : Inside) (plain : List ℕ) (mark : Mark)
+    → IsPlainSoFar inside plain mark → IsPlain inside (settled plain mark)
+IsPlain-settled inside plain mark h = subst (λ t. IsPlain inside (plain ++ t))
+    (append-nil (spelled mark)) (h [] (IsPlain-mark inside mark))
 
-pub IsPlain-unmarked : (inside : Inside) (plain : List ℕ) (mark : Mark) → IsPlainSoFar inside plain mark → IsPlain inside plain
-IsPlain-unmarked inside plain mark h = IsPlain-front inside plain (spelled mark) (IsPlain-settled inside plain mark h)
+pub IsPlain-unmarked : (inside : Inside) (plain : List ℕ) (mark : Mark)
+    → IsPlainSoFar inside plain mark → IsPlain inside plain
+IsPlain-unmarked inside plain mark h = IsPlain-front inside plain (spelled mark)
+    (IsPlain-settled inside plain mark h)
 
 -- a mark follows
-pub so_far-marked : (inside : Inside) (plain : List ℕ) (mark next : Mark) (c : ℕ) → spelled next ≡ c ∷ [] → (c == 40) ≡ false → IsPlainSoFar inside plain mark → IsPlainSoFar inside (settled plain mark) next
+pub so_far-marked : (inside : Inside) (plain : List ℕ) (mark next : Mark) (c : ℕ)
+    → spelled next ≡ c ∷ [] → (c == 40) ≡ false → IsPlainSoFar inside plain mark
+    → IsPlainSoFar inside (settled plain mark) next
 so_far-marked inside plain mark next c e f h = λ more k.
     let split : spelled next ++ more ≡ c ∷ more = ap (λ t. t ++ more) e in
     subst (λ t. IsPlain inside t) (sym (append_assoc plain (spelled mark) (spelled next ++ more)))
@@ -132,21 +192,37 @@ so_far-marked inside plain mark next c e f h = λ more k.
     (h (c ∷ more) (IsPlain-marked inside mark c more f (subst (λ t. IsPlain inside t) split k))))
 
 -- an ordinary byte follows
-pub so_far-ordinary : (inside : Inside) (plain : List ℕ) (mark : Mark) (b : ℕ) → IsOrdinary b → is_end_quote inside b ≡ false → (b == 40) ≡ false → IsPlainSoFar inside plain mark → IsPlainSoFar inside (settled plain mark ++ b ∷ []) unmarked
+pub so_far-ordinary : (inside : Inside) (plain : List ℕ) (mark : Mark) (b : ℕ) → IsOrdinary b
+    → is_end_quote inside b ≡ false → (b == 40) ≡ false → IsPlainSoFar inside plain mark
+    → IsPlainSoFar inside (settled plain mark ++ b ∷ []) unmarked
 so_far-ordinary inside plain mark b o q f h = λ more k.
-    subst (λ t. IsPlain inside t) (sym (append_assoc (settled plain mark) (b ∷ []) more ∙ append_assoc plain (spelled mark) (b ∷ more)))
+    subst (λ t. IsPlain inside t)
+    (sym (append_assoc (settled plain mark) (b ∷ []) more
+    ∙ append_assoc plain (spelled mark) (b ∷ more)))
     (h (b ∷ more) (IsPlain-marked inside mark b more f (IsPlain-ordinary inside b more o q k)))
 
 -- a `(` follows
-pub so_far-open : (inside : Inside) (plain : List ℕ) → IsPlainSoFar inside plain unmarked → IsPlainSoFar inside (plain ++ 40 ∷ []) unmarked
+pub so_far-open : (inside : Inside) (plain : List ℕ) → IsPlainSoFar inside plain unmarked
+    → IsPlainSoFar inside (plain ++ 40 ∷ []) unmarked
 so_far-open inside plain h = λ more k.
     subst (λ t. IsPlain inside t) (sym (append_assoc plain (40 ∷ []) more))
-    (h (40 ∷ more) (IsPlain-ordinary inside 40 more (record { no_dollar = refl; no_percent = refl; no_at = refl }) (no_end_quote inside 40 refl) k))
+    (h (40 ∷ more)
+    (IsPlain-ordinary inside 40 more
+    (record { no_dollar = refl; no_percent = refl; no_at = refl }) (no_end_quote inside 40 refl)
+    k))
 
 -- a `(` follows a mark that opens nothing there
-pub so_far-unopened : (plain : List ℕ) (mark : Mark) (c : ℕ) → spelled mark ≡ c ∷ [] → (c == 36) ≡ false → (c == 39) ≡ false → IsPlainSoFar Quoted plain mark → IsPlainSoFar Quoted (plain ++ c ∷ 40 ∷ []) unmarked
+pub so_far-unopened : (plain : List ℕ) (mark : Mark) (c : ℕ) → spelled mark ≡ c ∷ []
+    → (c == 36) ≡ false → (c == 39) ≡ false → IsPlainSoFar Quoted plain mark
+    → IsPlainSoFar Quoted (plain ++ c ∷ 40 ∷ []) unmarked
 so_far-unopened plain mark c e f q h = λ more k.
-    let p : IsPlain Quoted (c ∷ 40 ∷ more) = (opens-other c 36 (40 ∷ more) f, q, IsPlain-ordinary Quoted 40 more (record { no_dollar = refl; no_percent = refl; no_at = refl }) refl k) in
+    let p : IsPlain Quoted (c ∷ 40 ∷ more) = (
+      opens-other c 36 (40 ∷ more) f,
+      q,
+      IsPlain-ordinary Quoted 40 more
+          (record { no_dollar = refl; no_percent = refl; no_at = refl }) refl k,
+    ) in
     let split : spelled mark ++ 40 ∷ more ≡ c ∷ 40 ∷ more = ap (λ t. t ++ 40 ∷ more) e in
-    subst (λ t. IsPlain Quoted t) (ap (λ t. plain ++ t) split ∙ sym (append_assoc plain (c ∷ 40 ∷ []) more))
+    subst (λ t. IsPlain Quoted t) (ap (λ t. plain ++ t) split
+    ∙ sym (append_assoc plain (c ∷ 40 ∷ []) more))
     (h (40 ∷ more) (subst (λ t. IsPlain Quoted t) (sym split) p))

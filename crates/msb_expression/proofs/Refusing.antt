@@ -1,12 +1,54 @@
 -- Where the machine stops, the byte is the bad one; where it ends early, the text is unclosed.
-use Rattle.std.proofs.Common.{◌≡◌, ℕ, ◌<◌, ◌+◌, suc, List, [], ◌∷◌, ◌++◌, length, drop, refl, sym, ap, ◌∙◌, subst, append_assoc, arith, length-append, length-drop, ◌⊎◌, inl, inr}
+use Rattle.std.proofs.Common.{
+  ◌≡◌,
+  ℕ,
+  ◌<◌,
+  ◌+◌,
+  suc,
+  List,
+  [],
+  ◌∷◌,
+  ◌++◌,
+  length,
+  drop,
+  refl,
+  sym,
+  ap,
+  ◌∙◌,
+  subst,
+  append_assoc,
+  arith,
+  length-append,
+  length-drop,
+  ◌⊎◌,
+  inl,
+  inr,
+}
 use Rattle.std.specs.Prelude.{reverse}
 use Rattle.std.proofs.lemmas.List.{append-nil, reverse-append, drop_at}
 use Rattle.msb_expression.specs.declared.expression.Part.{Part}
 use Rattle.msb_expression.specs.declared.sorts.Kind.{Kind}
 use Rattle.msb_expression.specs.Grammar.{IsReading}
 use Rattle.msb_expression.specs.Refusals.{CanGoOn, IsBadAt, IsUnclosed, kind_of}
-use Rattle.msb_expression.specs.Machine.{sort_of, whole, inner, Mode, in_text, Next, go, stop, step_of, Outcome, done, bad, early, finish, followed, run, begin}
+use Rattle.msb_expression.specs.Machine.{
+  sort_of,
+  whole,
+  inner,
+  Mode,
+  in_text,
+  Next,
+  go,
+  stop,
+  step_of,
+  Outcome,
+  done,
+  bad,
+  early,
+  finish,
+  followed,
+  run,
+  begin,
+}
 use Rattle.msb_expression.proofs.Behind.{Behind}
 use Rattle.msb_expression.proofs.KeepsText.{Keeps}
 use Rattle.msb_expression.proofs.Sound.{step_keeps, begins, run_sound}
@@ -43,7 +85,9 @@ finish_is_no_stop (in_text (whole parts) plain mark) kind rest e = cc
 finish_is_no_stop (in_text (inner place pieces) plain mark) kind rest e = cc
 finish_is_no_stop _ kind rest e = cc
 
-here : (mode : Mode) (start : List ℕ) (b : ℕ) (bs rest : List ℕ) (kind : Kind) → Behind mode start → Trail mode (reverse start) → step_of mode (sort_of b) b ≡ stop kind → rest ≡ b ∷ bs → StopsAt mode start (b ∷ bs) rest kind
+here : (mode : Mode) (start : List ℕ) (b : ℕ) (bs rest : List ℕ) (kind : Kind) → Behind mode start
+    → Trail mode (reverse start) → step_of mode (sort_of b) b ≡ stop kind → rest ≡ b ∷ bs
+    → StopsAt mode start (b ∷ bs) rest kind
 here mode start b bs rest kind h t e r = record {
   front = [];
   byte = b;
@@ -57,7 +101,9 @@ here mode start b bs rest kind h t e r = record {
   runs = λ more. refl;
 }
 
-later : (mode next : Mode) (start : List ℕ) (b : ℕ) (bs rest : List ℕ) (kind : Kind) → step_of mode (sort_of b) b ≡ go next → StopsAt next (start ++ b ∷ []) bs rest kind → StopsAt mode start (b ∷ bs) rest kind
+later : (mode next : Mode) (start : List ℕ) (b : ℕ) (bs rest : List ℕ) (kind : Kind)
+    → step_of mode (sort_of b) b ≡ go next → StopsAt next (start ++ b ∷ []) bs rest kind
+    → StopsAt mode start (b ∷ bs) rest kind
 later mode next start b bs rest kind e s = record {
   front = b ∷ s.front;
   byte = s.byte;
@@ -71,48 +117,66 @@ later mode next start b bs rest kind e s = record {
   runs = λ more. run-go b (s.front ++ more) mode next e ∙ s.runs more;
 }
 
-stops_next : (mode : Mode) (start : List ℕ) (b : ℕ) (bs rest : List ℕ) (kind : Kind) (next : Next) → Behind mode start → Trail mode (reverse start)
-    → step_of mode (sort_of b) b ≡ next → Keeps next (λ m. Behind m (start ++ b ∷ [])) → Follows next b (reverse start)
-    → ((m : Mode) → Behind m (start ++ b ∷ []) → Trail m (reverse (start ++ b ∷ [])) → run bs m ≡ bad kind rest → StopsAt m (start ++ b ∷ []) bs rest kind)
+stops_next : (mode : Mode) (start : List ℕ) (b : ℕ) (bs rest : List ℕ) (kind : Kind) (next : Next)
+    → Behind mode start → Trail mode (reverse start)
+    → step_of mode (sort_of b) b ≡ next → Keeps next (λ m. Behind m (start ++ b ∷ []))
+    → Follows next b (reverse start)
+    → ((m : Mode) → Behind m (start ++ b ∷ []) → Trail m (reverse (start ++ b ∷ []))
+    → run bs m ≡ bad kind rest → StopsAt m (start ++ b ∷ []) bs rest kind)
     → followed (run bs) next (b ∷ bs) ≡ bad kind rest → StopsAt mode start (b ∷ bs) rest kind
 stops_next mode start b bs rest kind (go m) h t e k f again g =
-    later mode m start b bs rest kind e (again m k (subst (λ x. Trail m x) (sym (reverse-push start b)) f) g)
+    later mode m start b bs rest kind e
+    (again m k (subst (λ x. Trail m x) (sym (reverse-push start b)) f) g)
 stops_next mode start b bs rest kind (stop j) h t e k f again g =
-    here mode start b bs rest kind h t (e ∙ ap stop (same_kind j kind (b ∷ bs) rest g)) (sym (same_rest j kind (b ∷ bs) rest g))
+    here mode start b bs rest kind h t (e ∙ ap stop (same_kind j kind (b ∷ bs) rest g))
+    (sym (same_rest j kind (b ∷ bs) rest g))
 
-pub stops_at : (bs : List ℕ) (mode : Mode) (start rest : List ℕ) (kind : Kind) → Behind mode start → Trail mode (reverse start) → run bs mode ≡ bad kind rest → StopsAt mode start bs rest kind
+pub stops_at : (bs : List ℕ) (mode : Mode) (start rest : List ℕ) (kind : Kind) → Behind mode start
+    → Trail mode (reverse start) → run bs mode ≡ bad kind rest → StopsAt mode start bs rest kind
 unfolding run
 stops_at [] mode start rest kind h t e = absurd (finish_is_no_stop mode kind rest e)
 stops_at (b ∷ bs) mode start rest kind h t e =
-    stops_next mode start b bs rest kind (step_of mode (sort_of b) b) h t refl (step_keeps mode start b h) (step_follows mode (reverse start) b t)
+    stops_next mode start b bs rest kind (step_of mode (sort_of b) b) h t refl
+    (step_keeps mode start b h) (step_follows mode (reverse start) b t)
     (λ m k f g. stops_at bs m (start ++ b ∷ []) rest kind k f g) e
 
 begin_trail : Trail begin (reverse [])
 begin_trail = record { mark_is = (refl, refl, refl); outside = λ q. refl }
 
-pub text_stops : (text rest : List ℕ) (kind : Kind) → run text begin ≡ bad kind rest → StopsAt begin [] text rest kind
+pub text_stops : (text rest : List ℕ) (kind : Kind) → run text begin ≡ bad kind rest
+    → StopsAt begin [] text rest kind
 text_stops text rest kind e = stops_at text begin [] rest kind begins begin_trail e
 
 -- no text goes on through the byte where the machine stops
-pub no_way : (text rest : List ℕ) (kind : Kind) (s : StopsAt begin [] text rest kind) (more : List ℕ) (parts : List Part) → IsReading (s.front ++ s.byte ∷ more) parts → ⊥
+pub no_way : (text rest : List ℕ) (kind : Kind) (s : StopsAt begin [] text rest kind)
+    (more : List ℕ) (parts : List Part) → IsReading (s.front ++ s.byte ∷ more) parts → ⊥
 no_way text rest kind s more parts r =
-    let e : done parts ≡ bad kind (s.byte ∷ more) = sym (run_complete (s.front ++ s.byte ∷ more) parts r) ∙ s.runs (s.byte ∷ more) ∙ run-stop s.byte more s.last kind s.stops in
+    let e : done parts ≡ bad kind (s.byte ∷ more) = sym
+    (run_complete (s.front ++ s.byte ∷ more) parts r) ∙ s.runs (s.byte ∷ more)
+    ∙ run-stop s.byte more s.last kind s.stops in
     cc
 
-pub stops_through : (text rest : List ℕ) (kind : Kind) (s : StopsAt begin [] text rest kind) → CanGoOn (s.front ++ s.byte ∷ []) → ⊥
+pub stops_through : (text rest : List ℕ) (kind : Kind) (s : StopsAt begin [] text rest kind)
+    → CanGoOn (s.front ++ s.byte ∷ []) → ⊥
 stops_through text rest kind s c =
-    no_way text rest kind s c.0 c.1 (subst (λ t. IsReading t c.1) (append_assoc s.front (s.byte ∷ []) c.0) c.2)
+    no_way text rest kind s c.0 c.1
+    (subst (λ t. IsReading t c.1) (append_assoc s.front (s.byte ∷ []) c.0) c.2)
 
-pub stops_kind : (text rest : List ℕ) (kind : Kind) (s : StopsAt begin [] text rest kind) → kind_of s.byte (reverse s.front) ≡ kind
-stops_kind text rest kind s = subst (λ n. Follows n s.byte (reverse s.front)) s.stops (step_follows s.last (reverse s.front) s.byte s.trail)
+pub stops_kind : (text rest : List ℕ) (kind : Kind) (s : StopsAt begin [] text rest kind)
+    → kind_of s.byte (reverse s.front) ≡ kind
+stops_kind text rest kind s = subst (λ n. Follows n s.byte (reverse s.front)) s.stops
+    (step_follows s.last (reverse s.front) s.byte s.trail)
 
-place_of : (text front tail : List ℕ) (byte n : ℕ) → text ≡ front ++ byte ∷ tail → drop n text ≡ byte ∷ tail → n < length text → length front ≡ n
+place_of : (text front tail : List ℕ) (byte n : ℕ) → text ≡ front ++ byte ∷ tail
+    → drop n text ≡ byte ∷ tail → n < length text → length front ≡ n
 place_of text front tail byte n e d h =
-    let a : length text ≡ length front + suc (length tail) = ap length e ∙ length-append front (byte ∷ tail) in
+    let a : length text ≡ length front + suc (length tail) = ap length e
+    ∙ length-append front (byte ∷ tail) in
     let b = sym (length-drop n text) ∙ ap length d in
     omega arith
 
-pub run_bad : (text : List ℕ) (n : ℕ) (kind : Kind) → run text begin ≡ bad kind (drop n text) → n < length text → IsBadAt text n kind
+pub run_bad : (text : List ℕ) (n : ℕ) (kind : Kind) → run text begin ≡ bad kind (drop n text)
+    → n < length text → IsBadAt text n kind
 run_bad text n kind e h =
     let s : StopsAt begin [] text (drop n text) kind = text_stops text (drop n text) kind e in
     record {
@@ -130,7 +194,8 @@ run_bad text n kind e h =
 abbrev Ended : Mode → List ℕ → List ℕ → Type 0
 Ended mode start bs = (last : Mode) × Behind last (start ++ bs)
 
-early_next : (mode : Mode) (start : List ℕ) (b : ℕ) (bs : List ℕ) (next : Next) → Keeps next (λ m. Behind m (start ++ b ∷ []))
+early_next : (mode : Mode) (start : List ℕ) (b : ℕ) (bs : List ℕ) (next : Next)
+    → Keeps next (λ m. Behind m (start ++ b ∷ []))
     → ((m : Mode) → Behind m (start ++ b ∷ []) → run bs m ≡ early → Ended m (start ++ b ∷ []) bs)
     → followed (run bs) next (b ∷ bs) ≡ early → Ended mode start (b ∷ bs)
 early_next mode start b bs (go m) k again e =
@@ -138,22 +203,26 @@ early_next mode start b bs (go m) k again e =
     (r.0, subst (λ x. Behind r.0 x) (append_assoc start (b ∷ []) bs) r.1)
 early_next mode start b bs (stop j) k again e = cc
 
-early_at : (bs : List ℕ) (mode : Mode) (start : List ℕ) → Behind mode start → run bs mode ≡ early → Ended mode start bs
+early_at : (bs : List ℕ) (mode : Mode) (start : List ℕ) → Behind mode start → run bs mode ≡ early
+    → Ended mode start bs
 unfolding run
 early_at [] mode start h e = (mode, subst (λ x. Behind mode x) (sym (append-nil start)) h)
-early_at (b ∷ bs) mode start h e = early_next mode start b bs (step_of mode (sort_of b) b) (step_keeps mode start b h) (λ m k g. early_at bs m (start ++ b ∷ []) k g) e
+early_at (b ∷ bs) mode start h e = early_next mode start b bs (step_of mode (sort_of b) b)
+    (step_keeps mode start b h) (λ m k g. early_at bs m (start ++ b ∷ []) k g) e
 
 pub early_goes_on : (text : List ℕ) → run text begin ≡ early → CanGoOn text
 early_goes_on text e = let r = early_at text begin [] begins e in goes_on r.0 text r.1
 
-pub run_early : (text : List ℕ) (n : ℕ) → run text begin ≡ early → n ≡ length text → IsUnclosed text n
+pub run_early : (text : List ℕ) (n : ℕ) → run text begin ≡ early → n ≡ length text
+    → IsUnclosed text n
 run_early text n e l = record {
   goes_on = early_goes_on text e;
   unread = λ parts r. let k = sym (run_complete text parts r) ∙ e in cc;
   place_is = sym l;
 }
 
--- The other way round: a text that is unclosed ends early, and the bad byte is where the machine stops.
+-- The other way round: a text that is unclosed ends early, and the bad byte is where the machine
+-- stops.
 pub unclosed_is_early : (text : List ℕ) (n : ℕ) → IsUnclosed text n → run text begin ≡ early
 unclosed_is_early text n u = outcome (run text begin) refl
   where
@@ -163,16 +232,20 @@ unclosed_is_early text n u = outcome (run text begin) refl
     outcome (bad kind rest) e =
         let s : StopsAt begin [] text rest kind = text_stops text rest kind e in
         absurd (no_way text rest kind s (s.tail ++ u.goes_on.0) u.goes_on.1
-        (subst (λ t. IsReading t u.goes_on.1) (ap (λ t. t ++ u.goes_on.0) s.split ∙ append_assoc s.front (s.byte ∷ s.tail) u.goes_on.0) u.goes_on.2))
+        (subst (λ t. IsReading t u.goes_on.1)
+        (ap (λ t. t ++ u.goes_on.0) s.split
+        ∙ append_assoc s.front (s.byte ∷ s.tail) u.goes_on.0) u.goes_on.2))
 
 -- a text that goes on through a byte goes on through each byte before
 goes_on_front : (front more : List ℕ) → CanGoOn (front ++ more) → CanGoOn front
-goes_on_front front more c = (more ++ c.0, c.1, subst (λ t. IsReading t c.1) (append_assoc front more c.0) c.2)
+goes_on_front front more c =
+    (more ++ c.0, c.1, subst (λ t. IsReading t c.1) (append_assoc front more c.0) c.2)
 
 -- of two fronts of a text with the next byte of each, one is within the other or they are the same
 abbrev Fronts : List ℕ → ℕ → List ℕ → List ℕ → ℕ → List ℕ → Type 0
 Fronts f a x g b y =
-    ((more : List ℕ) × (g ≡ (f ++ a ∷ []) ++ more)) ⊎ (((more : List ℕ) × (f ≡ (g ++ b ∷ []) ++ more)) ⊎ ((f ≡ g) × (a ≡ b) × (x ≡ y)))
+    ((more : List ℕ) × (g ≡ (f ++ a ∷ []) ++ more))
+    ⊎ (((more : List ℕ) × (f ≡ (g ++ b ∷ []) ++ more)) ⊎ ((f ≡ g) × (a ≡ b) × (x ≡ y)))
 
 longer : (f g x y : List ℕ) (a b c : ℕ) → Fronts f a x g b y → Fronts (c ∷ f) a x (c ∷ g) b y
 longer f g x y a b c (inl p) = inl (p.0, ap (λ t. c ∷ t) p.1)
@@ -191,27 +264,46 @@ fronts [] (c ∷ g) x y a b e = inl (g, ap (λ t. t ∷ g) (sym (head_same a c x
 fronts (c ∷ f) [] x y a b e = inr (inl (f, ap (λ t. t ∷ f) (head_same c b (f ++ a ∷ x) y e)))
 fronts (c ∷ f) (d ∷ g) x y a b e =
     let h : c ≡ d = head_same c d (f ++ a ∷ x) (g ++ b ∷ y) e in
-    subst (λ t. Fronts (c ∷ f) a x (t ∷ g) b y) h (longer f g x y a b c (fronts f g x y a b (tail_same c d (f ++ a ∷ x) (g ++ b ∷ y) e)))
+    subst (λ t. Fronts (c ∷ f) a x (t ∷ g) b y) h
+    (longer f g x y a b c (fronts f g x y a b (tail_same c d (f ++ a ∷ x) (g ++ b ∷ y) e)))
 
-pub bad_is_stop : (text : List ℕ) (n : ℕ) (kind : Kind) → IsBadAt text n kind → run text begin ≡ bad kind (drop n text)
+pub bad_is_stop : (text : List ℕ) (n : ℕ) (kind : Kind) → IsBadAt text n kind
+    → run text begin ≡ bad kind (drop n text)
 bad_is_stop text n kind h = outcome (run text begin) refl
   where
     through_text : CanGoOn text → ⊥
-    through_text c = h.through (goes_on_front (h.front ++ h.byte ∷ []) h.rest (subst (λ t. CanGoOn t) (h.whole ∙ sym (append_assoc h.front (h.byte ∷ []) h.rest)) c))
+    through_text c = h.through
+        (goes_on_front (h.front ++ h.byte ∷ []) h.rest
+        (subst (λ t. CanGoOn t) (h.whole ∙ sym (append_assoc h.front (h.byte ∷ []) h.rest)) c))
 
     rest_is : drop n text ≡ h.byte ∷ h.rest
     rest_is = ap (drop n) h.whole ∙ drop_at h.front (h.byte ∷ h.rest) n h.place_is
 
-    same : (k : Kind) (rest : List ℕ) (s : StopsAt begin [] text rest k) → Fronts h.front h.byte h.rest s.front s.byte s.tail → bad k rest ≡ bad kind (drop n text)
-    same k rest s (inl p) = absurd (h.through (goes_on_front (h.front ++ h.byte ∷ []) p.0 (subst (λ t. CanGoOn t) p.1 (goes_on s.last s.front s.behind))))
-    same k rest s (inr (inl p)) = absurd (stops_through text rest k s (goes_on_front (s.front ++ s.byte ∷ []) p.0 (subst (λ t. CanGoOn t) p.1 h.before)))
+    same : (k : Kind) (rest : List ℕ) (s : StopsAt begin [] text rest k)
+        → Fronts h.front h.byte h.rest s.front s.byte s.tail → bad k rest ≡ bad kind (drop n text)
+    same k rest s (inl p) = absurd
+        (h.through
+        (goes_on_front (h.front ++ h.byte ∷ []) p.0
+        (subst (λ t. CanGoOn t) p.1 (goes_on s.last s.front s.behind))))
+    same k rest s (inr (inl p)) = absurd
+        (stops_through text rest k s
+        (goes_on_front (s.front ++ s.byte ∷ []) p.0 (subst (λ t. CanGoOn t) p.1 h.before)))
     same k rest s (inr (inr p)) =
-        let kinds : k ≡ kind = sym (stops_kind text rest k s) ∙ ap (λ b. kind_of b (reverse s.front)) (sym p.1) ∙ ap (λ f. kind_of h.byte (reverse f)) (sym p.0) ∙ h.kind_is in
-        let rests : rest ≡ drop n text = s.rest_is ∙ ap (λ b. b ∷ s.tail) (sym p.1) ∙ ap (λ t. h.byte ∷ t) (sym p.2) ∙ sym rest_is in
+        let kinds : k ≡ kind = sym (stops_kind text rest k s)
+        ∙ ap (λ b. kind_of b (reverse s.front)) (sym p.1)
+        ∙ ap (λ f. kind_of h.byte (reverse f)) (sym p.0) ∙ h.kind_is in
+        let rests : rest ≡ drop n text = s.rest_is ∙ ap (λ b. b ∷ s.tail) (sym p.1)
+        ∙ ap (λ t. h.byte ∷ t) (sym p.2) ∙ sym rest_is in
         ap (λ j. bad j rest) kinds ∙ ap (λ r. bad kind r) rests
 
     outcome : (o : Outcome) → run text begin ≡ o → o ≡ bad kind (drop n text)
-    outcome (done parts) e = absurd (through_text ([], parts, subst (λ t. IsReading t parts) (sym (append-nil text)) (run_sound text parts e)))
+    outcome (done parts) e = absurd
+        (through_text (
+          [],
+          parts,
+          subst (λ t. IsReading t parts) (sym (append-nil text))
+              (run_sound text parts e),
+        ))
     outcome early e = absurd (through_text (early_goes_on text e))
     outcome (bad k rest) e =
         let s : StopsAt begin [] text rest k = text_stops text rest k e in

@@ -1,61 +1,168 @@
 -- The machine over plain text.
-use Rattle.std.proofs.Common.{◌≡◌, ℕ, false, List, [], ◌∷◌, ◌++◌, refl, sym, ap, ◌∙◌, subst, append_assoc, ◌⊎◌, inl, inr}
+use Rattle.std.proofs.Common.{
+  ◌≡◌,
+  ℕ,
+  false,
+  List,
+  [],
+  ◌∷◌,
+  ◌++◌,
+  refl,
+  sym,
+  ap,
+  ◌∙◌,
+  subst,
+  append_assoc,
+  ◌⊎◌,
+  inl,
+  inr,
+}
 use Rattle.std.proofs.lemmas.List.{append-nil}
 use Rattle.msb_expression.specs.declared.starts.Inside.{Inside}
 use Rattle.msb_expression.specs.declared.starts.Inside.TheVariants.{Whole, Transform, Quoted}
 use Rattle.msb_expression.specs.declared.expression.Part.{Part}
 use Rattle.msb_expression.specs.declared.expression.Piece.{Piece}
 use Rattle.msb_expression.specs.declared.sorts.Sort.{Sort}
-use Rattle.msb_expression.specs.declared.sorts.Sort.TheVariants.{End, Letter, Digit, Dash, Space, Quote, Open, Close, Comma, Dot, Greater, Dollar, Percent, At, Other}
+use Rattle.msb_expression.specs.declared.sorts.Sort.TheVariants.{
+  End,
+  Letter,
+  Digit,
+  Dash,
+  Space,
+  Quote,
+  Open,
+  Close,
+  Comma,
+  Dot,
+  Greater,
+  Dollar,
+  Percent,
+  At,
+  Other,
+}
 use Rattle.msb_expression.specs.declared.sorts.Kind.TheVariants.{Nested}
 use Rattle.msb_expression.specs.Grammar.{IsPlain, begins_reference, is_end_quote}
-use Rattle.msb_expression.specs.Machine.{sort_of, Place, in_transform, in_separator, in_argument, Host, whole, inner, Mark, unmarked, dollar, percent, at_sign, property, metadata, in_text, name_opened, type_opened, Next, go, stop, text_step, open_step, items_step, percent_step, nested_step, quote_step, place_inside, host_inside, spelled, settled, flushed, flushed_parts, flushed_pieces, left, bad, finish, run}
+use Rattle.msb_expression.specs.Machine.{
+  sort_of,
+  Place,
+  in_transform,
+  in_separator,
+  in_argument,
+  Host,
+  whole,
+  inner,
+  Mark,
+  unmarked,
+  dollar,
+  percent,
+  at_sign,
+  property,
+  metadata,
+  in_text,
+  name_opened,
+  type_opened,
+  Next,
+  go,
+  stop,
+  text_step,
+  open_step,
+  items_step,
+  percent_step,
+  nested_step,
+  quote_step,
+  place_inside,
+  host_inside,
+  spelled,
+  settled,
+  flushed,
+  flushed_parts,
+  flushed_pieces,
+  left,
+  bad,
+  finish,
+  run,
+}
 use Rattle.msb_expression.proofs.Bytes.{SortIs, sort_is}
 use Rattle.msb_expression.proofs.Runs.{run-go, run-stop, run-nil}
 
 -- plain text is read up to a mark at its end
 abbrev pub PlainRuns : Host → List ℕ → Mark → List ℕ → List ℕ → Type 0
 PlainRuns host plain mark more rest =
-    (front : List ℕ) × (last : Mark) × (settled front last ≡ settled plain mark ++ more) × (run (more ++ rest) (in_text host plain mark) ≡ run rest (in_text host front last))
+    (front : List ℕ) × (last : Mark) × (settled front last ≡ settled plain mark ++ more)
+    × (run (more ++ rest) (in_text host plain mark) ≡ run rest (in_text host front last))
 
-plain_tail : (inside : Inside) (mark : Mark) (more : List ℕ) → IsPlain inside (spelled mark ++ more) → IsPlain inside more
+plain_tail : (inside : Inside) (mark : Mark) (more : List ℕ) → IsPlain inside (spelled mark ++ more)
+    → IsPlain inside more
 plain_tail inside unmarked more h = h
 plain_tail inside dollar more h = h.2
 plain_tail inside percent more h = h.2
 plain_tail inside at_sign more h = h.2
 
 abbrev Goes : Host → List ℕ → Mark → Next → ℕ → Type 0
-Goes host plain mark next b = (front : List ℕ) × (last : Mark) × (settled front last ≡ settled plain mark ++ b ∷ []) × (next ≡ go (in_text host front last)) × ((spelled last ≡ []) ⊎ (spelled last ≡ b ∷ []))
+Goes host plain mark next b = (front : List ℕ) × (last : Mark)
+    × (settled front last ≡ settled plain mark ++ b ∷ []) × (next ≡ go (in_text host front last))
+    × ((spelled last ≡ []) ⊎ (spelled last ≡ b ∷ []))
 
 -- plain bytes that are no marks
-appended : (host : Host) (plain : List ℕ) (mark : Mark) (b : ℕ) → Goes host plain mark (go (in_text host (settled plain mark ++ b ∷ []) unmarked)) b
-appended host plain mark b = (settled plain mark ++ b ∷ [], unmarked, append-nil (settled plain mark ++ b ∷ []), refl, inl refl)
+appended : (host : Host) (plain : List ℕ) (mark : Mark) (b : ℕ)
+    → Goes host plain mark (go (in_text host (settled plain mark ++ b ∷ []) unmarked)) b
+appended host plain mark b = (
+  settled plain mark ++ b ∷ [],
+  unmarked,
+  append-nil (settled plain mark ++ b ∷ []),
+  refl,
+  inl
+      refl,
+)
 
-joined : (host : Host) (plain : List ℕ) (mark : Mark) (c : ℕ) → spelled mark ≡ c ∷ [] → Goes host plain mark (go (in_text host (plain ++ c ∷ 40 ∷ []) unmarked)) 40
-joined host plain mark c e =
-    (plain ++ c ∷ 40 ∷ [], unmarked, append-nil (plain ++ c ∷ 40 ∷ []) ∙ sym (ap (λ t. (plain ++ t) ++ 40 ∷ []) e ∙ append_assoc plain (c ∷ []) (40 ∷ [])), refl, inl refl)
+joined : (host : Host) (plain : List ℕ) (mark : Mark) (c : ℕ) → spelled mark ≡ c ∷ []
+    → Goes host plain mark (go (in_text host (plain ++ c ∷ 40 ∷ []) unmarked)) 40
+joined host plain mark c e = (
+  plain ++ c ∷ 40 ∷ [],
+  unmarked,
+  append-nil (plain ++ c ∷ 40 ∷ [])
+      ∙ sym (ap (λ t. (plain ++ t) ++ 40 ∷ []) e ∙ append_assoc plain (c ∷ []) (40 ∷ [])),
+  refl,
+  inl refl,
+)
 
 begun : (inside : Inside) (more : List ℕ) → begins_reference inside (36 ∷ 40 ∷ more) ≡ false → ⊥
 begun Whole more e = cc
 begun Transform more e = cc
 begun Quoted more e = cc
 
-percent_goes : (host : Host) (inside : Inside) (plain more : List ℕ) → begins_reference inside (37 ∷ 40 ∷ more) ≡ false → Goes host plain percent (percent_step host inside plain) 40
+percent_goes : (host : Host) (inside : Inside) (plain more : List ℕ)
+    → begins_reference inside (37 ∷ 40 ∷ more) ≡ false
+    → Goes host plain percent (percent_step host inside plain) 40
 percent_goes host Whole plain more e = cc
 percent_goes host Transform plain more e = cc
 percent_goes host Quoted plain more e = joined host plain percent 37 refl
 
-nested_goes : (host : Host) (inside : Inside) (plain more : List ℕ) → begins_reference inside (64 ∷ 40 ∷ more) ≡ false → Goes host plain at_sign (nested_step host inside plain) 40
+nested_goes : (host : Host) (inside : Inside) (plain more : List ℕ)
+    → begins_reference inside (64 ∷ 40 ∷ more) ≡ false
+    → Goes host plain at_sign (nested_step host inside plain) 40
 nested_goes host Whole plain more e = cc
 nested_goes host Transform plain more e = cc
 nested_goes host Quoted plain more e = joined host plain at_sign 64 refl
 
-items_goes : (host : Host) (plain more : List ℕ) → begins_reference (host_inside host) (64 ∷ 40 ∷ more) ≡ false → Goes host plain at_sign (items_step host plain) 40
+items_goes : (host : Host) (plain more : List ℕ)
+    → begins_reference (host_inside host) (64 ∷ 40 ∷ more) ≡ false
+    → Goes host plain at_sign (items_step host plain) 40
 items_goes (whole parts) plain more e = cc
-items_goes (inner place pieces) plain more e = nested_goes (inner place pieces) (place_inside place) plain more e
+items_goes (inner place pieces) plain more e = nested_goes (inner place pieces) (place_inside place)
+    plain more e
 
-open_goes : (host : Host) (plain : List ℕ) (mark : Mark) (more : List ℕ) → IsPlain (host_inside host) (spelled mark ++ 40 ∷ more) → Goes host plain mark (open_step host plain mark) 40
-open_goes host plain unmarked more h = (plain ++ 40 ∷ [], unmarked, append-nil (plain ++ 40 ∷ []) ∙ ap (λ t. t ++ 40 ∷ []) (sym (append-nil plain)), refl, inl refl)
+open_goes : (host : Host) (plain : List ℕ) (mark : Mark) (more : List ℕ)
+    → IsPlain (host_inside host) (spelled mark ++ 40 ∷ more)
+    → Goes host plain mark (open_step host plain mark) 40
+open_goes host plain unmarked more h = (
+  plain ++ 40 ∷ [],
+  unmarked,
+  append-nil (plain ++ 40 ∷ [])
+      ∙ ap (λ t. t ++ 40 ∷ []) (sym (append-nil plain)),
+  refl,
+  inl refl,
+)
 open_goes host plain dollar more h = absurd (begun (host_inside host) more h.0)
 open_goes host plain percent more h = percent_goes host (host_inside host) plain more h.0
 open_goes host plain at_sign more h = items_goes host plain more h.0
@@ -65,20 +172,48 @@ quoted_ends (in_transform heads) e = cc
 quoted_ends (in_separator heads) e = cc
 quoted_ends (in_argument heads function args) e = cc
 
-quote_goes : (host : Host) (plain : List ℕ) (mark : Mark) → is_end_quote (host_inside host) 39 ≡ false → Goes host plain mark (quote_step host (settled plain mark)) 39
+quote_goes : (host : Host) (plain : List ℕ) (mark : Mark)
+    → is_end_quote (host_inside host) 39 ≡ false
+    → Goes host plain mark (quote_step host (settled plain mark)) 39
 quote_goes (whole parts) plain mark e = appended (whole parts) plain mark 39
 quote_goes (inner place pieces) plain mark e = absurd (quoted_ends place e)
 
-plain_goes : (host : Host) (plain : List ℕ) (mark : Mark) (b : ℕ) (more : List ℕ) (sort : Sort) → SortIs sort b → IsPlain (host_inside host) (spelled mark ++ b ∷ more) → Goes host plain mark (text_step host plain mark sort b) b
-plain_goes host plain mark b more Dollar f h = (settled plain mark, dollar, ap (λ c. settled plain mark ++ c ∷ []) (sym f), refl, inr (ap (λ c. c ∷ []) (sym f)))
-plain_goes host plain mark b more Percent f h = (settled plain mark, percent, ap (λ c. settled plain mark ++ c ∷ []) (sym f), refl, inr (ap (λ c. c ∷ []) (sym f)))
-plain_goes host plain mark b more At f h = (settled plain mark, at_sign, ap (λ c. settled plain mark ++ c ∷ []) (sym f), refl, inr (ap (λ c. c ∷ []) (sym f)))
+plain_goes : (host : Host) (plain : List ℕ) (mark : Mark) (b : ℕ) (more : List ℕ) (sort : Sort)
+    → SortIs sort b → IsPlain (host_inside host) (spelled mark ++ b ∷ more)
+    → Goes host plain mark (text_step host plain mark sort b) b
+plain_goes host plain mark b more Dollar f h = (
+  settled plain mark,
+  dollar,
+  ap (λ c. settled plain mark ++ c ∷ []) (sym f),
+  refl,
+  inr
+      (ap (λ c. c ∷ []) (sym f)),
+)
+plain_goes host plain mark b more Percent f h = (
+  settled plain mark,
+  percent,
+  ap (λ c. settled plain mark ++ c ∷ []) (sym f),
+  refl,
+  inr
+      (ap (λ c. c ∷ []) (sym f)),
+)
+plain_goes host plain mark b more At f h = (
+  settled plain mark,
+  at_sign,
+  ap (λ c. settled plain mark ++ c ∷ []) (sym f),
+  refl,
+  inr
+      (ap (λ c. c ∷ []) (sym f)),
+)
 plain_goes host plain mark b more Open f h =
     subst (λ c. Goes host plain mark (open_step host plain mark) c) (sym f)
-    (open_goes host plain mark more (subst (λ c. IsPlain (host_inside host) (spelled mark ++ c ∷ more)) f h))
+    (open_goes host plain mark more
+    (subst (λ c. IsPlain (host_inside host) (spelled mark ++ c ∷ more)) f h))
 plain_goes host plain mark b more Quote f h =
     subst (λ c. Goes host plain mark (quote_step host (settled plain mark)) c) (sym f)
-    (quote_goes host plain mark (subst (λ c. is_end_quote (host_inside host) c ≡ false) f (plain_tail (host_inside host) mark (b ∷ more) h).1))
+    (quote_goes host plain mark
+    (subst (λ c. is_end_quote (host_inside host) c ≡ false) f
+    (plain_tail (host_inside host) mark (b ∷ more) h).1))
 plain_goes host plain mark b more End f h = absurd f
 plain_goes host plain mark b more Letter f h = appended host plain mark b
 plain_goes host plain mark b more Digit f h = appended host plain mark b
@@ -90,81 +225,130 @@ plain_goes host plain mark b more Dot f h = appended host plain mark b
 plain_goes host plain mark b more Greater f h = appended host plain mark b
 plain_goes host plain mark b more Other f h = appended host plain mark b
 
-mark_is : (last : Mark) (b : ℕ) (inside : Inside) (more : List ℕ) → IsPlain inside (b ∷ more) → ((spelled last ≡ []) ⊎ (spelled last ≡ b ∷ [])) → IsPlain inside (spelled last ++ more)
+mark_is : (last : Mark) (b : ℕ) (inside : Inside) (more : List ℕ) → IsPlain inside (b ∷ more)
+    → ((spelled last ≡ []) ⊎ (spelled last ≡ b ∷ [])) → IsPlain inside (spelled last ++ more)
 mark_is last b inside more h (inl e) = subst (λ t. IsPlain inside (t ++ more)) (sym e) h.2
 mark_is last b inside more h (inr e) = subst (λ t. IsPlain inside (t ++ more)) (sym e) h
 
-pub plain_runs : (host : Host) (plain : List ℕ) (mark : Mark) (more rest : List ℕ) → IsPlain (host_inside host) (spelled mark ++ more) → PlainRuns host plain mark more rest
+pub plain_runs : (host : Host) (plain : List ℕ) (mark : Mark) (more rest : List ℕ)
+    → IsPlain (host_inside host) (spelled mark ++ more) → PlainRuns host plain mark more rest
 plain_runs host plain mark [] rest h = (plain, mark, sym (append-nil (settled plain mark)), refl)
 plain_runs host plain mark (b ∷ bs) rest h =
-    let g : Goes host plain mark (text_step host plain mark (sort_of b) b) b = plain_goes host plain mark b bs (sort_of b) (sort_is b) h in
-    let r : PlainRuns host g.0 g.1 bs rest = plain_runs host g.0 g.1 bs rest (mark_is g.1 b (host_inside host) bs (plain_tail (host_inside host) mark (b ∷ bs) h) g.4) in
-    (r.0, r.1, r.2 ∙ ap (λ t. t ++ bs) g.2 ∙ append_assoc (settled plain mark) (b ∷ []) bs, run-go b (bs ++ rest) (in_text host plain mark) (in_text host g.0 g.1) g.3 ∙ r.3)
+    let g : Goes host plain mark (text_step host plain mark (sort_of b) b) b = plain_goes host plain
+    mark b bs (sort_of b) (sort_is b) h in
+    let r : PlainRuns host g.0 g.1 bs rest = plain_runs host g.0 g.1 bs rest
+    (mark_is g.1 b (host_inside host) bs (plain_tail (host_inside host) mark (b ∷ bs) h) g.4) in (
+      r.0,
+      r.1,
+      r.2 ∙ ap (λ t. t ++ bs) g.2 ∙ append_assoc (settled plain mark) (b ∷ []) bs,
+      run-go b
+          (bs ++ rest) (in_text host plain mark) (in_text host g.0 g.1) g.3 ∙ r.3,
+    )
 
 -- behind plain text a reference begins, or the text ends
-pub reach_property : (host : Host) (plain : List ℕ) (mark : Mark) (rest : List ℕ) → run (36 ∷ 40 ∷ rest) (in_text host plain mark) ≡ run rest (name_opened (flushed host (settled plain mark)) property)
+pub reach_property : (host : Host) (plain : List ℕ) (mark : Mark) (rest : List ℕ)
+    → run (36 ∷ 40 ∷ rest) (in_text host plain mark)
+    ≡ run rest (name_opened (flushed host (settled plain mark)) property)
 reach_property host plain mark rest =
     run-go 36 (40 ∷ rest) (in_text host plain mark) (in_text host (settled plain mark) dollar) refl
-    ∙ run-go 40 rest (in_text host (settled plain mark) dollar) (name_opened (flushed host (settled plain mark)) property) refl
+    ∙ run-go 40 rest (in_text host (settled plain mark) dollar)
+    (name_opened (flushed host (settled plain mark)) property) refl
 
-percent_opens : (host : Host) (inside : Inside) (plain : List ℕ) → (inside ≡ Quoted → ⊥) → percent_step host inside plain ≡ go (name_opened (flushed host plain) metadata)
+percent_opens : (host : Host) (inside : Inside) (plain : List ℕ) → (inside ≡ Quoted → ⊥)
+    → percent_step host inside plain ≡ go (name_opened (flushed host plain) metadata)
 percent_opens host Whole plain q = refl
 percent_opens host Transform plain q = refl
 percent_opens host Quoted plain q = absurd (q refl)
 
-pub reach_metadata : (host : Host) (plain : List ℕ) (mark : Mark) (rest : List ℕ) → (host_inside host ≡ Quoted → ⊥) → run (37 ∷ 40 ∷ rest) (in_text host plain mark) ≡ run rest (name_opened (flushed host (settled plain mark)) metadata)
+pub reach_metadata : (host : Host) (plain : List ℕ) (mark : Mark) (rest : List ℕ)
+    → (host_inside host ≡ Quoted → ⊥) → run (37 ∷ 40 ∷ rest) (in_text host plain mark)
+    ≡ run rest (name_opened (flushed host (settled plain mark)) metadata)
 reach_metadata host plain mark rest q =
     run-go 37 (40 ∷ rest) (in_text host plain mark) (in_text host (settled plain mark) percent) refl
-    ∙ run-go 40 rest (in_text host (settled plain mark) percent) (name_opened (flushed host (settled plain mark)) metadata) (percent_opens host (host_inside host) (settled plain mark) q)
+    ∙ run-go 40 rest (in_text host (settled plain mark) percent)
+    (name_opened (flushed host (settled plain mark)) metadata)
+    (percent_opens host (host_inside host) (settled plain mark) q)
 
-pub reach_items : (parts : List Part) (plain : List ℕ) (mark : Mark) (rest : List ℕ) → run (64 ∷ 40 ∷ rest) (in_text (whole parts) plain mark) ≡ run rest (type_opened (flushed_parts parts (settled plain mark)))
+pub reach_items : (parts : List Part) (plain : List ℕ) (mark : Mark) (rest : List ℕ)
+    → run (64 ∷ 40 ∷ rest) (in_text (whole parts) plain mark)
+    ≡ run rest (type_opened (flushed_parts parts (settled plain mark)))
 reach_items parts plain mark rest =
-    run-go 64 (40 ∷ rest) (in_text (whole parts) plain mark) (in_text (whole parts) (settled plain mark) at_sign) refl
-    ∙ run-go 40 rest (in_text (whole parts) (settled plain mark) at_sign) (type_opened (flushed_parts parts (settled plain mark))) refl
+    run-go 64 (40 ∷ rest) (in_text (whole parts) plain mark)
+    (in_text (whole parts) (settled plain mark) at_sign) refl
+    ∙ run-go 40 rest (in_text (whole parts) (settled plain mark) at_sign)
+    (type_opened (flushed_parts parts (settled plain mark))) refl
 
-nested_stops : (host : Host) (inside : Inside) (plain : List ℕ) → (inside ≡ Quoted → ⊥) → nested_step host inside plain ≡ stop Nested
+nested_stops : (host : Host) (inside : Inside) (plain : List ℕ) → (inside ≡ Quoted → ⊥)
+    → nested_step host inside plain ≡ stop Nested
 nested_stops host Whole plain q = refl
 nested_stops host Transform plain q = refl
 nested_stops host Quoted plain q = absurd (q refl)
 
-pub reach_nested : (place : Place) (pieces : List Piece) (plain : List ℕ) (mark : Mark) (rest : List ℕ) → (place_inside place ≡ Quoted → ⊥) → run (64 ∷ 40 ∷ rest) (in_text (inner place pieces) plain mark) ≡ bad Nested (40 ∷ rest)
+pub reach_nested : (place : Place) (pieces : List Piece) (plain : List ℕ) (mark : Mark)
+    (rest : List ℕ) → (place_inside place ≡ Quoted → ⊥)
+    → run (64 ∷ 40 ∷ rest) (in_text (inner place pieces) plain mark) ≡ bad Nested (40 ∷ rest)
 reach_nested place pieces plain mark rest q =
-    run-go 64 (40 ∷ rest) (in_text (inner place pieces) plain mark) (in_text (inner place pieces) (settled plain mark) at_sign) refl
-    ∙ run-stop 40 rest (in_text (inner place pieces) (settled plain mark) at_sign) Nested (nested_stops (inner place pieces) (place_inside place) (settled plain mark) q)
+    run-go 64 (40 ∷ rest) (in_text (inner place pieces) plain mark)
+    (in_text (inner place pieces) (settled plain mark) at_sign) refl
+    ∙ run-stop 40 rest (in_text (inner place pieces) (settled plain mark) at_sign) Nested
+    (nested_stops (inner place pieces) (place_inside place) (settled plain mark) q)
 
-pub reach_quote : (place : Place) (pieces : List Piece) (plain : List ℕ) (mark : Mark) (rest : List ℕ) → run (39 ∷ rest) (in_text (inner place pieces) plain mark) ≡ run rest (left place (flushed_pieces pieces (settled plain mark)))
-reach_quote place pieces plain mark rest = run-go 39 rest (in_text (inner place pieces) plain mark) (left place (flushed_pieces pieces (settled plain mark))) refl
+pub reach_quote : (place : Place) (pieces : List Piece) (plain : List ℕ) (mark : Mark)
+    (rest : List ℕ) → run (39 ∷ rest) (in_text (inner place pieces) plain mark)
+    ≡ run rest (left place (flushed_pieces pieces (settled plain mark)))
+reach_quote place pieces plain mark rest = run-go 39 rest (in_text (inner place pieces) plain mark)
+    (left place (flushed_pieces pieces (settled plain mark))) refl
 
 pub flushed-nil : (host : Host) → flushed host [] ≡ host
 flushed-nil (whole parts) = refl
 flushed-nil (inner place pieces) = refl
 
-pub host-inside-flushed : (host : Host) (plain : List ℕ) → host_inside (flushed host plain) ≡ host_inside host
+pub host-inside-flushed : (host : Host) (plain : List ℕ)
+    → host_inside (flushed host plain) ≡ host_inside host
 host-inside-flushed (whole parts) plain = refl
 host-inside-flushed (inner place pieces) plain = refl
 
 -- so plain text may as well be taken for a part there
-pub over_property : (host : Host) (plain : List ℕ) (mark : Mark) (rest : List ℕ) → run (36 ∷ 40 ∷ rest) (in_text host plain mark) ≡ run (36 ∷ 40 ∷ rest) (in_text (flushed host (settled plain mark)) [] unmarked)
+pub over_property : (host : Host) (plain : List ℕ) (mark : Mark) (rest : List ℕ)
+    → run (36 ∷ 40 ∷ rest) (in_text host plain mark)
+    ≡ run (36 ∷ 40 ∷ rest) (in_text (flushed host (settled plain mark)) [] unmarked)
 over_property host plain mark rest =
-    reach_property host plain mark rest ∙ ap (λ h. run rest (name_opened h property)) (sym (flushed-nil (flushed host (settled plain mark))))
+    reach_property host plain mark rest ∙ ap (λ h. run rest (name_opened h property))
+    (sym (flushed-nil (flushed host (settled plain mark))))
     ∙ sym (reach_property (flushed host (settled plain mark)) [] unmarked rest)
 
-pub over_metadata : (host : Host) (plain : List ℕ) (mark : Mark) (rest : List ℕ) → (host_inside host ≡ Quoted → ⊥) → run (37 ∷ 40 ∷ rest) (in_text host plain mark) ≡ run (37 ∷ 40 ∷ rest) (in_text (flushed host (settled plain mark)) [] unmarked)
+pub over_metadata : (host : Host) (plain : List ℕ) (mark : Mark) (rest : List ℕ)
+    → (host_inside host ≡ Quoted → ⊥) → run (37 ∷ 40 ∷ rest) (in_text host plain mark)
+    ≡ run (37 ∷ 40 ∷ rest) (in_text (flushed host (settled plain mark)) [] unmarked)
 over_metadata host plain mark rest q =
-    reach_metadata host plain mark rest q ∙ ap (λ h. run rest (name_opened h metadata)) (sym (flushed-nil (flushed host (settled plain mark))))
-    ∙ sym (reach_metadata (flushed host (settled plain mark)) [] unmarked rest (λ e. q (sym (host-inside-flushed host (settled plain mark)) ∙ e)))
+    reach_metadata host plain mark rest q ∙ ap (λ h. run rest (name_opened h metadata))
+    (sym (flushed-nil (flushed host (settled plain mark))))
+    ∙ sym
+    (reach_metadata (flushed host (settled plain mark)) [] unmarked rest
+    (λ e. q (sym (host-inside-flushed host (settled plain mark)) ∙ e)))
 
-pub over_items : (host : Host) (plain : List ℕ) (mark : Mark) (rest : List ℕ) → (host_inside host ≡ Quoted → ⊥) → run (64 ∷ 40 ∷ rest) (in_text host plain mark) ≡ run (64 ∷ 40 ∷ rest) (in_text (flushed host (settled plain mark)) [] unmarked)
-over_items (whole parts) plain mark rest q = reach_items parts plain mark rest ∙ sym (reach_items (flushed_parts parts (settled plain mark)) [] unmarked rest)
-over_items (inner place pieces) plain mark rest q = reach_nested place pieces plain mark rest q ∙ sym (reach_nested place (flushed_pieces pieces (settled plain mark)) [] unmarked rest q)
+pub over_items : (host : Host) (plain : List ℕ) (mark : Mark) (rest : List ℕ)
+    → (host_inside host ≡ Quoted → ⊥) → run (64 ∷ 40 ∷ rest) (in_text host plain mark)
+    ≡ run (64 ∷ 40 ∷ rest) (in_text (flushed host (settled plain mark)) [] unmarked)
+over_items (whole parts) plain mark rest q = reach_items parts plain mark rest
+    ∙ sym (reach_items (flushed_parts parts (settled plain mark)) [] unmarked rest)
+over_items (inner place pieces) plain mark rest q = reach_nested place pieces plain mark rest q
+    ∙ sym (reach_nested place (flushed_pieces pieces (settled plain mark)) [] unmarked rest q)
 
-pub over_quote : (host : Host) (plain : List ℕ) (mark : Mark) (rest : List ℕ) → (host_inside host ≡ Whole → ⊥) → run (39 ∷ rest) (in_text host plain mark) ≡ run (39 ∷ rest) (in_text (flushed host (settled plain mark)) [] unmarked)
+pub over_quote : (host : Host) (plain : List ℕ) (mark : Mark) (rest : List ℕ)
+    → (host_inside host ≡ Whole → ⊥) → run (39 ∷ rest) (in_text host plain mark)
+    ≡ run (39 ∷ rest) (in_text (flushed host (settled plain mark)) [] unmarked)
 over_quote (whole parts) plain mark rest q = absurd (q refl)
-over_quote (inner place pieces) plain mark rest q = reach_quote place pieces plain mark rest ∙ sym (reach_quote place (flushed_pieces pieces (settled plain mark)) [] unmarked rest)
+over_quote (inner place pieces) plain mark rest q = reach_quote place pieces plain mark rest
+    ∙ sym (reach_quote place (flushed_pieces pieces (settled plain mark)) [] unmarked rest)
 
-pub over_end : (host : Host) (plain : List ℕ) (mark : Mark) → run [] (in_text host plain mark) ≡ run [] (in_text (flushed host (settled plain mark)) [] unmarked)
-over_end host plain mark = run-nil (in_text host plain mark) ∙ same host ∙ sym (run-nil (in_text (flushed host (settled plain mark)) [] unmarked))
+pub over_end : (host : Host) (plain : List ℕ) (mark : Mark)
+    → run [] (in_text host plain mark) ≡ run []
+    (in_text (flushed host (settled plain mark)) [] unmarked)
+over_end host plain mark = run-nil (in_text host plain mark) ∙ same host
+    ∙ sym (run-nil (in_text (flushed host (settled plain mark)) [] unmarked))
   where
-    same : (host : Host) → finish (in_text host plain mark) ≡ finish (in_text (flushed host (settled plain mark)) [] unmarked)
+    same : (host : Host) → finish (in_text host plain mark)
+        ≡ finish (in_text (flushed host (settled plain mark)) [] unmarked)
     same (whole parts) = refl
     same (inner place pieces) = refl

@@ -7,8 +7,45 @@ use Rattle.msb_expression.specs.declared.sorts.Sort.{Sort}
 use Rattle.msb_expression.specs.declared.sorts.Kind.{Kind}
 use Rattle.msb_expression.specs.declared.sorts.Kind.TheVariants.{Name, Transform as BadStep, Nested}
 use Rattle.msb_expression.specs.Grammar.{is_letter, is_name_byte}
-use Rattle.msb_expression.specs.Refusals.{is_first, is_inside, is_opened, is_named, is_spaced, kind_of}
-use Rattle.msb_expression.specs.Machine.{is_name_sort, is_metadata, sort_of, Host, Mark, unmarked, dollar, percent, at_sign, Mode, in_text, name_opened, in_name, name_ended, type_opened, in_type, type_dashed, stepping, dashed, arrow, function_named, function_ended, args_opened, arg_ended, arg_wanted, separator_wanted, separator_ended, host_inside, stepping_kind}
+use Rattle.msb_expression.specs.Refusals.{
+  is_first,
+  is_inside,
+  is_opened,
+  is_named,
+  is_spaced,
+  kind_of,
+}
+use Rattle.msb_expression.specs.Machine.{
+  is_name_sort,
+  is_metadata,
+  sort_of,
+  Host,
+  Mark,
+  unmarked,
+  dollar,
+  percent,
+  at_sign,
+  Mode,
+  in_text,
+  name_opened,
+  in_name,
+  name_ended,
+  type_opened,
+  in_type,
+  type_dashed,
+  stepping,
+  dashed,
+  arrow,
+  function_named,
+  function_ended,
+  args_opened,
+  arg_ended,
+  arg_wanted,
+  separator_wanted,
+  separator_ended,
+  host_inside,
+  stepping_kind,
+}
 use Rattle.msb_expression.proofs.Bytes.{other_byte}
 
 -- whether the bytes end as a mark with its `(` and spaces, with a name, and with spaces behind that
@@ -41,25 +78,34 @@ inner_opened mark b back i = rw (i.no_open, i.no_space) refl
 inner_spaced : (mark b : ℕ) (back : List ℕ) → IsInner b → is_spaced mark (b ∷ back) ≡ false
 inner_spaced mark b back i = rw i.no_space refl
 
-pub Ends-letter : (mark : ℕ) (o n s : Bool) (b : ℕ) (back : List ℕ) → IsInner b → is_letter b ≡ true → Ends mark o n s back → Ends mark false (o || n) false (b ∷ back)
+pub Ends-letter : (mark : ℕ) (o n s : Bool) (b : ℕ) (back : List ℕ) → IsInner b → is_letter b ≡ true
+    → Ends mark o n s back → Ends mark false (o || n) false (b ∷ back)
 Ends-letter mark o n s b back i e h = record {
   is_opened_so = inner_opened mark b back i;
   is_named_so = rw (e, h.is_opened_so, h.is_named_so) refl;
   is_spaced_so = inner_spaced mark b back i;
 }
 
-pub Ends-name : (mark : ℕ) (n s : Bool) (b : ℕ) (back : List ℕ) → IsInner b → is_name_byte b ≡ true → Ends mark false n s back → Ends mark false n false (b ∷ back)
+pub Ends-name : (mark : ℕ) (n s : Bool) (b : ℕ) (back : List ℕ) → IsInner b → is_name_byte b ≡ true
+    → Ends mark false n s back → Ends mark false n false (b ∷ back)
 Ends-name mark n s b back i e h = record {
   is_opened_so = inner_opened mark b back i;
   is_named_so = rw (h.is_opened_so, h.is_named_so, e, and_false (is_letter b)) refl;
   is_spaced_so = inner_spaced mark b back i;
 }
 
-pub Ends-space : (mark : ℕ) (o n s : Bool) (back : List ℕ) → Ends mark o n s back → Ends mark o false (n || s) (32 ∷ back)
-Ends-space mark o n s back h = record { is_opened_so = h.is_opened_so; is_named_so = refl; is_spaced_so = rw (h.is_named_so, h.is_spaced_so) refl }
+pub Ends-space : (mark : ℕ) (o n s : Bool) (back : List ℕ) → Ends mark o n s back
+    → Ends mark o false (n || s) (32 ∷ back)
+Ends-space mark o n s back h = record {
+  is_opened_so = h.is_opened_so;
+  is_named_so = refl;
+  is_spaced_so = rw
+      (h.is_named_so, h.is_spaced_so) refl;
+}
 
 pub Ends-open : (mark : ℕ) (back : List ℕ) → Ends mark (is_first mark back) false false (40 ∷ back)
-Ends-open mark back = record { is_opened_so = or_false (is_first mark back); is_named_so = refl; is_spaced_so = refl }
+Ends-open mark back = record
+    { is_opened_so = or_false (is_first mark back); is_named_so = refl; is_spaced_so = refl }
 
 -- a byte of a name
 pub inner_name : (b : ℕ) (sort : Sort) → sort_of b ≡ sort → is_name_sort sort ≡ true → IsInner b
@@ -80,14 +126,17 @@ inner_name b sort e n = record {
 pub inside_same : (b : ℕ) (back : List ℕ) → IsInner b → is_inside (b ∷ back) ≡ is_inside back
 inside_same b back i = rw (i.no_open, i.no_close, i.no_quote) refl
 
-pub outside_still : (b : ℕ) (back : List ℕ) → eqb b 40 ≡ false → is_inside back ≡ false → is_inside (b ∷ back) ≡ false
+pub outside_still : (b : ℕ) (back : List ℕ) → eqb b 40 ≡ false → is_inside back ≡ false
+    → is_inside (b ∷ back) ≡ false
 outside_still b back e h = rw (e, h) (and_false _)
 
-pub outside_open : (back : List ℕ) → is_first 36 back ≡ false → is_first 37 back ≡ false → is_inside back ≡ false → is_inside (40 ∷ back) ≡ false
+pub outside_open : (back : List ℕ) → is_first 36 back ≡ false → is_first 37 back ≡ false
+    → is_inside back ≡ false → is_inside (40 ∷ back) ≡ false
 outside_open back d p h = rw (d, p, h) refl
 
 abbrev pub MarkIs : Mark → List ℕ → Type 0
-MarkIs unmarked back = (is_first 36 back ≡ false) × (is_first 37 back ≡ false) × (is_first 64 back ≡ false)
+MarkIs unmarked back = (is_first 36 back ≡ false) × (is_first 37 back ≡ false)
+    × (is_first 64 back ≡ false)
 MarkIs dollar back = (more : List ℕ) × (back ≡ 36 ∷ more)
 MarkIs percent back = (more : List ℕ) × (back ≡ 37 ∷ more)
 MarkIs at_sign back = (more : List ℕ) × (back ≡ 64 ∷ more)
@@ -139,24 +188,48 @@ Trail (separator_wanted heads) back = ItemsTrail false false false back
 Trail (separator_ended heads pieces) back = ItemsTrail false false false back
 
 -- the kinds
-pub kind_inside : (b : ℕ) (back : List ℕ) → is_first 64 back ≡ false → (eqb b 46 && (is_named 37 back || is_spaced 37 back)) ≡ false → is_inside back ≡ true → kind_of b back ≡ Name
+pub kind_inside : (b : ℕ) (back : List ℕ) → is_first 64 back ≡ false
+    → (eqb b 46 && (is_named 37 back || is_spaced 37 back)) ≡ false → is_inside back ≡ true
+    → kind_of b back ≡ Name
 kind_inside b back a d i = rw (a, and_false (eqb b 40), d, i) refl
 
-pub kind_dot : (back : List ℕ) → (is_named 37 back || is_spaced 37 back) ≡ true → kind_of 46 back ≡ BadStep
+pub kind_dot : (back : List ℕ) → (is_named 37 back || is_spaced 37 back) ≡ true
+    → kind_of 46 back ≡ BadStep
 kind_dot back d = rw d refl
 
 pub kind_nested : (back more : List ℕ) → back ≡ 64 ∷ more → kind_of 40 back ≡ Nested
 kind_nested back more e = ap (kind_of 40) e
 
-pub kind_type : (b : ℕ) (back : List ℕ) (o n s : Bool) → TypeTrail o n s back → (o || (n || s)) ≡ true → kind_of b back ≡ Name
+pub kind_type : (b : ℕ) (back : List ℕ) (o n s : Bool) → TypeTrail o n s back
+    → (o || (n || s)) ≡ true → kind_of b back ≡ Name
 kind_type b back o n s h t =
     let items = h.items in
-    rw (items.no_at, and_false (eqb b 40), h.none.is_named_so, h.none.is_spaced_so, and_false (eqb b 46), items.outside, items.ends.is_opened_so, items.ends.is_named_so, items.ends.is_spaced_so, t) refl
+    rw (
+      items.no_at,
+      and_false (eqb b 40),
+      h.none.is_named_so,
+      h.none.is_spaced_so,
+      and_false
+          (eqb b 46),
+      items.outside,
+      items.ends.is_opened_so,
+      items.ends.is_named_so,
+      items.ends.is_spaced_so,
+      t,
+    ) refl
 
 either : (t : Bool) → cond t BadStep BadStep ≡ BadStep
 either true = refl
 either false = refl
 
-pub kind_step : (b : ℕ) (back : List ℕ) → ItemsTrail false false false back → kind_of b back ≡ BadStep
+pub kind_step : (b : ℕ) (back : List ℕ) → ItemsTrail false false false back
+    → kind_of b back ≡ BadStep
 kind_step b back h =
-    rw (h.no_at, and_false (eqb b 40), h.outside, h.ends.is_opened_so, h.ends.is_named_so, h.ends.is_spaced_so) (either _)
+    rw (
+      h.no_at,
+      and_false (eqb b 40),
+      h.outside,
+      h.ends.is_opened_so,
+      h.ends.is_named_so,
+      h.ends.is_spaced_so,
+    ) (either _)

@@ -1,24 +1,64 @@
 -- How an answer of the code is a step of the machine over the text.
-use Rattle.std.specs.Prelude.{◌≡◌, ℕ, ◌<◌, ◌≤◌, false, List, [], ◌∷◌, ◌++◌, Result, Ok, Err, length, drop, ◌⊎◌}
+use Rattle.std.specs.Prelude.{
+  ◌≡◌,
+  ℕ,
+  ◌<◌,
+  ◌≤◌,
+  false,
+  List,
+  [],
+  ◌∷◌,
+  ◌++◌,
+  Result,
+  Ok,
+  Err,
+  length,
+  drop,
+  ◌⊎◌,
+}
 use Rattle.msb_expression.specs.declared.faults.ExprFault.{ExprFault}
-use Rattle.msb_expression.specs.declared.faults.ExprFault.TheVariants.{Unclosed, BadName, BadTransform, NestedTransform, Memory}
+use Rattle.msb_expression.specs.declared.faults.ExprFault.TheVariants.{
+  Unclosed,
+  BadName,
+  BadTransform,
+  NestedTransform,
+  Memory,
+}
 use Rattle.msb_expression.specs.declared.sorts.Kind.TheVariants.{Name, Transform, Nested}
 use Rattle.msb_expression.specs.declared.sorts.Sort.TheVariants.{Greater, Space}
 use Rattle.msb_expression.specs.Grammar.{IsName}
 use Rattle.msb_expression.specs.declared.expression.Part.{Part}
 use Rattle.msb_expression.specs.declared.sorts.Sort.{Sort}
-use Rattle.msb_expression.specs.Machine.{Outcome, done, bad, early, first_sort, is_name_sort, Mode, go, stop, step_of, finish, run, begin}
+use Rattle.msb_expression.specs.Machine.{
+  Outcome,
+  done,
+  bad,
+  early,
+  first_sort,
+  is_name_sort,
+  Mode,
+  go,
+  stop,
+  step_of,
+  finish,
+  run,
+  begin,
+}
 
 -- the fault is the outcome's, with its place in the text
 abbrev pub Refuses : List ℕ → ExprFault → Outcome → Type 0
 Refuses bytes (Unclosed place) outcome = (outcome ≡ early) × (place ≡ length bytes)
-Refuses bytes (BadName place) outcome = (outcome ≡ bad Name (drop place bytes)) × (place < length bytes)
-Refuses bytes (BadTransform place) outcome = (outcome ≡ bad Transform (drop place bytes)) × (place < length bytes)
-Refuses bytes (NestedTransform place) outcome = (outcome ≡ bad Nested (drop place bytes)) × (place < length bytes)
+Refuses bytes (BadName place) outcome = (outcome ≡ bad Name (drop place bytes))
+    × (place < length bytes)
+Refuses bytes (BadTransform place) outcome = (outcome ≡ bad Transform (drop place bytes))
+    × (place < length bytes)
+Refuses bytes (NestedTransform place) outcome = (outcome ≡ bad Nested (drop place bytes))
+    × (place < length bytes)
 Refuses bytes Memory outcome = Unit {0}
 
 -- what was found leads on to an outcome of what is left, or the fault is the outcome's
-abbrev pub Leads : {X : Type 0} → List ℕ → Result (X × ℕ) ExprFault → Outcome → (X → List ℕ → Outcome) → Type 0
+abbrev pub Leads : {X : Type 0} → List ℕ → Result (X × ℕ) ExprFault → Outcome
+    → (X → List ℕ → Outcome) → Type 0
 Leads bytes (Ok found) outcome go_on = outcome ≡ go_on found.0 (drop found.1 bytes)
 Leads bytes (Err fault) outcome go_on = Refuses bytes fault outcome
 
@@ -31,7 +71,8 @@ GoesOn bytes (Err fault) outcome mode = Refuses bytes fault outcome
 pub record Wants (wanted : Sort) (mode next : Mode) : Type 0 where
   pub stays : step_of mode Space 32 ≡ go mode
   pub opens : (byte : ℕ) → step_of mode wanted byte ≡ go next
-  pub stops : (sort : Sort) (byte : ℕ) → (sort ≡ Space → ⊥) → (sort ≡ wanted → ⊥) → step_of mode sort byte ≡ stop Transform
+  pub stops : (sort : Sort) (byte : ℕ) → (sort ≡ Space → ⊥) → (sort ≡ wanted → ⊥)
+      → step_of mode sort byte ≡ stop Transform
   pub ends : finish mode ≡ early
 
 -- what was read of a text, to its end
@@ -49,5 +90,6 @@ pub record IsNameAt (bytes : List ℕ) (start : ℕ) (name : List ℕ) (end : �
 -- what may stand behind a type name: no byte of a name, and behind a last `-` no `>`; or `->`
 abbrev pub EndsType : List ℕ → List ℕ → Type 0
 EndsType kind rest =
-    ((is_name_sort (first_sort rest) ≡ false) × ((front : List ℕ) → front ++ 45 ∷ [] ≡ kind → first_sort rest ≡ Greater → ⊥))
+    ((is_name_sort (first_sort rest) ≡ false)
+    × ((front : List ℕ) → front ++ 45 ∷ [] ≡ kind → first_sort rest ≡ Greater → ⊥))
     ⊎ ((more : List ℕ) × (rest ≡ 45 ∷ 62 ∷ more))

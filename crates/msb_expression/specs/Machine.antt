@@ -1,11 +1,42 @@
 -- The grammar as steps from byte to byte: how far a text is read, and what the next byte does.
-use Rattle.std.specs.Prelude.{ℕ, Bool, true, false, ◌&&◌, ◌==◌, List, [], ◌∷◌, ◌++◌, Option, Some, None, if◌then◌else◌}
+use Rattle.std.specs.Prelude.{
+  ℕ,
+  Bool,
+  true,
+  false,
+  ◌&&◌,
+  ◌==◌,
+  List,
+  [],
+  ◌∷◌,
+  ◌++◌,
+  Option,
+  Some,
+  None,
+  if◌then◌else◌,
+}
 use Rattle.msb_expression.specs.declared.starts.Inside.{Inside}
 use Rattle.msb_expression.specs.declared.starts.Inside.TheVariants.{Whole, Transform, Quoted}
 use Rattle.msb_expression.specs.declared.starts.Start.{Start}
 use Rattle.msb_expression.specs.declared.starts.Start.TheVariants as start
 use Rattle.msb_expression.specs.declared.sorts.Sort.{Sort}
-use Rattle.msb_expression.specs.declared.sorts.Sort.TheVariants.{End, Letter, Digit, Dash, Space, Quote, Open, Close, Comma, Dot, Greater, Dollar, Percent, At, Other}
+use Rattle.msb_expression.specs.declared.sorts.Sort.TheVariants.{
+  End,
+  Letter,
+  Digit,
+  Dash,
+  Space,
+  Quote,
+  Open,
+  Close,
+  Comma,
+  Dot,
+  Greater,
+  Dollar,
+  Percent,
+  At,
+  Other,
+}
 use Rattle.msb_expression.specs.declared.sorts.Kind.{Kind}
 use Rattle.msb_expression.specs.declared.sorts.Kind.TheVariants.{Name, Transform as BadStep, Nested}
 use Rattle.msb_expression.specs.declared.expression.Part.{Part}
@@ -13,7 +44,11 @@ use Rattle.msb_expression.specs.declared.expression.Part.TheVariants.{Plain, Pro
 use Rattle.msb_expression.specs.declared.expression.Step.{Step}
 use Rattle.msb_expression.specs.declared.expression.Step.TheVariants.{Transform as Transforms, Call}
 use Rattle.msb_expression.specs.declared.expression.Piece.{Piece}
-use Rattle.msb_expression.specs.declared.expression.Piece.TheVariants.{Plain as PlainPiece, Prop as PropPiece, Meta as MetaPiece}
+use Rattle.msb_expression.specs.declared.expression.Piece.TheVariants.{
+  Plain as PlainPiece,
+  Prop as PropPiece,
+  Meta as MetaPiece,
+}
 use Rattle.msb_expression.specs.Grammar.{is_letter, is_digit}
 
 abbrev pub sort_of : ℕ → Sort
@@ -149,10 +184,12 @@ abbrev pub heads_of : List Part → List ℕ → Heads
 heads_of parts kind = record { parts = parts; kind = kind; steps = [] }
 
 abbrev pub with_step : Heads → Step → Heads
-with_step heads step = record { parts = heads.parts; kind = heads.kind; steps = heads.steps ++ step ∷ [] }
+with_step heads step = record
+    { parts = heads.parts; kind = heads.kind; steps = heads.steps ++ step ∷ [] }
 
 abbrev pub with_steps : Heads → List Step → Heads
-with_steps heads steps = record { parts = heads.parts; kind = heads.kind; steps = heads.steps ++ steps }
+with_steps heads steps = record
+    { parts = heads.parts; kind = heads.kind; steps = heads.steps ++ steps }
 
 -- behind the closing quote of a text
 abbrev pub left : Place → List Piece → Mode
@@ -162,7 +199,8 @@ left (in_argument heads function args) pieces = arg_ended heads function (args +
 
 -- behind the `)` of an item reference
 abbrev pub closed : Heads → Option (List Piece) → Mode
-closed heads separator = in_text (whole (heads.parts ++ Items heads.kind heads.steps separator ∷ [])) [] unmarked
+closed heads separator = in_text
+    (whole (heads.parts ++ Items heads.kind heads.steps separator ∷ [])) [] unmarked
 
 -- What the next byte does: the text is read that far, or the byte is bad.
 pub data Next : Type 0 where
@@ -280,7 +318,8 @@ function_named_step heads function sort b = function_ended_step heads function s
 
 abbrev pub args_opened_step : Heads → List ℕ → Sort → Next
 args_opened_step heads function Space = go (args_opened heads function)
-args_opened_step heads function Quote = go (in_text (inner (in_argument heads function []) []) [] unmarked)
+args_opened_step heads function Quote = go
+    (in_text (inner (in_argument heads function []) []) [] unmarked)
 args_opened_step heads function Close = go (stepping (with_step heads (Call function [])))
 args_opened_step heads function _ = stop BadStep
 
@@ -292,7 +331,8 @@ arg_ended_step heads function args _ = stop BadStep
 
 abbrev pub arg_wanted_step : Heads → List ℕ → List (List Piece) → Sort → Next
 arg_wanted_step heads function args Space = go (arg_wanted heads function args)
-arg_wanted_step heads function args Quote = go (in_text (inner (in_argument heads function args) []) [] unmarked)
+arg_wanted_step heads function args Quote = go
+    (in_text (inner (in_argument heads function args) []) [] unmarked)
 arg_wanted_step heads function args _ = stop BadStep
 
 abbrev pub separator_wanted_step : Heads → Sort → Next

@@ -5,7 +5,13 @@ use Rattle.msb_expression.specs.declared.expression.Expr.{Expr}
 use Rattle.msb_expression.specs.declared.sorts.Kind.{Kind}
 use Rattle.msb_expression.specs.declared.sorts.Kind.TheVariants.{Name, Transform, Nested}
 use Rattle.msb_expression.specs.declared.faults.ExprFault.{ExprFault}
-use Rattle.msb_expression.specs.declared.faults.ExprFault.TheVariants.{Unclosed, BadName, BadTransform, NestedTransform, Memory}
+use Rattle.msb_expression.specs.declared.faults.ExprFault.TheVariants.{
+  Unclosed,
+  BadName,
+  BadTransform,
+  NestedTransform,
+  Memory,
+}
 use Rattle.msb_expression.specs.Machine.{Outcome, done, bad, early, run, begin}
 
 -- the refusal of a bad byte of this kind at a place

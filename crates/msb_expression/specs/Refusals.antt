@@ -1,10 +1,32 @@
 -- Where a text that has no reading is refused, and how.
-use Rattle.std.specs.Prelude.{◌≡◌, ℕ, Bool, false, ◌&&◌, ◌||◌, not, ◌==◌, List, [], ◌∷◌, ◌++◌, length, reverse, if◌then◌else◌}
+use Rattle.std.specs.Prelude.{
+  ◌≡◌,
+  ℕ,
+  Bool,
+  false,
+  ◌&&◌,
+  ◌||◌,
+  not,
+  ◌==◌,
+  List,
+  [],
+  ◌∷◌,
+  ◌++◌,
+  length,
+  reverse,
+  if◌then◌else◌,
+}
 use Rattle.msb_expression.specs.declared.expression.Part.{Part}
 use Rattle.msb_expression.specs.declared.sorts.Kind.{Kind}
 use Rattle.msb_expression.specs.declared.sorts.Kind.TheVariants.{Name, Transform, Nested}
 use Rattle.msb_expression.specs.declared.faults.ExprFault.{ExprFault}
-use Rattle.msb_expression.specs.declared.faults.ExprFault.TheVariants.{Unclosed, BadName, BadTransform, NestedTransform, Memory}
+use Rattle.msb_expression.specs.declared.faults.ExprFault.TheVariants.{
+  Unclosed,
+  BadName,
+  BadTransform,
+  NestedTransform,
+  Memory,
+}
 use Rattle.msb_expression.specs.Grammar.{IsReading, is_letter, is_name_byte}
 
 -- some text that begins so has a reading
@@ -21,7 +43,8 @@ is_first byte (b ∷ back) = b == byte
 abbrev pub is_inside : List ℕ → Bool
 is_inside [] = false
 is_inside (b ∷ back) =
-    (b == 40 && (is_first 36 back || is_first 37 back)) || (not (b == 41 || b == 39) && is_inside back)
+    (b == 40 && (is_first 36 back || is_first 37 back))
+    || (not (b == 41 || b == 39) && is_inside back)
 
 -- behind the mark, `(` and spaces
 abbrev pub is_opened : ℕ → List ℕ → Bool
@@ -31,16 +54,17 @@ is_opened mark (b ∷ back) = (b == 40 && is_first mark back) || (b == 32 && is_
 -- behind these and a name
 abbrev pub is_named : ℕ → List ℕ → Bool
 is_named mark [] = false
-is_named mark (b ∷ back) = (is_letter b && is_opened mark back) || (is_name_byte b && is_named mark back)
+is_named mark (b ∷ back) = (is_letter b && is_opened mark back)
+    || (is_name_byte b && is_named mark back)
 
 -- behind these and spaces
 abbrev pub is_spaced : ℕ → List ℕ → Bool
 is_spaced mark [] = false
 is_spaced mark (b ∷ back) = b == 32 && (is_named mark back || is_spaced mark back)
 
--- The first of this list that fits: the `(` of `@(`, which is bad in a transform alone; the `.` behind the name of
--- a `%(`, bad in a transform alone; anything inside `$(` or `%(`; anything in the type name of `@(`, in that name's
--- spaces or right behind them; any other byte.
+-- The first of this list that fits: the `(` of `@(`, which is bad in a transform alone; the `.`
+-- behind the name of a `%(`, bad in a transform alone; anything inside `$(` or `%(`; anything in
+-- the type name of `@(`, in that name's spaces or right behind them; any other byte.
 abbrev pub kind_of : ℕ → List ℕ → Kind
 kind_of byte back =
     if byte == 40 && is_first 64 back then Nested else
@@ -48,7 +72,8 @@ kind_of byte back =
     if is_inside back then Name else
     if is_opened 64 back || (is_named 64 back || is_spaced 64 back) then Name else Transform
 
--- The bad byte, which is the first such that no text that begins with all bytes through it has a reading.
+-- The bad byte, which is the first such that no text that begins with all bytes through it has a
+-- reading.
 pub record IsBadAt (text : List ℕ) (place : ℕ) (kind : Kind) : Type 0 where
   pub front : List ℕ
   pub byte : ℕ

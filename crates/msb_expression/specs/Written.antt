@@ -6,7 +6,11 @@ use Rattle.msb_expression.specs.declared.expression.Part.TheVariants.{Plain, Pro
 use Rattle.msb_expression.specs.declared.expression.Step.{Step}
 use Rattle.msb_expression.specs.declared.expression.Step.TheVariants.{Transform, Call}
 use Rattle.msb_expression.specs.declared.expression.Piece.{Piece}
-use Rattle.msb_expression.specs.declared.expression.Piece.TheVariants.{Plain as PlainPiece, Prop as PropPiece, Meta as MetaPiece}
+use Rattle.msb_expression.specs.declared.expression.Piece.TheVariants.{
+  Plain as PlainPiece,
+  Prop as PropPiece,
+  Meta as MetaPiece,
+}
 
 abbrev pub piece_text : Piece → List ℕ
 piece_text (PlainPiece plain) = plain
@@ -36,7 +40,8 @@ part_text (Plain plain) = plain
 part_text (Prop name) = codes "$(" ++ name ++ codes ")"
 part_text (Meta None name) = codes "%(" ++ name ++ codes ")"
 part_text (Meta (Some kind) name) = codes "%(" ++ kind ++ codes "." ++ name ++ codes ")"
-part_text (Items kind steps separator) = codes "@(" ++ kind ++ flat_map step_text steps ++ separator_text separator ++ codes ")"
+part_text (Items kind steps separator) = codes
+    "@(" ++ kind ++ flat_map step_text steps ++ separator_text separator ++ codes ")"
 
 abbrev pub text_of : List Part → List ℕ
 text_of = flat_map part_text

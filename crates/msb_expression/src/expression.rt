@@ -54,7 +54,8 @@ impl Drop for Step {
     }
 }
 
-/// A part of a text between quotes, where no `@(..)` is a reference, and `%(Name)` is one in a transform alone.
+/// A part of a text between quotes, where no `@(..)` is a reference, and `%(Name)` is one in a
+/// transform alone.
 pub enum Piece {
     /// Text without a reference, never empty.
     Plain(Word),

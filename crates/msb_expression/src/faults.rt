@@ -19,7 +19,8 @@ impl<T: Drop> From<AllocFailed<T>> for NoRoom {
     }
 }
 
-/// Why a text is no expression, with the place of the first byte at which no text that begins so is one.
+/// Why a text is no expression, with the place of the first byte at which no text that begins so is
+/// one.
 #[derive(Clone, Copy, Debug, PartialEq, Eq)]
 pub enum ExprFault {
     /// The text ends inside a reference; the place is its length.

@@ -1,6 +1,8 @@
-//! Texts of a project file, as expressions: plain text and the references `$(..)`, `%(..)` and `@(..)`.
+//! Texts of a project file, as expressions: plain text and the references `$(..)`, `%(..)` and
+//! `@(..)`.
 //!
-//! `parse` reads a text, and `Expr::text` writes an expression without the spaces that the grammar allows.
+//! `parse` reads a text, and `Expr::text` writes an expression without the spaces that the grammar
+//! allows.
 #![tactic(auto)]
 
 mod expression;

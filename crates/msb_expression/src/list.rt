@@ -1,4 +1,15 @@
-ghost use Rattle.std.specs.Prelude.{◌≡◌, ◌==◌, [], ◌∷◌, ◌++◌, length, OnOk, OnErr, slice_get, option_copied};
+ghost use Rattle.std.specs.Prelude.{
+  ◌≡◌,
+  ◌==◌,
+  [],
+  ◌∷◌,
+  ◌++◌,
+  length,
+  OnOk,
+  OnErr,
+  slice_get,
+  option_copied,
+};
 
 use crate::NoRoom;
 use std::alloc::Global;

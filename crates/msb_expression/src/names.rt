@@ -1,7 +1,36 @@
-ghost use Rattle.std.specs.Prelude.{◌≡◌, ℕ, ◌+◌, ◌-◌, ◌<◌, ◌≤◌, Bool, false, List, IfOk, length, take, drop};
+ghost use Rattle.std.specs.Prelude.{
+  ◌≡◌,
+  ℕ,
+  ◌+◌,
+  ◌-◌,
+  ◌<◌,
+  ◌≤◌,
+  Bool,
+  false,
+  List,
+  IfOk,
+  length,
+  take,
+  drop,
+};
 ghost use Rattle.std.specs.Str.{IsCharBoundary};
 ghost use Rattle.msb_expression.specs.Grammar.{Every, is_name_byte};
-ghost use Rattle.msb_expression.specs.Machine.{Host, Named, Mode, run, first_sort, is_name_sort, step_of, go, name_opened, in_name, type_opened, stepping, heads_of, is_arrow};
+ghost use Rattle.msb_expression.specs.Machine.{
+  Host,
+  Named,
+  Mode,
+  run,
+  first_sort,
+  is_name_sort,
+  step_of,
+  go,
+  name_opened,
+  in_name,
+  type_opened,
+  stepping,
+  heads_of,
+  is_arrow,
+};
 ghost use Rattle.msb_expression.specs.declared.expression.Part.{Part};
 ghost use Rattle.msb_expression.specs.declared.sorts.Sort.TheVariants.{Space, Letter};
 ghost use Rattle.msb_expression.specs.Answers.{Leads, IsNameAt, EndsType};
@@ -55,7 +84,8 @@ pub(crate) fn piece_of(alloc: Global, text: &str, start: usize, end: usize) -> R
 pub(crate) fn name_at(alloc: Global, text: &str, start: usize) -> Result<(Word, usize), NoRoom>
     requires { first_sort (drop start text.now) ≡ Letter }
     ensures name { IfOk result (λ found. IsNameAt text.now start found.0 found.1) }
-    ensures over { IfOk result (λ found. is_name_sort (first_sort (drop found.1 text.now)) ≡ false) }
+    ensures over { IfOk result (λ found. is_name_sort (first_sort (drop found.1 text.now))
+        ≡ false) }
 {
     let end = name_end(text, start);
     Ok((piece_of(alloc, text, start, end)?, end))
@@ -99,11 +129,13 @@ fn type_at(alloc: Global, text: &str, start: usize) -> Result<(Word, usize), NoR
 /// The name behind the spaces at `at`, and where it ends.
 pub(crate) fn name(alloc: Global, text: &str, at: usize) -> Result<(Word, usize), ExprFault>
     requires { at ≤ length text.now }
-    ensures leads { (host : Host) (which : Named) → Leads text.now result (run (drop at text.now) (name_opened host which))
+    ensures leads { (host : Host) (which : Named)
+        → Leads text.now result (run (drop at text.now) (name_opened host which))
         (λ name rest. run rest (in_name host which name)) }
     ensures after { IfOk result (λ found. at < found.1) }
     ensures within { IfOk result (λ found. found.1 ≤ length text.now) }
-    ensures over { IfOk result (λ found. is_name_sort (first_sort (drop found.1 text.now)) ≡ false) }
+    ensures over { IfOk result (λ found. is_name_sort (first_sort (drop found.1 text.now))
+        ≡ false) }
 {
     let start = spaces_end(text, at);
     match sort_at(text, start) {
@@ -115,7 +147,8 @@ pub(crate) fn name(alloc: Global, text: &str, at: usize) -> Result<(Word, usize)
 /// The type name behind the spaces at `at`, and where it ends.
 pub(crate) fn type_name(alloc: Global, text: &str, at: usize) -> Result<(Word, usize), ExprFault>
     requires { at ≤ length text.now }
-    ensures leads { (parts : List Part) → Leads text.now result (run (drop at text.now) (type_opened parts))
+    ensures leads { (parts : List Part)
+        → Leads text.now result (run (drop at text.now) (type_opened parts))
         (λ kind rest. run rest (stepping (heads_of parts kind))) }
     ensures after { IfOk result (λ found. at < found.1) }
     ensures within { IfOk result (λ found. found.1 ≤ length text.now) }

@@ -1,4 +1,18 @@
-ghost use Rattle.std.specs.Prelude.{◌≡◌, ◌<◌, ◌≤◌, List, [], ◌∷◌, ◌++◌, ◌⊎◌, IfOk, IfErr, MatchResult, length, drop};
+ghost use Rattle.std.specs.Prelude.{
+  ◌≡◌,
+  ◌<◌,
+  ◌≤◌,
+  List,
+  [],
+  ◌∷◌,
+  ◌++◌,
+  ◌⊎◌,
+  IfOk,
+  IfErr,
+  MatchResult,
+  length,
+  drop,
+};
 ghost use Rattle.std.specs.Str.{IsCharBoundary};
 ghost use Rattle.msb_expression.specs.Machine.{run, in_text, whole, unmarked};
 ghost use Rattle.msb_expression.specs.declared.expression.Part.{Part};
@@ -16,9 +30,10 @@ use crate::steps::items;
 use crate::{Expr, ExprFault, Part, Parts};
 use std::alloc::Global;
 
-/// Reads a text of a project file as an expression: plain text with the references `$(Property)`, `%(Metadata)` and
-/// `@(Items)` ("MSBuild properties", "Item metadata", "MSBuild items", "MSBuild transforms" and "Item functions" in the
-/// MSBuild documentation). A refusal has the place of its byte in the text.
+/// Reads a text of a project file as an expression: plain text with the references `$(Property)`,
+/// `%(Metadata)` and `@(Items)` ("MSBuild properties", "Item metadata", "MSBuild items", "MSBuild
+/// transforms" and "Item functions" in the MSBuild documentation). A refusal has the place of its
+/// byte in the text.
 pub fn parse(alloc: Global, text: &str) -> Result<Expr, ExprFault>
     // What is read is a reading, and the only one.
     ensures found { IfOk result (λ expr. IsReading text.now expr.parts) }

@@ -1,6 +1,15 @@
 ghost use Rattle.std.specs.Prelude.{◌≡◌, ◌<◌, ◌≤◌, List, [], ◌∷◌, ◌++◌, IfOk, length, drop};
 ghost use Rattle.std.specs.Str.{IsCharBoundary};
-ghost use Rattle.msb_expression.specs.Machine.{Place, run, in_text, inner, unmarked, left, place_inside, start_of};
+ghost use Rattle.msb_expression.specs.Machine.{
+  Place,
+  run,
+  in_text,
+  inner,
+  unmarked,
+  left,
+  place_inside,
+  start_of,
+};
 ghost use Rattle.msb_expression.specs.declared.expression.Piece.{Piece};
 ghost use Rattle.msb_expression.specs.declared.starts.Inside.TheVariants.{Whole};
 ghost use Rattle.msb_expression.specs.declared.starts.Start.TheVariants.{Quote};

@@ -1,6 +1,21 @@
 ghost use Rattle.std.specs.Prelude.{◌≡◌, ◌<◌, ◌≤◌, false, List, [], ◌∷◌, ◌++◌, IfOk, length, drop};
 ghost use Rattle.std.specs.Str.{IsCharBoundary};
-ghost use Rattle.msb_expression.specs.Machine.{Host, Named, run, name_opened, in_text, whole, inner, property, metadata, qualified, unmarked, referred, is_metadata, Place};
+ghost use Rattle.msb_expression.specs.Machine.{
+  Host,
+  Named,
+  run,
+  name_opened,
+  in_text,
+  whole,
+  inner,
+  property,
+  metadata,
+  qualified,
+  unmarked,
+  referred,
+  is_metadata,
+  Place,
+};
 ghost use Rattle.msb_expression.specs.declared.expression.Part.{Part};
 ghost use Rattle.msb_expression.specs.declared.expression.Piece.{Piece};
 ghost use Rattle.msb_expression.specs.Answers.{Leads};
@@ -33,7 +48,8 @@ pub(crate) fn own_metadata(alloc: Global, text: &str, at: usize) -> Result<(Word
     requires { at ≤ length text.now }
     ensures leads { (place : Place) (pieces : List Piece)
         → Leads text.now result (run (drop at text.now) (name_opened (inner place pieces) metadata))
-        (λ name rest. run rest (in_text (referred (inner place pieces) metadata name) [] unmarked)) }
+        (λ name rest.
+        run rest (in_text (referred (inner place pieces) metadata name) [] unmarked)) }
     ensures after { IfOk result (λ found. at < found.1) }
     ensures within { IfOk result (λ found. found.1 ≤ length text.now) }
     ensures cut { IfOk result (λ found. IsCharBoundary text.now found.1) }
@@ -75,7 +91,8 @@ fn qualified_metadata(
 ) -> Result<(Part, usize), ExprFault>
     requires { at ≤ length text.now }
     ensures leads { (parts : List Part)
-        → Leads text.now result (run (drop at text.now) (name_opened (whole parts) (qualified kind)))
+        → Leads text.now result
+        (run (drop at text.now) (name_opened (whole parts) (qualified kind)))
         (λ part rest. run rest (in_text (whole (parts ++ part ∷ [])) [] unmarked)) }
     ensures after { IfOk result (λ found. at < found.1) }
     ensures within { IfOk result (λ found. found.1 ≤ length text.now) }

@@ -1,7 +1,15 @@
 ghost use Rattle.std.specs.Prelude.{◌≡◌, ℕ, ◌-◌, ◌<◌, ◌≤◌, [], length, take, drop};
 ghost use Rattle.std.specs.Str.{IsCharBoundary};
 ghost use Rattle.msb_expression.specs.Machine as machine;
-ghost use Rattle.msb_expression.specs.Machine.{Host, run, in_text, unmarked, host_inside, flushed, start_of};
+ghost use Rattle.msb_expression.specs.Machine.{
+  Host,
+  run,
+  in_text,
+  unmarked,
+  host_inside,
+  flushed,
+  start_of,
+};
 ghost use Rattle.msb_expression.specs.declared.starts.Start.TheVariants.{Plain};
 
 use crate::sorts::{Sort, sort_at};
@@ -90,7 +98,8 @@ pub(crate) fn plain_end(text: &str, at: usize, inside: Inside) -> usize
     ensures cut { IsCharBoundary text.now result }
     ensures over { (host : Host) → host_inside host ≡ inside
         → run (drop at text.now) (in_text host [] unmarked)
-        ≡ run (drop result text.now) (in_text (flushed host (take (result - at) (drop at text.now))) [] unmarked) }
+        ≡ run (drop result text.now)
+        (in_text (flushed host (take (result - at) (drop at text.now))) [] unmarked) }
 {
     let mut end = at;
     while let Start::Plain = start_at(text, end, inside) {

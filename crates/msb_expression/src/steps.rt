@@ -1,7 +1,26 @@
 ghost use Rattle.std.specs.Prelude.{◌≡◌, ℕ, ◌<◌, ◌≤◌, List, [], ◌∷◌, ◌++◌, IfOk, length, drop};
 ghost use Rattle.std.specs.Str.{IsCharBoundary};
 ghost use Rattle.msb_expression.specs.Machine as machine;
-ghost use Rattle.msb_expression.specs.Machine.{Heads, Mode, run, first_sort, in_text, inner, whole, unmarked, type_opened, stepping, dashed, arrow, args_opened, in_argument, with_step, with_steps, closed, stepping_kind};
+ghost use Rattle.msb_expression.specs.Machine.{
+  Heads,
+  Mode,
+  run,
+  first_sort,
+  in_text,
+  inner,
+  whole,
+  unmarked,
+  type_opened,
+  stepping,
+  dashed,
+  arrow,
+  args_opened,
+  in_argument,
+  with_step,
+  with_steps,
+  closed,
+  stepping_kind,
+};
 ghost use Rattle.msb_expression.specs.declared.expression.Part.{Part};
 ghost use Rattle.msb_expression.specs.declared.expression.Step.TheVariants.{Call};
 ghost use Rattle.msb_expression.specs.declared.sorts.Sort.TheVariants as sort;
@@ -17,7 +36,8 @@ use std::alloc::Global;
 /// The item reference whose `@(` ends at `at`, and what comes behind it.
 pub(crate) fn items(alloc: Global, text: &str, at: usize) -> Result<(Part, usize), ExprFault>
     requires { at ≤ length text.now }
-    ensures leads { (parts : List Part) → Leads text.now result (run (drop at text.now) (type_opened parts))
+    ensures leads { (parts : List Part)
+        → Leads text.now result (run (drop at text.now) (type_opened parts))
         (λ part rest. run rest (in_text (whole (parts ++ part ∷ [])) [] unmarked)) }
     ensures after { IfOk result (λ found. at < found.1) }
     ensures within { IfOk result (λ found. found.1 ≤ length text.now) }
@@ -43,7 +63,8 @@ fn bad_kind(steps: &Steps) -> Kind
 /// The steps at `at`, and what comes behind the spaces after them.
 fn steps(alloc: Global, text: &str, at: usize) -> Result<(Steps, usize), ExprFault>
     requires { at ≤ length text.now }
-    ensures leads { (heads : Heads) → Leads text.now result (run (drop at text.now) (stepping heads))
+    ensures leads { (heads : Heads)
+        → Leads text.now result (run (drop at text.now) (stepping heads))
         (λ steps rest. run rest (stepping (with_steps heads steps))) }
     ensures after { IfOk result (λ found. at ≤ found.1) }
     ensures within { IfOk result (λ found. found.1 ≤ length text.now) }
@@ -134,7 +155,8 @@ fn some_args(alloc: Global, text: &str, at: usize) -> Result<(Args, usize), Expr
     requires within { at ≤ length text.now }
     requires cut { IsCharBoundary text.now at }
     ensures leads { (heads : Heads) (function : List ℕ)
-        → Leads text.now result (run (drop at text.now) (in_text (inner (in_argument heads function []) []) [] unmarked))
+        → Leads text.now result
+        (run (drop at text.now) (in_text (inner (in_argument heads function []) []) [] unmarked))
         (λ args rest. run rest (stepping (with_step heads (Call function args)))) }
     ensures after { IfOk result (λ found. at < found.1) }
     ensures within { IfOk result (λ found. found.1 ≤ length text.now) }

@@ -1,7 +1,16 @@
 ghost use Rattle.std.specs.Prelude.{◌≡◌, ℕ, List, ◌++◌, IfOk, OnOk, codes};
 ghost use Rattle.std.specs.List.{flat_map};
 ghost use Rattle.msb_expression.specs.Grammar.{IsReading};
-ghost use Rattle.msb_expression.specs.Written.{piece_text, quoted_text, listed_text, args_text, step_text, separator_text, part_text, text_of};
+ghost use Rattle.msb_expression.specs.Written.{
+  piece_text,
+  quoted_text,
+  listed_text,
+  args_text,
+  step_text,
+  separator_text,
+  part_text,
+  text_of,
+};
 
 use crate::{Expr, NoRoom, Part, Piece, Pieces, Step, Word};
 use std::alloc::Global;
@@ -12,7 +21,8 @@ impl Expr {
         ensures text { IfOk result (λ word. word ≡ text_of self.now.parts) }
 
         // What was read from a text is read again from this one.
-        ensures again { IfOk result (λ word. (text : List ℕ) → IsReading text self.now.parts → IsReading word self.now.parts) }
+        ensures again { IfOk result (λ word. (text : List ℕ) → IsReading text self.now.parts
+            → IsReading word self.now.parts) }
     {
         let mut word = Word::of(alloc, "")?;
         push_parts(&mut word, self.parts.as_slice())?;

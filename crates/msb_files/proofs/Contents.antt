@@ -1,5 +1,33 @@
 -- What a journal has for a path, and which entries it has, by its parts.
-use Rattle.std.proofs.Common.{◌≡◌, ℕ, zero, suc, ◌+◌, ◌<◌, List, [], ◌∷◌, ◌++◌, length, take, get_or, Bool, true, false, ◌||◌, Option, Some, option_map, cond, refl, ap, ◌∙◌, sym, arith, add-one}
+use Rattle.std.proofs.Common.{
+  ◌≡◌,
+  ℕ,
+  zero,
+  suc,
+  ◌+◌,
+  ◌<◌,
+  List,
+  [],
+  ◌∷◌,
+  ◌++◌,
+  length,
+  take,
+  get_or,
+  Bool,
+  true,
+  false,
+  ◌||◌,
+  Option,
+  Some,
+  option_map,
+  cond,
+  refl,
+  ap,
+  ◌∙◌,
+  sym,
+  arith,
+  add-one,
+}
 use Rattle.std.specs.List.{find, list_any}
 use Rattle.std.specs.Option.{option_or, option_to_list}
 use Rattle.std.specs.Str.{bytes_eq}
@@ -7,7 +35,17 @@ use Rattle.std.proofs.Math.Bool.{or_assoc}
 use Rattle.std.proofs.lemmas.List.Folds.{find-append}
 use Rattle.msb_values.specs.Acts.{act_path, act_bytes}
 use Rattle.msb_values.specs.declared.act.Act.{Act}
-use Rattle.result_cache.specs.Journal.{Journal, Entry, acted, ended, Mark, mark, same_mark, has, content}
+use Rattle.result_cache.specs.Journal.{
+  Journal,
+  Entry,
+  acted,
+  ended,
+  Mark,
+  mark,
+  same_mark,
+  has,
+  content,
+}
 use Rattle.result_cache.specs.Lists.{this_or}
 use Rattle.msb_files.specs.Indices.{has_path, last_act}
 use Rattle.msb_files.specs.Seen.{act_in}
@@ -44,13 +82,17 @@ content-append (acted run place act ∷ newer) older path =
     (act_bytes act) (content-append newer older path)
 content-append (ended run made ∷ newer) older path = content-append newer older path
 
-pub has-append : (m : Mark) (newer older : Journal) → has m (newer ++ older) ≡ (has m newer || has m older)
+pub has-append : (m : Mark) (newer older : Journal)
+    → has m (newer ++ older) ≡ (has m newer || has m older)
 has-append m [] older = refl
-has-append m (e ∷ newer) older = ap (λ b. same_mark (mark e) m || b) (has-append m newer older) ∙ sym (or_assoc (same_mark (mark e) m) (has m newer) (has m older))
+has-append m (e ∷ newer) older = ap (λ b. same_mark (mark e) m || b) (has-append m newer older)
+    ∙ sym (or_assoc (same_mark (mark e) m) (has m newer) (has m older))
 
-pub acts_of-append : (newer older : Journal) → acts_of (newer ++ older) ≡ acts_of newer ++ acts_of older
+pub acts_of-append : (newer older : Journal) → acts_of (newer ++ older)
+    ≡ acts_of newer ++ acts_of older
 acts_of-append [] older = refl
-acts_of-append (acted run place act ∷ newer) older = ap (λ acts. act ∷ acts) (acts_of-append newer older)
+acts_of-append (acted run place act ∷ newer) older = ap (λ acts. act ∷ acts)
+    (acts_of-append newer older)
 acts_of-append (ended run made ∷ newer) older = acts_of-append newer older
 
 pub last_act-append : (newer older : Journal) (path : List ℕ) →
@@ -59,19 +101,27 @@ last_act-append newer older path =
     ap (find (has_path path)) (acts_of-append newer older)
     ∙ find-append (has_path path) (acts_of newer) (acts_of older)
 
-pub has-is : (m : Mark) (journal : Journal) → has m journal ≡ list_any (λ e. same_mark (mark e) m) journal
+pub has-is : (m : Mark) (journal : Journal) → has m journal
+    ≡ list_any (λ e. same_mark (mark e) m) journal
 has-is m [] = refl
 has-is m (e ∷ journal) = ap (λ b. same_mark (mark e) m || b) (has-is m journal)
 
 -- ---- one more entry, as at a step of a loop
 
-acts_of-more : (entries : Journal) (i : ℕ) (d : Entry) → i < length entries → acts_of (take (suc i) entries) ≡ acts_of (take i entries) ++ option_to_list (act_in (get_or entries i d))
+acts_of-more : (entries : Journal) (i : ℕ) (d : Entry) → i < length entries
+    → acts_of (take (suc i) entries) ≡ acts_of (take i entries)
+    ++ option_to_list (act_in (get_or entries i d))
 acts_of-more [] i d w = absurd (omega arith)
 acts_of-more (acted run place act ∷ entries) zero d w = refl
 acts_of-more (ended run made ∷ entries) zero d w = refl
-acts_of-more (acted run place act ∷ entries) (suc i) d w = ap (λ acts. act ∷ acts) (acts_of-more entries i d (omega arith))
+acts_of-more (acted run place act ∷ entries) (suc i) d w = ap (λ acts. act ∷ acts)
+    (acts_of-more entries i d (omega arith))
 acts_of-more (ended run made ∷ entries) (suc i) d w = acts_of-more entries i d (omega arith)
 
-pub one_more_act : (entries : Journal) (i : ℕ) (e : Entry) (acts : List Act) (found : Option Act) → i < length entries → e ≡ get_or entries i e → acts ≡ acts_of (take i entries) → found ≡ act_in e → acts ++ option_to_list found ≡ acts_of (take (i + 1) entries)
+pub one_more_act : (entries : Journal) (i : ℕ) (e : Entry) (acts : List Act) (found : Option Act)
+    → i < length entries → e ≡ get_or entries i e → acts ≡ acts_of (take i entries)
+    → found ≡ act_in e → acts ++ option_to_list found ≡ acts_of (take (i + 1) entries)
 one_more_act entries i e acts found w is so_far told =
-    rw add-one (ap (λ o. acts ++ option_to_list o) (told ∙ ap act_in is) ∙ (ap (λ before. before ++ option_to_list (act_in (get_or entries i e))) so_far ∙ sym (acts_of-more entries i e w)))
+    rw add-one (ap (λ o. acts ++ option_to_list o) (told ∙ ap act_in is)
+    ∙ (ap (λ before. before ++ option_to_list (act_in (get_or entries i e))) so_far
+    ∙ sym (acts_of-more entries i e w)))

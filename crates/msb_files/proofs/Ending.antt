@@ -1,12 +1,42 @@
 -- The end of a run, which the records before its own don't put into a journal.
-use Rattle.std.proofs.Common.{◌≡◌, ℕ, List, [], ◌∷◌, map, Bool, true, false, ◌&&◌, ◌||◌, Option, Some, None, refl, ap, ◌∙◌, sym, subst}
+use Rattle.std.proofs.Common.{
+  ◌≡◌,
+  ℕ,
+  List,
+  [],
+  ◌∷◌,
+  map,
+  Bool,
+  true,
+  false,
+  ◌&&◌,
+  ◌||◌,
+  Option,
+  Some,
+  None,
+  refl,
+  ap,
+  ◌∙◌,
+  sym,
+  subst,
+}
 use Rattle.std.specs.List.{list_all}
 use Rattle.msb_laws.specs.Asking.{and_then}
 use Rattle.msb_values.specs.declared.act.Act.{Act}
 use Rattle.result_cache.specs.declared.run.RunId.{RunId}
 use Rattle.result_cache.specs.declared.record.Record.{Record}
 use Rattle.result_cache.specs.Journal.{Journal, acted, ended, act_of, end_of, has, add, add_unless}
-use Rattle.result_cache.specs.Replay.{Effect, puts_act, replays_run, effects_of, replays, replay_by, replay, replay_all, unless_there}
+use Rattle.result_cache.specs.Replay.{
+  Effect,
+  puts_act,
+  replays_run,
+  effects_of,
+  replays,
+  replay_by,
+  replay,
+  replay_all,
+  unless_there,
+}
 use Rattle.result_cache.specs.Same.{same_run, is_in, AreDistinct}
 use Rattle.result_cache.specs.Table.{FinishedRun, Records}
 use Rattle.result_cache.proofs.Closed.{replay-has}

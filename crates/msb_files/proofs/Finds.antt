@@ -1,5 +1,32 @@
 -- What is found first in a list, and what a sort by paths keeps of it.
-use Rattle.std.proofs.Common.{◌≡◌, ℕ, zero, suc, ◌<◌, List, [], ◌∷◌, length, map, drop, Bool, true, false, not, ◌&&◌, Option, Some, None, option_map, cond, refl, ap, ◌∙◌, sym, arith}
+use Rattle.std.proofs.Common.{
+  ◌≡◌,
+  ℕ,
+  zero,
+  suc,
+  ◌<◌,
+  List,
+  [],
+  ◌∷◌,
+  length,
+  map,
+  drop,
+  Bool,
+  true,
+  false,
+  not,
+  ◌&&◌,
+  Option,
+  Some,
+  None,
+  option_map,
+  cond,
+  refl,
+  ap,
+  ◌∙◌,
+  sym,
+  arith,
+}
 use Rattle.std.specs.Cmp.Lexicographic.{slice_cmp}
 use Rattle.std.specs.List.{All, find, filter}
 use Rattle.std.specs.List.Sorted.{IsStableBy, ties}

@@ -1,5 +1,26 @@
 -- The marks of entries, one more, and those of two parts.
-use Rattle.std.proofs.Common.{◌≡◌, List, [], ◌∷◌, ◌++◌, Bool, true, false, ◌||◌, Result, Ok, Err, OnErr, cond, reverse, refl, ap, ◌∙◌, sym, subst}
+use Rattle.std.proofs.Common.{
+  ◌≡◌,
+  List,
+  [],
+  ◌∷◌,
+  ◌++◌,
+  Bool,
+  true,
+  false,
+  ◌||◌,
+  Result,
+  Ok,
+  Err,
+  OnErr,
+  cond,
+  reverse,
+  refl,
+  ap,
+  ◌∙◌,
+  sym,
+  subst,
+}
 use Rattle.std.specs.HashSet.{HashSet, contains}
 use Rattle.std.specs.List.{list_any}
 use Rattle.result_cache.specs.Journal.{Journal, Entry, Mark, mark, same_mark, has}

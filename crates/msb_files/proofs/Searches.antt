@@ -1,5 +1,28 @@
 -- What a walk along paths in byte order finds below a folder.
-use Rattle.std.proofs.Common.{◌≡◌, ℕ, ◌+◌, ◌<◌, ◌≤◌, List, [], ◌∷◌, length, get_or, Bool, true, false, ◌&&◌, refl, sym, ap, ◌∙◌, subst, arith, inl, inr}
+use Rattle.std.proofs.Common.{
+  ◌≡◌,
+  ℕ,
+  ◌+◌,
+  ◌<◌,
+  ◌≤◌,
+  List,
+  [],
+  ◌∷◌,
+  length,
+  get_or,
+  Bool,
+  true,
+  false,
+  ◌&&◌,
+  refl,
+  sym,
+  ap,
+  ◌∙◌,
+  subst,
+  arith,
+  inl,
+  inr,
+}
 use Rattle.std.specs.List.{list_any}
 use Rattle.std.specs.List.Sorted.{IsPartitionedBy, IsPartitionPoint}
 use Rattle.std.specs.declared.cmp.Ordering.{Ordering}
@@ -39,7 +62,8 @@ not_itself p = ap is_lt (tied_itself nat_list_cmp_total p)
 
 pub files_rise : (files : List File) → are_in_order files ≡ true → Rises (λ f. f.path) files
 files_rise files up i j d h w = elim (cases_lt i j) [
-  | inl b ↦ not_back (get_or files i d).path (get_or files j d).path (before_later files i j d up b w)
+  | inl b ↦ not_back (get_or files i d).path (get_or files j d).path
+      (before_later files i j d up b w)
   | inr b ↦ (let e : i ≡ j = omega arith in
       subst (λ k. is_before (get_or files j d).path (get_or files k d).path ≡ false) (sym e)
       (not_itself (get_or files j d).path))
@@ -54,39 +78,49 @@ ahead key front x = is_before (key x) front
 pub parted : {X : Type 0} (key : X → List ℕ) (front : List ℕ) (xs : List X) → Rises key xs →
     IsPartitionedBy (ahead key front) xs
 parted key front xs up i j d h w is =
-    elim (is_before (key (get_or xs i d)) front) as (λ b. is_before (key (get_or xs i d)) front ≡ b → b ≡ true) [
+    elim (is_before (key (get_or xs i d)) front) as
+    (λ b. is_before (key (get_or xs i d)) front ≡ b → b ≡ true) [
       | true ↦ λ e. refl
       | false ↦ λ e. let f : is_before (key (get_or xs j d)) front ≡ false =
           texts_rank.chain _ (key (get_or xs i d)) front (up i j d h w) e in cc
     ] refl
 
 -- the place that a search by halves has met
-pub record IsMet {X : Type 0} (key : X → List ℕ) (front : List ℕ) (xs : List X) (first : ℕ) : Type 0 where
-  pub up : Rises key xs
-  pub split : IsPartitionPoint (λ x. ahead key front x ≡ true) (λ x. ahead key front x ≡ false) xs first
+pub record IsMet {X : Type 0} (key : X → List ℕ) (front : List ℕ) (xs : List X) (first : ℕ) : Type 0
+  where
+    pub up : Rises key xs
+    pub split : IsPartitionPoint (λ x. ahead key front x ≡ true) (λ x. ahead key front x ≡ false) xs
+        first
 
 -- ---- paths that begin with a front
 
 -- neither is before the other, so that both begin alike
-both_tie : (o m n : Ordering) → is_lt (ordering_then o m) ≡ false → is_lt (ordering_then (ordering_reverse o) n) ≡ false → (o ≡ Equal) × (is_lt m ≡ false) × (is_lt n ≡ false)
+both_tie : (o m n : Ordering) → is_lt (ordering_then o m) ≡ false
+    → is_lt (ordering_then (ordering_reverse o) n) ≡ false
+    → (o ≡ Equal) × (is_lt m ≡ false) × (is_lt n ≡ false)
 both_tie Less m n h g = cc
 both_tie Equal m n h g = (refl, h, g)
 both_tie Greater m n h g = cc
 
 same_number : (x y : ℕ) → nat_cmp x y ≡ Equal → x ≡ y
-same_number x y e = subst (λ o. MatchOrdering o (x < y) (x ≡ y) (y < x)) e (ranked x y (nat_cmp x y) refl)
+same_number x y e = subst (λ o. MatchOrdering o (x < y) (x ≡ y) (y < x)) e
+    (ranked x y (nat_cmp x y) refl)
 
 -- what is not before a front, nor behind a text that begins with it, begins with it too
-between : (front path later : List ℕ) → is_before path front ≡ false → is_before later path ≡ false → begins front later ≡ true → begins front path ≡ true
+between : (front path later : List ℕ) → is_before path front ≡ false → is_before later path ≡ false
+    → begins front later ≡ true → begins front path ≡ true
 between [] path later h b s = refl
 between (a ∷ front) [] later h b s = cc
 between (a ∷ front) (x ∷ path) [] h b s = cc
 between (a ∷ front) (x ∷ path) (y ∷ later) h b s =
     let both = and_true _ _ s in
     let same : y ≡ a = sym (eqb-true a y both.0) in
-    let back : nat_cmp y x ≡ ordering_reverse (nat_cmp x a) = ap (λ z. nat_cmp z x) same ∙ nat_cmp_total.antisymm a x in
-    let tie = both_tie (nat_cmp x a) (slice_cmp nat_cmp path front) (slice_cmp nat_cmp later path) h (ap (λ o. is_lt (ordering_then o (slice_cmp nat_cmp later path))) (sym back) ∙ b) in
-    both_true _ _ (eq-eqb a x (sym (same_number x a tie.0))) (between front path later tie.1 tie.2 both.1)
+    let back : nat_cmp y x ≡ ordering_reverse (nat_cmp x a) = ap (λ z. nat_cmp z x) same
+    ∙ nat_cmp_total.antisymm a x in
+    let tie = both_tie (nat_cmp x a) (slice_cmp nat_cmp path front) (slice_cmp nat_cmp later path) h
+    (ap (λ o. is_lt (ordering_then o (slice_cmp nat_cmp later path))) (sym back) ∙ b) in
+    both_true _ _ (eq-eqb a x (sym (same_number x a tie.0)))
+    (between front path later tie.1 tie.2 both.1)
 
 -- what is before a front does not begin with it
 ahead_not : (front path : List ℕ) → is_before path front ≡ true → begins front path ≡ false
@@ -95,8 +129,10 @@ ahead_not [] (x ∷ path) h = cc
 ahead_not (a ∷ front) [] h = refl
 ahead_not (a ∷ front) (x ∷ path) h = not_true (begins (a ∷ front) (x ∷ path)) (λ s.
     let both = and_true _ _ s in
-    let tie : nat_cmp x a ≡ Equal = ap (λ b. nat_cmp b a) (sym (eqb-true a x both.0)) ∙ tied_itself nat_cmp_total a in
-    let rest : is_before path front ≡ true = ap (λ o. is_lt (ordering_then o (slice_cmp nat_cmp path front))) (sym tie) ∙ h in
+    let tie : nat_cmp x a ≡ Equal = ap (λ b. nat_cmp b a) (sym (eqb-true a x both.0))
+    ∙ tied_itself nat_cmp_total a in
+    let rest : is_before path front ≡ true = ap
+    (λ o. is_lt (ordering_then o (slice_cmp nat_cmp path front))) (sym tie) ∙ h in
     let no = ahead_not front path rest in cc)
 
 -- ---- the walk from the place on
@@ -106,31 +142,42 @@ abbrev pub NoneTo : {X : Type 0} → (X → Bool) → List X → ℕ → Type 0
 NoneTo {X} test xs n = (k : ℕ) (d : X) → k < n → k < length xs → test (get_or xs k d) ≡ false
 
 module _ {X : Type 0} (test : X → Bool) (xs : List X) (i : ℕ) where
-  pub none_more : (x : X) → i < length xs → x ≡ get_or xs i x → test x ≡ false → NoneTo test xs i → NoneTo test xs (i + 1)
+  pub none_more : (x : X) → i < length xs → x ≡ get_or xs i x → test x ≡ false → NoneTo test xs i
+      → NoneTo test xs (i + 1)
   none_more x within is fails none k d b w = elim (cases_lt k i) [
     | inl before ↦ none k d before w
     | inr later ↦ (let e : k ≡ i = omega arith in
-        subst (λ n. test (get_or xs n d) ≡ false) (sym e) (ap test (get_or_default xs i d x within ∙ sym is) ∙ fails))
+        subst (λ n. test (get_or xs n d) ≡ false) (sym e)
+        (ap test (get_or_default xs i d x within ∙ sym is) ∙ fails))
   ]
 
-  pub one_there : (x : X) → i < length xs → x ≡ get_or xs i x → test x ≡ true → true ≡ list_any test xs
+  pub one_there : (x : X) → i < length xs → x ≡ get_or xs i x → test x ≡ true
+      → true ≡ list_any test xs
   one_there x within is holds = sym (list_any_at test xs i x within (ap test (sym is) ∙ holds))
 
   pub none_there : length xs ≤ i → NoneTo test xs i → false ≡ list_any test xs
   none_there past none = sym (list_any_none test xs (λ k d w. none k d (omega arith) w))
 
-module _ {X : Type 0} (key : X → List ℕ) (front : List ℕ) (live : List ℕ → Bool) (xs : List X) (first : ℕ) (met : IsMet key front xs first) where
+module _ {X : Type 0} (key : X → List ℕ) (front : List ℕ) (live : List ℕ → Bool) (xs : List X)
+    (first : ℕ) (met : IsMet key front xs first) where
   abbrev is_one : X → Bool
   is_one x = begins front (key x) && live (key x)
 
   pub none_ahead : NoneTo is_one xs first
-  none_ahead k d b w = ap (λ t. t && live (key (get_or xs k d))) (ahead_not front _ (met.split.0 k d (omega arith) b))
+  none_ahead k d b w = ap (λ t. t && live (key (get_or xs k d)))
+      (ahead_not front _ (met.split.0 k d (omega arith) b))
 
   -- behind one that doesn't begin with the front none does
-  pub none_behind : (i : ℕ) (x : X) → first ≤ i → i < length xs → x ≡ get_or xs i x → begins front (key x) ≡ false → NoneTo is_one xs i → false ≡ list_any is_one xs
-  none_behind i x from within is not none = sym (list_any_none is_one xs (λ k d w. elim (below_or_not k i) [
-    | inl b ↦ none k d b w
-    | inr b ↦ ap (λ t. t && live (key (get_or xs k d))) (not_true (begins front (key (get_or xs k d))) (λ s.
-        let t = between front (key (get_or xs i d)) _ (met.split.1 i d from within) (met.up i k d b w) s in
-        let n : begins front (key (get_or xs i d)) ≡ false = ap (λ y. begins front (key y)) (get_or_default xs i d x within ∙ sym is) ∙ not in cc))
-  ]))
+  pub none_behind : (i : ℕ) (x : X) → first ≤ i → i < length xs → x ≡ get_or xs i x
+      → begins front (key x) ≡ false → NoneTo is_one xs i → false ≡ list_any is_one xs
+  none_behind i x from within is not none = sym
+      (list_any_none is_one xs (λ k d w. elim (below_or_not k i) [
+        | inl b ↦ none k d b w
+        | inr b ↦ ap (λ t. t && live (key (get_or xs k d)))
+            (not_true (begins front (key (get_or xs k d))) (λ s.
+            let t = between front (key (get_or xs i d)) _ (met.split.1 i d from within)
+            (met.up i k d b w) s in
+            let n : begins front (key (get_or xs i d))
+            ≡ false = ap (λ y. begins front (key y)) (get_or_default xs i d x within ∙ sym is)
+            ∙ not in cc))
+      ]))

@@ -11,7 +11,8 @@ use Rattle.msb_files.specs.Views.{content, acts_of}
 -- acts of which the newest stands first, without those on whose path a later one acted
 abbrev pub last_acts : List Act → List Act
 last_acts [] = []
-last_acts (act ∷ older) = act ∷ filter (λ a. not (bytes_eq (act_path a) (act_path act))) (last_acts older)
+last_acts (act ∷ older) = act ∷ filter (λ a. not (bytes_eq (act_path a) (act_path act)))
+    (last_acts older)
 
 -- the last act on each path, in the order of the journal
 abbrev pub commit_list : Journal → List Act

@@ -31,8 +31,8 @@ pub record IsOrdered (entries : Journal) (before after : List ℕ) : Type 0 wher
   pub sorted : IsSortedByKey (path_at entries) (slice_cmp nat_cmp) after
   pub first : (path : List ℕ) → find (is_on entries path) after ≡ find (is_on entries path) before
 
--- the places of the acts of entries that stand oldest first: in the byte order of the paths, and the
--- newest on a path ahead of the others on it
+-- the places of the acts of entries that stand oldest first: in the byte order of the paths, and
+-- the newest on a path ahead of the others on it
 abbrev pub IsByPath : Journal → List ℕ → Type 0
 IsByPath entries places = IsOrdered entries (places_of (reverse entries)) places
 

@@ -8,7 +8,8 @@ use Rattle.msb_files.specs.declared.entry.JView.TheVariants as shown
 
 -- the entry that is shown
 abbrev pub entry_shown : JView → Entry
-entry_shown (shown.Wrote run number path bytes) = acted run.now number (Write (record { path = path.now; bytes = bytes.now }))
+entry_shown (shown.Wrote run number path bytes) = acted run.now number
+    (Write (record { path = path.now; bytes = bytes.now }))
 entry_shown (shown.Removed run number path) = acted run.now number (Remove path.now)
 entry_shown (shown.Ended run made) = ended run.now made.now
 

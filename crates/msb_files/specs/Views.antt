@@ -1,6 +1,18 @@
--- Files as a run sees them: those of a tree, with what runs have written over them and without what they have removed.
--- (MSBuild targets; Incremental builds; Delete task.)
-use Rattle.std.specs.Prelude.{ℕ, Bool, List, [], ◌∷◌, map, filter, Option, option_map, is_some, unwrap_or}
+-- Files as a run sees them: those of a tree, with what runs have written over them and without what
+-- they have removed. (MSBuild targets; Incremental builds; Delete task.)
+use Rattle.std.specs.Prelude.{
+  ℕ,
+  Bool,
+  List,
+  [],
+  ◌∷◌,
+  map,
+  filter,
+  Option,
+  option_map,
+  is_some,
+  unwrap_or,
+}
 use Rattle.std.specs.BTreeSet.{insert_key}
 use Rattle.std.specs.Cmp.Lexicographic.{slice_cmp}
 use Rattle.std.specs.Ordering.{nat_cmp}
@@ -42,7 +54,8 @@ with_paths (path ∷ paths) others = with_paths paths (insert_key (slice_cmp nat
 
 -- the paths of the tree and of all acts, in byte order, each once
 abbrev pub paths_met : View → List (List ℕ)
-paths_met view = with_paths (paths_of view.files) (with_paths (map act_path (acts_of view.journal)) [])
+paths_met view = with_paths (paths_of view.files)
+    (with_paths (map act_path (acts_of view.journal)) [])
 
 -- the paths of all files that there are, in byte order, each once
 abbrev pub paths : View → List (List ℕ)

@@ -1,5 +1,5 @@
-//! Whether a run sees a file below a folder. Paths below a folder stand together in byte order, and are searched by
-//! halves.
+//! Whether a run sees a file below a folder. Paths below a folder stand together in byte order, and
+//! are searched by halves.
 
 ghost use Rattle.std.specs.Prelude.{◌≡◌, [], ◌∷◌, ◌++◌, nat_eq, true};
 ghost use Rattle.std.specs.List.{list_any, starts_with};

@@ -14,7 +14,8 @@ use std::alloc::Global;
 use std::collections::BTreeSet;
 
 impl Journal {
-    /// What a build does to files once it is over: of each path the last act on it, in the order of the journal.
+    /// What a build does to files once it is over: of each path the last act on it, in the order of
+    /// the journal.
     pub fn commit_list(&self, alloc: Global) -> Result<List<Act>, NoMemory>
         ensures { IfOk result (λ list. list ≡ commit_list self.now) }
     {
@@ -45,8 +46,10 @@ fn push_unless_acted(
     act: &Act,
 ) -> Result<(), NoMemory>
     ensures acts { OnOk result (acts.new.items ≡
-        (if list_any (bytes_eq (act_path act.now)) paths.old.keys then acts.old.items else acts.old.items ++ act.now ∷ [])) }
-    ensures paths { OnOk result (paths.new.keys ≡ insert_key (slice_cmp nat_cmp) paths.old.keys (act_path act.now)) }
+        (if list_any (bytes_eq (act_path act.now)) paths.old.keys then acts.old.items else
+        acts.old.items ++ act.now ∷ [])) }
+    ensures paths { OnOk result (paths.new.keys
+        ≡ insert_key (slice_cmp nat_cmp) paths.old.keys (act_path act.now)) }
 {
     if paths.insert(Text::of(alloc, act.path())?)? {
         acts.push(act.copy()?)?;

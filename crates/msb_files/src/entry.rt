@@ -18,9 +18,9 @@ use result_cache::{Record, RecordRef, RunId, RunRef};
 use std::alloc::Global;
 use std::marker::Model;
 
-/// An entry of a journal, as a report reads it: a file that a run has written, with its place among the segments of the
-/// run's record, its path and its bytes; a file that a run has removed, with its place and its path; or a run that has
-/// ended, with its record. (Delete task.)
+/// An entry of a journal, as a report reads it: a file that a run has written, with its place among
+/// the segments of the run's record, its path and its bytes; a file that a run has removed, with
+/// its place and its path; or a run that has ended, with its record. (Delete task.)
 pub enum JView<'a> {
     Wrote(&'a RunId, u64, &'a str, &'a [u8]),
     Removed(&'a RunId, u64, &'a str),
@@ -81,7 +81,8 @@ impl Entry {
     /// The act of a segment of a run's record.
     pub(crate) fn recorded(run: &RunRef, made: &RecordRef, number: usize) -> Result<Entry, NoMemory>
         requires { IsSome (act_at made.now number) }
-        ensures { IfOk result (λ e. IfSome (act_at made.now number) (λ act. e ≡ acted run.now number act)) }
+        ensures { IfOk result
+            (λ e. IfSome (act_at made.now number) (λ act. e ≡ acted run.now number act)) }
     {
         let run = run.copy()?;
         let act = ActRef::recorded(made, number)?;
@@ -131,7 +132,8 @@ impl Entry {
 
     /// Whether it is an act on a path below a folder at which the view has a file.
     pub(crate) fn is_below(&self, view: &FileView<'_>, folder: &str) -> bool
-        ensures { result ≡ list_any (λ act. has_file_below view.now folder.now (act_path act)) (acts_of (self.now ∷ [])) }
+        ensures { result ≡ list_any (λ act. has_file_below view.now folder.now (act_path act))
+            (acts_of (self.now ∷ [])) }
     {
         match self.act() {
             Some(act) => {

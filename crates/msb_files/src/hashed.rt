@@ -14,7 +14,8 @@ pub(crate) type Marks = IndexSet<KeptMark>;
 
 /// Puts the marks of entries among others.
 pub(crate) fn insert_marks(marks: &mut Marks, entries: &[Entry]) -> Result<(), NoMemory>
-    ensures { OnOk result ((old : Journal) → HasMarks old marks.old → HasMarks (reverse entries.now ++ old) marks.new) }
+    ensures { OnOk result ((old : Journal) → HasMarks old marks.old
+        → HasMarks (reverse entries.now ++ old) marks.new) }
 {
     for entry in entries {
         insert_mark(marks, entry)?;

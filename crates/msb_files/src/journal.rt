@@ -1,4 +1,18 @@
-ghost use Rattle.std.specs.Prelude.{◌≡◌, ◌<◌, [], ◌∷◌, length, reverse, slice_get, IfOk, OnOk, OnErr, Some, map, option_copied};
+ghost use Rattle.std.specs.Prelude.{
+  ◌≡◌,
+  ◌<◌,
+  [],
+  ◌∷◌,
+  length,
+  reverse,
+  slice_get,
+  IfOk,
+  OnOk,
+  OnErr,
+  Some,
+  map,
+  option_copied,
+};
 ghost use Rattle.std.specs.List.{list_any};
 ghost use Rattle.msb_values.specs.Acts.{act_path};
 ghost use Rattle.result_cache.specs.Journal.{acted, ended, end_of, has, add};
@@ -22,12 +36,12 @@ use std::marker::Model;
 /// How many entries a journal may hold in front of its layers, where each copy of it copies them.
 const MOST: usize = 16;
 
-/// What a request knows of what runs have done to files and of the runs that have ended. (MSBuild targets; MSBuild
-/// task.)
+/// What a request knows of what runs have done to files and of the runs that have ended. (MSBuild
+/// targets; MSBuild task.)
 ///
-/// A copy takes a time and room that grow with the logarithm of the number of entries, and shares the
-/// rest. So does the time of a look for a run, which takes no memory; one for the last act on a path, or
-/// for files below a folder, takes the square.
+/// A copy takes a time and room that grow with the logarithm of the number of entries, and shares
+/// the rest. So does the time of a look for a run, which takes no memory; one for the last act on a
+/// path, or for files below a folder, takes the square.
 pub struct Journal {
     /// The newest entries, which no other journal shares.
     part: Part,
@@ -70,8 +84,9 @@ impl Journal {
         })
     }
 
-    /// What a run has done to a path, with its place among the segments of the run's record; an act that is there by run
-    /// and place is not taken again. Want of memory leaves the journal as it was. (Delete task.)
+    /// What a run has done to a path, with its place among the segments of the run's record; an act
+    /// that is there by run and place is not taken again. Want of memory leaves the journal as it
+    /// was. (Delete task.)
     pub fn acted(
         &mut self,
         alloc: Global,
@@ -88,8 +103,8 @@ impl Journal {
         self.enter(alloc, Entry::acted(alloc, run.copy()?, number, act)?)
     }
 
-    /// A run that has ended, with its record; a run that has ended before is not taken again. Want of memory leaves the
-    /// journal as it was.
+    /// A run that has ended, with its record; a run that has ended before is not taken again. Want
+    /// of memory leaves the journal as it was.
     pub fn ended(&mut self, alloc: Global, run: &RunRef, made: RecordRef) -> Result<(), NoMemory>
         ensures ok { OnOk result (self.new ≡ add self.old (ended run.now made)) }
         ensures err { OnErr result (self.new ≡ self.old) }
@@ -135,14 +150,16 @@ impl Journal {
 
     // Whether there is an act on a path below a folder at which the view has a file.
     pub(crate) fn is_any_below(&self, view: &FileView<'_>, folder: &str) -> bool
-        ensures { result ≡ list_any (λ act. has_file_below view.now folder.now (act_path act)) (acts_of self.now) }
+        ensures { result ≡ list_any (λ act. has_file_below view.now folder.now (act_path act))
+            (acts_of self.now) }
     {
         self.part.is_any_below(view, folder) || is_any_below(self.layers.as_slice(), view, folder)
     }
 
     // Puts the paths of all acts among others, in byte order.
     pub(crate) fn add_paths(&self, alloc: Global, all: &mut BTreeSet<Text>) -> Result<(), NoMemory>
-        ensures { OnOk result (all.new.keys ≡ with_paths (map act_path (acts_of self.now)) all.old.keys) }
+        ensures { OnOk result
+            (all.new.keys ≡ with_paths (map act_path (acts_of self.now)) all.old.keys) }
     {
         let count = self.count();
         for at in 0..count {

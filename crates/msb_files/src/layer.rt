@@ -1,4 +1,14 @@
-ghost use Rattle.std.specs.Prelude.{◌≡◌, ◌<◌, ◌++◌, length, reverse, slice_get, Some, IfOk, option_copied};
+ghost use Rattle.std.specs.Prelude.{
+  ◌≡◌,
+  ◌<◌,
+  ◌++◌,
+  length,
+  reverse,
+  slice_get,
+  Some,
+  IfOk,
+  option_copied,
+};
 ghost use Rattle.std.specs.List.{list_any};
 ghost use Rattle.msb_values.specs.Acts.{act_path};
 ghost use Rattle.result_cache.specs.Journal.{has};
@@ -136,7 +146,8 @@ impl Layer {
 
     /// Whether an act here is on a path below a folder at which the view has a file.
     pub(crate) fn is_any_below(&self, view: &FileView<'_>, folder: &str) -> bool
-        ensures { result ≡ list_any (λ act. has_file_below view.now folder.now (act_path act)) (acts_of self.now) }
+        ensures { result ≡ list_any (λ act. has_file_below view.now folder.now (act_path act))
+            (acts_of self.now) }
     {
         is_any_below(self.entries(), self.places(), view, folder)
     }

@@ -16,8 +16,9 @@ use crate::mark::Mark;
 use msb_values::{Act, List, NoMemory};
 use std::alloc::Global;
 
-/// The layers with a new one over them, which takes in those that are no larger than itself: so each layer is larger
-/// than the one over it, and there are no more of them than the logarithm of the number of entries.
+/// The layers with a new one over them, which takes in those that are no larger than itself: so
+/// each layer is larger than the one over it, and there are no more of them than the logarithm of
+/// the number of entries.
 pub(crate) fn with_new(
     alloc: Global,
     layers: &[LayerRef],
@@ -55,7 +56,8 @@ pub(crate) fn last_act<'a>(layers: &'a [LayerRef], path: &str) -> Option<&'a Act
 
 /// Whether there is an act on a path below a folder at which the view has a file.
 pub(crate) fn is_any_below(layers: &[LayerRef], view: &FileView<'_>, folder: &str) -> bool
-    ensures { result ≡ list_any (λ act. has_file_below view.now folder.now (act_path act)) (acts_of (all_of layers.now)) }
+    ensures { result ≡ list_any (λ act. has_file_below view.now folder.now (act_path act))
+        (acts_of (all_of layers.now)) }
 {
     for layer in layers {
         if layer.get().is_any_below(view, folder) {

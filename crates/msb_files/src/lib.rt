@@ -1,9 +1,9 @@
-//! Journals of what runs have done to files and of the runs that have ended, and files as a run sees them: those of the
-//! tree, with what its journal has written over them and without what it has removed. (MSBuild targets; MSBuild task;
-//! Delete task; Incremental builds.)
+//! Journals of what runs have done to files and of the runs that have ended, and files as a run
+//! sees them: those of the tree, with what its journal has written over them and without what it
+//! has removed. (MSBuild targets; MSBuild task; Delete task; Incremental builds.)
 //!
-//! A contract sees a [`Journal`] as the plain list of its entries, the newest first, and a [`FileView`] as the files of
-//! its tree and that list.
+//! A contract sees a [`Journal`] as the plain list of its entries, the newest first, and a
+//! [`FileView`] as the files of its tree and that list.
 #![tactic(auto)]
 
 mod below;

@@ -6,8 +6,9 @@ use msb_values::{Copied, NoMemory};
 use std::alloc::Global;
 
 impl Journal {
-    /// Puts the entries of another journal that are not there, by run and number, behind these, in their order. This joins
-    /// the journals of calls made at once. Want of memory leaves the journal as it was. (MSBuild task, BuildInParallel.)
+    /// Puts the entries of another journal that are not there, by run and number, behind these, in
+    /// their order. This joins the journals of calls made at once. Want of memory leaves the
+    /// journal as it was. (MSBuild task, BuildInParallel.)
     pub fn merge(&mut self, alloc: Global, other: &Journal) -> Result<(), NoMemory>
         ensures ok { OnOk result (self.new ≡ merge self.old other.now) }
         ensures err { OnErr result (self.new ≡ self.old) }

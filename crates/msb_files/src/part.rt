@@ -1,4 +1,18 @@
-ghost use Rattle.std.specs.Prelude.{◌≡◌, ◌<◌, ◌++◌, [], ◌∷◌, Some, length, reverse, slice_get, IfOk, OnOk, OnErr, option_copied};
+ghost use Rattle.std.specs.Prelude.{
+  ◌≡◌,
+  ◌<◌,
+  ◌++◌,
+  [],
+  ◌∷◌,
+  Some,
+  length,
+  reverse,
+  slice_get,
+  IfOk,
+  OnOk,
+  OnErr,
+  option_copied,
+};
 ghost use Rattle.std.specs.List.{list_any};
 ghost use Rattle.msb_values.specs.Acts.{act_path};
 ghost use Rattle.result_cache.specs.Journal.{has};
@@ -15,7 +29,8 @@ use msb_values::{Act, Copied, NoMemory};
 use std::alloc::Global;
 use std::marker::Model;
 
-/// Entries to which others are added in place, with an index by mark. A path is looked for in one after the other.
+/// Entries to which others are added in place, with an index by mark. A path is looked for in one
+/// after the other.
 pub(crate) struct Part {
     /// The oldest first.
     entries: Vec<Entry>,
@@ -91,7 +106,8 @@ impl Part {
 
     /// Whether an act here is on a path below a folder at which the view has a file.
     pub(crate) fn is_any_below(&self, view: &FileView<'_>, folder: &str) -> bool
-        ensures { result ≡ list_any (λ act. has_file_below view.now folder.now (act_path act)) (acts_of self.now) }
+        ensures { result ≡ list_any (λ act. has_file_below view.now folder.now (act_path act))
+            (acts_of self.now) }
     {
         is_any_entry_below(&self.entries, view, folder)
     }
@@ -139,7 +155,10 @@ pub(crate) fn push_copies(entries: &mut Vec<Entry>, more: &[Entry]) -> Result<()
 }
 
 fn is_any_entry_below(entries: &[Entry], view: &FileView<'_>, folder: &str) -> bool
-    ensures { result ≡ list_any (λ e. list_any (λ act. has_file_below view.now folder.now (act_path act)) (acts_of (e ∷ []))) entries.now }
+    ensures { result
+        ≡ list_any
+        (λ e. list_any (λ act. has_file_below view.now folder.now (act_path act))
+        (acts_of (e ∷ []))) entries.now }
 {
     entries.iter().any(|entry| entry.is_below(view, folder))
 }

@@ -11,10 +11,11 @@ use result_cache::{Found, RecordRef, RunRef, Segment, Table};
 use std::alloc::Global;
 
 impl Journal {
-    /// Uses the record of a run: puts what the journal lacks of it behind the entries, in the record's order, with what it
-    /// lacks of the records of the runs that its calls made or used, and then the run's end. A run that has ended in the
-    /// journal adds nothing. Every record that is taken has to be in the table before the one that calls for it. Want of
-    /// memory leaves the journal as it was. (MSBuild task.)
+    /// Uses the record of a run: puts what the journal lacks of it behind the entries, in the
+    /// record's order, with what it lacks of the records of the runs that its calls made or used,
+    /// and then the run's end. A run that has ended in the journal adds nothing. Every record that
+    /// is taken has to be in the table before the one that calls for it. Want of memory leaves the
+    /// journal as it was. (MSBuild task.)
     pub fn replay(&mut self, alloc: Global, table: &Table, run: &RunRef) -> Result<(), NoMemory>
         requires { IsSome (replay table.now.finished run.now self.old) }
         ensures ok { OnOk result (replay table.now.finished run.now self.old ≡ Some self.new) }
@@ -96,8 +97,12 @@ fn take_record(
     run: &RunRef,
     made: &RecordRef,
 ) -> Result<(), NoMemory>
-    requires { IsSome (replays (replay (before run.now table.now.finished)) (effects_of run.now made.now) journal.old) }
-    ensures { OnOk result (replays (replay (before run.now table.now.finished)) (effects_of run.now made.now) journal.old ≡ Some journal.new) }
+    requires { IsSome
+        (replays (replay (before run.now table.now.finished)) (effects_of run.now made.now)
+        journal.old) }
+    ensures { OnOk result
+        (replays (replay (before run.now table.now.finished)) (effects_of run.now made.now)
+        journal.old ≡ Some journal.new) }
 {
     for (number, segment) in made.get().segments.as_slice().iter().enumerate() {
         match segment {
@@ -116,8 +121,12 @@ fn take_runs(
     outer: &RunRef,
     runs: &[RunRef],
 ) -> Result<(), NoMemory>
-    requires { IsSome (replays (replay (before outer.now table.now.finished)) (map replays_run runs.now) journal.old) }
-    ensures { OnOk result (replays (replay (before outer.now table.now.finished)) (map replays_run runs.now) journal.old ≡ Some journal.new) }
+    requires { IsSome
+        (replays (replay (before outer.now table.now.finished)) (map replays_run runs.now)
+        journal.old) }
+    ensures { OnOk result
+        (replays (replay (before outer.now table.now.finished)) (map replays_run runs.now)
+        journal.old ≡ Some journal.new) }
 {
     table.each_once();
     for run in runs {

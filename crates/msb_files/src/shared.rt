@@ -9,8 +9,8 @@ use std::alloc::Global;
 use std::marker::Model;
 use std::sync::Arc;
 
-/// What a run has done to a path, which all journals that have it share, with the record of the run where the run has
-/// ended.
+/// What a run has done to a path, which all journals that have it share, with the record of the run
+/// where the run has ended.
 pub(crate) struct ActRef {
     kept: KeptAct,
 }

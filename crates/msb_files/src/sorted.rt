@@ -1,6 +1,16 @@
 //! The places of acts in byte order of their paths, which are searched by halves.
 
-ghost use Rattle.std.specs.Prelude.{◌≡◌, ◌+◌, ◌++◌, map, reverse, slice_get, IfOk, OnOk, option_copied};
+ghost use Rattle.std.specs.Prelude.{
+  ◌≡◌,
+  ◌+◌,
+  ◌++◌,
+  map,
+  reverse,
+  slice_get,
+  IfOk,
+  OnOk,
+  option_copied,
+};
 ghost use Rattle.std.specs.List.{list_any};
 ghost use Rattle.msb_values.specs.Acts.{act_path};
 ghost use Rattle.msb_files.specs.Below.{has_file_below};
@@ -22,8 +32,8 @@ pub(crate) fn by_path(alloc: Global, entries: &[Entry]) -> Result<Vec<usize>, No
     ordered(entries, places)
 }
 
-/// The places of newer acts, which so many entries precede, and of older ones: where both are in byte
-/// order of their paths, they are merged.
+/// The places of newer acts, which so many entries precede, and of older ones: where both are in
+/// byte order of their paths, they are merged.
 pub(crate) fn merged(
     alloc: Global,
     entries: &[Entry],

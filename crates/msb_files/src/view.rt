@@ -14,8 +14,8 @@ use std::alloc::Global;
 use std::collections::BTreeSet;
 use std::marker::Model;
 
-/// Files as a run sees them: those of the tree, with what its request's journal has written over them and without what it
-/// has removed. (MSBuild targets; Incremental builds; Delete task.)
+/// Files as a run sees them: those of the tree, with what its request's journal has written over
+/// them and without what it has removed. (MSBuild targets; Incremental builds; Delete task.)
 #[derive(Drop)]
 pub struct FileView<'a> {
     tree: &'a Tree,
@@ -37,7 +37,8 @@ impl<'a> FileView<'a> {
         FileView { tree, journal }
     }
 
-    /// The bytes of the file at a path: what the last act on it left, else what the tree has. Takes no memory.
+    /// The bytes of the file at a path: what the last act on it left, else what the tree has. Takes
+    /// no memory.
     pub fn content(&self, path: &str) -> Option<&[u8]>
         ensures { option_copied result ≡ content self.now path.now }
     {
@@ -94,8 +95,10 @@ impl<'a> Present for FileView<'a> {
 impl<'a> FileView<'a> {
     // Whether there is a file below a folder.
     fn is_any_below(&self, folder: &str) -> bool
-        ensures { result ≡ (list_any (λ file. has_file_below self.now folder.now file.path) self.now.files
-            || list_any (λ act. has_file_below self.now folder.now (act_path act)) (acts_of self.now.journal)) }
+        ensures { result
+            ≡ (list_any (λ file. has_file_below self.now folder.now file.path) self.now.files
+            || list_any (λ act. has_file_below self.now folder.now (act_path act))
+            (acts_of self.now.journal)) }
     {
         is_any_file_below(self.tree.files.as_slice(), self, folder)
             || self.journal.is_any_below(self, folder)

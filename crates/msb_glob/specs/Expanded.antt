@@ -1,5 +1,21 @@
 -- The matches of a pattern among paths. (MSBuild items, wildcards to specify items)
-use Rattle.std.specs.Prelude.{◌≡◌, ℕ, nat_eq, Bool, List, [], ◌∷◌, ◌++◌, map, filter, length, drop, IsPermutation, IsSorted, if◌then◌else◌}
+use Rattle.std.specs.Prelude.{
+  ◌≡◌,
+  ℕ,
+  nat_eq,
+  Bool,
+  List,
+  [],
+  ◌∷◌,
+  ◌++◌,
+  map,
+  filter,
+  length,
+  drop,
+  IsPermutation,
+  IsSorted,
+  if◌then◌else◌,
+}
 use Rattle.std.specs.List.{slice_split, flat_map, starts_with}
 use Rattle.std.specs.Ordering.{nat_cmp}
 use Rattle.std.specs.Cmp.Lexicographic.{slice_cmp}
@@ -14,11 +30,12 @@ use Rattle.msb_glob.specs.declared.parts.Part.{Part}
 abbrev pub is_match : Reading → List ℕ → Bool
 is_match pattern path = fits_path pattern.parts path
 
--- the pattern's fixed part, and then the rest of a path below the folder that the fixed part leads to; any other path
--- from the root
+-- the pattern's fixed part, and then the rest of a path below the folder that the fixed part leads
+-- to; any other path from the root
 abbrev pub ident_of : Reading → List ℕ → List ℕ
 ident_of pattern path =
-    if starts_with nat_eq path pattern.folder then pattern.fixed ++ escaped (drop (length pattern.folder) path)
+    if starts_with nat_eq path pattern.folder then pattern.fixed
+    ++ escaped (drop (length pattern.folder) path)
     else 47 ∷ escaped path
 
 -- the folders that the first `**` stands for, each with `/`
@@ -26,10 +43,12 @@ abbrev pub folder_text : List ℕ → List ℕ
 folder_text folder = escaped folder ++ 47 ∷ []
 
 abbrev pub recursive_dir : List Part → List ℕ → List ℕ
-recursive_dir parts path = flat_map folder_text (first_gap (map segment_token parts) (slice_split is_slash path))
+recursive_dir parts path = flat_map folder_text
+    (first_gap (map segment_token parts) (slice_split is_slash path))
 
 abbrev pub match_of : Reading → List ℕ → Match
-match_of pattern path = record { ident = ident_of pattern path; recursive = recursive_dir pattern.parts path }
+match_of pattern path = record
+    { ident = ident_of pattern path; recursive = recursive_dir pattern.parts path }
 
 -- the matching paths in byte order, each with its identity and its RecursiveDir
 pub record Expands (pattern : Reading) (paths : List (List ℕ)) (matches : List Match) : Type 0 where

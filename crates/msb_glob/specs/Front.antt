@@ -10,7 +10,8 @@ use Rattle.msb_glob.specs.declared.parts.Part.TheVariants.{AnyFolders, Exact, Se
 abbrev pub are_gaps : List Part → Bool
 are_gaps parts = list_all (λ part. is_gap (segment_token part)) parts
 
--- the first segments, as far as they are without wildcards, each with `/` where another segment follows
+-- the first segments, as far as they are without wildcards, each with `/` where another segment
+-- follows
 abbrev pub front_of : List Part → List ℕ
 front_of [] = []
 front_of (AnyFolders ∷ parts) = []

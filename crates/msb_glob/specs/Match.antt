@@ -18,8 +18,8 @@ character_token (Character c) = one (λ d. d == c)
 abbrev pub fits_segment : List Piece → List ℕ → Bool
 fits_segment pieces segment = fits (map character_token pieces) (chars segment)
 
--- `**` stands for any number of whole folders, a segment without wildcards for itself, and every other for one of its
--- form
+-- `**` stands for any number of whole folders, a segment without wildcards for itself, and every
+-- other for one of its form
 abbrev pub segment_token : Part → Token (List ℕ)
 segment_token AnyFolders = gap
 segment_token (Exact text) = one (bytes_eq text)

@@ -1,5 +1,30 @@
 -- What a pattern's text says. (MSBuild items, wildcards to specify items)
-use Rattle.std.specs.Prelude.{ℕ, ◌-◌, Bool, true, false, ◌||◌, ◌&&◌, not, ◌==◌, List, [], ◌∷◌, ◌++◌, map, length, slice_get, codes, Option, Some, None, Result, Ok, Err, if◌then◌else◌}
+use Rattle.std.specs.Prelude.{
+  ℕ,
+  ◌-◌,
+  Bool,
+  true,
+  false,
+  ◌||◌,
+  ◌&&◌,
+  not,
+  ◌==◌,
+  List,
+  [],
+  ◌∷◌,
+  ◌++◌,
+  map,
+  length,
+  slice_get,
+  codes,
+  Option,
+  Some,
+  None,
+  Result,
+  Ok,
+  Err,
+  if◌then◌else◌,
+}
 use Rattle.std.specs.List.{slice_split, list_any, before_first}
 use Rattle.std.specs.Str.{bytes_eq, chars}
 use Rattle.msb_paths.specs.Segments.{is_slash, is_backslash, segments}
@@ -14,7 +39,8 @@ use Rattle.msb_glob.specs.declared.pieces.Piece.TheVariants.{AnyCharacters, AnyC
 use Rattle.msb_glob.specs.declared.parts.Part.{Part}
 use Rattle.msb_glob.specs.declared.parts.Part.TheVariants.{AnyFolders, Exact, Segment}
 
--- the fixed part as written, what the paths below the folder that it leads to begin with, and the parts of the whole
+-- the fixed part as written, what the paths below the folder that it leads to begin with, and the
+-- parts of the whole
 pub record Reading : Type 0 where
   pub fixed : List ℕ
   pub folder : List ℕ
@@ -37,9 +63,11 @@ abbrev pub around_questions : {A : Type 0} → A → (List ℕ → List A) → L
 around_questions question plain text = parted_by question (map plain (slice_split is_question text))
 
 abbrev pub around_wildcards : {A : Type 0} → A → A → (List ℕ → List A) → List ℕ → List A
-around_wildcards star question plain text = parted_by star (map (around_questions question plain) (slice_split is_star text))
+around_wildcards star question plain text = parted_by star
+    (map (around_questions question plain) (slice_split is_star text))
 
--- a text that has its wildcards, and each other character as itself or as the escape of a special one
+-- a text that has its wildcards, and each other character as itself or as the escape of a special
+-- one
 abbrev pub literal : List ℕ → List ℕ
 literal text = escaped (unescaped text)
 
@@ -71,7 +99,8 @@ is_pattern text = list_any is_wildcard text
 
 -- a segment without wildcards stands for itself
 abbrev pub part_of : List ℕ → Part
-part_of segment = if bytes_eq segment (codes "**") then AnyFolders else if is_pattern segment then Segment (pieces_of segment) else Exact (unescaped segment)
+part_of segment = if bytes_eq segment (codes "**") then AnyFolders else if is_pattern segment then
+    Segment (pieces_of segment) else Exact (unescaped segment)
 
 abbrev pub is_folders : Option Part → Bool
 is_folders None = false
@@ -81,7 +110,8 @@ is_folders (Some (Segment pieces)) = false
 
 -- as a last segment, `**` stands for folders and one more segment
 abbrev pub closed : List Part → List Part
-closed parts = if is_folders (slice_get parts (length parts - 1)) then parts ++ Segment (AnyCharacters ∷ []) ∷ [] else parts
+closed parts = if is_folders (slice_get parts (length parts - 1)) then parts
+    ++ Segment (AnyCharacters ∷ []) ∷ [] else parts
 
 abbrev pub parts_of : List ℕ → List Part
 parts_of path = closed (map part_of (slice_split is_slash path))
@@ -116,4 +146,5 @@ read_path base text (Err fault) = Err (Path fault)
 
 -- a text on a base folder as a pattern: made normal like a path, its wildcards kept
 abbrev pub parsed : List ℕ → List ℕ → Result Reading GlobFault
-parsed base text = if list_any has_stars_inside (segments text) then Err StarsInSegment else read_path base text (normalized (escaped base) (cleared text))
+parsed base text = if list_any has_stars_inside (segments text) then Err StarsInSegment else
+    read_path base text (normalized (escaped base) (cleared text))

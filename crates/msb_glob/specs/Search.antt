@@ -1,5 +1,24 @@
 -- A search for a fit, which keeps only its last gap open.
-use Rattle.std.specs.Prelude.{◌≡◌, ℕ, zero, suc, ◌+◌, ◌-◌, ◌*◌, ◌≤◌, Bool, true, false, ◌||◌, List, [], ◌∷◌, ◌++◌, length, drop}
+use Rattle.std.specs.Prelude.{
+  ◌≡◌,
+  ℕ,
+  zero,
+  suc,
+  ◌+◌,
+  ◌-◌,
+  ◌*◌,
+  ◌≤◌,
+  Bool,
+  true,
+  false,
+  ◌||◌,
+  List,
+  [],
+  ◌∷◌,
+  ◌++◌,
+  length,
+  drop,
+}
 use Rattle.std.specs.List.{list_all}
 use Rattle.msb_glob.specs.Tokens.{Token, gap, one, some_tail, fits}
 
@@ -21,8 +40,10 @@ abbrev pub fits_again : {X : Type 0} → List (Token X) → ℕ → List X → B
 fits_again tokens zero from = false
 fits_again tokens (suc n) from = later_tail (fits (drop (suc n) tokens)) from
 
--- the tokens from `at` stand against `rest`; those since the last gap have taken one entry each of `from`
-pub record Searching {X : Type 0} (tokens : List (Token X)) (entries : List X) (at : ℕ) (rest : List X) (star : ℕ) (from : List X) : Type 0 where
+-- the tokens from `at` stand against `rest`; those since the last gap have taken one entry each of
+-- `from`
+pub record Searching {X : Type 0} (tokens : List (Token X)) (entries : List X) (at : ℕ)
+    (rest : List X) (star : ℕ) (from : List X) : Type 0 where
   pub in_range : at ≤ length tokens
   pub behind_star : star ≤ at
   pub since : List (Token X)

@@ -1,7 +1,8 @@
 -- How the tokens of a pattern stand along a list, by cases.
 use Rattle.std.specs.Prelude.{Bool, true, false, ◌||◌, ◌&&◌, List, [], ◌∷◌, if◌then◌else◌}
 
--- a gap stands for any number of entries, none included; every other token for one that passes its test
+-- a gap stands for any number of entries, none included; every other token for one that passes its
+-- test
 pub data Token (X : Type 0) : Type 0 where
   gap : Token X
   one : (X → Bool) → Token X

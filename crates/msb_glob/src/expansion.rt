@@ -1,8 +1,30 @@
-ghost use Rattle.std.specs.Prelude.{◌≡◌, ◌++◌, true, false, nat_eq, map, filter, length, drop, IfOk, MatchOption, option_copied, IsPermutation, IsSorted};
+ghost use Rattle.std.specs.Prelude.{
+  ◌≡◌,
+  ◌++◌,
+  true,
+  false,
+  nat_eq,
+  map,
+  filter,
+  length,
+  drop,
+  IfOk,
+  MatchOption,
+  option_copied,
+  IsPermutation,
+  IsSorted,
+};
 ghost use Rattle.std.specs.List.{flat_map, starts_with};
 ghost use Rattle.std.specs.Ordering.{nat_cmp};
 ghost use Rattle.std.specs.Cmp.Lexicographic.{slice_cmp};
-ghost use Rattle.msb_glob.specs.Expanded.{Expands, is_match, ident_of, folder_text, recursive_dir, match_of};
+ghost use Rattle.msb_glob.specs.Expanded.{
+  Expands,
+  is_match,
+  ident_of,
+  folder_text,
+  recursive_dir,
+  match_of,
+};
 ghost use Rattle.msb_glob.specs.Match.{segment_token, segments_left};
 ghost use Rattle.msb_glob.specs.Front.{front_of};
 ghost use Rattle.msb_glob.specs.Tokens.{ahead_of, fits};
@@ -17,8 +39,9 @@ use std::alloc::Global;
 
 /// A path that a pattern stands for.
 pub struct Match {
-    /// The pattern's fixed part as written, with `/`, and then the rest of the path, escaped; or where the path doesn't
-    /// lie below the folder that the fixed part leads to, `/` and the whole path, escaped.
+    /// The pattern's fixed part as written, with `/`, and then the rest of the path, escaped; or
+    /// where the path doesn't lie below the folder that the fixed part leads to, `/` and the whole
+    /// path, escaped.
     pub ident: Word,
     /// The folders that the first `**` stands for, as few as it can, each with `/`, escaped.
     pub recursive: Word,
@@ -46,15 +69,16 @@ pub fn expand(alloc: Global, paths: &List<Text>, pattern: &Pattern) -> Result<Li
 
 /// The paths that a pattern stands for, of paths in byte order.
 ///
-/// Those that begin as every match does are found by halves, and only they are matched: the time grows with their
-/// number, and with the logarithm of the number of all paths.
+/// Those that begin as every match does are found by halves, and only they are matched: the time
+/// grows with their number, and with the logarithm of the number of all paths.
 pub fn expand_in<P: HasPath>(
     alloc: Global,
     paths: &SortedPaths<'_, P>,
     pattern: &Pattern,
 ) -> Result<List<Match>, NoRoom>
     ensures sorted { IfOk result (Expands pattern.now paths.now) }
-    ensures kept { IfOk result (λ matches. matches ≡ map (match_of pattern.now) (filter (is_match pattern.now) paths.now)) }
+    ensures kept { IfOk result (λ matches. matches
+        ≡ map (match_of pattern.now) (filter (is_match pattern.now) paths.now)) }
 {
     let front = front_of(alloc, pattern.parts.as_slice())?;
     let found = matching(alloc, paths.beginning_with(front.as_str()), pattern)?;
@@ -67,7 +91,8 @@ fn matching<'a, P: HasPath>(
     pattern: &Pattern,
 ) -> Result<Vec<&'a str>, OutOfMemory>
     ensures { IfOk result (λ found.
-        map (λ path. path.now) found.items ≡ filter (is_match pattern.now) (map P.path entries.now)) }
+        map (λ path. path.now) found.items ≡ filter (is_match pattern.now)
+        (map P.path entries.now)) }
 {
     let mut found = Vec::new(alloc);
     for entry in entries {
@@ -84,8 +109,11 @@ fn found_in<'a>(
     paths: &'a [Text],
     pattern: &Pattern,
 ) -> Result<Vec<&'a str>, OutOfMemory>
-    ensures matching { IfOk result (λ found. IsPermutation (filter (is_match pattern.now) paths.now) (map (λ path. path.now) found.items)) }
-    ensures in_order { IfOk result (λ found. IsSorted (slice_cmp nat_cmp) (map (λ path. path.now) found.items)) }
+    ensures matching { IfOk result
+        (λ found. IsPermutation (filter (is_match pattern.now) paths.now)
+        (map (λ path. path.now) found.items)) }
+    ensures in_order { IfOk result
+        (λ found. IsSorted (slice_cmp nat_cmp) (map (λ path. path.now) found.items)) }
 {
     let front = front_of(alloc, pattern.parts.as_slice())?;
     let mut found = Vec::new(alloc);
@@ -98,7 +126,8 @@ fn found_in<'a>(
     Ok(found)
 }
 
-/// Whether the pattern stands for a path. Only a path that begins as all of these do is looked at further.
+/// Whether the pattern stands for a path. Only a path that begins as all of these do is looked at
+/// further.
 fn is_below(front: &str, pattern: &Pattern, path: &str) -> bool
     requires { front.now ≡ front_of pattern.now.parts }
     ensures { result ≡ is_match pattern.now path.now }
@@ -128,7 +157,8 @@ fn front_of(alloc: Global, parts: &[Part]) -> Result<Word, OutOfMemory>
 }
 
 fn matches_of(alloc: Global, found: &[&str], pattern: &Pattern) -> Result<List<Match>, OutOfMemory>
-    ensures { IfOk result (λ matches. matches ≡ map (match_of pattern.now) (map (λ path. path.now) found.now)) }
+    ensures { IfOk result (λ matches. matches
+        ≡ map (match_of pattern.now) (map (λ path. path.now) found.now)) }
 {
     let mut matches = List::new(alloc);
     for path in found {
@@ -158,7 +188,8 @@ fn ident_of(alloc: Global, pattern: &Pattern, path: &str) -> Result<Word, OutOfM
 /// What a path has behind a text that it may begin with.
 fn behind<'a>(path: &'a str, front: &str) -> Option<&'a str>
     ensures { MatchOption result (starts_with nat_eq path.now front.now ≡ false)
-        (λ rest. (starts_with nat_eq path.now front.now ≡ true) × (rest.now ≡ drop (length front.now) path.now)) }
+        (λ rest. (starts_with nat_eq path.now front.now ≡ true)
+        × (rest.now ≡ drop (length front.now) path.now)) }
 {
     path.strip_prefix(front)
 }
@@ -191,7 +222,10 @@ fn recursive_dir(alloc: Global, parts: &[Part], path: &str) -> Result<Word, OutO
 
 /// The folders ahead of the first place from which on the parts fit.
 fn folders_ahead(alloc: Global, parts: &[Part], place: Option<&str>) -> Result<Word, OutOfMemory>
-    ensures { IfOk result (λ folders. folders ≡ flat_map folder_text (ahead_of (fits (map segment_token parts.now)) (segments_left (option_copied place.entry)))) }
+    ensures { IfOk result (λ folders. folders
+        ≡ flat_map folder_text
+        (ahead_of (fits (map segment_token parts.now))
+        (segments_left (option_copied place.entry)))) }
 {
     let mut folders = Word::of(alloc, "")?;
     let mut left = place;

@@ -1,4 +1,17 @@
-ghost use Rattle.std.specs.Prelude.{◌≡◌, ◌<◌, ◌≤◌, ℕ, List, [], ◌∷◌, map, length, MatchOption, option_copied, false};
+ghost use Rattle.std.specs.Prelude.{
+  ◌≡◌,
+  ◌<◌,
+  ◌≤◌,
+  ℕ,
+  List,
+  [],
+  ◌∷◌,
+  map,
+  length,
+  MatchOption,
+  option_copied,
+  false,
+};
 ghost use Rattle.std.specs.List.{list_all};
 ghost use Rattle.msb_glob.specs.Match.{segment_token, segments_left, fits_path};
 ghost use Rattle.msb_glob.specs.Search.{is_gap, Searching, effort};
@@ -62,7 +75,8 @@ pub(crate) fn fits_path(parts: &[Part], path: &str) -> bool
 ///
 /// Only the last `**` is tried again: what the earlier ones took can stay as it is.
 pub(crate) fn fits_left(parts: &[Part], left: Option<&str>) -> bool
-    ensures { result ≡ fits (map segment_token parts.now) (segments_left (option_copied left.entry)) }
+    ensures { result ≡ fits (map segment_token parts.now)
+        (segments_left (option_copied left.entry)) }
 {
     let mut place = Place {
         at: 0,
@@ -88,7 +102,8 @@ pub(crate) fn are_gaps(parts: &[Part]) -> bool
 /// The first segment that is left, and what is left behind it.
 pub(crate) fn first_segment(left: Option<&str>) -> Option<(&str, Option<&str>)>
     ensures { MatchOption result (segments_left (option_copied left.entry) ≡ [])
-        (λ p. segments_left (option_copied left.entry) ≡ p.0.now ∷ segments_left (option_copied p.1)) }
+        (λ p. segments_left (option_copied left.entry)
+        ≡ p.0.now ∷ segments_left (option_copied p.1)) }
 {
     let path = left?;
     match split_first(path, '/') {
@@ -105,12 +120,19 @@ fn next_place<'a>(
     behind: Option<&'a str>,
 ) -> Option<Place<'a>>
     requires in_range { place.at ≤ length parts.now }
-    requires next { segments_left (option_copied place.rest) ≡ segment.now ∷ segments_left (option_copied behind) }
+    requires next { segments_left (option_copied place.rest)
+        ≡ segment.now ∷ segments_left (option_copied behind) }
     ensures { (entries : List (List ℕ))
-        → Searching (map segment_token parts.now) entries place.entry.at (segments_left (option_copied place.entry.rest)) place.entry.star (segments_left (option_copied place.entry.from))
+        → Searching (map segment_token parts.now) entries place.entry.at
+        (segments_left (option_copied place.entry.rest)) place.entry.star
+        (segments_left (option_copied place.entry.from))
         → MatchOption result (fits (map segment_token parts.now) entries ≡ false)
-        (λ next. Searching (map segment_token parts.now) entries next.at (segments_left (option_copied next.rest)) next.star (segments_left (option_copied next.from))
-        × (effort (map segment_token parts.now) next.at (segments_left (option_copied next.from)) < effort (map segment_token parts.now) place.entry.at (segments_left (option_copied place.entry.from)))) }
+        (λ next. Searching (map segment_token parts.now) entries next.at
+        (segments_left (option_copied next.rest)) next.star
+        (segments_left (option_copied next.from))
+        × (effort (map segment_token parts.now) next.at (segments_left (option_copied next.from))
+        < effort (map segment_token parts.now) place.entry.at
+        (segments_left (option_copied place.entry.from)))) }
 {
     let Place {
         at,

@@ -44,8 +44,8 @@ impl Model for Pattern {
 impl Pattern {
     /// Reads an entry with wildcards on a base folder, which is normal, or empty for the root.
     ///
-    /// Each escape in the text stands for its one character. `**` stands alone in its segment. What is
-    /// read is made normal like any other path, its wildcards kept.
+    /// Each escape in the text stands for its one character. `**` stands alone in its segment. What
+    /// is read is made normal like any other path, its wildcards kept.
     pub fn parse(alloc: Global, base: &str, text: &str) -> Result<Pattern, GlobFault>
         ensures { Gives result (parsed base.now text.now) }
     {

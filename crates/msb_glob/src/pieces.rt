@@ -1,4 +1,17 @@
-ghost use Rattle.std.specs.Prelude.{◌≡◌, ◌<◌, ◌≤◌, ℕ, List, [], ◌∷◌, map, length, MatchOption, true, false};
+ghost use Rattle.std.specs.Prelude.{
+  ◌≡◌,
+  ◌<◌,
+  ◌≤◌,
+  ℕ,
+  List,
+  [],
+  ◌∷◌,
+  map,
+  length,
+  MatchOption,
+  true,
+  false,
+};
 ghost use Rattle.std.specs.List.{list_all};
 ghost use Rattle.std.specs.Str.{chars};
 ghost use Rattle.msb_glob.specs.Match.{character_token, fits_segment};
@@ -93,9 +106,13 @@ fn next_place<'a>(
     requires in_range { place.at ≤ length pieces.now }
     requires next { chars place.rest.now ≡ character ∷ chars behind.now }
     ensures { (entries : List ℕ)
-        → Searching (map character_token pieces.now) entries place.entry.at (chars place.entry.rest.now) place.entry.star (chars place.entry.from.now)
-        → MatchOption result (fits (map character_token pieces.now) entries ≡ false) (λ next. Searching (map character_token pieces.now) entries next.at (chars next.rest.now) next.star (chars next.from.now)
-        × (effort (map character_token pieces.now) next.at (chars next.from.now) < effort (map character_token pieces.now) place.entry.at (chars place.entry.from.now))) }
+        → Searching (map character_token pieces.now) entries place.entry.at
+        (chars place.entry.rest.now) place.entry.star (chars place.entry.from.now)
+        → MatchOption result (fits (map character_token pieces.now) entries ≡ false)
+        (λ next. Searching (map character_token pieces.now) entries next.at (chars next.rest.now)
+        next.star (chars next.from.now)
+        × (effort (map character_token pieces.now) next.at (chars next.from.now)
+        < effort (map character_token pieces.now) place.entry.at (chars place.entry.from.now))) }
 {
     let Place {
         at,

@@ -2,7 +2,18 @@ ghost use Rattle.std.specs.Prelude.{◌≡◌, ◌++◌, false, map, IfOk};
 ghost use Rattle.std.specs.List.{slice_split, list_any};
 ghost use Rattle.std.specs.Str.{chars};
 ghost use Rattle.msb_paths.specs.Segments.{is_backslash, segments};
-ghost use Rattle.msb_glob.specs.Parsed.{around_questions, literal, cleared, doubles_star, has_stars_inside, characters, pieces_of, part_of, closed, parts_of};
+ghost use Rattle.msb_glob.specs.Parsed.{
+  around_questions,
+  literal,
+  cleared,
+  doubles_star,
+  has_stars_inside,
+  characters,
+  pieces_of,
+  part_of,
+  closed,
+  parts_of,
+};
 ghost use Rattle.msb_glob.specs.declared.pieces.Piece.TheVariants.{AnyCharacter, Character};
 
 use crate::entries::is_pattern;
@@ -147,7 +158,8 @@ fn pieces_of(alloc: Global, segment: &str) -> Result<List<Piece>, OutOfMemory>
 }
 
 fn push_pieces(alloc: Global, pieces: &mut List<Piece>, text: &str) -> Result<(), OutOfMemory>
-    ensures { IfOk result (λ _. pieces.new ≡ pieces.old ++ around_questions AnyCharacter characters text.now) }
+    ensures { IfOk result
+        (λ _. pieces.new ≡ pieces.old ++ around_questions AnyCharacter characters text.now) }
 {
     let mut rest = text;
     while let Some((part, behind)) = split_first(rest, '?') {

@@ -34,7 +34,8 @@ impl HasPath for File {
     }
 }
 
-/// Paths in byte order, so that those which begin alike are found by halves. Equal ones may stand side by side.
+/// Paths in byte order, so that those which begin alike are found by halves. Equal ones may stand
+/// side by side.
 #[derive(Drop)]
 pub struct SortedPaths<'a, P: HasPath> {
     entries: &'a [P],
@@ -60,9 +61,11 @@ impl<'a, P: HasPath> SortedPaths<'a, P> {
         SortedPaths { entries }
     }
 
-    /// The entries whose paths begin with a text. They stand together, so that their ends are found by halves.
+    /// The entries whose paths begin with a text. They stand together, so that their ends are found
+    /// by halves.
     pub(crate) fn beginning_with(&self, front: &str) -> &'a [P]
-        ensures whole { map P.path result.now ≡ filter (λ path. starts_with nat_eq path front.now) self.now }
+        ensures whole { map P.path result.now
+            ≡ filter (λ path. starts_with nat_eq path front.now) self.now }
         ensures in_order { IsSorted (slice_cmp nat_cmp) self.now }
     {
         let entries = self.entries;

@@ -1,5 +1,25 @@
 -- The file that an import brings in. (Import element)
-use Rattle.std.specs.Prelude.{◌≡◌, ℕ, ◌-◌, nat_lt, slice_get, List, [], ◌∷◌, length, Bool, true, false, is_some, Option, Some, None, Result, Ok, Err}
+use Rattle.std.specs.Prelude.{
+  ◌≡◌,
+  ℕ,
+  ◌-◌,
+  nat_lt,
+  slice_get,
+  List,
+  [],
+  ◌∷◌,
+  length,
+  Bool,
+  true,
+  false,
+  is_some,
+  Option,
+  Some,
+  None,
+  Result,
+  Ok,
+  Err,
+}
 use Rattle.std.specs.List.{list_any}
 use Rattle.std.specs.Str.{bytes_eq}
 use Rattle.file_store.specs.Files.{file_at}
@@ -9,7 +29,13 @@ use Rattle.msb_paths.specs.declared.errors.NormalFault.{NormalFault}
 use Rattle.msb_expand.specs.Reserved.{folder_of}
 use Rattle.msb_laws.specs.Results.{and_then}
 use Rattle.msb_import.specs.declared.resolving.ImportFault.{ImportFault}
-use Rattle.msb_import.specs.declared.resolving.ImportFault.TheVariants.{Missing, Duplicate, ImportDepth, Path, Memory}
+use Rattle.msb_import.specs.declared.resolving.ImportFault.TheVariants.{
+  Missing,
+  Duplicate,
+  ImportDepth,
+  Path,
+  Memory,
+}
 
 -- a chain of imports leads from the root file to the importing one, which is the last
 abbrev pub folder_or_root : Option (List ℕ) → List ℕ
@@ -36,13 +62,17 @@ abbrev pub if_new : List (List ℕ) → List ℕ → Bool → Result (List ℕ) 
 if_new chain path true = Err (Duplicate path)
 if_new chain path false = if_short path (nat_lt (length chain) 64)
 
-abbrev pub if_there : List (List ℕ) → List (List ℕ) → List ℕ → Option File → Result (List ℕ) ImportFault
+abbrev pub if_there : List (List ℕ) → List (List ℕ) → List ℕ → Option File
+    → Result (List ℕ) ImportFault
 if_there chain done path None = Err (Missing path)
-if_there chain done path (Some file) = if_new chain path (list_any (λ other. bytes_eq other path) done)
+if_there chain done path (Some file) = if_new chain path
+    (list_any (λ other. bytes_eq other path) done)
 
 -- the path, of a file that is there and was not laid out before
-abbrev pub resolved : List File → List (List ℕ) → List (List ℕ) → List ℕ → Result (List ℕ) ImportFault
-resolved files chain done text = and_then (path_or_fault (importing_folder chain) text) (λ path. if_there chain done path (file_at path files))
+abbrev pub resolved : List File → List (List ℕ) → List (List ℕ) → List ℕ
+    → Result (List ℕ) ImportFault
+resolved files chain done text = and_then (path_or_fault (importing_folder chain) text)
+    (λ path. if_there chain done path (file_at path files))
 
 -- the answer is this one, but for want of memory
 abbrev pub Resolves : Result (List ℕ) ImportFault → Result (List ℕ) ImportFault → Type 0

@@ -7,7 +7,8 @@ use std::alloc::Global;
 use std::collections::BTreeSet;
 use std::marker::Model;
 
-/// The files that were laid out, in that order, which are looked up by their paths. Contracts see the list of the paths.
+/// The files that were laid out, in that order, which are looked up by their paths. Contracts see
+/// the list of the paths.
 pub struct LaidOut {
     files: Vec<Text>,
     known: BTreeSet<Text>,
@@ -33,7 +34,8 @@ impl Model for LaidOut {
     ghost view = { λ l. l.files.items };
 
     /// The set has just the paths of the list.
-    ghost invariant = { λ l. (path : List ℕ) → contains (slice_cmp nat_cmp) l.known path ≡ list_any (λ other. bytes_eq other path) l.files.items };
+    ghost invariant = { λ l. (path : List ℕ) → contains (slice_cmp nat_cmp) l.known path
+        ≡ list_any (λ other. bytes_eq other path) l.files.items };
 }
 
 impl LaidOut {

@@ -34,10 +34,11 @@ impl From<NoMemory> for ImportFault {
 /// How many files a chain of imports may have, the root file included.
 const MOST_FILES: usize = 64;
 
-/// The path of the file that an import brings in, from the text of its Project with values put in and unescaped. The
-/// path is relative to the importing file, the last of the `chain` that leads to it from the root file; `done` are the
-/// files that were laid out before, which are looked up in a time that grows with the logarithm of their number. Of
-/// several faults the first in this order is told: the path, the missing file, the duplicate, the depth. (Import element.)
+/// The path of the file that an import brings in, from the text of its Project with values put in
+/// and unescaped. The path is relative to the importing file, the last of the `chain` that leads to
+/// it from the root file; `done` are the files that were laid out before, which are looked up in a
+/// time that grows with the logarithm of their number. Of several faults the first in this order is
+/// told: the path, the missing file, the duplicate, the depth. (Import element.)
 pub fn resolve(
     alloc: Global,
     tree: &Tree,

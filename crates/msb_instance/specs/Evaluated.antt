@@ -1,5 +1,5 @@
--- The evaluated project, or its first fault: properties and imports, item definitions, items, targets.
--- (How MSBuild builds projects, evaluation phase)
+-- The evaluated project, or its first fault: properties and imports, item definitions, items,
+-- targets. (How MSBuild builds projects, evaluation phase)
 use Rattle.std.specs.Prelude.{ℕ, List, [], map, Bool, Result}
 use Rattle.file_store.specs.Files.{paths_of}
 use Rattle.file_store.specs.declared.tree.File.{File}
@@ -14,10 +14,21 @@ use Rattle.msb_properties.specs.Settings.{setting}
 use Rattle.msb_items.specs.Definitions.{all_defined}
 use Rattle.msb_items.specs.Items.{all_itemed}
 pub use Rattle.build_world.specs.Instances.{Instance, UsedTarget, seen_instance, seen_target}
-use Rattle.msb_instance.specs.Targets.{Target, targets_of, rows_of, file_has_returns, default_or_first}
+use Rattle.msb_instance.specs.Targets.{
+  Target,
+  targets_of,
+  rows_of,
+  file_has_returns,
+  default_or_first,
+}
 
 abbrev pub used : List At → Target → UsedTarget
-used elements target = record { name = target.name; element = target.element; file_has_returns = file_has_returns elements target.element.file }
+used elements target = record {
+  name = target.name;
+  element = target.element;
+  file_has_returns = file_has_returns elements
+      target.element.file;
+}
 
 abbrev pub instance : LaidOut → Scope → List TargetRow → Instance
 instance laid scope rows = record {
@@ -31,15 +42,18 @@ instance laid scope rows = record {
 
 -- the final properties, and no items and no defaults yet
 abbrev pub first_scope : InstanceKey → LaidOut → Scope
-first_scope key laid = record { globals = key.globals; props = laid.props; items = []; defaults = [] }
+first_scope key laid = record
+    { globals = key.globals; props = laid.props; items = []; defaults = [] }
 
 abbrev pub with_targets : InstanceKey → LaidOut → Scope → Result Instance EvalFault
-with_targets key laid scope = map_ok (instance laid scope) (rows_of key.path scope (targets_of laid.elements))
+with_targets key laid scope = map_ok (instance laid scope)
+    (rows_of key.path scope (targets_of laid.elements))
 
 abbrev pub after_layout : List File → InstanceKey → LaidOut → Result Instance EvalFault
 after_layout files key laid =
     and_then (all_defined (paths_of files) (first_scope key laid) laid.elements) (λ defined.
-    and_then (all_itemed (paths_of files) defined laid.elements) (λ itemed. with_targets key laid itemed))
+    and_then (all_itemed (paths_of files) defined laid.elements)
+    (λ itemed. with_targets key laid itemed))
 
 abbrev pub evaluated : List File → InstanceKey → Result Instance EvalFault
 evaluated files key = and_then (passed (setting files key)) (after_layout files key)

@@ -16,7 +16,8 @@ target_in entry = record { name = entry.0; element = seen_placed entry.1 }
 
 -- the same where it is known which files have Returns
 abbrev pub made_of : List (List ℕ) → List ℕ × Placed → UsedTarget
-made_of files entry = record { name = entry.0; at = entry.1; file_has_returns = list_any (bytes_eq entry.1.file) files }
+made_of files entry = record
+    { name = entry.0; at = entry.1; file_has_returns = list_any (bytes_eq entry.1.file) files }
 
 -- the name and the element of a target
 abbrev pub target_seen : UsedTarget → Target

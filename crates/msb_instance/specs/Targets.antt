@@ -1,6 +1,21 @@
 -- The targets of a project: the last element of each name, at the place of the first one.
 -- (MSBuild targets; Target element; MSBuild documentation: target build order)
-use Rattle.std.specs.Prelude.{ℕ, List, [], ◌∷◌, ◌&&◌, Bool, is_some, Option, Some, None, Result, Ok, codes, if◌then◌else◌}
+use Rattle.std.specs.Prelude.{
+  ℕ,
+  List,
+  [],
+  ◌∷◌,
+  ◌&&◌,
+  Bool,
+  is_some,
+  Option,
+  Some,
+  None,
+  Result,
+  Ok,
+  codes,
+  if◌then◌else◌,
+}
 use Rattle.std.specs.List.{list_any}
 use Rattle.std.specs.Str.{bytes_eq, str_to_ascii_lowercase}
 use Rattle.msb_laws.specs.Results.{and_then, map_ok, all_ok}
@@ -28,12 +43,14 @@ name_read None = None
 name_read (Some text) = name_if text (bad_place is_target_byte text)
 
 abbrev pub target_name_of : At → Option (List ℕ)
-target_name_of e = if bytes_eq (name_of e.node) (codes "Target") then name_read (attribute_of (codes "Name") e) else None
+target_name_of e = if bytes_eq (name_of e.node) (codes "Target") then name_read
+    (attribute_of (codes "Name") e) else None
 
 -- in the place of the one of its name, or behind all others
 abbrev pub put : List Target → List ℕ → At → List Target
 put [] name e = record { name = name; element = e } ∷ []
-put (t ∷ ts) name e = if bytes_eq name t.name then record { name = t.name; element = e } ∷ ts else t ∷ put ts name e
+put (t ∷ ts) name e = if bytes_eq name t.name then record { name = t.name; element = e } ∷ ts else t
+    ∷ put ts name e
 
 abbrev pub put_if : List Target → Option (List ℕ) → At → List Target
 put_if targets None e = targets
@@ -48,23 +65,28 @@ targets_of elements = targets_from [] elements
 
 -- whether a Target element of the file has Returns, whether it is used or not
 abbrev pub has_returns : List ℕ → At → Bool
-has_returns file e = bytes_eq e.file file && is_some (target_name_of e) && is_some (attribute_of (codes "Returns") e)
+has_returns file e = bytes_eq e.file file && is_some (target_name_of e)
+    && is_some (attribute_of (codes "Returns") e)
 
 abbrev pub file_has_returns : List At → List ℕ → Bool
 file_has_returns elements file = list_any (has_returns file) elements
 
 -- the lists of a Target element see the evaluated scope
 abbrev pub scene_at : List ℕ → Scope → At → Scene
-scene_at project scope e = record { scope = scope; project = project; file = e.file; usage = All; own = None; bucket = None }
+scene_at project scope e = record
+    { scope = scope; project = project; file = e.file; usage = All; own = None; bucket = None }
 
 abbrev pub names_if : List ℕ → Scope → At → Option (List ℕ) → Result (List (List ℕ)) EvalFault
 names_if project scope e None = Ok []
-names_if project scope e (Some written) = or_fault e (target_names (scene_at project scope e) written)
+names_if project scope e (Some written) = or_fault e
+    (target_names (scene_at project scope e) written)
 
 -- a target with those that it hooks on
 abbrev pub row_of : List ℕ → Scope → Target → Result TargetRow EvalFault
 row_of project scope target =
-    and_then (names_if project scope target.element (attribute_of (codes "BeforeTargets") target.element)) (λ before.
+    and_then
+    (names_if project scope target.element
+    (attribute_of (codes "BeforeTargets") target.element)) (λ before.
     map_ok (λ after. record { name = target.name; before = before; after = after })
     (names_if project scope target.element (attribute_of (codes "AfterTargets") target.element)))
 

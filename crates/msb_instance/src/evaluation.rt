@@ -3,7 +3,13 @@ ghost use Rattle.file_store.specs.Files.{file_at};
 ghost use Rattle.build_world.specs.Answers.{GivesFault};
 ghost use Rattle.msb_properties.specs.Passed.{seen_layout};
 ghost use Rattle.msb_instance.specs.Targets.{default_or_first};
-ghost use Rattle.msb_instance.specs.Evaluated.{first_scope, with_targets, after_layout, evaluated, seen_instance};
+ghost use Rattle.msb_instance.specs.Evaluated.{
+  first_scope,
+  with_targets,
+  after_layout,
+  evaluated,
+  seen_instance,
+};
 ghost use Rattle.msb_instance.specs.Made.{target_seen};
 
 use crate::rows::rows;
@@ -15,9 +21,9 @@ use msb_properties::{ElementTrees, property_pass};
 use msb_values::{Copied, InstanceKey, List, Name, Named, NoMemory, Scope};
 use std::alloc::Global;
 
-/// Evaluates the project of an instance: properties and imports, item definitions, items, targets. Or gives its first
-/// fault in the order of this work, with the file and the place of its element. (How MSBuild builds projects, evaluation
-/// phase.)
+/// Evaluates the project of an instance: properties and imports, item definitions, items, targets.
+/// Or gives its first fault in the order of this work, with the file and the place of its element.
+/// (How MSBuild builds projects, evaluation phase.)
 pub fn evaluate(alloc: Global, tree: &Tree, key: &InstanceKey) -> Result<Instance, EvalFault>
     requires { IsSome (file_at key.now.path tree.now.files) }
     ensures { GivesFault seen_instance result (evaluated tree.now.files key.now) }
@@ -47,7 +53,8 @@ fn after_layout(
     key: &InstanceKey,
     laid: LaidOut,
 ) -> Result<Instance, EvalFault>
-    ensures { GivesFault seen_instance result (after_layout tree.now.files key.now (seen_layout laid)) }
+    ensures { GivesFault seen_instance result
+        (after_layout tree.now.files key.now (seen_layout laid)) }
 {
     let Ok(mut scope) = first_scope(alloc, key, &laid) else {
         return Err(EvalFault::memory(alloc));
@@ -105,7 +112,8 @@ fn default_or_first(
     default: List<Name>,
     targets: &[UsedTarget],
 ) -> Result<List<Name>, NoMemory>
-    ensures { IfOk result (λ names. names ≡ default_or_first default (map target_seen targets.now)) }
+    ensures { IfOk result
+        (λ names. names ≡ default_or_first default (map target_seen targets.now)) }
 {
     if !default.is_empty() {
         return Ok(default);

@@ -10,12 +10,15 @@ use indexmap::IndexSet;
 use msb_values::{Copied, NoMemory, Text};
 use std::alloc::Global;
 
-/// The files that have a Target element with Returns, whether the element is used or not. (Target element.)
+/// The files that have a Target element with Returns, whether the element is used or not. (Target
+/// element.)
 pub(crate) fn files_with_returns(
     alloc: Global,
     elements: &[Placed],
 ) -> Result<IndexSet<Text>, NoMemory>
-    ensures { IfOk result (λ files. (file : List ℕ) → list_any (bytes_eq file) files.keys ≡ file_has_returns (map seen_placed elements.now) file) }
+    ensures { IfOk result (λ files. (file : List ℕ)
+        → list_any (bytes_eq file) files.keys
+        ≡ file_has_returns (map seen_placed elements.now) file) }
 {
     let mut files = IndexSet::new(alloc);
     for placed in elements {
@@ -26,7 +29,8 @@ pub(crate) fn files_with_returns(
 
 /// Puts the file of an element among the others, if the element is a Target element with Returns.
 fn note(alloc: Global, files: &mut IndexSet<Text>, placed: &Placed) -> Result<(), NoMemory>
-    ensures { OnOk result ((file : List ℕ) → list_any (bytes_eq file) files.new.keys ≡ list_any (bytes_eq file) files.old.keys || has_returns file (seen_placed placed.now)) }
+    ensures { OnOk result ((file : List ℕ) → list_any (bytes_eq file) files.new.keys
+        ≡ list_any (bytes_eq file) files.old.keys || has_returns file (seen_placed placed.now)) }
 {
     if is_returning(alloc, placed)? {
         files.insert(placed.file.copy()?)?;
@@ -36,7 +40,10 @@ fn note(alloc: Global, files: &mut IndexSet<Text>, placed: &Placed) -> Result<()
 
 /// Whether an element is a Target element with Returns.
 fn is_returning(alloc: Global, placed: &Placed) -> Result<bool, NoMemory>
-    ensures { IfOk result (λ answer. answer ≡ (is_some (target_name_of (seen_placed placed.now)) && is_some (attribute_of (codes "Returns") (seen_placed placed.now)))) }
+    ensures { IfOk result
+        (λ answer. answer
+        ≡ (is_some (target_name_of (seen_placed placed.now))
+        && is_some (attribute_of (codes "Returns") (seen_placed placed.now)))) }
 {
     if placed.element.attribute("Returns").is_none() {
         return Ok(false);

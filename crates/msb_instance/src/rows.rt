@@ -10,15 +10,16 @@ use msb_values::{Copied, List, Name, Scope};
 use std::alloc::Global;
 use target_order::TargetRow;
 
-/// The targets, each with those that it hooks on, or the first fault: target by target BeforeTargets, then AfterTargets.
-/// (MSBuild documentation: "Target build order".)
+/// The targets, each with those that it hooks on, or the first fault: target by target
+/// BeforeTargets, then AfterTargets. (MSBuild documentation: "Target build order".)
 pub(crate) fn rows(
     alloc: Global,
     project: &str,
     scope: &Scope,
     targets: &[UsedTarget],
 ) -> Result<List<TargetRow>, EvalFault>
-    ensures { GivesFault (λ rows. rows) result (rows_of project.now scope.now (map target_seen targets.now)) }
+    ensures { GivesFault (λ rows. rows) result
+        (rows_of project.now scope.now (map target_seen targets.now)) }
 {
     let mut rows = List::new(alloc);
     for target in targets {
@@ -36,7 +37,8 @@ fn row<'a>(
     scope: &'a Scope,
     target: &'a UsedTarget,
 ) -> Result<TargetRow, EvalFault>
-    ensures { GivesFault (λ row. row) result (row_of project.now scope.now (target_seen target.now)) }
+    ensures { GivesFault (λ row. row) result
+        (row_of project.now scope.now (target_seen target.now)) }
 {
     let before = named(alloc, project, scope, &target.at, "BeforeTargets")?;
     let after = named(alloc, project, scope, &target.at, "AfterTargets")?;
@@ -58,7 +60,9 @@ fn named<'a>(
     placed: &'a Placed,
     attribute: &str,
 ) -> Result<List<Name>, EvalFault>
-    ensures { GivesFault (λ names. names) result (names_if project.now scope.now (seen_placed placed.now) (attribute_of attribute.now (seen_placed placed.now))) }
+    ensures { GivesFault (λ names. names) result
+        (names_if project.now scope.now (seen_placed placed.now)
+        (attribute_of attribute.now (seen_placed placed.now))) }
 {
     let Some(written) = placed.element.attribute(attribute) else {
         return Ok(List::new(alloc));

@@ -11,14 +11,17 @@ use indexmap::{IndexMap, IndexSet};
 use msb_values::{List, Name, NoMemory, Text};
 use std::alloc::Global;
 
-/// The targets of a laid-out project: the last element of each name, at the place of the first one. The elements move.
-/// (MSBuild targets.)
+/// The targets of a laid-out project: the last element of each name, at the place of the first one.
+/// The elements move. (MSBuild targets.)
 pub(crate) fn used_targets(
     alloc: Global,
     elements: Vec<Placed>,
 ) -> Result<List<UsedTarget>, NoMemory>
-    ensures targets { IfOk result (λ made. map target_seen made ≡ targets_of (map seen_placed elements.items)) }
-    ensures used { IfOk result (λ made. map seen_target made ≡ map (used (map seen_placed elements.items)) (targets_of (map seen_placed elements.items))) }
+    ensures targets { IfOk result (λ made. map target_seen made
+        ≡ targets_of (map seen_placed elements.items)) }
+    ensures used { IfOk result (λ made. map seen_target made
+        ≡ map (used (map seen_placed elements.items))
+        (targets_of (map seen_placed elements.items))) }
 {
     let returning = files_with_returns(alloc, &elements)?;
     let last = last_elements(alloc, elements)?;
@@ -27,7 +30,8 @@ pub(crate) fn used_targets(
 
 /// The last Target element of each name, at the place of the first one.
 fn last_elements(alloc: Global, elements: Vec<Placed>) -> Result<IndexMap<Name, Placed>, NoMemory>
-    ensures { IfOk result (λ last. map target_in last.entries ≡ targets_of (map seen_placed elements.items)) }
+    ensures { IfOk result (λ last. map target_in last.entries
+        ≡ targets_of (map seen_placed elements.items)) }
 {
     let mut last = IndexMap::new(alloc);
     for placed in elements {
@@ -36,9 +40,12 @@ fn last_elements(alloc: Global, elements: Vec<Placed>) -> Result<IndexMap<Name, 
     Ok(last)
 }
 
-/// Puts a Target element in the place of the one of its name, or behind all others. Any other element is dropped.
+/// Puts a Target element in the place of the one of its name, or behind all others. Any other
+/// element is dropped.
 fn put(alloc: Global, last: &mut IndexMap<Name, Placed>, placed: Placed) -> Result<(), NoMemory>
-    ensures { OnOk result (map target_in last.new.entries ≡ put_if (map target_in last.old.entries) (target_name_of (seen_placed placed)) (seen_placed placed)) }
+    ensures { OnOk result (map target_in last.new.entries
+        ≡ put_if (map target_in last.old.entries) (target_name_of (seen_placed placed))
+        (seen_placed placed)) }
 {
     if let Some(name) = target_name(alloc, &placed)? {
         last.insert(name, placed)?;

@@ -1,5 +1,21 @@
 -- The texts by which an element in a target is batched, and its buckets. (MSBuild batching)
-use Rattle.std.specs.Prelude.{ℕ, List, [], ◌∷◌, ◌++◌, Bool, true, false, Option, Some, None, Result, Ok, Err, codes}
+use Rattle.std.specs.Prelude.{
+  ℕ,
+  List,
+  [],
+  ◌∷◌,
+  ◌++◌,
+  Bool,
+  true,
+  false,
+  Option,
+  Some,
+  None,
+  Result,
+  Ok,
+  Err,
+  codes,
+}
 use Rattle.std.specs.List.{flat_map, list_any}
 use Rattle.std.specs.Str.{bytes_eq}
 use Rattle.msb_laws.specs.Results.{and_then, map_ok, all_ok}
@@ -45,27 +61,34 @@ attribute_if false true written = condition_read (Some written)
 attribute_if false false written = text_read written
 
 abbrev pub attribute_read : List (List ℕ) → List ℕ × List ℕ → Result (List Expr) Cause
-attribute_read ignored pair = attribute_if (list_any (bytes_eq pair.0) ignored) (bytes_eq pair.0 (codes "Condition")) pair.1
+attribute_read ignored pair = attribute_if (list_any (bytes_eq pair.0) ignored)
+    (bytes_eq pair.0 (codes "Condition")) pair.1
 
 -- of a child the Condition, and then the text
 abbrev pub inner_read : At → Result (List Expr) Cause
-inner_read e = and_then (condition_read (attribute_of (codes "Condition") e)) (λ condition. map_ok (λ text. condition ++ text) (text_read (inner_text e.node)))
+inner_read e = and_then (condition_read (attribute_of (codes "Condition") e))
+    (λ condition. map_ok (λ text. condition ++ text) (text_read (inner_text e.node)))
 
 abbrev pub child_read : At → Result (List Expr) EvalFault
 child_read e = or_fault e (inner_read e)
 
 -- the attributes in byte order of their names, then the element's own text, then its children
 abbrev pub own_read : List (List ℕ) → At → Result (List Expr) Cause
-own_read ignored e = and_then (joined_ok (attribute_read ignored) (attributes_of e.node)) (λ attributes. map_ok (λ text. attributes ++ text) (text_read (inner_text e.node)))
+own_read ignored e = and_then (joined_ok (attribute_read ignored) (attributes_of e.node))
+    (λ attributes. map_ok (λ text. attributes ++ text) (text_read (inner_text e.node)))
 
 abbrev pub texts_read : List (List ℕ) → At → Result (List Expr) EvalFault
-texts_read ignored e = and_then (or_fault e (own_read ignored e)) (λ own. map_ok (λ children. own ++ children) (joined_ok child_read (children_of e)))
+texts_read ignored e = and_then (or_fault e (own_read ignored e))
+    (λ own. map_ok (λ children. own ++ children) (joined_ok child_read (children_of e)))
 
 abbrev pub or_batch_cause : Result (List Bucket) BatchFault → Result (List Bucket) Cause
 or_batch_cause (Ok buckets) = Ok buckets
 or_batch_cause (Err fault) = Err (cause_of fault)
 
--- The buckets of an element, and of an item element by its own type as well. All texts are read first, so that one that
--- has no reading comes ahead of any other fault; a fault of batching is told at the element, also for a child's text.
-abbrev pub element_buckets : Scene → List (List ℕ) → At → Option (List ℕ) → Result (List Bucket) EvalFault
-element_buckets scene ignored e own = and_then (texts_read ignored e) (λ texts. or_fault e (or_batch_cause (buckets_value scene texts own)))
+-- The buckets of an element, and of an item element by its own type as well. All texts are read
+-- first, so that one that has no reading comes ahead of any other fault; a fault of batching is
+-- told at the element, also for a child's text.
+abbrev pub element_buckets : Scene → List (List ℕ) → At → Option (List ℕ)
+    → Result (List Bucket) EvalFault
+element_buckets scene ignored e own = and_then (texts_read ignored e)
+    (λ texts. or_fault e (or_batch_cause (buckets_value scene texts own)))

@@ -1,5 +1,21 @@
--- The metadata that items of each type have by default. (Item definitions; ItemDefinitionGroup element)
-use Rattle.std.specs.Prelude.{ℕ, List, [], ◌∷◌, Bool, true, false, Option, Some, None, Result, Ok, codes, if◌then◌else◌}
+-- The metadata that items of each type have by default. (Item definitions; ItemDefinitionGroup
+-- element)
+use Rattle.std.specs.Prelude.{
+  ℕ,
+  List,
+  [],
+  ◌∷◌,
+  Bool,
+  true,
+  false,
+  Option,
+  Some,
+  None,
+  Result,
+  Ok,
+  codes,
+  if◌then◌else◌,
+}
 use Rattle.std.specs.BTreeMap.{insert_entry}
 use Rattle.std.specs.Ordering.{nat_cmp}
 use Rattle.std.specs.Cmp.Lexicographic.{slice_cmp}
@@ -13,8 +29,20 @@ use Rattle.msb_expand.specs.Keys.{key_of}
 use Rattle.msb_expand.specs.Scenes.{pairs_or_none}
 use Rattle.build_world.specs.declared.fault.EvalFault.{EvalFault}
 use Rattle.build_world.specs.Elements.{At, children_of}
-use Rattle.msb_items.specs.Places.{Place, definition_place, metadata_place, with_scope, after_each, element_holds}
-use Rattle.msb_items.specs.Metadata.{WrittenMetadata, definition_attributes, metadata_on, metadata_value}
+use Rattle.msb_items.specs.Places.{
+  Place,
+  definition_place,
+  metadata_place,
+  with_scope,
+  after_each,
+  element_holds,
+}
+use Rattle.msb_items.specs.Metadata.{
+  WrittenMetadata,
+  definition_attributes,
+  metadata_on,
+  metadata_value,
+}
 
 -- an item of which nothing but its type is seen
 abbrev pub no_item : Item
@@ -27,19 +55,24 @@ with_default scope kind (Some pair) = record {
   globals = scope.globals;
   props = scope.props;
   items = scope.items;
-  defaults = insert_entry (slice_cmp nat_cmp) scope.defaults kind (insert_entry (slice_cmp nat_cmp) (pairs_or_none (value_at kind scope.defaults)) pair.0 pair.1);
+  defaults = insert_entry (slice_cmp nat_cmp) scope.defaults kind
+      (insert_entry (slice_cmp nat_cmp) (pairs_or_none (value_at kind scope.defaults)) pair.0
+      pair.1);
 }
 
 -- a metadata of a definition, which sees the defaults of its type so far
 abbrev pub with_default_written : List ℕ → Place → WrittenMetadata → Result Scope EvalFault
-with_default_written kind p metadata = map_ok (with_default p.scope kind) (metadata_value (metadata_place p kind no_item) metadata)
+with_default_written kind p metadata = map_ok (with_default p.scope kind)
+    (metadata_value (metadata_place p kind no_item) metadata)
 
 abbrev pub with_defaults_written : List ℕ → Place → List WrittenMetadata → Result Scope EvalFault
-with_defaults_written kind p written = fold_ok (λ scope metadata. with_default_written kind (with_scope p scope) metadata) p.scope written
+with_defaults_written kind p written = fold_ok
+    (λ scope metadata. with_default_written kind (with_scope p scope) metadata) p.scope written
 
 abbrev pub definition_named : Option (List ℕ) → Place → At → Result Scope EvalFault
 definition_named None p e = Ok p.scope
-definition_named (Some kind) p e = with_defaults_written kind p (metadata_on definition_attributes e)
+definition_named (Some kind) p e = with_defaults_written kind p
+    (metadata_on definition_attributes e)
 
 abbrev pub definition_if : Bool → Place → At → Result Scope EvalFault
 definition_if true p e = definition_named (key_of (name_of e.node)) p e
@@ -59,7 +92,8 @@ with_definitions p e = and_then (element_holds p e) (λ holds. definitions_if ho
 
 -- no other element changes a default
 abbrev pub defined_by : Place → At → Result Scope EvalFault
-defined_by p e = if bytes_eq (name_of e.node) (codes "ItemDefinitionGroup") then with_definitions p e else Ok p.scope
+defined_by p e = if bytes_eq (name_of e.node) (codes "ItemDefinitionGroup") then with_definitions p
+    e else Ok p.scope
 
 -- the file of the first element is the root file
 abbrev pub project_path : List At → List ℕ
@@ -67,4 +101,5 @@ project_path [] = []
 project_path (e ∷ es) = e.file
 
 abbrev pub all_defined : List (List ℕ) → Scope → List At → Result Scope EvalFault
-all_defined files scope elements = after_each defined_by (definition_place files (project_path elements) scope) elements
+all_defined files scope elements = after_each defined_by
+    (definition_place files (project_path elements) scope) elements

@@ -1,5 +1,23 @@
--- What the entries of an Exclude, a Remove or an Update name, as the code looks it up: identities with `/` and folded in a set.
-use Rattle.std.specs.Prelude.{ℕ, List, [], ◌∷◌, Bool, true, false, ◌||◌, not, filter, Option, Some, None, Result, Ok, Err}
+-- What the entries of an Exclude, a Remove or an Update name, as the code looks it up: identities
+-- with `/` and folded in a set.
+use Rattle.std.specs.Prelude.{
+  ℕ,
+  List,
+  [],
+  ◌∷◌,
+  Bool,
+  true,
+  false,
+  ◌||◌,
+  not,
+  filter,
+  Option,
+  Some,
+  None,
+  Result,
+  Ok,
+  Err,
+}
 use Rattle.std.specs.List.{list_any}
 use Rattle.std.specs.BTreeMap.{is_at}
 use Rattle.std.specs.BTreeSet.{insert_key}
@@ -19,7 +37,8 @@ folded_ident text = folded_bytes (with_slashes text)
 -- a set with these too
 abbrev pub with_idents : List (List ℕ) → List (List ℕ) → List (List ℕ)
 with_idents keys [] = keys
-with_idents keys (ident ∷ idents) = with_idents (insert_key (slice_cmp nat_cmp) keys (folded_ident ident)) idents
+with_idents keys (ident ∷ idents) = with_idents
+    (insert_key (slice_cmp nat_cmp) keys (folded_ident ident)) idents
 
 abbrev pub folded_names : ItemNames → List (List ℕ) × List Reading
 folded_names names = (with_idents [] names.idents, names.patterns)
@@ -43,7 +62,8 @@ abbrev pub has_ident : List (List ℕ) → List ℕ → Bool
 has_ident keys ident = list_any (is_at (slice_cmp nat_cmp (folded_ident ident))) keys
 
 abbrev pub is_named_by : List ℕ → List (List ℕ) × List Reading → Item → Bool
-is_named_by project names item = has_ident names.0 item.ident || fits_any (path_of project item.ident) names.1
+is_named_by project names item = has_ident names.0 item.ident
+    || fits_any (path_of project item.ident) names.1
 
 -- the items that none of these names
 abbrev pub unnamed_by : List ℕ → List (List ℕ) × List Reading → List Item → List Item

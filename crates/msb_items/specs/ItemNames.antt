@@ -1,4 +1,5 @@
--- Which items the entries of an Exclude, a Remove or an Update name. (Item element; MSBuild items, wildcards to specify items)
+-- Which items the entries of an Exclude, a Remove or an Update name. (Item element; MSBuild items,
+-- wildcards to specify items)
 use Rattle.std.specs.Prelude.{ℕ, List, map, filter, Bool, false, ◌||◌, Result, Ok, Err}
 use Rattle.std.specs.List.{list_any}
 use Rattle.msb_laws.specs.Results.{map_ok, all_ok}
@@ -26,7 +27,9 @@ abbrev pub patterns_of : List ℕ → List Entry → Result (List Reading) Cause
 patterns_of project entries = all_ok (pattern_of project) (filter is_pattern_entry entries)
 
 abbrev pub names_of : List ℕ → List Entry → Result ItemNames Cause
-names_of project entries = map_ok (λ patterns. record { idents = idents_of entries; patterns = patterns }) (patterns_of project entries)
+names_of project entries = map_ok
+    (λ patterns. record { idents = idents_of entries; patterns = patterns })
+    (patterns_of project entries)
 
 -- `\` counts as `/`, and case does not count
 abbrev pub is_same_ident : List ℕ → List ℕ → Bool
@@ -40,6 +43,8 @@ abbrev pub fits : Result (List ℕ) NormalFault → Reading → Bool
 fits (Ok path) pattern = fits_path pattern.parts path
 fits (Err fault) pattern = false
 
--- an item is named where an entry is its identity, be the entry a pattern or not, or where a pattern matches it
+-- an item is named where an entry is its identity, be the entry a pattern or not, or where a
+-- pattern matches it
 abbrev pub is_named : List ℕ → ItemNames → Item → Bool
-is_named project names item = list_any (is_same_ident item.ident) names.idents || list_any (fits (full_path project item.ident)) names.patterns
+is_named project names item = list_any (is_same_ident item.ident) names.idents
+    || list_any (fits (full_path project item.ident)) names.patterns

@@ -1,5 +1,25 @@
--- The items of each type, after each item element in turn. (MSBuild items; Item element; ItemGroup element)
-use Rattle.std.specs.Prelude.{ℕ, List, [], ◌∷◌, ◌++◌, map, filter, not, Bool, true, false, Option, Some, None, Result, Ok, codes, if◌then◌else◌}
+-- The items of each type, after each item element in turn. (MSBuild items; Item element; ItemGroup
+-- element)
+use Rattle.std.specs.Prelude.{
+  ℕ,
+  List,
+  [],
+  ◌∷◌,
+  ◌++◌,
+  map,
+  filter,
+  not,
+  Bool,
+  true,
+  false,
+  Option,
+  Some,
+  None,
+  Result,
+  Ok,
+  codes,
+  if◌then◌else◌,
+}
 use Rattle.std.specs.List.{flat_map}
 use Rattle.std.specs.BTreeMap.{insert_entry}
 use Rattle.std.specs.Ordering.{nat_cmp}
@@ -18,25 +38,40 @@ use Rattle.msb_glob.specs.Expanded.{is_match, match_of}
 use Rattle.msb_glob.specs.declared.expansion.Match.{Match}
 use Rattle.build_world.specs.declared.fault.EvalFault.{EvalFault}
 use Rattle.build_world.specs.Elements.{At, children_of, attribute_of, or_fault}
-use Rattle.msb_items.specs.Places.{Place, item_place, metadata_place, after_each, element_holds, entries_at}
+use Rattle.msb_items.specs.Places.{
+  Place,
+  item_place,
+  metadata_place,
+  after_each,
+  element_holds,
+  entries_at,
+}
 use Rattle.msb_items.specs.Metadata.{WrittenMetadata, item_attributes, metadata_on, metadata_value}
 use Rattle.msb_items.specs.Definitions.{project_path}
 use Rattle.msb_items.specs.Patterns.{is_pattern_entry, pattern_of}
 use Rattle.msb_items.specs.ItemNames.{ItemNames, names_of, is_named}
 use Rattle.msb_expand.specs.declared.entry.Entry.{Entry}
 
--- an item with a metadata, and with each of those written on an element, which see those ahead of them
+-- an item with a metadata, and with each of those written on an element, which see those ahead of
+-- them
 abbrev pub with_metadata : Item → Option (List ℕ × List ℕ) → Item
 with_metadata item None = item
-with_metadata item (Some pair) = record { ident = item.ident; recursive = item.recursive; meta = insert_entry (slice_cmp nat_cmp) item.meta pair.0 pair.1 }
+with_metadata item (Some pair) = record {
+  ident = item.ident;
+  recursive = item.recursive;
+  meta = insert_entry (slice_cmp nat_cmp)
+      item.meta pair.0 pair.1;
+}
 
 abbrev pub with_metadata_written : Place → List ℕ → Item → WrittenMetadata → Result Item EvalFault
-with_metadata_written p kind item metadata = map_ok (with_metadata item) (metadata_value (metadata_place p kind item) metadata)
+with_metadata_written p kind item metadata = map_ok (with_metadata item)
+    (metadata_value (metadata_place p kind item) metadata)
 
 abbrev pub with_all_metadata : Place → List ℕ → List WrittenMetadata → Item → Result Item EvalFault
 with_all_metadata p kind written item = fold_ok (with_metadata_written p kind) item written
 
--- the items of an entry: the files that a pattern matches, or the entry itself, be there a file or not
+-- the items of an entry: the files that a pattern matches, or the entry itself, be there a file or
+-- not
 abbrev pub item_of : Match → Item
 item_of match = record { ident = match.ident; recursive = match.recursive; meta = [] }
 
@@ -44,25 +79,35 @@ abbrev pub matched : List (List ℕ) → Reading → List Item
 matched files pattern = map item_of (map (match_of pattern) (filter (is_match pattern) files))
 
 abbrev pub items_of : List (List ℕ) → List ℕ → Entry → Result (List Item) Cause
-items_of files project entry = if is_pattern_entry entry then map_ok (matched files) (pattern_of project entry) else Ok (entry.item ∷ [])
+items_of files project entry = if is_pattern_entry entry then map_ok (matched files)
+    (pattern_of project entry) else Ok (entry.item ∷ [])
 
 abbrev pub all_items : List (List ℕ) → List ℕ → List Entry → Result (List Item) Cause
-all_items files project entries = map_ok (flat_map (λ items. items)) (all_ok (items_of files project) entries)
+all_items files project entries = map_ok (flat_map (λ items. items))
+    (all_ok (items_of files project) entries)
 
 -- the items of Include's entries
 abbrev pub items_at : Place → At → List ℕ → Result (List Item) EvalFault
-items_at p e written = and_then (entries_at p e written) (λ entries. or_fault e (all_items p.files p.project entries))
+items_at p e written = and_then (entries_at p e written)
+    (λ entries. or_fault e (all_items p.files p.project entries))
 
 -- what the entries of an attribute name
 abbrev pub names_at : Place → At → List ℕ → Result ItemNames EvalFault
-names_at p e written = and_then (entries_at p e written) (λ entries. or_fault e (names_of p.project entries))
+names_at p e written = and_then (entries_at p e written)
+    (λ entries. or_fault e (names_of p.project entries))
 
 -- the items of a type
 abbrev pub list_of : Scope → List ℕ → List Item
 list_of scope kind = list_or (value_at kind scope.items) []
 
 abbrev pub with_list : Scope → List ℕ → List Item → Scope
-with_list scope kind items = record { globals = scope.globals; props = scope.props; items = insert_entry (slice_cmp nat_cmp) scope.items kind items; defaults = scope.defaults }
+with_list scope kind items = record {
+  globals = scope.globals;
+  props = scope.props;
+  items = insert_entry (slice_cmp nat_cmp)
+      scope.items kind items;
+  defaults = scope.defaults;
+}
 
 -- some items, less those that are named
 abbrev pub unnamed : List ℕ → List Item → ItemNames → List Item
@@ -82,26 +127,33 @@ new_items p kind e include =
 
 -- Include adds items
 abbrev pub included : Place → List ℕ → At → List ℕ → Result Scope EvalFault
-included p kind e include = map_ok (λ new. with_list p.scope kind (list_of p.scope kind ++ new)) (new_items p kind e include)
+included p kind e include = map_ok (λ new. with_list p.scope kind (list_of p.scope kind ++ new))
+    (new_items p kind e include)
 
 -- Remove takes items away
 abbrev pub removed : Place → List ℕ → At → List ℕ → Result Scope EvalFault
-removed p kind e remove = map_ok (λ names. with_list p.scope kind (unnamed p.project (list_of p.scope kind) names)) (names_at p e remove)
+removed p kind e remove = map_ok
+    (λ names. with_list p.scope kind (unnamed p.project (list_of p.scope kind) names))
+    (names_at p e remove)
 
 -- Update changes the metadata of the items that it names
 abbrev pub updated_if : Bool → Place → List ℕ → List WrittenMetadata → Item → Result Item EvalFault
 updated_if true p kind written item = with_all_metadata p kind written item
 updated_if false p kind written item = Ok item
 
-abbrev pub updated_items : Place → List ℕ → List WrittenMetadata → ItemNames → List Item → Result (List Item) EvalFault
-updated_items p kind written names items = all_ok (λ item. updated_if (is_named p.project names item) p kind written item) items
+abbrev pub updated_items : Place → List ℕ → List WrittenMetadata → ItemNames → List Item
+    → Result (List Item) EvalFault
+updated_items p kind written names items = all_ok
+    (λ item. updated_if (is_named p.project names item) p kind written item) items
 
 abbrev pub updated : Place → List ℕ → At → List ℕ → Result Scope EvalFault
 updated p kind e update =
     and_then (names_at p e update) (λ names.
-    map_ok (with_list p.scope kind) (updated_items p kind (metadata_on item_attributes e) names (list_of p.scope kind)))
+    map_ok (with_list p.scope kind)
+    (updated_items p kind (metadata_on item_attributes e) names (list_of p.scope kind)))
 
-abbrev pub changed_by : Place → List ℕ → At → Option (List ℕ) → Option (List ℕ) → Option (List ℕ) → Result Scope EvalFault
+abbrev pub changed_by : Place → List ℕ → At → Option (List ℕ) → Option (List ℕ) → Option (List ℕ)
+    → Result Scope EvalFault
 changed_by p kind e (Some include) remove update = included p kind e include
 changed_by p kind e None (Some remove) update = removed p kind e remove
 changed_by p kind e None None (Some update) = updated p kind e update
@@ -109,7 +161,8 @@ changed_by p kind e None None None = Ok p.scope
 
 abbrev pub item_named : Option (List ℕ) → Place → At → Result Scope EvalFault
 item_named None p e = Ok p.scope
-item_named (Some kind) p e = changed_by p kind e (attribute_of (codes "Include") e) (attribute_of (codes "Remove") e) (attribute_of (codes "Update") e)
+item_named (Some kind) p e = changed_by p kind e (attribute_of (codes "Include") e)
+    (attribute_of (codes "Remove") e) (attribute_of (codes "Update") e)
 
 abbrev pub item_if : Bool → Place → At → Result Scope EvalFault
 item_if true p e = item_named (key_of (name_of e.node)) p e
@@ -132,4 +185,5 @@ abbrev pub itemed_by : Place → At → Result Scope EvalFault
 itemed_by p e = if bytes_eq (name_of e.node) (codes "ItemGroup") then with_items p e else Ok p.scope
 
 abbrev pub all_itemed : List (List ℕ) → Scope → List At → Result Scope EvalFault
-all_itemed files scope elements = after_each itemed_by (item_place files (project_path elements) scope) elements
+all_itemed files scope elements = after_each itemed_by
+    (item_place files (project_path elements) scope) elements

@@ -1,6 +1,26 @@
--- The metadata that are written on an element: its attributes that are not reserved there, and then its children.
--- (Item element; ItemMetadata element; MSBuild well-known item metadata)
-use Rattle.std.specs.Prelude.{ℕ, List, [], ◌∷◌, ◌++◌, map, filter, not, Bool, true, false, Option, Some, None, Result, Ok, Err, codes, is_some}
+-- The metadata that are written on an element: its attributes that are not reserved there, and then
+-- its children. (Item element; ItemMetadata element; MSBuild well-known item metadata)
+use Rattle.std.specs.Prelude.{
+  ℕ,
+  List,
+  [],
+  ◌∷◌,
+  ◌++◌,
+  map,
+  filter,
+  not,
+  Bool,
+  true,
+  false,
+  Option,
+  Some,
+  None,
+  Result,
+  Ok,
+  Err,
+  codes,
+  is_some,
+}
 use Rattle.std.specs.List.{list_any}
 use Rattle.std.specs.Str.{bytes_eq}
 use Rattle.msb_laws.specs.Results.{and_then, map_ok}
@@ -13,7 +33,8 @@ use Rattle.build_world.specs.declared.fault.EvalFault.{EvalFault}
 use Rattle.build_world.specs.Elements.{At, children_of, attribute_of, fault_of}
 use Rattle.msb_items.specs.Places.{Place, holds_at, text_at}
 
--- a name and a value as written, the Condition if there is one, and the element at which a fault is told
+-- a name and a value as written, the Condition if there is one, and the element at which a fault is
+-- told
 pub record WrittenMetadata : Type 0 where
   pub name : List ℕ
   pub text : List ℕ
@@ -24,39 +45,55 @@ abbrev pub attribute_metadata : At → List ℕ × List ℕ → WrittenMetadata
 attribute_metadata e pair = record { name = pair.0; text = pair.1; condition = None; element = e }
 
 abbrev pub child_metadata : At → WrittenMetadata
-child_metadata child = record { name = name_of child.node; text = inner_text child.node; condition = attribute_of (codes "Condition") child; element = child }
+child_metadata child = record {
+  name = name_of child.node;
+  text = inner_text child.node;
+  condition = attribute_of
+      (codes "Condition") child;
+  element = child;
+}
 
 abbrev pub is_one_of : List (List ℕ) → List ℕ → Bool
 is_one_of names name = list_any (bytes_eq name) names
 
 abbrev pub metadata_on : List (List ℕ) → At → List WrittenMetadata
-metadata_on reserved e = map (attribute_metadata e) (filter (λ pair. not (is_one_of reserved pair.0)) (attributes_of e.node)) ++ map child_metadata (children_of e)
+metadata_on reserved e = map (attribute_metadata e)
+    (filter (λ pair. not (is_one_of reserved pair.0)) (attributes_of e.node))
+    ++ map child_metadata (children_of e)
 
 -- the attributes of a definition and of an item that are no metadata
 abbrev pub definition_attributes : List (List ℕ)
 definition_attributes = codes "Condition" ∷ codes "Label" ∷ []
 
 abbrev pub item_attributes : List (List ℕ)
-item_attributes = codes "Include" ∷ codes "Exclude" ∷ codes "Remove" ∷ codes "Update" ∷ codes "Condition" ∷ codes "Label" ∷ []
+item_attributes = codes "Include" ∷ codes "Exclude" ∷ codes "Remove" ∷ codes "Update"
+    ∷ codes "Condition" ∷ codes "Label" ∷ []
 
 -- and of an item element in a target
 abbrev pub target_attributes : List (List ℕ)
-target_attributes = codes "KeepDuplicates" ∷ codes "KeepMetadata" ∷ codes "RemoveMetadata" ∷ item_attributes
+target_attributes = codes "KeepDuplicates" ∷ codes "KeepMetadata" ∷ codes "RemoveMetadata"
+    ∷ item_attributes
 
 -- well-known metadata are computed, and these are as well in other builds
 abbrev pub left_out : List (List ℕ)
-left_out = codes "modifiedtime" ∷ codes "createdtime" ∷ codes "accessedtime" ∷ codes "definingprojectfullpath"
-    ∷ codes "definingprojectdirectory" ∷ codes "definingprojectname" ∷ codes "definingprojectextension" ∷ []
+left_out = codes "modifiedtime" ∷ codes "createdtime" ∷ codes "accessedtime"
+    ∷ codes "definingprojectfullpath"
+    ∷ codes "definingprojectdirectory" ∷ codes "definingprojectname"
+    ∷ codes "definingprojectextension" ∷ []
 
 abbrev pub is_computed : List ℕ → Bool
-is_computed name = elim (is_some (value_at name well_known)) [ true ↦ true | false ↦ is_one_of left_out name ]
+is_computed name = elim (is_some (value_at name well_known))
+    [ true ↦ true | false ↦ is_one_of left_out name ]
 
-abbrev pub value_unless : Bool → Place → WrittenMetadata → List ℕ → Result (Option (List ℕ × List ℕ)) EvalFault
+abbrev pub value_unless : Bool → Place → WrittenMetadata → List ℕ
+    → Result (Option (List ℕ × List ℕ)) EvalFault
 value_unless true p metadata name = Err (fault_of metadata.element (Reserved name))
-value_unless false p metadata name = map_ok (λ text. Some (name, text)) (text_at p metadata.element metadata.text)
+value_unless false p metadata name = map_ok (λ text. Some (name, text))
+    (text_at p metadata.element metadata.text)
 
 -- a name that is none names nothing
-abbrev pub value_named : Option (List ℕ) → Place → WrittenMetadata → Result (Option (List ℕ × List ℕ)) EvalFault
+abbrev pub value_named : Option (List ℕ) → Place → WrittenMetadata
+    → Result (Option (List ℕ × List ℕ)) EvalFault
 value_named None p metadata = Ok None
 value_named (Some name) p metadata = value_unless (is_computed name) p metadata name
 
@@ -66,4 +103,5 @@ value_if false p metadata = Ok None
 
 -- the name and the value, if the Condition holds; a name that is computed is refused
 abbrev pub metadata_value : Place → WrittenMetadata → Result (Option (List ℕ × List ℕ)) EvalFault
-metadata_value p metadata = and_then (holds_at p metadata.element metadata.condition) (λ holds. value_if holds p metadata)
+metadata_value p metadata = and_then (holds_at p metadata.element metadata.condition)
+    (λ holds. value_if holds p metadata)

@@ -8,7 +8,8 @@ use Rattle.msb_glob.specs.declared.errors.GlobFault.{GlobFault}
 use Rattle.msb_glob.specs.declared.errors.GlobFault.TheVariants.{StarsInSegment, Path, Memory}
 use Rattle.msb_expand.specs.declared.entry.Entry.{Entry}
 
--- an entry that is written is a pattern if it has a wildcard that is not escaped; what a reference gives is none
+-- an entry that is written is a pattern if it has a wildcard that is not escaped; what a reference
+-- gives is none
 abbrev pub is_pattern_entry : Entry → Bool
 is_pattern_entry entry = entry.written && is_pattern entry.item.ident
 
@@ -23,4 +24,5 @@ pattern_or_cause text (Err fault) = Err (pattern_cause text fault)
 
 -- a pattern of the project at a path
 abbrev pub pattern_of : List ℕ → Entry → Result Reading Cause
-pattern_of project entry = pattern_or_cause entry.item.ident (parsed (folder_of project) entry.item.ident)
+pattern_of project entry = pattern_or_cause entry.item.ident
+    (parsed (folder_of project) entry.item.ident)

@@ -10,14 +10,16 @@ use Rattle.msb_values.specs.declared.item.Item.{Item}
 use Rattle.msb_items.specs.declared.repeats.ItemKey.{ItemKey}
 
 abbrev pub key_of : List (List ℕ × List ℕ) → Item → ItemKey
-key_of defaults item = record { ident = folded_bytes item.ident; meta = overlaid defaults item.meta }
+key_of defaults item = record
+    { ident = folded_bytes item.ident; meta = overlaid defaults item.meta }
 
 abbrev pub same_key : ItemKey → ItemKey → Bool
 same_key a b = bytes_eq a.ident b.ident && same_pairs a.meta b.meta
 
 -- a set of just the keys of these items
 abbrev pub HasKeys : {S : Type 0} → List (List ℕ × List ℕ) → List Item → HashSet ItemKey S → Type 0
-HasKeys defaults items set = (key : ItemKey) → contains same_key set key ≡ list_any (λ one. same_key one key) (map (key_of defaults) items)
+HasKeys defaults items set = (key : ItemKey) → contains same_key set key
+    ≡ list_any (λ one. same_key one key) (map (key_of defaults) items)
 
 abbrev pub item_if : Bool → Item → List Item
 item_if is item = if is then item ∷ [] else []

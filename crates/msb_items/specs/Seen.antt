@@ -8,7 +8,12 @@ use Rattle.msb_items.specs.declared.metadata.Kind.{Kind}
 use Rattle.msb_items.specs.declared.metadata.Kind.TheVariants.{Definition, Item, TargetItem}
 use Rattle.msb_items.specs.declared.metadata.WrittenMetadata as written
 use Rattle.msb_items.specs.Places.{Place, definition_place, item_place}
-use Rattle.msb_items.specs.Metadata.{WrittenMetadata, definition_attributes, item_attributes, target_attributes}
+use Rattle.msb_items.specs.Metadata.{
+  WrittenMetadata,
+  definition_attributes,
+  item_attributes,
+  target_attributes,
+}
 
 -- by what files a view of them has
 abbrev pub place_of : {F : Type 0} → (F → List (List ℕ)) → code.Place F → Place
@@ -22,13 +27,20 @@ place_of files p = record {
 }
 
 abbrev pub definitions_in : {F : Type 0} → (F → List (List ℕ)) → Source F → Scope → Place
-definitions_in files source scope = definition_place (files source.files.now) source.project.now scope
+definitions_in files source scope = definition_place (files source.files.now) source.project.now
+    scope
 
 abbrev pub items_in : {F : Type 0} → (F → List (List ℕ)) → Source F → Scope → Place
 items_in files source scope = item_place (files source.files.now) source.project.now scope
 
 abbrev pub metadata_of : written.WrittenMetadata → WrittenMetadata
-metadata_of metadata = record { name = metadata.name.now; text = metadata.text.now; condition = option_copied metadata.condition; element = seen_element metadata.element }
+metadata_of metadata = record {
+  name = metadata.name.now;
+  text = metadata.text.now;
+  condition = option_copied
+      metadata.condition;
+  element = seen_element metadata.element;
+}
 
 -- the attributes of an element that are no metadata
 abbrev pub reserved_of : Kind → List (List ℕ)

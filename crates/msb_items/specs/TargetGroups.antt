@@ -1,5 +1,23 @@
--- The changes of a PropertyGroup or an ItemGroup in a target. (Target element; PropertyGroup element; ItemGroup element)
-use Rattle.std.specs.Prelude.{ℕ, List, [], ◌∷◌, ◌++◌, fold, Bool, true, false, Option, Some, None, Result, Ok, codes, if◌then◌else◌}
+-- The changes of a PropertyGroup or an ItemGroup in a target. (Target element; PropertyGroup
+-- element; ItemGroup element)
+use Rattle.std.specs.Prelude.{
+  ℕ,
+  List,
+  [],
+  ◌∷◌,
+  ◌++◌,
+  fold,
+  Bool,
+  true,
+  false,
+  Option,
+  Some,
+  None,
+  Result,
+  Ok,
+  codes,
+  if◌then◌else◌,
+}
 use Rattle.std.specs.Str.{bytes_eq}
 use Rattle.msb_laws.specs.Results.{and_then, map_ok}
 use Rattle.msb_values.specs.Changes.{applied}
@@ -49,13 +67,17 @@ abbrev pub element_changes : Group → Place → At → Result (List Change) Eva
 element_changes group p e = changes_named (key_of (name_of e.node)) group p e
 
 -- element by element, each of which sees what those ahead of it have changed
-abbrev pub changes_of_each : (Place → At → Result (List Change) EvalFault) → Place → List At → Result (List Change) EvalFault
+abbrev pub changes_of_each : (Place → At → Result (List Change) EvalFault) → Place → List At
+    → Result (List Change) EvalFault
 changes_of_each of p [] = Ok []
 changes_of_each of p (e ∷ es) =
-    and_then (of p e) (λ changes. map_ok (λ later. changes ++ later) (changes_of_each of (with_scope p (all_applied changes p.scope)) es))
+    and_then (of p e)
+    (λ changes. map_ok (λ later. changes ++ later)
+    (changes_of_each of (with_scope p (all_applied changes p.scope)) es))
 
 abbrev pub group_changes_if : Bool → Place → At → Result (List Change) EvalFault
-group_changes_if true p e = changes_of_each (element_changes (group_of (name_of e.node))) p (children_of e)
+group_changes_if true p e = changes_of_each (element_changes (group_of (name_of e.node))) p
+    (children_of e)
 group_changes_if false p e = Ok []
 
 -- all the changes of a group whose Condition holds, or the first fault

@@ -1,5 +1,22 @@
--- What an item element in a target changes, in one of its buckets. (ItemGroup element; Item element; MSBuild items)
-use Rattle.std.specs.Prelude.{ℕ, List, [], ◌∷◌, map, filter, Bool, true, false, Option, Some, None, Result, Ok, codes}
+-- What an item element in a target changes, in one of its buckets. (ItemGroup element; Item
+-- element; MSBuild items)
+use Rattle.std.specs.Prelude.{
+  ℕ,
+  List,
+  [],
+  ◌∷◌,
+  map,
+  filter,
+  Bool,
+  true,
+  false,
+  Option,
+  Some,
+  None,
+  Result,
+  Ok,
+  codes,
+}
 use Rattle.msb_laws.specs.Results.{and_then, map_ok}
 use Rattle.msb_values.specs.Changes.{with_metadata}
 use Rattle.msb_values.specs.Escapes.{unescaped}
@@ -23,10 +40,11 @@ use Rattle.msb_items.specs.Truths.{truth_or}
 abbrev pub items_seen : Place → List ℕ → List Item
 items_seen p kind = list_in p.bucket p.scope.items kind
 
--- The metadata that are written on the element. Their texts see the bucket and no item, so that each item gets the same;
--- they are read where there is an item that gets them.
+-- The metadata that are written on the element. Their texts see the bucket and no item, so that
+-- each item gets the same; they are read where there is an item that gets them.
 abbrev pub pairs_written : Place → List ℕ → At → Result (List (List ℕ × List ℕ)) EvalFault
-pairs_written p kind e = map_ok (λ made. made.meta) (with_all_metadata p kind (metadata_on target_attributes e) no_item)
+pairs_written p kind e = map_ok (λ made. made.meta)
+    (with_all_metadata p kind (metadata_on target_attributes e) no_item)
 
 abbrev pub pairs_for : Place → List ℕ → At → List Item → Result (List (List ℕ × List ℕ)) EvalFault
 pairs_for p kind e [] = Ok []
@@ -35,20 +53,25 @@ pairs_for p kind e (item ∷ items) = pairs_written p kind e
 -- whether an item is added that is there already
 abbrev pub keeps_repeats : Place → At → Option (List ℕ) → Result Bool EvalFault
 keeps_repeats p e None = Ok true
-keeps_repeats p e (Some written) = and_then (text_at p e written) (λ text. or_fault e (truth_or true (unescaped text)))
+keeps_repeats p e (Some written) = and_then (text_at p e written)
+    (λ text. or_fault e (truth_or true (unescaped text)))
 
 abbrev pub less_repeats_if : Bool → Place → List ℕ → List Item → List Item
 less_repeats_if true p kind items = items
-less_repeats_if false p kind items = without_repeats (pairs_or_none (value_at kind p.scope.defaults)) (items_seen p kind) items
+less_repeats_if false p kind items = without_repeats
+    (pairs_or_none (value_at kind p.scope.defaults)) (items_seen p kind) items
 
 abbrev pub less_repeats : Place → List ℕ → At → List Item → Result (List Item) EvalFault
-less_repeats p kind e items = map_ok (λ keeps. less_repeats_if keeps p kind items) (keeps_repeats p e (attribute_of (codes "KeepDuplicates") e))
+less_repeats p kind e items = map_ok (λ keeps. less_repeats_if keeps p kind items)
+    (keeps_repeats p e (attribute_of (codes "KeepDuplicates") e))
 
 -- some items with the metadata that are written on the element
 abbrev pub with_pairs : Place → List ℕ → At → List Item → Result (List Item) EvalFault
-with_pairs p kind e items = map_ok (λ pairs. map (with_metadata pairs) items) (pairs_for p kind e items)
+with_pairs p kind e items = map_ok (λ pairs. map (with_metadata pairs) items)
+    (pairs_for p kind e items)
 
--- the items that an Include adds: those of its entries less the excluded, with what they keep of their metadata
+-- the items that an Include adds: those of its entries less the excluded, with what they keep of
+-- their metadata
 abbrev pub source_items : Place → At → List ℕ → Result (List Item) EvalFault
 source_items p e include =
     and_then (items_at p e include) (λ items.
@@ -56,26 +79,35 @@ source_items p e include =
     map_ok (λ transfer. map (transferred transfer) items) (transfer_at p e)))
 
 abbrev pub added_items : Place → List ℕ → At → List ℕ → Result (List Item) EvalFault
-added_items p kind e include = and_then (source_items p e include) (λ items. and_then (with_pairs p kind e items) (less_repeats p kind e))
+added_items p kind e include = and_then (source_items p e include)
+    (λ items. and_then (with_pairs p kind e items) (less_repeats p kind e))
 
 -- the items that the bucket sees and the entries of an attribute name
 abbrev pub named_items : Place → List ℕ → At → List ℕ → Result (List Item) EvalFault
-named_items p kind e written = map_ok (λ names. filter (is_named p.project names) (items_seen p kind)) (names_at p e written)
+named_items p kind e written = map_ok
+    (λ names. filter (is_named p.project names) (items_seen p kind)) (names_at p e written)
 
 -- these items get the metadata that are written on the element
 abbrev pub metadata_set : Place → List ℕ → At → List Item → Result Change EvalFault
 metadata_set p kind e items = map_ok (SetMeta kind items) (pairs_for p kind e items)
 
--- Include adds items, Remove takes those away that it names, and Update changes the metadata of those that it names;
--- an element with none of them changes the metadata of all items that the bucket sees
-abbrev pub change_by : Place → List ℕ → At → Option (List ℕ) → Option (List ℕ) → Option (List ℕ) → Result Change EvalFault
-change_by p kind e (Some include) remove update = map_ok (AddItems kind) (added_items p kind e include)
-change_by p kind e None (Some remove) update = map_ok (λ items. RemoveItems kind (map (λ item. item.ident) items)) (named_items p kind e remove)
-change_by p kind e None None (Some update) = and_then (named_items p kind e update) (metadata_set p kind e)
+-- Include adds items, Remove takes those away that it names, and Update changes the metadata of
+-- those that it names; an element with none of them changes the metadata of all items that the
+-- bucket sees
+abbrev pub change_by : Place → List ℕ → At → Option (List ℕ) → Option (List ℕ) → Option (List ℕ)
+    → Result Change EvalFault
+change_by p kind e (Some include) remove update = map_ok (AddItems kind)
+    (added_items p kind e include)
+change_by p kind e None (Some remove) update = map_ok
+    (λ items. RemoveItems kind (map (λ item. item.ident) items)) (named_items p kind e remove)
+change_by p kind e None None (Some update) = and_then (named_items p kind e update)
+    (metadata_set p kind e)
 change_by p kind e None None None = metadata_set p kind e (items_seen p kind)
 
 abbrev pub item_change_if : Bool → List ℕ → Place → At → Result (List Change) EvalFault
-item_change_if true kind p e = map_ok (λ change. change ∷ []) (change_by p kind e (attribute_of (codes "Include") e) (attribute_of (codes "Remove") e) (attribute_of (codes "Update") e))
+item_change_if true kind p e = map_ok (λ change. change ∷ [])
+    (change_by p kind e (attribute_of (codes "Include") e) (attribute_of (codes "Remove") e)
+    (attribute_of (codes "Update") e))
 item_change_if false kind p e = Ok []
 
 -- one change, if the Condition holds

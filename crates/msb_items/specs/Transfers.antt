@@ -47,8 +47,10 @@ only_entries (entry ∷ entries) = Only (metadata_names (entry ∷ entries))
 -- one of the two may stand on an element
 abbrev pub transfer_by : Place → At → Option (List ℕ) → Option (List ℕ) → Result Transfer EvalFault
 transfer_by p e (Some keep) remove = map_ok only_entries (entries_at p e keep)
-transfer_by p e None (Some remove) = map_ok (λ entries. Without (metadata_names entries)) (entries_at p e remove)
+transfer_by p e None (Some remove) = map_ok (λ entries. Without (metadata_names entries))
+    (entries_at p e remove)
 transfer_by p e None None = Ok All
 
 abbrev pub transfer_at : Place → At → Result Transfer EvalFault
-transfer_at p e = transfer_by p e (attribute_of (codes "KeepMetadata") e) (attribute_of (codes "RemoveMetadata") e)
+transfer_at p e = transfer_by p e (attribute_of (codes "KeepMetadata") e)
+    (attribute_of (codes "RemoveMetadata") e)

@@ -1,6 +1,12 @@
-//! Changes of a scope that is worked on: items move, and none is copied but those that a change names.
+//! Changes of a scope that is worked on: items move, and none is copied but those that a change
+//! names.
 ghost use Rattle.std.specs.Prelude.{◌≡◌, OnOk, IfOk, map};
-ghost use Rattle.msb_values.specs.Changes.{applied, with_metadata_if, with_metadata_on, without_named};
+ghost use Rattle.msb_values.specs.Changes.{
+  applied,
+  with_metadata_if,
+  with_metadata_on,
+  without_named,
+};
 ghost use Rattle.msb_values.specs.Folded.{folded_bytes};
 ghost use Rattle.msb_values.specs.Pairs.{changed_at};
 ghost use Rattle.msb_items.specs.TargetGroups.{all_applied};
@@ -13,7 +19,8 @@ use msb_values::{
 };
 use std::alloc::Global;
 
-/// Does what some changes say, one after another. Where there is no memory, nothing is said of the scope.
+/// Does what some changes say, one after another. Where there is no memory, nothing is said of the
+/// scope.
 pub(crate) fn apply_all(
     alloc: Global,
     scope: &mut Scope,
@@ -88,7 +95,8 @@ fn set_metadata(
     given: &[Item],
     pairs: &Pairs,
 ) -> Result<(), NoMemory>
-    ensures { OnOk result (lists.new ≡ changed_at kind.now (with_metadata_on given.now pairs.now) lists.old) }
+    ensures { OnOk result
+        (lists.new ≡ changed_at kind.now (with_metadata_on given.now pairs.now) lists.old) }
 {
     let shared = lists.replace(kind, SharedItems::none());
     let items = shared.into_list(alloc)?;
@@ -105,7 +113,8 @@ fn with_metadata_on(
     given: &[Item],
     pairs: &Pairs,
 ) -> Result<Vec<Item>, NoMemory>
-    ensures { IfOk result (λ changed. changed.items ≡ with_metadata_on given.now pairs.now items.items) }
+    ensures { IfOk result (λ changed. changed.items
+        ≡ with_metadata_on given.now pairs.now items.items) }
 {
     let set = set_of(alloc, List::of(alloc, given)?.into_vec())?;
     let mut changed = items;

@@ -10,7 +10,18 @@ ghost use Rattle.msb_batching.specs.Buckets.{buckets_value};
 ghost use Rattle.build_world.specs.Answers.{GivesFault};
 ghost use Rattle.build_world.specs.Elements.{children_of, or_fault, seen_element};
 ghost use Rattle.msb_items.specs.Answers.{GivesCauseAs};
-ghost use Rattle.msb_items.specs.Batched.{attribute_read, child_read, condition_read, element_buckets, inner_read, joined_ok, or_batch_cause, own_read, text_read, texts_read};
+ghost use Rattle.msb_items.specs.Batched.{
+  attribute_read,
+  child_read,
+  condition_read,
+  element_buckets,
+  inner_read,
+  joined_ok,
+  or_batch_cause,
+  own_read,
+  text_read,
+  texts_read,
+};
 ghost use Rattle.msb_items.specs.ReadTexts.{exprs_in, exprs_of};
 
 use build_world::{EvalFault, PlacedElement};
@@ -28,9 +39,10 @@ pub(crate) enum ReadText {
     Condition(Cond),
 }
 
-/// The buckets of an element in a target, and of an item element by its own type as well, as the lens sees it. The texts
-/// are the attributes in byte order of their names, but for the ignored ones, then the element's own text, and then each
-/// child's Condition and text. All are read first. (MSBuild batching.)
+/// The buckets of an element in a target, and of an item element by its own type as well, as the
+/// lens sees it. The texts are the attributes in byte order of their names, but for the ignored
+/// ones, then the element's own text, and then each child's Condition and text. All are read first.
+/// (MSBuild batching.)
 pub fn element_buckets(
     alloc: Global,
     lens: &Lens<'_>,
@@ -38,7 +50,9 @@ pub fn element_buckets(
     element: &PlacedElement<'_>,
     own: Option<&Name>,
 ) -> Result<List<Bucket>, EvalFault>
-    ensures { GivesFault (λ buckets. buckets) result (element_buckets (scene_of lens.now) (map (λ name. name.now) ignored.now) (seen_element element.now) (option_copied own.entry)) }
+    ensures { GivesFault (λ buckets. buckets) result
+        (element_buckets (scene_of lens.now) (map (λ name. name.now) ignored.now)
+        (seen_element element.now) (option_copied own.entry)) }
 {
     let read = read_texts(alloc, ignored, element)?;
     match read_buckets(alloc, lens, &read, own) {
@@ -54,7 +68,9 @@ fn read_buckets(
     read: &[ReadText],
     own: Option<&Name>,
 ) -> Result<List<Bucket>, Cause>
-    ensures { GivesCause result (or_batch_cause (buckets_value (scene_of lens.now) (exprs_in read.now) (option_copied own.entry))) }
+    ensures { GivesCause result
+        (or_batch_cause
+        (buckets_value (scene_of lens.now) (exprs_in read.now) (option_copied own.entry))) }
 {
     let Ok(texts) = expressions(alloc, read) else {
         return Err(Cause::Memory);
@@ -76,7 +92,8 @@ fn expressions(alloc: Global, read: &[ReadText]) -> Result<Vec<&Expr>, NoMemory>
 }
 
 fn push_expressions<'r>(texts: &mut Vec<&'r Expr>, read: &'r ReadText) -> Result<(), NoMemory>
-    ensures { OnOk result (map (λ text. text.now) texts.new.items ≡ map (λ text. text.now) texts.old.items ++ exprs_of read.now) }
+    ensures { OnOk result (map (λ text. text.now) texts.new.items
+        ≡ map (λ text. text.now) texts.old.items ++ exprs_of read.now) }
 {
     match read {
         ReadText::Text(expr) => Ok(texts.push(expr)?),
@@ -90,7 +107,8 @@ fn read_texts(
     ignored: &[&str],
     element: &PlacedElement<'_>,
 ) -> Result<Vec<ReadText>, EvalFault>
-    ensures { GivesFault (λ read. exprs_in read.items) result (texts_read (map (λ name. name.now) ignored.now) (seen_element element.now)) }
+    ensures { GivesFault (λ read. exprs_in read.items) result
+        (texts_read (map (λ name. name.now) ignored.now) (seen_element element.now)) }
 {
     let mut read = read_own(alloc, ignored, element)?;
     push_children(alloc, &mut read, element)?;
@@ -103,7 +121,9 @@ fn read_own(
     ignored: &[&str],
     element: &PlacedElement<'_>,
 ) -> Result<Vec<ReadText>, EvalFault>
-    ensures { GivesFault (λ read. exprs_in read.items) result (or_fault (seen_element element.now) (own_read (map (λ name. name.now) ignored.now) (seen_element element.now))) }
+    ensures { GivesFault (λ read. exprs_in read.items) result
+        (or_fault (seen_element element.now)
+        (own_read (map (λ name. name.now) ignored.now) (seen_element element.now))) }
 {
     let mut read = Vec::new(alloc);
     match push_own(alloc, &mut read, ignored, element) {
@@ -118,7 +138,9 @@ fn push_own(
     ignored: &[&str],
     element: &PlacedElement<'_>,
 ) -> Result<(), Cause>
-    ensures { GivesCauseAs (λ _. exprs_in read.new.items) result (map_ok (λ more. exprs_in read.old.items ++ more) (own_read (map (λ name. name.now) ignored.now) (seen_element element.now))) }
+    ensures { GivesCauseAs (λ _. exprs_in read.new.items) result
+        (map_ok (λ more. exprs_in read.old.items ++ more)
+        (own_read (map (λ name. name.now) ignored.now) (seen_element element.now))) }
 {
     push_attributes(alloc, read, ignored, element)?;
     push_text(alloc, read, element.element.text())
@@ -130,7 +152,10 @@ fn push_attributes(
     ignored: &[&str],
     element: &PlacedElement<'_>,
 ) -> Result<(), Cause>
-    ensures { GivesCauseAs (λ _. exprs_in read.new.items) result (map_ok (λ more. exprs_in read.old.items ++ more) (joined_ok (attribute_read (map (λ name. name.now) ignored.now)) (attributes_of (view element.now.element.now)))) }
+    ensures { GivesCauseAs (λ _. exprs_in read.new.items) result
+        (map_ok (λ more. exprs_in read.old.items ++ more)
+        (joined_ok (attribute_read (map (λ name. name.now) ignored.now))
+        (attributes_of (view element.now.element.now)))) }
 {
     for attribute in element.element.attributes() {
         push_attribute(alloc, read, ignored, attribute)?;
@@ -144,7 +169,9 @@ fn push_attribute(
     ignored: &[&str],
     attribute: &(Text, Text),
 ) -> Result<(), Cause>
-    ensures { GivesCauseAs (λ _. exprs_in read.new.items) result (map_ok (λ more. exprs_in read.old.items ++ more) (attribute_read (map (λ name. name.now) ignored.now) attribute.now)) }
+    ensures { GivesCauseAs (λ _. exprs_in read.new.items) result
+        (map_ok (λ more. exprs_in read.old.items ++ more)
+        (attribute_read (map (λ name. name.now) ignored.now) attribute.now)) }
 {
     let (name, text) = attribute;
     if is_ignored(ignored, name.as_str()) {
@@ -173,7 +200,9 @@ fn push_children(
     read: &mut Vec<ReadText>,
     element: &PlacedElement<'_>,
 ) -> Result<(), EvalFault>
-    ensures { GivesFault (λ _. exprs_in read.new.items) result (map_ok (λ more. exprs_in read.old.items ++ more) (joined_ok child_read (children_of (seen_element element.now)))) }
+    ensures { GivesFault (λ _. exprs_in read.new.items) result
+        (map_ok (λ more. exprs_in read.old.items ++ more)
+        (joined_ok child_read (children_of (seen_element element.now)))) }
 {
     for child in element.element.children() {
         push_child(alloc, read, &element.child(child))?;
@@ -187,7 +216,8 @@ fn push_child(
     read: &mut Vec<ReadText>,
     child: &PlacedElement<'_>,
 ) -> Result<(), EvalFault>
-    ensures { GivesFault (λ _. exprs_in read.new.items) result (map_ok (λ more. exprs_in read.old.items ++ more) (child_read (seen_element child.now))) }
+    ensures { GivesFault (λ _. exprs_in read.new.items) result
+        (map_ok (λ more. exprs_in read.old.items ++ more) (child_read (seen_element child.now))) }
 {
     match push_inner(alloc, read, child) {
         Ok(()) => Ok(()),
@@ -200,7 +230,8 @@ fn push_inner(
     read: &mut Vec<ReadText>,
     child: &PlacedElement<'_>,
 ) -> Result<(), Cause>
-    ensures { GivesCauseAs (λ _. exprs_in read.new.items) result (map_ok (λ more. exprs_in read.old.items ++ more) (inner_read (seen_element child.now))) }
+    ensures { GivesCauseAs (λ _. exprs_in read.new.items) result
+        (map_ok (λ more. exprs_in read.old.items ++ more) (inner_read (seen_element child.now))) }
 {
     push_condition(alloc, read, child.element.attribute("Condition"))?;
     push_text(alloc, read, child.element.text())
@@ -211,7 +242,9 @@ fn push_condition(
     read: &mut Vec<ReadText>,
     written: Option<&str>,
 ) -> Result<(), Cause>
-    ensures { GivesCauseAs (λ _. exprs_in read.new.items) result (map_ok (λ more. exprs_in read.old.items ++ more) (condition_read (option_copied written.entry))) }
+    ensures { GivesCauseAs (λ _. exprs_in read.new.items) result
+        (map_ok (λ more. exprs_in read.old.items ++ more)
+        (condition_read (option_copied written.entry))) }
 {
     match written {
         Some(written) => push_written_condition(alloc, read, written),
@@ -224,7 +257,8 @@ fn push_written_condition(
     read: &mut Vec<ReadText>,
     written: &str,
 ) -> Result<(), Cause>
-    ensures { GivesCauseAs (λ _. exprs_in read.new.items) result (map_ok (λ more. exprs_in read.old.items ++ more) (condition_read (Some written.now))) }
+    ensures { GivesCauseAs (λ _. exprs_in read.new.items) result
+        (map_ok (λ more. exprs_in read.old.items ++ more) (condition_read (Some written.now))) }
 {
     match msb_condition::parse(alloc, written) {
         Ok(condition) => push(read, ReadText::Condition(condition)),
@@ -233,7 +267,8 @@ fn push_written_condition(
 }
 
 fn push_text(alloc: Global, read: &mut Vec<ReadText>, written: &str) -> Result<(), Cause>
-    ensures { GivesCauseAs (λ _. exprs_in read.new.items) result (map_ok (λ more. exprs_in read.old.items ++ more) (text_read written.now)) }
+    ensures { GivesCauseAs (λ _. exprs_in read.new.items) result
+        (map_ok (λ more. exprs_in read.old.items ++ more) (text_read written.now)) }
 {
     match msb_expression::parse(alloc, written) {
         Ok(expr) => push(read, ReadText::Text(expr)),
@@ -242,7 +277,8 @@ fn push_text(alloc: Global, read: &mut Vec<ReadText>, written: &str) -> Result<(
 }
 
 fn push(read: &mut Vec<ReadText>, text: ReadText) -> Result<(), Cause>
-    ensures { GivesCauseAs (λ _. exprs_in read.new.items) result (Ok (exprs_in read.old.items ++ exprs_of text)) }
+    ensures { GivesCauseAs (λ _. exprs_in read.new.items) result
+        (Ok (exprs_in read.old.items ++ exprs_of text)) }
 {
     match read.push(text) {
         Ok(()) => Ok(()),

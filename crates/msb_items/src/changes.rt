@@ -3,7 +3,14 @@ ghost use Rattle.msb_laws.specs.Results.{and_then, map_ok};
 ghost use Rattle.build_world.specs.Answers.{GivesFault};
 ghost use Rattle.build_world.specs.Elements.{seen_element};
 ghost use Rattle.msb_items.specs.FoldedNames.{folded_names, seen_names};
-ghost use Rattle.msb_items.specs.Items.{items_at, less_excluded, list_of, names_at, new_items, unnamed};
+ghost use Rattle.msb_items.specs.Items.{
+  items_at,
+  less_excluded,
+  list_of,
+  names_at,
+  new_items,
+  unnamed,
+};
 ghost use Rattle.msb_items.specs.ItemNames.{is_named};
 ghost use Rattle.msb_items.specs.Metadata.{item_attributes, metadata_on};
 ghost use Rattle.msb_items.specs.Replaced.{replacements_of};
@@ -23,8 +30,8 @@ use msb_paths::Present;
 use msb_values::{Item, Name, Scope};
 use std::alloc::Global;
 
-/// The items that an Include adds, less those that Exclude names, with the metadata that are written on the element.
-/// (MSBuild items.)
+/// The items that an Include adds, less those that Exclude names, with the metadata that are
+/// written on the element. (MSBuild items.)
 pub(crate) fn new_items<F: Present>(
     alloc: Global,
     place: &Place<'_, F>,
@@ -34,7 +41,8 @@ pub(crate) fn new_items<F: Present>(
     include: &str,
 ) -> Result<Vec<Item>, EvalFault>
     requires { paths.now ≡ F.files place.now.files.now }
-    ensures { GivesFault (λ items. items.items) result (new_items (place_of F.files place.now) kind.now (seen_element element.now) include.now) }
+    ensures { GivesFault (λ items. items.items) result
+        (new_items (place_of F.files place.now) kind.now (seen_element element.now) include.now) }
 {
     let items = items_at(alloc, place, paths, element, include)?;
     let exclude = element.element.attribute("Exclude");
@@ -54,7 +62,8 @@ fn items_at<F: Present>(
     include: &str,
 ) -> Result<Vec<Item>, EvalFault>
     requires { paths.now ≡ F.files place.now.files.now }
-    ensures { GivesFault (λ items. items.items) result (items_at (place_of F.files place.now) (seen_element element.now) include.now) }
+    ensures { GivesFault (λ items. items.items) result
+        (items_at (place_of F.files place.now) (seen_element element.now) include.now) }
 {
     let entries = place.entries(alloc, element, include)?;
     match all_items(alloc, paths, place.project, entries.as_slice()) {
@@ -70,7 +79,8 @@ pub(crate) fn target_items_at<F: ListedFiles>(
     element: &PlacedElement<'_>,
     include: &str,
 ) -> Result<Vec<Item>, EvalFault>
-    ensures { GivesFault (λ items. items.items) result (items_at (place_of F.files place.now) (seen_element element.now) include.now) }
+    ensures { GivesFault (λ items. items.items) result
+        (items_at (place_of F.files place.now) (seen_element element.now) include.now) }
 {
     let entries = place.entries(alloc, element, include)?;
     match items_by(alloc, place.files, place.project, entries.as_slice()) {
@@ -86,7 +96,9 @@ pub(crate) fn less_excluded<F: Present>(
     exclude: Option<&str>,
     items: Vec<Item>,
 ) -> Result<Vec<Item>, EvalFault>
-    ensures { GivesFault (λ items. items.items) result (less_excluded (place_of F.files place.now) (seen_element element.now) (option_copied exclude.entry) items.items) }
+    ensures { GivesFault (λ items. items.items) result
+        (less_excluded (place_of F.files place.now) (seen_element element.now)
+        (option_copied exclude.entry) items.items) }
 {
     match exclude {
         None => Ok(items),
@@ -102,7 +114,9 @@ fn excluded<F: Present>(
     exclude: &str,
     items: Vec<Item>,
 ) -> Result<Vec<Item>, EvalFault>
-    ensures { GivesFault (λ items. items.items) result (map_ok (unnamed place.now.project.now items.items) (names_at (place_of F.files place.now) (seen_element element.now) exclude.now)) }
+    ensures { GivesFault (λ items. items.items) result
+        (map_ok (unnamed place.now.project.now items.items)
+        (names_at (place_of F.files place.now) (seen_element element.now) exclude.now)) }
 {
     let names = names_at(alloc, place, element, exclude)?;
     match unnamed(alloc, place.project, &names, items) {
@@ -118,7 +132,9 @@ pub(crate) fn names_at<F: Present>(
     element: &PlacedElement<'_>,
     written: &str,
 ) -> Result<ItemNames, EvalFault>
-    ensures { GivesFault seen_names result (map_ok folded_names (names_at (place_of F.files place.now) (seen_element element.now) written.now)) }
+    ensures { GivesFault seen_names result
+        (map_ok folded_names
+        (names_at (place_of F.files place.now) (seen_element element.now) written.now)) }
 {
     let entries = place.entries(alloc, element, written)?;
     match ItemNames::of(alloc, place.project, entries.as_slice()) {
@@ -127,8 +143,8 @@ pub(crate) fn names_at<F: Present>(
     }
 }
 
-/// What each item of a type becomes that an Update names: a copy with the metadata that are written on the element.
-/// (MSBuild items.)
+/// What each item of a type becomes that an Update names: a copy with the metadata that are written
+/// on the element. (MSBuild items.)
 pub(crate) fn update_replacements<F: Present>(
     alloc: Global,
     place: &Place<'_, F>,
@@ -136,7 +152,11 @@ pub(crate) fn update_replacements<F: Present>(
     element: &PlacedElement<'_>,
     update: &str,
 ) -> Result<Vec<Option<Item>>, EvalFault>
-    ensures { GivesFault (λ replacements. replacements.items) result (and_then (names_at (place_of F.files place.now) (seen_element element.now) update.now) (λ names. replacements_of (place_of F.files place.now) kind.now (metadata_on item_attributes (seen_element element.now)) (is_named place.now.project.now names) (list_of place.now.scope.now kind.now))) }
+    ensures { GivesFault (λ replacements. replacements.items) result
+        (and_then (names_at (place_of F.files place.now) (seen_element element.now) update.now)
+        (λ names. replacements_of (place_of F.files place.now) kind.now
+        (metadata_on item_attributes (seen_element element.now))
+        (is_named place.now.project.now names) (list_of place.now.scope.now kind.now))) }
 {
     let names = names_at(alloc, place, element, update)?;
     let Ok(written) = metadata_on(alloc, Kind::Item, element) else {

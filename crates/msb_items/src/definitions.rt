@@ -2,7 +2,17 @@ ghost use Rattle.std.specs.Prelude.{◌≡◌, map, true, Some, OnOk};
 ghost use Rattle.file_store.specs.Files.{paths_of};
 ghost use Rattle.build_world.specs.Elements.{children_of, seen_element, seen_placed};
 ghost use Rattle.msb_items.specs.Answers.{Changes};
-ghost use Rattle.msb_items.specs.Definitions.{all_defined, defined_by, definition_if, no_item, with_default, with_default_written, with_defaults_written, with_definition, with_definitions};
+ghost use Rattle.msb_items.specs.Definitions.{
+  all_defined,
+  defined_by,
+  definition_if,
+  no_item,
+  with_default,
+  with_default_written,
+  with_defaults_written,
+  with_definition,
+  with_definitions,
+};
 ghost use Rattle.msb_items.specs.Places.{after_each};
 ghost use Rattle.msb_items.specs.Seen.{definitions_in, metadata_of};
 
@@ -15,15 +25,18 @@ use msb_paths::Present;
 use msb_values::{Copied, Item, Name, NoMemory, Pairs, Scope, Text};
 use std::alloc::Global;
 
-/// Takes the item definitions of a laid-out project in order, with the properties of the scope; or the first fault, with
-/// the file and the place of its element, after which nothing is said of the scope. (Item definitions.)
+/// Takes the item definitions of a laid-out project in order, with the properties of the scope; or
+/// the first fault, with the file and the place of its element, after which nothing is said of the
+/// scope. (Item definitions.)
 pub fn definition_pass(
     alloc: Global,
     tree: &Tree,
     laid: &LaidOut,
     scope: &mut Scope,
 ) -> Result<(), EvalFault>
-    ensures { Changes result scope.new (all_defined (paths_of tree.now.files) scope.old (map seen_placed laid.now.elements.items)) }
+    ensures { Changes result scope.new
+        (all_defined (paths_of tree.now.files) scope.old
+        (map seen_placed laid.now.elements.items)) }
 {
     let elements = laid.elements.as_slice();
     let source = Source {
@@ -39,7 +52,9 @@ fn define_all<F: Present>(
     elements: &[Placed],
     scope: &mut Scope,
 ) -> Result<(), EvalFault>
-    ensures { Changes result scope.new (after_each defined_by (definitions_in F.files source.now scope.old) (map seen_placed elements.now)) }
+    ensures { Changes result scope.new
+        (after_each defined_by (definitions_in F.files source.now scope.old)
+        (map seen_placed elements.now)) }
 {
     for placed in elements {
         define_by(alloc, source, &PlacedElement::of(placed), scope)?;
@@ -54,7 +69,8 @@ fn define_by<F: Present>(
     element: &PlacedElement<'_>,
     scope: &mut Scope,
 ) -> Result<(), EvalFault>
-    ensures { Changes result scope.new (defined_by (definitions_in F.files source.now scope.old) (seen_element element.now)) }
+    ensures { Changes result scope.new
+        (defined_by (definitions_in F.files source.now scope.old) (seen_element element.now)) }
 {
     if element.element.name() == "ItemDefinitionGroup" {
         return define_group(alloc, source, element, scope);
@@ -69,7 +85,9 @@ fn define_group<F: Present>(
     element: &PlacedElement<'_>,
     scope: &mut Scope,
 ) -> Result<(), EvalFault>
-    ensures { Changes result scope.new (with_definitions (definitions_in F.files source.now scope.old) (seen_element element.now)) }
+    ensures { Changes result scope.new
+        (with_definitions (definitions_in F.files source.now scope.old)
+        (seen_element element.now)) }
 {
     if Place::of_definitions(source.files, source.project, scope).element_holds(alloc, element)? {
         return define_children(alloc, source, element, scope);
@@ -83,7 +101,9 @@ fn define_children<F: Present>(
     element: &PlacedElement<'_>,
     scope: &mut Scope,
 ) -> Result<(), EvalFault>
-    ensures { Changes result scope.new (after_each with_definition (definitions_in F.files source.now scope.old) (children_of (seen_element element.now))) }
+    ensures { Changes result scope.new
+        (after_each with_definition (definitions_in F.files source.now scope.old)
+        (children_of (seen_element element.now))) }
 {
     for child in element.element.children() {
         define(alloc, source, &element.child(child), scope)?;
@@ -98,7 +118,8 @@ fn define<F: Present>(
     element: &PlacedElement<'_>,
     scope: &mut Scope,
 ) -> Result<(), EvalFault>
-    ensures { Changes result scope.new (with_definition (definitions_in F.files source.now scope.old) (seen_element element.now)) }
+    ensures { Changes result scope.new
+        (with_definition (definitions_in F.files source.now scope.old) (seen_element element.now)) }
 {
     if Place::of_definitions(source.files, source.project, scope).element_holds(alloc, element)? {
         return define_kind(alloc, source, element, scope);
@@ -112,7 +133,9 @@ fn define_kind<F: Present>(
     element: &PlacedElement<'_>,
     scope: &mut Scope,
 ) -> Result<(), EvalFault>
-    ensures { Changes result scope.new (definition_if true (definitions_in F.files source.now scope.old) (seen_element element.now)) }
+    ensures { Changes result scope.new
+        (definition_if true (definitions_in F.files source.now scope.old)
+        (seen_element element.now)) }
 {
     let Some(kind) = key_of(alloc, element.element.name())? else {
         return Ok(());
@@ -138,7 +161,9 @@ fn set_defaults<F: Present>(
     scope: &mut Scope,
 ) -> Result<(), EvalFault>
     requires { nothing.now ≡ no_item }
-    ensures { Changes result scope.new (with_defaults_written kind.now (definitions_in F.files source.now scope.old) (map metadata_of written.now)) }
+    ensures { Changes result scope.new
+        (with_defaults_written kind.now (definitions_in F.files source.now scope.old)
+        (map metadata_of written.now)) }
 {
     for metadata in written {
         set_default_written(alloc, source, kind, nothing, metadata, scope)?;
@@ -155,7 +180,9 @@ fn set_default_written<'k, F: Present>(
     scope: &mut Scope,
 ) -> Result<(), EvalFault>
     requires { nothing.now ≡ no_item }
-    ensures { Changes result scope.new (with_default_written kind.now (definitions_in F.files source.now scope.old) (metadata_of metadata.now)) }
+    ensures { Changes result scope.new
+        (with_default_written kind.now (definitions_in F.files source.now scope.old)
+        (metadata_of metadata.now)) }
 {
     let place = Place::of_definitions(source.files, source.project, scope);
     let value = metadata.value(alloc, &place.of_metadata(kind, nothing))?;

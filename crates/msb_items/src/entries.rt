@@ -43,28 +43,32 @@ fn pattern_cause(alloc: Global, text: &str, fault: GlobFault) -> Cause
     }
 }
 
-/// The items of the entries of an Include, one entry after another. (MSBuild items, wildcards to specify items.)
+/// The items of the entries of an Include, one entry after another. (MSBuild items, wildcards to
+/// specify items.)
 pub(crate) fn all_items<P: HasPath>(
     alloc: Global,
     paths: &SortedPaths<'_, P>,
     project: &str,
     entries: &[Entry],
 ) -> Result<Vec<Item>, Cause>
-    ensures { GivesCauseAs (λ items. items.items) result (all_items paths.now project.now entries.now) }
+    ensures { GivesCauseAs (λ items. items.items) result
+        (all_items paths.now project.now entries.now) }
 {
     let mut items = Vec::new(alloc);
     push_items(alloc, &mut items, paths, project, entries)?;
     Ok(items)
 }
 
-/// The items of the entries of an Include in a target, where the paths of the files are listed only for a pattern.
+/// The items of the entries of an Include in a target, where the paths of the files are listed only
+/// for a pattern.
 pub(crate) fn items_by<F: ListedFiles>(
     alloc: Global,
     files: &F,
     project: &str,
     entries: &[Entry],
 ) -> Result<Vec<Item>, Cause>
-    ensures { GivesCauseAs (λ items. items.items) result (all_items (F.files files.now) project.now entries.now) }
+    ensures { GivesCauseAs (λ items. items.items) result
+        (all_items (F.files files.now) project.now entries.now) }
 {
     if has_pattern(entries) {
         return listed_items(alloc, files, project, entries);
@@ -81,7 +85,8 @@ fn listed_items<F: ListedFiles>(
     project: &str,
     entries: &[Entry],
 ) -> Result<Vec<Item>, Cause>
-    ensures { GivesCauseAs (λ items. items.items) result (all_items (F.files files.now) project.now entries.now) }
+    ensures { GivesCauseAs (λ items. items.items) result
+        (all_items (F.files files.now) project.now entries.now) }
 {
     let Ok(paths) = files.paths(alloc) else {
         return Err(Cause::Memory);
@@ -113,7 +118,8 @@ fn push_items<P: HasPath>(
     project: &str,
     entries: &[Entry],
 ) -> Result<(), Cause>
-    ensures { GivesCauseAs (λ _. items.new.items) result (map_ok (λ more. items.old.items ++ more) (all_items paths.now project.now entries.now)) }
+    ensures { GivesCauseAs (λ _. items.new.items) result
+        (map_ok (λ more. items.old.items ++ more) (all_items paths.now project.now entries.now)) }
 {
     for entry in entries {
         push_items_of(alloc, items, paths, project, entry)?;
@@ -129,7 +135,8 @@ fn push_items_of<P: HasPath>(
     project: &str,
     entry: &Entry,
 ) -> Result<(), Cause>
-    ensures { GivesCauseAs (λ _. items.new.items) result (map_ok (λ more. items.old.items ++ more) (items_of paths.now project.now entry.now)) }
+    ensures { GivesCauseAs (λ _. items.new.items) result
+        (map_ok (λ more. items.old.items ++ more) (items_of paths.now project.now entry.now)) }
 {
     if is_pattern_entry(entry) {
         return push_pattern(alloc, items, paths, project, entry);
@@ -147,7 +154,9 @@ fn push_pattern<P: HasPath>(
     project: &str,
     entry: &Entry,
 ) -> Result<(), Cause>
-    ensures { GivesCauseAs (λ _. items.new.items) result (map_ok (λ more. items.old.items ++ more) (map_ok (matched paths.now) (pattern_of project.now entry.now))) }
+    ensures { GivesCauseAs (λ _. items.new.items) result
+        (map_ok (λ more. items.old.items ++ more)
+        (map_ok (matched paths.now) (pattern_of project.now entry.now))) }
 {
     let pattern = pattern_of(alloc, project, entry)?;
     match push_matches(alloc, items, paths, &pattern) {

@@ -6,7 +6,16 @@ ghost use Rattle.std.specs.Cmp.Lexicographic.{slice_cmp};
 ghost use Rattle.msb_laws.specs.Results.{map_ok, all_ok};
 ghost use Rattle.msb_glob.specs.Match.{fits_path};
 ghost use Rattle.msb_items.specs.Answers.{GivesCauseAs};
-ghost use Rattle.msb_items.specs.FoldedNames.{fits_any, folded_ident, has_ident, folded_names, seen_names, is_named_by, path_of, with_idents};
+ghost use Rattle.msb_items.specs.FoldedNames.{
+  fits_any,
+  folded_ident,
+  has_ident,
+  folded_names,
+  seen_names,
+  is_named_by,
+  path_of,
+  with_idents,
+};
 ghost use Rattle.msb_items.specs.ItemNames.{idents_of, names_of, patterns_of};
 ghost use Rattle.msb_items.specs.Patterns.{is_pattern_entry, pattern_of};
 
@@ -18,7 +27,8 @@ use msb_values::{Cause, Folded, Item, List, NoMemory, unescape};
 use std::alloc::Global;
 use std::collections::BTreeSet;
 
-/// What the entries of an Exclude, a Remove or an Update name. (MSBuild items, wildcards to specify items.)
+/// What the entries of an Exclude, a Remove or an Update name. (MSBuild items, wildcards to specify
+/// items.)
 pub(crate) struct ItemNames {
     /// The identity that each entry is, with `/` for each `\` and folded.
     idents: BTreeSet<Folded>,
@@ -39,7 +49,8 @@ impl Drop for ItemNames {
 impl ItemNames {
     /// What the entries of a list name.
     pub(crate) fn of(alloc: Global, project: &str, entries: &[Entry]) -> Result<ItemNames, Cause>
-        ensures { GivesCauseAs seen_names result (map_ok folded_names (names_of project.now entries.now)) }
+        ensures { GivesCauseAs seen_names result
+            (map_ok folded_names (names_of project.now entries.now)) }
     {
         let mut patterns = List::new(alloc);
         push_patterns(alloc, &mut patterns, project, entries)?;
@@ -79,7 +90,9 @@ fn idents_of(alloc: Global, entries: &[Entry]) -> Result<BTreeSet<Folded>, NoMem
 }
 
 fn push_ident(alloc: Global, idents: &mut BTreeSet<Folded>, ident: &str) -> Result<(), NoMemory>
-    ensures { OnOk result (idents.new.keys ≡ insert_key (slice_cmp nat_cmp) idents.old.keys (folded_ident ident.now)) }
+    ensures { OnOk result
+        (idents.new.keys ≡ insert_key (slice_cmp nat_cmp) idents.old.keys
+        (folded_ident ident.now)) }
 {
     let folded = folded_ident(alloc, ident)?;
     match idents.insert(folded) {
@@ -102,7 +115,8 @@ fn push_patterns(
     project: &str,
     entries: &[Entry],
 ) -> Result<(), Cause>
-    ensures { GivesCauseAs (λ _. patterns.new) result (map_ok (λ more. patterns.old ++ more) (patterns_of project.now entries.now)) }
+    ensures { GivesCauseAs (λ _. patterns.new) result
+        (map_ok (λ more. patterns.old ++ more) (patterns_of project.now entries.now)) }
 {
     for entry in entries {
         push_pattern(alloc, patterns, project, entry)?;
@@ -116,7 +130,8 @@ fn push_pattern(
     project: &str,
     entry: &Entry,
 ) -> Result<(), Cause>
-    ensures { GivesCauseAs (λ _. patterns.new) result (map_ok (λ more. patterns.old ++ more) (patterns_of project.now (entry.now ∷ []))) }
+    ensures { GivesCauseAs (λ _. patterns.new) result
+        (map_ok (λ more. patterns.old ++ more) (patterns_of project.now (entry.now ∷ []))) }
 {
     if !is_pattern_entry(entry) {
         return Ok(());

@@ -3,7 +3,19 @@ ghost use Rattle.file_store.specs.Files.{paths_of};
 ghost use Rattle.build_world.specs.Answers.{GivesFault};
 ghost use Rattle.build_world.specs.Elements.{children_of, seen_element, seen_placed};
 ghost use Rattle.msb_items.specs.Answers.{Changes};
-ghost use Rattle.msb_items.specs.Items.{all_itemed, included, item_if, item_named, itemed_by, list_of, removed, updated, with_item, with_items, with_list};
+ghost use Rattle.msb_items.specs.Items.{
+  all_itemed,
+  included,
+  item_if,
+  item_named,
+  itemed_by,
+  list_of,
+  removed,
+  updated,
+  with_item,
+  with_items,
+  with_list,
+};
 ghost use Rattle.msb_items.specs.FoldedNames.{seen_names, unnamed_by};
 ghost use Rattle.msb_items.specs.Places.{after_each, element_holds};
 ghost use Rattle.msb_items.specs.Replaced.{or_item, replaced};
@@ -22,15 +34,17 @@ use msb_paths::Present;
 use msb_values::{Copied, Item, List, Name, NoMemory, Scope, SharedItems};
 use std::alloc::Global;
 
-/// Takes the items of a laid-out project in order, with the properties and the defaults of the scope; or the first fault,
-/// with the file and the place of its element, after which nothing is said of the scope. (MSBuild items.)
+/// Takes the items of a laid-out project in order, with the properties and the defaults of the
+/// scope; or the first fault, with the file and the place of its element, after which nothing is
+/// said of the scope. (MSBuild items.)
 pub fn item_pass(
     alloc: Global,
     tree: &Tree,
     laid: &LaidOut,
     scope: &mut Scope,
 ) -> Result<(), EvalFault>
-    ensures { Changes result scope.new (all_itemed (paths_of tree.now.files) scope.old (map seen_placed laid.now.elements.items)) }
+    ensures { Changes result scope.new
+        (all_itemed (paths_of tree.now.files) scope.old (map seen_placed laid.now.elements.items)) }
 {
     let elements = laid.elements.as_slice();
     let source = ItemSource {
@@ -49,7 +63,9 @@ fn take_all<F: Present>(
     elements: &[Placed],
     scope: &mut Scope,
 ) -> Result<(), EvalFault>
-    ensures { Changes result scope.new (after_each itemed_by (items_in F.files source.now.source scope.old) (map seen_placed elements.now)) }
+    ensures { Changes result scope.new
+        (after_each itemed_by (items_in F.files source.now.source scope.old)
+        (map seen_placed elements.now)) }
 {
     for placed in elements {
         take(alloc, source, &PlacedElement::of(placed), scope)?;
@@ -64,7 +80,8 @@ fn take<F: Present>(
     element: &PlacedElement<'_>,
     scope: &mut Scope,
 ) -> Result<(), EvalFault>
-    ensures { Changes result scope.new (itemed_by (items_in F.files source.now.source scope.old) (seen_element element.now)) }
+    ensures { Changes result scope.new
+        (itemed_by (items_in F.files source.now.source scope.old) (seen_element element.now)) }
 {
     if element.element.name() == "ItemGroup" {
         return take_group(alloc, source, element, scope);
@@ -79,7 +96,8 @@ fn take_group<F: Present>(
     element: &PlacedElement<'_>,
     scope: &mut Scope,
 ) -> Result<(), EvalFault>
-    ensures { Changes result scope.new (with_items (items_in F.files source.now.source scope.old) (seen_element element.now)) }
+    ensures { Changes result scope.new
+        (with_items (items_in F.files source.now.source scope.old) (seen_element element.now)) }
 {
     if holds(alloc, &source.source, element, scope)? {
         return take_children(alloc, source, element, scope);
@@ -94,7 +112,8 @@ fn holds<F: Present>(
     element: &PlacedElement<'_>,
     scope: &Scope,
 ) -> Result<bool, EvalFault>
-    ensures { GivesFault (λ holds. holds) result (element_holds (items_in F.files source.now scope.now) (seen_element element.now)) }
+    ensures { GivesFault (λ holds. holds) result
+        (element_holds (items_in F.files source.now scope.now) (seen_element element.now)) }
 {
     Place::of_items(source.files, source.project, scope).element_holds(alloc, element)
 }
@@ -105,7 +124,9 @@ fn take_children<F: Present>(
     element: &PlacedElement<'_>,
     scope: &mut Scope,
 ) -> Result<(), EvalFault>
-    ensures { Changes result scope.new (after_each with_item (items_in F.files source.now.source scope.old) (children_of (seen_element element.now))) }
+    ensures { Changes result scope.new
+        (after_each with_item (items_in F.files source.now.source scope.old)
+        (children_of (seen_element element.now))) }
 {
     for child in element.element.children() {
         take_item(alloc, source, &element.child(child), scope)?;
@@ -120,7 +141,8 @@ fn take_item<F: Present>(
     element: &PlacedElement<'_>,
     scope: &mut Scope,
 ) -> Result<(), EvalFault>
-    ensures { Changes result scope.new (with_item (items_in F.files source.now.source scope.old) (seen_element element.now)) }
+    ensures { Changes result scope.new
+        (with_item (items_in F.files source.now.source scope.old) (seen_element element.now)) }
 {
     if holds(alloc, &source.source, element, scope)? {
         return take_kind(alloc, source, element, scope);
@@ -134,7 +156,8 @@ fn take_kind<F: Present>(
     element: &PlacedElement<'_>,
     scope: &mut Scope,
 ) -> Result<(), EvalFault>
-    ensures { Changes result scope.new (item_if true (items_in F.files source.now.source scope.old) (seen_element element.now)) }
+    ensures { Changes result scope.new
+        (item_if true (items_in F.files source.now.source scope.old) (seen_element element.now)) }
 {
     match key_of(alloc, element.element.name())? {
         Some(kind) => change(alloc, source, element, &kind, scope),
@@ -149,7 +172,9 @@ fn change<F: Present>(
     kind: &Name,
     scope: &mut Scope,
 ) -> Result<(), EvalFault>
-    ensures { Changes result scope.new (item_named (Some kind.now) (items_in F.files source.now.source scope.old) (seen_element element.now)) }
+    ensures { Changes result scope.new
+        (item_named (Some kind.now) (items_in F.files source.now.source scope.old)
+        (seen_element element.now)) }
 {
     if let Some(written) = element.element.attribute("Include") {
         return include(alloc, source, element, kind, written, scope);
@@ -171,7 +196,9 @@ fn include<F: Present>(
     written: &str,
     scope: &mut Scope,
 ) -> Result<(), EvalFault>
-    ensures { Changes result scope.new (included (items_in F.files source.now.source scope.old) kind.now (seen_element element.now) written.now) }
+    ensures { Changes result scope.new
+        (included (items_in F.files source.now.source scope.old) kind.now (seen_element element.now)
+        written.now) }
 {
     let place = Place::of_items(source.source.files, source.source.project, scope);
     let items = new_items(alloc, &place, &source.paths, kind, element, written)?;
@@ -189,7 +216,9 @@ fn remove<F: Present>(
     written: &str,
     scope: &mut Scope,
 ) -> Result<(), EvalFault>
-    ensures { Changes result scope.new (removed (items_in F.files source.now scope.old) kind.now (seen_element element.now) written.now) }
+    ensures { Changes result scope.new
+        (removed (items_in F.files source.now scope.old) kind.now (seen_element element.now)
+        written.now) }
 {
     let place = Place::of_items(source.files, source.project, scope);
     let names = names_at(alloc, &place, element, written)?;
@@ -207,7 +236,9 @@ fn remove_named(
     kind: &Name,
     scope: &mut Scope,
 ) -> Result<(), NoMemory>
-    ensures { OnOk result (scope.new ≡ with_list scope.old kind.now (unnamed_by project.now (seen_names names.now) (list_of scope.old kind.now))) }
+    ensures { OnOk result
+        (scope.new ≡ with_list scope.old kind.now
+        (unnamed_by project.now (seen_names names.now) (list_of scope.old kind.now))) }
 {
     let list = scope
         .items
@@ -225,7 +256,9 @@ fn update<F: Present>(
     written: &str,
     scope: &mut Scope,
 ) -> Result<(), EvalFault>
-    ensures { Changes result scope.new (updated (items_in F.files source.now scope.old) kind.now (seen_element element.now) written.now) }
+    ensures { Changes result scope.new
+        (updated (items_in F.files source.now scope.old) kind.now (seen_element element.now)
+        written.now) }
 {
     let place = Place::of_items(source.files, source.project, scope);
     let replacements = update_replacements(alloc, &place, kind, element, written)?;
@@ -242,7 +275,9 @@ fn replace_in(
     kind: &Name,
     replacements: Vec<Option<Item>>,
 ) -> Result<(), NoMemory>
-    ensures { OnOk result (scope.new ≡ with_list scope.old kind.now (replaced (list_of scope.old kind.now) replacements.items)) }
+    ensures { OnOk result
+        (scope.new ≡ with_list scope.old kind.now
+        (replaced (list_of scope.old kind.now) replacements.items)) }
 {
     let list = scope
         .items
@@ -286,7 +321,8 @@ fn put(item: &mut Item, replacement: Option<Option<Item>>)
 
 /// Puts items behind those of their type, in a time that grows with the number of new ones.
 fn append(alloc: Global, scope: &mut Scope, kind: &Name, new: Vec<Item>) -> Result<(), NoMemory>
-    ensures { OnOk result (scope.new ≡ with_list scope.old kind.now (list_of scope.old kind.now ++ new.items)) }
+    ensures { OnOk result
+        (scope.new ≡ with_list scope.old kind.now (list_of scope.old kind.now ++ new.items)) }
 {
     let mut items = scope.items.replace(kind, SharedItems::none());
     items.append(alloc, List::from(new))?;

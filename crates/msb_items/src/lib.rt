@@ -1,6 +1,6 @@
-//! The second and the third pass of the evaluation of a project, which are item definitions and items, and the groups of
-//! properties and items in targets.
-//! (How MSBuild builds projects, evaluation phase; MSBuild items; Item definitions; Target element.)
+//! The second and the third pass of the evaluation of a project, which are item definitions and
+//! items, and the groups of properties and items in targets. (How MSBuild builds projects,
+//! evaluation phase; MSBuild items; Item definitions; Target element.)
 #![tactic(auto)]
 
 mod applying;

@@ -6,7 +6,16 @@ ghost use Rattle.build_world.specs.Elements.{children_of, fault_of, seen_element
 ghost use Rattle.msb_values.specs.Caused.{UnlessMemory};
 ghost use Rattle.msb_values.specs.declared.cause.Cause.TheVariants.{Reserved};
 ghost use Rattle.msb_expand.specs.Keys.{key_of};
-ghost use Rattle.msb_items.specs.Metadata.{attribute_metadata, child_metadata, is_computed, is_one_of, left_out, metadata_on, metadata_value, value_unless};
+ghost use Rattle.msb_items.specs.Metadata.{
+  attribute_metadata,
+  child_metadata,
+  is_computed,
+  is_one_of,
+  left_out,
+  metadata_on,
+  metadata_value,
+  value_unless,
+};
 ghost use Rattle.msb_items.specs.Seen.{metadata_of, place_of, reserved_of};
 
 use crate::place::Place;
@@ -25,8 +34,8 @@ pub(crate) enum Kind {
     TargetItem,
 }
 
-/// A metadata that is written on an element: its name and its value, its Condition if there is one, and the element at
-/// which a fault is told.
+/// A metadata that is written on an element: its name and its value, its Condition if there is one,
+/// and the element at which a fault is told.
 #[derive(Drop)]
 pub(crate) struct WrittenMetadata<'a> {
     name: &'a str,
@@ -35,14 +44,15 @@ pub(crate) struct WrittenMetadata<'a> {
     element: PlacedElement<'a>,
 }
 
-/// The metadata that are written on an element: its attributes that are not reserved there, in byte order of their
-/// names, and then its children. (Item element; ItemMetadata element.)
+/// The metadata that are written on an element: its attributes that are not reserved there, in byte
+/// order of their names, and then its children. (Item element; ItemMetadata element.)
 pub(crate) fn metadata_on<'a>(
     alloc: Global,
     kind: Kind,
     element: &PlacedElement<'a>,
 ) -> Result<Vec<WrittenMetadata<'a>>, NoMemory>
-    ensures { IfOk result (λ written. map metadata_of written.items ≡ metadata_on (reserved_of kind) (seen_element element.now)) }
+    ensures { IfOk result (λ written. map metadata_of written.items
+        ≡ metadata_on (reserved_of kind) (seen_element element.now)) }
 {
     let mut written = Vec::new(alloc);
     push_attributes(&mut written, kind, element)?;
@@ -55,7 +65,10 @@ fn push_attributes<'a>(
     kind: Kind,
     element: &PlacedElement<'a>,
 ) -> Result<(), NoMemory>
-    ensures { OnOk result (map metadata_of written.new.items ≡ map metadata_of written.old.items ++ map (attribute_metadata (seen_element element.now)) (filter (λ pair. not (is_one_of (reserved_of kind) pair.0)) (attributes_of (view element.now.element.now)))) }
+    ensures { OnOk result (map metadata_of written.new.items
+        ≡ map metadata_of written.old.items ++ map (attribute_metadata (seen_element element.now))
+        (filter (λ pair. not (is_one_of (reserved_of kind) pair.0))
+        (attributes_of (view element.now.element.now)))) }
 {
     for (name, text) in element.element.attributes() {
         if !is_reserved(kind, name.as_str()) {
@@ -98,7 +111,9 @@ fn push_children<'a>(
     written: &mut Vec<WrittenMetadata<'a>>,
     element: &PlacedElement<'a>,
 ) -> Result<(), NoMemory>
-    ensures { OnOk result (map metadata_of written.new.items ≡ map metadata_of written.old.items ++ map child_metadata (children_of (seen_element element.now))) }
+    ensures { OnOk result (map metadata_of written.new.items
+        ≡ map metadata_of written.old.items ++ map child_metadata
+        (children_of (seen_element element.now))) }
 {
     for child in element.element.children() {
         written.push(child_metadata(element.child(child)))?;
@@ -118,13 +133,15 @@ fn child_metadata(child: PlacedElement<'_>) -> WrittenMetadata<'_>
 }
 
 impl WrittenMetadata<'_> {
-    /// The name and the value at a place, if the Condition holds; a name that is computed is refused.
+    /// The name and the value at a place, if the Condition holds; a name that is computed is
+    /// refused.
     pub(crate) fn value<F: Present>(
         &self,
         alloc: Global,
         place: &Place<'_, F>,
     ) -> Result<Option<(Name, Text)>, EvalFault>
-        ensures { GivesFault (λ pair. pair) result (metadata_value (place_of F.files place.now) (metadata_of self.now)) }
+        ensures { GivesFault (λ pair. pair) result
+            (metadata_value (place_of F.files place.now) (metadata_of self.now)) }
     {
         if !place.holds(alloc, &self.element, self.condition)? {
             return Ok(None);
@@ -141,7 +158,9 @@ impl WrittenMetadata<'_> {
         place: &Place<'_, F>,
         name: Name,
     ) -> Result<Option<(Name, Text)>, EvalFault>
-        ensures { GivesFault (λ pair. pair) result (value_unless (is_computed name) (place_of F.files place.now) (metadata_of self.now) name) }
+        ensures { GivesFault (λ pair. pair) result
+            (value_unless (is_computed name) (place_of F.files place.now) (metadata_of self.now)
+            name) }
     {
         if is_computed(&name) {
             return Err(reserved_fault(alloc, &self.element, &name));
@@ -163,7 +182,8 @@ pub(crate) fn key_of(alloc: Global, text: &str) -> Result<Option<Name>, EvalFaul
 }
 
 pub(crate) fn reserved_fault(alloc: Global, element: &PlacedElement<'_>, name: &Name) -> EvalFault
-    ensures { UnlessMemory result.cause (result ≡ fault_of (seen_element element.now) (Reserved name.now)) }
+    ensures { UnlessMemory result.cause (result
+        ≡ fault_of (seen_element element.now) (Reserved name.now)) }
 {
     match Text::of(alloc, name.key()) {
         Ok(text) => element.fault(alloc, Cause::Reserved(text)),
@@ -171,7 +191,8 @@ pub(crate) fn reserved_fault(alloc: Global, element: &PlacedElement<'_>, name: &
     }
 }
 
-/// Whether a metadata of this name, which is in lower case, is computed. (MSBuild well-known item metadata.)
+/// Whether a metadata of this name, which is in lower case, is computed. (MSBuild well-known item
+/// metadata.)
 fn is_computed(name: &Name) -> bool
     ensures { result ≡ is_computed name.now }
 {

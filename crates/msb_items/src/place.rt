@@ -2,7 +2,18 @@ ghost use Rattle.std.specs.Prelude.{◌≡◌, option_map, option_copied};
 ghost use Rattle.msb_condition.specs.Answers.{view_of};
 ghost use Rattle.build_world.specs.Answers.{GivesFault};
 ghost use Rattle.build_world.specs.Elements.{seen_element};
-ghost use Rattle.msb_items.specs.Places.{definition_place, element_holds, entries_at, holds_at, in_bucket, item_place, metadata_place, metadata_usage, text_at, view_in};
+ghost use Rattle.msb_items.specs.Places.{
+  definition_place,
+  element_holds,
+  entries_at,
+  holds_at,
+  in_bucket,
+  item_place,
+  metadata_place,
+  metadata_usage,
+  text_at,
+  view_in,
+};
 ghost use Rattle.msb_items.specs.Seen.{place_of};
 ghost use Rattle.msb_items.specs.TargetItems.{items_seen};
 
@@ -13,8 +24,8 @@ use msb_paths::Present;
 use msb_values::{Item, List, Name, Scope, Text};
 use std::alloc::Global;
 
-/// What the texts of an element see: the files, the path of the root file, the scope so far, what may stand there, the
-/// item at hand with its type, and the bucket.
+/// What the texts of an element see: the files, the path of the root file, the scope so far, what
+/// may stand there, the item at hand with its type, and the bucket.
 #[derive(Drop)]
 pub(crate) struct Place<'a, F> {
     pub(crate) files: &'a F,
@@ -28,7 +39,8 @@ pub(crate) struct Place<'a, F> {
 impl<'a, F: Present> Place<'a, F> {
     /// The place of item definitions.
     pub(crate) fn of_definitions(files: &'a F, project: &'a str, scope: &'a Scope) -> Place<'a, F>
-        ensures { place_of F.files result ≡ definition_place (F.files files.now) project.now scope.now }
+        ensures { place_of F.files result ≡ definition_place (F.files files.now) project.now
+            scope.now }
     {
         Place {
             files,
@@ -56,7 +68,8 @@ impl<'a, F: Present> Place<'a, F> {
 
     /// The place of the metadata that are given to an item.
     pub(crate) fn of_metadata<'s>(&'s self, kind: &'s Name, item: &'s Item) -> Place<'s, F>
-        ensures { place_of F.files result ≡ metadata_place (place_of F.files self.now) kind.now item.now }
+        ensures { place_of F.files result ≡ metadata_place (place_of F.files self.now) kind.now
+            item.now }
     {
         Place {
             files: self.files,
@@ -91,7 +104,8 @@ impl<'a, F: Present> Place<'a, F> {
 
     /// What a text sees that stands in a file.
     pub(crate) fn lens<'s>(&'s self, file: &'s str) -> Lens<'s>
-        ensures { view_of result (F.files self.now.files.now) ≡ view_in (place_of F.files self.now) file.now }
+        ensures { view_of result (F.files self.now.files.now)
+            ≡ view_in (place_of F.files self.now) file.now }
     {
         Lens {
             scope: self.scope,
@@ -120,7 +134,9 @@ impl<'a, F: Present> Place<'a, F> {
         element: &PlacedElement<'_>,
         condition: Option<&str>,
     ) -> Result<bool, EvalFault>
-        ensures { GivesFault (λ holds. holds) result (holds_at (place_of F.files self.now) (seen_element element.now) (option_copied condition.entry)) }
+        ensures { GivesFault (λ holds. holds) result
+            (holds_at (place_of F.files self.now) (seen_element element.now)
+            (option_copied condition.entry)) }
     {
         let lens = self.lens(element.file);
         match condition_holds(alloc, &lens, self.files, condition) {
@@ -135,7 +151,8 @@ impl<'a, F: Present> Place<'a, F> {
         alloc: Global,
         element: &PlacedElement<'_>,
     ) -> Result<bool, EvalFault>
-        ensures { GivesFault (λ holds. holds) result (element_holds (place_of F.files self.now) (seen_element element.now)) }
+        ensures { GivesFault (λ holds. holds) result
+            (element_holds (place_of F.files self.now) (seen_element element.now)) }
     {
         self.holds(alloc, element, element.element.attribute("Condition"))
     }
@@ -147,7 +164,8 @@ impl<'a, F: Present> Place<'a, F> {
         element: &PlacedElement<'_>,
         written: &str,
     ) -> Result<Text, EvalFault>
-        ensures { GivesFault (λ text. text) result (text_at (place_of F.files self.now) (seen_element element.now) written.now) }
+        ensures { GivesFault (λ text. text) result
+            (text_at (place_of F.files self.now) (seen_element element.now) written.now) }
     {
         let lens = self.lens(element.file);
         match expand_text(alloc, &lens, written) {
@@ -163,7 +181,8 @@ impl<'a, F: Present> Place<'a, F> {
         element: &PlacedElement<'_>,
         written: &str,
     ) -> Result<List<Entry>, EvalFault>
-        ensures { GivesFault (λ entries. entries) result (entries_at (place_of F.files self.now) (seen_element element.now) written.now) }
+        ensures { GivesFault (λ entries. entries) result
+            (entries_at (place_of F.files self.now) (seen_element element.now) written.now) }
     {
         let lens = self.lens(element.file);
         match expand_entries(alloc, &lens, written) {

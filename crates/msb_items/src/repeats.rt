@@ -12,8 +12,8 @@ use std::collections::HashSet;
 use std::marker::Model;
 use std::mem;
 
-/// What two items have in common of which the second is left out: the identity without case, and the metadata with the
-/// defaults of the type.
+/// What two items have in common of which the second is left out: the identity without case, and
+/// the metadata with the defaults of the type.
 #[derive(PartialEq, Eq, Hash)]
 struct ItemKey {
     ident: Folded,
@@ -38,8 +38,8 @@ impl ItemKey {
     }
 }
 
-/// Items among which an equal one is found in a time that does not grow with their number. (Target element,
-/// KeepDuplicateOutputs.)
+/// Items among which an equal one is found in a time that does not grow with their number. (Target
+/// element, KeepDuplicateOutputs.)
 pub struct KeyedItems {
     items: List<Item>,
     keys: HashSet<ItemKey>,
@@ -101,8 +101,8 @@ impl KeyedItems {
         Ok(())
     }
 
-    /// The items of which no equal one is among these, nor one ahead of them: see [`without_repeats`], without defaults. The
-    /// time grows with their own number alone.
+    /// The items of which no equal one is among these, nor one ahead of them: see
+    /// [`without_repeats`], without defaults. The time grows with their own number alone.
     pub fn without_repeats(&self, alloc: Global, items: List<Item>) -> Result<List<Item>, NoMemory>
         ensures { IfOk result (λ kept. kept ≡ without_repeats [] self.now items) }
     {
@@ -139,16 +139,17 @@ fn appended(
     Ok(KeyedItems { items, keys })
 }
 
-/// The items of which no equal one is there, nor one ahead of them: of the same identity without case, and with the same
-/// metadata, by bytes, where an item that does not have one itself has the default.
-/// (Item element, KeepDuplicates; Target element, KeepDuplicateOutputs.)
+/// The items of which no equal one is there, nor one ahead of them: of the same identity without
+/// case, and with the same metadata, by bytes, where an item that does not have one itself has the
+/// default. (Item element, KeepDuplicates; Target element, KeepDuplicateOutputs.)
 pub(crate) fn without_repeats(
     alloc: Global,
     defaults: &Pairs,
     there: &[Item],
     items: Vec<Item>,
 ) -> Result<Vec<Item>, NoMemory>
-    ensures { IfOk result (λ kept. kept.items ≡ without_repeats defaults.now there.now items.items) }
+    ensures { IfOk result (λ kept. kept.items
+        ≡ without_repeats defaults.now there.now items.items) }
 {
     let keys = set_of(alloc, keys_of(alloc, defaults, there)?)?;
     new_items(alloc, defaults, &keys, items)
@@ -161,7 +162,8 @@ fn new_items(
     known: &HashSet<ItemKey>,
     items: Vec<Item>,
 ) -> Result<Vec<Item>, NoMemory>
-    ensures { (there : List AnItem) → HasKeys defaults.now there known.now → IfOk result (λ kept. kept.items ≡ without_repeats defaults.now there items.items) }
+    ensures { (there : List AnItem) → HasKeys defaults.now there known.now
+        → IfOk result (λ kept. kept.items ≡ without_repeats defaults.now there items.items) }
 {
     let mut own = HashSet::new(alloc);
     let mut kept = Vec::new(alloc);
@@ -179,8 +181,11 @@ fn add_unknown(
     own: &mut HashSet<ItemKey>,
     key: ItemKey,
 ) -> Result<bool, NoMemory>
-    ensures is_new { IfOk result (λ is_new. is_new ≡ not (contains same_key known.now key || contains same_key own.old key)) }
-    ensures added { IfOk result (λ is_new. (one : Key) → contains same_key own.new one ≡ (contains same_key own.old one || (is_new && same_key key one))) }
+    ensures is_new { IfOk result (λ is_new. is_new
+        ≡ not (contains same_key known.now key || contains same_key own.old key)) }
+    ensures added { IfOk result (λ is_new. (one : Key)
+        → contains same_key own.new one
+        ≡ (contains same_key own.old one || (is_new && same_key key one))) }
 {
     if known.contains(&key) {
         return Ok(false);

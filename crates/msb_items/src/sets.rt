@@ -12,7 +12,8 @@ pub(crate) fn set_of<K: Eq + Hash + Drop>(
     alloc: Global,
     keys: Vec<K>,
 ) -> Result<HashSet<K>, NoMemory>
-    ensures { IfOk result (λ set. (key : K) → contains K.eq set key ≡ list_any (λ one. K.eq one key) keys.items) }
+    ensures { IfOk result (λ set. (key : K) → contains K.eq set key
+        ≡ list_any (λ one. K.eq one key) keys.items) }
 {
     let mut set = HashSet::new(alloc);
     for key in keys {

@@ -14,7 +14,8 @@ pub(crate) struct Source<'a, F> {
     pub(crate) project: &'a str,
 }
 
-/// What does not change in the item pass: the source, and the paths of its files, in which patterns are looked up.
+/// What does not change in the item pass: the source, and the paths of its files, in which patterns
+/// are looked up.
 #[derive(Drop)]
 pub(crate) struct ItemSource<'a, F: Present> {
     pub(crate) source: Source<'a, F>,

@@ -7,7 +7,14 @@ ghost use Rattle.build_world.specs.Elements.{at, seen_element};
 ghost use Rattle.msb_items.specs.Batched.{joined_ok};
 ghost use Rattle.msb_items.specs.Places.{in_bucket, item_place};
 ghost use Rattle.msb_items.specs.Seen.{items_in, place_of};
-ghost use Rattle.msb_items.specs.TargetGroups.{all_applied, changes_in, changes_named, element_changes, group_changes, group_changes_if};
+ghost use Rattle.msb_items.specs.TargetGroups.{
+  all_applied,
+  changes_in,
+  changes_named,
+  element_changes,
+  group_changes,
+  group_changes_if,
+};
 
 use crate::applying::apply_all;
 use crate::batched::element_buckets;
@@ -25,18 +32,21 @@ use msb_files::FileView;
 use msb_values::{Change, Copied, List, Name, NoMemory, Scope};
 use std::alloc::Global;
 
-/// What a PropertyGroup or an ItemGroup in a target changes, or its first fault, which is told in the lens's file.
+/// What a PropertyGroup or an ItemGroup in a target changes, or its first fault, which is told in
+/// the lens's file.
 ///
-/// The group sees the scope of the lens, on which it works in a copy: see [`change_by_group`]. What else the lens says of
-/// its place, its item and its bucket is not looked at, since each element of the group has its own.
-/// (PropertyGroup element; ItemGroup element.)
+/// The group sees the scope of the lens, on which it works in a copy: see [`change_by_group`]. What
+/// else the lens says of its place, its item and its bucket is not looked at, since each element of
+/// the group has its own. (PropertyGroup element; ItemGroup element.)
 pub fn in_target(
     alloc: Global,
     view: &FileView<'_>,
     lens: &Lens<'_>,
     group: &Element,
 ) -> Result<List<Change>, EvalFault>
-    ensures { GivesFault (λ changes. changes) result (group_changes (item_place (paths view.now) lens.now.project.now lens.now.scope.now) (at lens.now.file.now (node_of group.now))) }
+    ensures { GivesFault (λ changes. changes) result
+        (group_changes (item_place (paths view.now) lens.now.project.now lens.now.scope.now)
+        (at lens.now.file.now (node_of group.now))) }
 {
     let Ok(mut scope) = lens.scope.copy() else {
         return Err(EvalFault::memory(alloc));
@@ -48,12 +58,12 @@ pub fn in_target(
     change_by_group(alloc, view, lens.project, &group, &mut scope)
 }
 
-/// Changes a scope as a PropertyGroup or an ItemGroup in a target says, and tells the changes; or tells the first fault,
-/// after which nothing is said of the scope.
+/// Changes a scope as a PropertyGroup or an ItemGroup in a target says, and tells the changes; or
+/// tells the first fault, after which nothing is said of the scope.
 ///
-/// The elements are taken in order, each with the changes of those ahead of it, and each in its buckets, which see the scope
-/// as the element found it. `project` is the path of the project's root file.
-/// (PropertyGroup element; ItemGroup element; MSBuild batching.)
+/// The elements are taken in order, each with the changes of those ahead of it, and each in its
+/// buckets, which see the scope as the element found it. `project` is the path of the project's
+/// root file. (PropertyGroup element; ItemGroup element; MSBuild batching.)
 pub fn change_by_group(
     alloc: Global,
     view: &FileView<'_>,
@@ -61,7 +71,9 @@ pub fn change_by_group(
     group: &PlacedElement<'_>,
     scope: &mut Scope,
 ) -> Result<List<Change>, EvalFault>
-    ensures changes { GivesFault (λ changes. changes) result (group_changes (item_place (paths view.now) project.now scope.old) (seen_element group.now)) }
+    ensures changes { GivesFault (λ changes. changes) result
+        (group_changes (item_place (paths view.now) project.now scope.old)
+        (seen_element group.now)) }
     ensures changed { IfOk result (λ changes. scope.new ≡ all_applied changes scope.old) }
 {
     let source = Source {
@@ -77,7 +89,8 @@ fn change_by<F: ListedFiles>(
     group: &PlacedElement<'_>,
     scope: &mut Scope,
 ) -> Result<List<Change>, EvalFault>
-    ensures changes { GivesFault (λ changes. changes) result (group_changes (items_in F.files source.now scope.old) (seen_element group.now)) }
+    ensures changes { GivesFault (λ changes. changes) result
+        (group_changes (items_in F.files source.now scope.old) (seen_element group.now)) }
     ensures changed { IfOk result (λ changes. scope.new ≡ all_applied changes scope.old) }
 {
     let place = Place::of_items(source.files, source.project, scope);
@@ -93,7 +106,8 @@ fn change_by_each<F: ListedFiles>(
     group: &PlacedElement<'_>,
     scope: &mut Scope,
 ) -> Result<List<Change>, EvalFault>
-    ensures changes { GivesFault (λ changes. changes) result (group_changes_if true (items_in F.files source.now scope.old) (seen_element group.now)) }
+    ensures changes { GivesFault (λ changes. changes) result
+        (group_changes_if true (items_in F.files source.now scope.old) (seen_element group.now)) }
     ensures changed { IfOk result (λ changes. scope.new ≡ all_applied changes scope.old) }
 {
     let kind = Group::of(group.element.name());
@@ -114,7 +128,8 @@ fn change_by_element<F: ListedFiles>(
     element: &PlacedElement<'_>,
     scope: &mut Scope,
 ) -> Result<List<Change>, EvalFault>
-    ensures changes { GivesFault (λ changes. changes) result (element_changes group (items_in F.files source.now scope.old) (seen_element element.now)) }
+    ensures changes { GivesFault (λ changes. changes) result
+        (element_changes group (items_in F.files source.now scope.old) (seen_element element.now)) }
     ensures changed { IfOk result (λ changes. scope.new ≡ all_applied changes scope.old) }
 {
     let place = Place::of_items(source.files, source.project, scope);
@@ -132,7 +147,8 @@ fn element_changes<F: ListedFiles>(
     group: Group,
     element: &PlacedElement<'_>,
 ) -> Result<List<Change>, EvalFault>
-    ensures { GivesFault (λ changes. changes) result (element_changes group (place_of F.files place.now) (seen_element element.now)) }
+    ensures { GivesFault (λ changes. changes) result
+        (element_changes group (place_of F.files place.now) (seen_element element.now)) }
 {
     match key_of(alloc, element.element.name())? {
         Some(name) => named_changes(alloc, place, group, &name, element),
@@ -147,7 +163,9 @@ fn named_changes<F: ListedFiles>(
     name: &Name,
     element: &PlacedElement<'_>,
 ) -> Result<List<Change>, EvalFault>
-    ensures { GivesFault (λ changes. changes) result (changes_named (Some name.now) group (place_of F.files place.now) (seen_element element.now)) }
+    ensures { GivesFault (λ changes. changes) result
+        (changes_named (Some name.now) group (place_of F.files place.now)
+        (seen_element element.now)) }
 {
     let lens = place.lens(element.file);
     let buckets = element_buckets(alloc, &lens, &["Label"], element, group.own_type(name))?;
@@ -162,7 +180,10 @@ fn bucket_changes<'b, F: ListedFiles>(
     element: &PlacedElement<'_>,
     buckets: &'b [Bucket],
 ) -> Result<List<Change>, EvalFault>
-    ensures { GivesFault (λ changes. changes) result (joined_ok (λ bucket. changes_in group name.now (in_bucket (place_of F.files place.now) bucket) (seen_element element.now)) buckets.now) }
+    ensures { GivesFault (λ changes. changes) result
+        (joined_ok
+        (λ bucket. changes_in group name.now (in_bucket (place_of F.files place.now) bucket)
+        (seen_element element.now)) buckets.now) }
 {
     let mut changes = List::new(alloc);
     for bucket in buckets {
@@ -186,7 +207,9 @@ fn push_changes_in<F: ListedFiles>(
     element: &PlacedElement<'_>,
     changes: &mut List<Change>,
 ) -> Result<(), EvalFault>
-    ensures { GivesFault (λ _. changes.new) result (map_ok (λ more. changes.old ++ more) (changes_in group name.now (place_of F.files place.now) (seen_element element.now))) }
+    ensures { GivesFault (λ _. changes.new) result
+        (map_ok (λ more. changes.old ++ more)
+        (changes_in group name.now (place_of F.files place.now) (seen_element element.now))) }
 {
     let change = change_in(alloc, place, group, name, element)?;
     match push_if(changes, change) {
@@ -212,7 +235,8 @@ fn change_in<F: ListedFiles>(
     name: &Name,
     element: &PlacedElement<'_>,
 ) -> Result<Option<Change>, EvalFault>
-    ensures { GivesFault option_to_list result (changes_in group name.now (place_of F.files place.now) (seen_element element.now)) }
+    ensures { GivesFault option_to_list result
+        (changes_in group name.now (place_of F.files place.now) (seen_element element.now)) }
 {
     match group {
         Group::Properties => property_change(alloc, place, name, element),

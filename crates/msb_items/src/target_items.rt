@@ -1,4 +1,17 @@
-ghost use Rattle.std.specs.Prelude.{◌≡◌, map, filter, true, false, codes, Some, None, IfOk, OnOk, option_copied, option_to_list};
+ghost use Rattle.std.specs.Prelude.{
+  ◌≡◌,
+  map,
+  filter,
+  true,
+  false,
+  codes,
+  Some,
+  None,
+  IfOk,
+  OnOk,
+  option_copied,
+  option_to_list,
+};
 ghost use Rattle.msb_laws.specs.Results.{and_then, map_ok};
 ghost use Rattle.msb_values.specs.Caused.{GivesCause};
 ghost use Rattle.msb_values.specs.Changes.{with_metadata};
@@ -9,7 +22,22 @@ ghost use Rattle.build_world.specs.Elements.{attribute_of, seen_element};
 ghost use Rattle.msb_items.specs.FoldedNames.{is_named_by, seen_names};
 ghost use Rattle.msb_items.specs.Seen.{place_of};
 ghost use Rattle.msb_items.specs.Truths.{truth_or};
-ghost use Rattle.msb_items.specs.TargetItems.{added_items, change_by, item_change_if, item_changes, items_seen, keeps_repeats, less_repeats, less_repeats_if, metadata_set, named_items, pairs_for, pairs_written, source_items, with_pairs};
+ghost use Rattle.msb_items.specs.TargetItems.{
+  added_items,
+  change_by,
+  item_change_if,
+  item_changes,
+  items_seen,
+  keeps_repeats,
+  less_repeats,
+  less_repeats_if,
+  metadata_set,
+  named_items,
+  pairs_for,
+  pairs_written,
+  source_items,
+  with_pairs,
+};
 
 use crate::changes::{less_excluded, names_at, target_items_at};
 use crate::files::ListedFiles;
@@ -33,7 +61,8 @@ pub(crate) fn item_change<F: ListedFiles>(
     kind: &Name,
     element: &PlacedElement<'_>,
 ) -> Result<Option<Change>, EvalFault>
-    ensures { GivesFault option_to_list result (item_changes kind.now (place_of F.files place.now) (seen_element element.now)) }
+    ensures { GivesFault option_to_list result
+        (item_changes kind.now (place_of F.files place.now) (seen_element element.now)) }
 {
     if place.element_holds(alloc, element)? {
         return Ok(Some(change(alloc, place, kind, element)?));
@@ -48,7 +77,11 @@ fn change<F: ListedFiles>(
     kind: &Name,
     element: &PlacedElement<'_>,
 ) -> Result<Change, EvalFault>
-    ensures { GivesFault (λ change. change) result (change_by (place_of F.files place.now) kind.now (seen_element element.now) (attribute_of (codes "Include") (seen_element element.now)) (attribute_of (codes "Remove") (seen_element element.now)) (attribute_of (codes "Update") (seen_element element.now))) }
+    ensures { GivesFault (λ change. change) result
+        (change_by (place_of F.files place.now) kind.now (seen_element element.now)
+        (attribute_of (codes "Include") (seen_element element.now))
+        (attribute_of (codes "Remove") (seen_element element.now))
+        (attribute_of (codes "Update") (seen_element element.now))) }
 {
     if let Some(include) = element.element.attribute("Include") {
         return included(alloc, place, kind, element, include);
@@ -70,7 +103,10 @@ fn included<F: ListedFiles>(
     element: &PlacedElement<'_>,
     include: &str,
 ) -> Result<Change, EvalFault>
-    ensures { GivesFault (λ change. change) result (map_ok (AddItems kind.now) (added_items (place_of F.files place.now) kind.now (seen_element element.now) include.now)) }
+    ensures { GivesFault (λ change. change) result
+        (map_ok (AddItems kind.now)
+        (added_items (place_of F.files place.now) kind.now (seen_element element.now)
+        include.now)) }
 {
     let items = source_items(alloc, place, element, include)?;
     let items = with_pairs(alloc, place, kind, element, items)?;
@@ -81,14 +117,16 @@ fn included<F: ListedFiles>(
     }
 }
 
-/// The items of the entries of an Include less those that Exclude names, with the metadata that they keep.
+/// The items of the entries of an Include less those that Exclude names, with the metadata that
+/// they keep.
 fn source_items<F: ListedFiles>(
     alloc: Global,
     place: &Place<'_, F>,
     element: &PlacedElement<'_>,
     include: &str,
 ) -> Result<Vec<Item>, EvalFault>
-    ensures { GivesFault (λ items. items.items) result (source_items (place_of F.files place.now) (seen_element element.now) include.now) }
+    ensures { GivesFault (λ items. items.items) result
+        (source_items (place_of F.files place.now) (seen_element element.now) include.now) }
 {
     let items = target_items_at(alloc, place, element, include)?;
     let exclude = element.element.attribute("Exclude");
@@ -108,7 +146,8 @@ fn with_pairs<F: Present>(
     element: &PlacedElement<'_>,
     items: Vec<Item>,
 ) -> Result<Vec<Item>, EvalFault>
-    ensures { GivesFault (λ items. items.items) result (with_pairs (place_of F.files place.now) kind.now (seen_element element.now) items.items) }
+    ensures { GivesFault (λ items. items.items) result
+        (with_pairs (place_of F.files place.now) kind.now (seen_element element.now) items.items) }
 {
     let pairs = pairs_for(alloc, place, kind, element, &items)?;
     let mut items = items;
@@ -126,7 +165,8 @@ fn pairs_for<F: Present>(
     element: &PlacedElement<'_>,
     items: &[Item],
 ) -> Result<Pairs, EvalFault>
-    ensures { GivesFault (λ pairs. pairs) result (pairs_for (place_of F.files place.now) kind.now (seen_element element.now) items.now) }
+    ensures { GivesFault (λ pairs. pairs) result
+        (pairs_for (place_of F.files place.now) kind.now (seen_element element.now) items.now) }
 {
     if items.is_empty() {
         return Ok(Pairs::new(alloc));
@@ -140,7 +180,8 @@ fn pairs_written<F: Present>(
     kind: &Name,
     element: &PlacedElement<'_>,
 ) -> Result<Pairs, EvalFault>
-    ensures { GivesFault (λ pairs. pairs) result (pairs_written (place_of F.files place.now) kind.now (seen_element element.now)) }
+    ensures { GivesFault (λ pairs. pairs) result
+        (pairs_written (place_of F.files place.now) kind.now (seen_element element.now)) }
 {
     let Ok(written) = metadata_on(alloc, Kind::TargetItem, element) else {
         return Err(EvalFault::memory(alloc));
@@ -163,7 +204,9 @@ fn less_repeats<F: Present>(
     element: &PlacedElement<'_>,
     items: Vec<Item>,
 ) -> Result<Vec<Item>, EvalFault>
-    ensures { GivesFault (λ items. items.items) result (less_repeats (place_of F.files place.now) kind.now (seen_element element.now) items.items) }
+    ensures { GivesFault (λ items. items.items) result
+        (less_repeats (place_of F.files place.now) kind.now (seen_element element.now)
+        items.items) }
 {
     let keep = element.element.attribute("KeepDuplicates");
     if keeps_repeats(alloc, place, element, keep)? {
@@ -182,7 +225,8 @@ fn new_alone<F: Present>(
     kind: &Name,
     items: Vec<Item>,
 ) -> Result<Vec<Item>, NoMemory>
-    ensures { IfOk result (λ kept. kept.items ≡ less_repeats_if false (place_of F.files place.now) kind.now items.items) }
+    ensures { IfOk result (λ kept. kept.items
+        ≡ less_repeats_if false (place_of F.files place.now) kind.now items.items) }
 {
     let there = place.items(kind);
     match place.scope.defaults.get(kind) {
@@ -197,7 +241,9 @@ fn keeps_repeats<F: Present>(
     element: &PlacedElement<'_>,
     written: Option<&str>,
 ) -> Result<bool, EvalFault>
-    ensures { GivesFault (λ keeps. keeps) result (keeps_repeats (place_of F.files place.now) (seen_element element.now) (option_copied written.entry)) }
+    ensures { GivesFault (λ keeps. keeps) result
+        (keeps_repeats (place_of F.files place.now) (seen_element element.now)
+        (option_copied written.entry)) }
 {
     let Some(written) = written else {
         return Ok(true);
@@ -217,7 +263,9 @@ fn removed<F: Present>(
     element: &PlacedElement<'_>,
     remove: &str,
 ) -> Result<Change, EvalFault>
-    ensures { GivesFault (λ change. change) result (map_ok (λ items. RemoveItems kind.now (map (λ item. item.ident) items)) (named_items (place_of F.files place.now) kind.now (seen_element element.now) remove.now)) }
+    ensures { GivesFault (λ change. change) result
+        (map_ok (λ items. RemoveItems kind.now (map (λ item. item.ident) items))
+        (named_items (place_of F.files place.now) kind.now (seen_element element.now) remove.now)) }
 {
     let items = named_items(alloc, place, kind, element, remove)?;
     match removal(alloc, kind, &items) {
@@ -227,14 +275,17 @@ fn removed<F: Present>(
 }
 
 fn removal(alloc: Global, kind: &Name, items: &[&Item]) -> Result<Change, NoMemory>
-    ensures { IfOk result (λ change. change ≡ RemoveItems kind.now (map (λ item. item.ident) (map (λ item. item.now) items.now))) }
+    ensures { IfOk result
+        (λ change. change ≡ RemoveItems kind.now
+        (map (λ item. item.ident) (map (λ item. item.now) items.now))) }
 {
     let idents = idents_of(alloc, items)?;
     Ok(Change::RemoveItems(kind.copy()?, idents))
 }
 
 fn idents_of(alloc: Global, items: &[&Item]) -> Result<List<Text>, NoMemory>
-    ensures { IfOk result (λ idents. idents ≡ map (λ item. item.ident) (map (λ item. item.now) items.now)) }
+    ensures { IfOk result
+        (λ idents. idents ≡ map (λ item. item.ident) (map (λ item. item.now) items.now)) }
 {
     let mut idents = List::new(alloc);
     for item in items {
@@ -251,7 +302,10 @@ fn updated<F: Present>(
     element: &PlacedElement<'_>,
     update: &str,
 ) -> Result<Change, EvalFault>
-    ensures { GivesFault (λ change. change) result (and_then (named_items (place_of F.files place.now) kind.now (seen_element element.now) update.now) (metadata_set (place_of F.files place.now) kind.now (seen_element element.now))) }
+    ensures { GivesFault (λ change. change) result
+        (and_then
+        (named_items (place_of F.files place.now) kind.now (seen_element element.now) update.now)
+        (metadata_set (place_of F.files place.now) kind.now (seen_element element.now))) }
 {
     let items = named_items(alloc, place, kind, element, update)?;
     match copies_of(alloc, &items) {
@@ -278,7 +332,8 @@ fn named_items<'s, F: Present>(
     element: &PlacedElement<'_>,
     written: &str,
 ) -> Result<Vec<&'s Item>, EvalFault>
-    ensures { GivesFault (λ items. map (λ item. item.now) items.items) result (named_items (place_of F.files place.now) kind.now (seen_element element.now) written.now) }
+    ensures { GivesFault (λ items. map (λ item. item.now) items.items) result
+        (named_items (place_of F.files place.now) kind.now (seen_element element.now) written.now) }
 {
     let names = names_at(alloc, place, element, written)?;
     match named(alloc, place.project, &names, place.items(kind)) {
@@ -293,7 +348,8 @@ fn named<'s>(
     names: &ItemNames,
     items: &'s [Item],
 ) -> Result<Vec<&'s Item>, NoMemory>
-    ensures { IfOk result (λ named. map (λ item. item.now) named.items ≡ filter (is_named_by project.now (seen_names names.now)) items.now) }
+    ensures { IfOk result (λ named. map (λ item. item.now) named.items
+        ≡ filter (is_named_by project.now (seen_names names.now)) items.now) }
 {
     let mut named = Vec::new(alloc);
     for item in items {
@@ -311,7 +367,9 @@ fn all_set<F: Present>(
     kind: &Name,
     element: &PlacedElement<'_>,
 ) -> Result<Change, EvalFault>
-    ensures { GivesFault (λ change. change) result (metadata_set (place_of F.files place.now) kind.now (seen_element element.now) (items_seen (place_of F.files place.now) kind.now)) }
+    ensures { GivesFault (λ change. change) result
+        (metadata_set (place_of F.files place.now) kind.now (seen_element element.now)
+        (items_seen (place_of F.files place.now) kind.now)) }
 {
     match List::of(alloc, place.items(kind)) {
         Ok(items) => metadata_set(alloc, place, kind, element, items),
@@ -327,7 +385,8 @@ fn metadata_set<F: Present>(
     element: &PlacedElement<'_>,
     items: List<Item>,
 ) -> Result<Change, EvalFault>
-    ensures { GivesFault (λ change. change) result (metadata_set (place_of F.files place.now) kind.now (seen_element element.now) items) }
+    ensures { GivesFault (λ change. change) result
+        (metadata_set (place_of F.files place.now) kind.now (seen_element element.now) items) }
 {
     let pairs = pairs_for(alloc, place, kind, element, items.as_slice())?;
     match kind.copy() {

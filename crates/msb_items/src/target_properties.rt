@@ -12,14 +12,16 @@ use msb_paths::Present;
 use msb_values::{Change, Copied, Name};
 use std::alloc::Global;
 
-/// What a property element in a target changes in a bucket, if its Condition holds. (PropertyGroup element.)
+/// What a property element in a target changes in a bucket, if its Condition holds. (PropertyGroup
+/// element.)
 pub(crate) fn property_change<F: Present>(
     alloc: Global,
     place: &Place<'_, F>,
     name: &Name,
     element: &PlacedElement<'_>,
 ) -> Result<Option<Change>, EvalFault>
-    ensures { GivesFault option_to_list result (property_changes name.now (place_of F.files place.now) (seen_element element.now)) }
+    ensures { GivesFault option_to_list result
+        (property_changes name.now (place_of F.files place.now) (seen_element element.now)) }
 {
     if place.element_holds(alloc, element)? {
         return set(alloc, place, name, element);
@@ -33,7 +35,8 @@ fn set<F: Present>(
     name: &Name,
     element: &PlacedElement<'_>,
 ) -> Result<Option<Change>, EvalFault>
-    ensures { GivesFault option_to_list result (property_change_if true name.now (place_of F.files place.now) (seen_element element.now)) }
+    ensures { GivesFault option_to_list result
+        (property_change_if true name.now (place_of F.files place.now) (seen_element element.now)) }
 {
     if is_reserved(name) {
         return Err(reserved_fault(alloc, element, name));

@@ -7,7 +7,15 @@ ghost use Rattle.build_world.specs.Elements.{seen_element};
 ghost use Rattle.msb_items.specs.Places.{entries_at};
 ghost use Rattle.msb_items.specs.Seen.{place_of};
 ghost use Rattle.msb_items.specs.declared.transfer.Transfer.TheVariants.{Without};
-ghost use Rattle.msb_items.specs.Transfers.{metadata_names, none_named, only_entries, only_named, transfer_at, transferred, with_value};
+ghost use Rattle.msb_items.specs.Transfers.{
+  metadata_names,
+  none_named,
+  only_entries,
+  only_named,
+  transfer_at,
+  transferred,
+  with_value,
+};
 
 use crate::place::Place;
 use build_world::{EvalFault, PlacedElement};
@@ -43,7 +51,8 @@ impl Transfer {
         place: &Place<'_, F>,
         element: &PlacedElement<'_>,
     ) -> Result<Transfer, EvalFault>
-        ensures { GivesFault (λ transfer. transfer) result (transfer_at (place_of F.files place.now) (seen_element element.now)) }
+        ensures { GivesFault (λ transfer. transfer) result
+            (transfer_at (place_of F.files place.now) (seen_element element.now)) }
     {
         if let Some(keep) = element.element.attribute("KeepMetadata") {
             return only(alloc, place, element, keep);
@@ -87,7 +96,9 @@ fn only<F: Present>(
     element: &PlacedElement<'_>,
     keep: &str,
 ) -> Result<Transfer, EvalFault>
-    ensures { GivesFault (λ transfer. transfer) result (map_ok only_entries (entries_at (place_of F.files place.now) (seen_element element.now) keep.now)) }
+    ensures { GivesFault (λ transfer. transfer) result
+        (map_ok only_entries
+        (entries_at (place_of F.files place.now) (seen_element element.now) keep.now)) }
 {
     let entries = place.entries(alloc, element, keep)?;
     if entries.is_empty() {
@@ -105,7 +116,9 @@ fn without<F: Present>(
     element: &PlacedElement<'_>,
     remove: &str,
 ) -> Result<Transfer, EvalFault>
-    ensures { GivesFault (λ transfer. transfer) result (map_ok (λ entries. Without (metadata_names entries)) (entries_at (place_of F.files place.now) (seen_element element.now) remove.now)) }
+    ensures { GivesFault (λ transfer. transfer) result
+        (map_ok (λ entries. Without (metadata_names entries))
+        (entries_at (place_of F.files place.now) (seen_element element.now) remove.now)) }
 {
     let entries = place.entries(alloc, element, remove)?;
     match metadata_names(alloc, entries.as_slice()) {

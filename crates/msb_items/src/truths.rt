@@ -5,8 +5,8 @@ ghost use Rattle.msb_items.specs.Truths.{truth_or, truth_or_cause};
 use msb_values::{Cause, Text, truth_of};
 use std::alloc::Global;
 
-/// The truth value that a text is, without case, or the one that an empty text stands for; any other text is refused as
-/// [`Cause::NotBoolean`]. (MSBuild conditions.)
+/// The truth value that a text is, without case, or the one that an empty text stands for; any
+/// other text is refused as [`Cause::NotBoolean`]. (MSBuild conditions.)
 pub fn truth_or(alloc: Global, default: bool, text: &str) -> Result<bool, Cause>
     ensures { GivesCause result (truth_or default text.now) }
 {

@@ -12,7 +12,8 @@ pub(crate) fn unnamed(
     names: &ItemNames,
     items: Vec<Item>,
 ) -> Result<Vec<Item>, NoMemory>
-    ensures { IfOk result (λ kept. kept.items ≡ unnamed_by project.now (seen_names names.now) items.items) }
+    ensures { IfOk result (λ kept. kept.items
+        ≡ unnamed_by project.now (seen_names names.now) items.items) }
 {
     let mut kept = Vec::new(alloc);
     for item in items {

@@ -22,7 +22,10 @@ pub(crate) fn with_metadata<F: Present>(
     written: &[WrittenMetadata<'_>],
     items: Vec<Item>,
 ) -> Result<Vec<Item>, EvalFault>
-    ensures { GivesFault (λ items. items.items) result (all_ok (with_all_metadata (place_of F.files place.now) kind.now (map metadata_of written.now)) items.items) }
+    ensures { GivesFault (λ items. items.items) result
+        (all_ok
+        (with_all_metadata (place_of F.files place.now) kind.now (map metadata_of written.now))
+        items.items) }
 {
     let mut done = Vec::new(alloc);
     push_all(alloc, place, kind, written, &mut done, items)?;
@@ -37,7 +40,11 @@ fn push_all<F: Present>(
     done: &mut Vec<Item>,
     items: Vec<Item>,
 ) -> Result<(), EvalFault>
-    ensures { GivesFault (λ _. done.new.items) result (map_ok (λ more. done.old.items ++ more) (all_ok (with_all_metadata (place_of F.files place.now) kind.now (map metadata_of written.now)) items.items)) }
+    ensures { GivesFault (λ _. done.new.items) result
+        (map_ok (λ more. done.old.items ++ more)
+        (all_ok
+        (with_all_metadata (place_of F.files place.now) kind.now (map metadata_of written.now))
+        items.items)) }
 {
     for item in items {
         push_one(alloc, place, kind, written, done, item)?;
@@ -53,7 +60,10 @@ fn push_one<F: Present>(
     done: &mut Vec<Item>,
     item: Item,
 ) -> Result<(), EvalFault>
-    ensures { GivesFault (λ _. done.new.items) result (map_ok (λ item. done.old.items ++ item ∷ []) (with_all_metadata (place_of F.files place.now) kind.now (map metadata_of written.now) item)) }
+    ensures { GivesFault (λ _. done.new.items) result
+        (map_ok (λ item. done.old.items ++ item ∷ [])
+        (with_all_metadata (place_of F.files place.now) kind.now (map metadata_of written.now)
+        item)) }
 {
     let mut item = item;
     set_metadata(alloc, place, kind, written, &mut item)?;
@@ -69,7 +79,8 @@ fn push(items: &mut Vec<Item>, item: Item) -> Result<(), NoMemory>
     Ok(items.push(item)?)
 }
 
-/// What each of some items becomes that is named: a copy with the metadata that are written on an element.
+/// What each of some items becomes that is named: a copy with the metadata that are written on an
+/// element.
 pub(crate) fn replacements<F: Present>(
     alloc: Global,
     place: &Place<'_, F>,
@@ -78,7 +89,10 @@ pub(crate) fn replacements<F: Present>(
     written: &[WrittenMetadata<'_>],
     items: &[Item],
 ) -> Result<Vec<Option<Item>>, EvalFault>
-    ensures { GivesFault (λ replacements. replacements.items) result (all_ok (λ item. replacement_if (is_named_by place.now.project.now (seen_names names.now) item) (place_of F.files place.now) kind.now (map metadata_of written.now) item) items.now) }
+    ensures { GivesFault (λ replacements. replacements.items) result
+        (all_ok
+        (λ item. replacement_if (is_named_by place.now.project.now (seen_names names.now) item)
+        (place_of F.files place.now) kind.now (map metadata_of written.now) item) items.now) }
 {
     let mut replacements = Vec::new(alloc);
     for item in items {
@@ -98,7 +112,9 @@ fn replacement<F: Present>(
     written: &[WrittenMetadata<'_>],
     item: &Item,
 ) -> Result<Option<Item>, EvalFault>
-    ensures { GivesFault (λ replacement. replacement) result (replacement_if (is_named_by place.now.project.now (seen_names names.now) item.now) (place_of F.files place.now) kind.now (map metadata_of written.now) item.now) }
+    ensures { GivesFault (λ replacement. replacement) result
+        (replacement_if (is_named_by place.now.project.now (seen_names names.now) item.now)
+        (place_of F.files place.now) kind.now (map metadata_of written.now) item.now) }
 {
     match names.names(alloc, place.project, item) {
         Ok(true) => changed(alloc, place, kind, written, item),
@@ -114,7 +130,9 @@ fn changed<F: Present>(
     written: &[WrittenMetadata<'_>],
     item: &Item,
 ) -> Result<Option<Item>, EvalFault>
-    ensures { GivesFault (λ replacement. replacement) result (replacement_if true (place_of F.files place.now) kind.now (map metadata_of written.now) item.now) }
+    ensures { GivesFault (λ replacement. replacement) result
+        (replacement_if true (place_of F.files place.now) kind.now (map metadata_of written.now)
+        item.now) }
 {
     let Ok(mut item) = item.copy() else {
         return Err(EvalFault::memory(alloc));
@@ -131,7 +149,9 @@ pub(crate) fn set_metadata<F: Present>(
     written: &[WrittenMetadata<'_>],
     item: &mut Item,
 ) -> Result<(), EvalFault>
-    ensures { GivesFault (λ _. item.new) result (with_all_metadata (place_of F.files place.now) kind.now (map metadata_of written.now) item.old) }
+    ensures { GivesFault (λ _. item.new) result
+        (with_all_metadata (place_of F.files place.now) kind.now (map metadata_of written.now)
+        item.old) }
 {
     for metadata in written {
         set_one(alloc, place, kind, metadata, item)?;
@@ -146,7 +166,9 @@ fn set_one<F: Present>(
     metadata: &WrittenMetadata<'_>,
     item: &mut Item,
 ) -> Result<(), EvalFault>
-    ensures { GivesFault (λ _. item.new) result (with_metadata_written (place_of F.files place.now) kind.now item.old (metadata_of metadata.now)) }
+    ensures { GivesFault (λ _. item.new) result
+        (with_metadata_written (place_of F.files place.now) kind.now item.old
+        (metadata_of metadata.now)) }
 {
     let value = metadata.value(alloc, &place.of_metadata(kind, item))?;
     let Some((name, text)) = value else {

@@ -16,7 +16,8 @@ followed_by (gives r) next = next r
 followed_by (asks q go) next = asks q (λ a. followed_by (go a) next)
 
 -- the end and the last state where a machine answers, which may give up
-abbrev pub answered_by : {Q A R S : Type 0} → (Q → S → Option (A × S)) → Asking Q A R → S → Option (R × S)
+abbrev pub answered_by : {Q A R S : Type 0} → (Q → S → Option (A × S)) → Asking Q A R → S
+    → Option (R × S)
 answered_by answer (gives r) s = Some (r, s)
 answered_by answer (asks q go) s = and_then (answer q s) (λ p. answered_by answer (go p.0) p.1)
 

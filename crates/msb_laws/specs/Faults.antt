@@ -1,4 +1,5 @@
--- An object of the outside counts its own faults, and a failed call is told only where the count rose.
+-- An object of the outside counts its own faults, and a failed call is told only where the count
+-- rose.
 use Rattle.std.specs.Prelude.{ℕ, ◌+◌, ◌-◌, ◌^◌, ◌≤◌, min, Result, IsErrOf}
 
 -- the count has risen, or stands at its end

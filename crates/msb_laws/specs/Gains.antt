@@ -14,4 +14,5 @@ AppendsFront (Some old) new text = (n : ℕ) × (new ≡ Some (old ++ take n tex
 
 -- the whole text, or a front of it where the sink's count of faults rose
 abbrev pub Prints : ℕ → ℕ → Option (List ℕ) → Option (List ℕ) → List ℕ → Type 0
-Prints before now old new text = Appends old new text ⊎ (Rose before now × AppendsFront old new text)
+Prints before now old new text = Appends old new text
+    ⊎ (Rose before now × AppendsFront old new text)

@@ -14,9 +14,11 @@ use Rattle.msb_outcomes.specs.Trials.{AreEqual}
 
 put-exact : (a b : Put) → Decides (same_put a b) (a ≡ b)
 put-exact a b = into (same_put a b)
-    (λ h. ap (λ x. record { path = x; bytes = a.bytes }) h.0 ∙ ap (λ y. record { path = b.path; bytes = y }) h.1)
+    (λ h. ap (λ x. record { path = x; bytes = a.bytes }) h.0
+    ∙ ap (λ y. record { path = b.path; bytes = y }) h.1)
     (λ h. (ap (λ (x : Put). x.path) h, ap (λ (x : Put). x.bytes) h))
-    (both (bytes_eq a.path b.path) (bytes_eq a.bytes b.bytes) (bytes_eq-Decides a.path b.path) (bytes_eq-Decides a.bytes b.bytes))
+    (both (bytes_eq a.path b.path) (bytes_eq a.bytes b.bytes) (bytes_eq-Decides a.path b.path)
+    (bytes_eq-Decides a.bytes b.bytes))
 
 -- a test that fails, of different acts
 apart : {P : Type 0} → (P → false ≡ true) → Decides false P
@@ -33,5 +35,8 @@ act-exact (Remove a) (Remove b) =
 pub equal_if_same : (one other : Outcome) (same : Bool) → bytes_eq one.text other.text ≡ true →
     same ≡ pointwise same_act one.commit other.commit → Decides same (AreEqual one other)
 equal_if_same one other same text is =
-    let acts = pointwise_decides act-exact one.commit other.commit in
-    ((λ h. ((bytes_eq-Decides one.text other.text).0 text, acts.0 (sym is ∙ h))), λ h. is ∙ acts.1 h.1)
+    let acts = pointwise_decides act-exact one.commit other.commit in (
+      (λ h. ((bytes_eq-Decides one.text other.text).0 text, acts.0 (sym is ∙ h))),
+      λ h. is
+          ∙ acts.1 h.1,
+    )

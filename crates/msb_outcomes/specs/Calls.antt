@@ -20,5 +20,6 @@ as_uses calls = map (λ call. record { name = call.0; input = call.1 }) calls
 -- the calls that were made for what came of a build
 abbrev pub AreCallsFor : Answering → Bool → Work → Outcome → Called → Called → Type 0
 AreCallsFor tools low (Told told) outcome before after = Unit {0}
-AreCallsFor tools low (Build given) outcome before after = ∥ IsUsedFor (world_of tools given) low outcome (as_uses before) (as_uses after) ∥₁
+AreCallsFor tools low (Build given) outcome before after =
+    ∥ IsUsedFor (world_of tools given) low outcome (as_uses before) (as_uses after) ∥₁
 AreCallsFor tools low (Check given) outcome before after = Unit {0}

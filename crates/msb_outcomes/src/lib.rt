@@ -1,7 +1,8 @@
-//! What words and files come to: what is left to do of the words once the project is evaluated, and what comes of it.
+//! What words and files come to: what is left to do of the words once the project is evaluated, and
+//! what comes of it.
 //!
-//! Which outcomes there are stands in one definition, `IsOutcomeOf` in `specs/Outcomes.antt`; which tools a build calls, in
-//! `specs/Calls.antt`; what a trial prints, in `specs/Trials.antt`.
+//! Which outcomes there are stands in one definition, `IsOutcomeOf` in `specs/Outcomes.antt`; which
+//! tools a build calls, in `specs/Calls.antt`; what a trial prints, in `specs/Trials.antt`.
 #![tactic(auto)]
 
 mod alone;

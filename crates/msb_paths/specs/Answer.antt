@@ -10,7 +10,8 @@ Gives (Err Empty) answer = answer ≡ Err Empty
 Gives (Err Memory) answer = Unit {0}
 
 -- a walk has come to the names that the view shows, or above the root
-abbrev pub ComesTo : {T : Type 0} → (T → List (List ℕ)) → Result T PathFault → Option (List (List ℕ)) → Type 0
+abbrev pub ComesTo : {T : Type 0} → (T → List (List ℕ)) → Result T PathFault
+    → Option (List (List ℕ)) → Type 0
 ComesTo view (Ok value) walk = walk ≡ Some (view value)
 ComesTo view (Err AboveRoot) walk = walk ≡ None
 ComesTo view (Err Empty) walk = ⊥

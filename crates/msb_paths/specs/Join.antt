@@ -1,5 +1,17 @@
 -- A folder and a file as one path.
-use Rattle.std.specs.Prelude.{ℕ, ◌-◌, Bool, ◌||◌, ◌==◌, List, ◌∷◌, ◌++◌, length, slice_index, if◌then◌else◌}
+use Rattle.std.specs.Prelude.{
+  ℕ,
+  ◌-◌,
+  Bool,
+  ◌||◌,
+  ◌==◌,
+  List,
+  ◌∷◌,
+  ◌++◌,
+  length,
+  slice_index,
+  if◌then◌else◌,
+}
 use Rattle.msb_paths.specs.Segments.{is_slash}
 
 -- a folder that the file's name may follow at once: the empty one, or one that ends with `/`

@@ -1,7 +1,35 @@
 -- Normal paths, and how a text is made one.
-use Rattle.std.specs.Prelude.{ℕ, ◌-◌, Bool, false, ◌==◌, List, [], ◌∷◌, ◌++◌, length, take, Option, Some, None, option_and_then, Result, Ok, Err, if◌then◌else◌}
+use Rattle.std.specs.Prelude.{
+  ℕ,
+  ◌-◌,
+  Bool,
+  false,
+  ◌==◌,
+  List,
+  [],
+  ◌∷◌,
+  ◌++◌,
+  length,
+  take,
+  Option,
+  Some,
+  None,
+  option_and_then,
+  Result,
+  Ok,
+  Err,
+  if◌then◌else◌,
+}
 use Rattle.std.specs.List.{list_all, slice_split, join_with_byte}
-use Rattle.msb_paths.specs.Segments.{is_slash, is_separator, segments, is_printable, is_here, is_parent, is_normal_segment}
+use Rattle.msb_paths.specs.Segments.{
+  is_slash,
+  is_separator,
+  segments,
+  is_printable,
+  is_here,
+  is_parent,
+  is_normal_segment,
+}
 use Rattle.msb_paths.specs.declared.errors.PathFault.{PathFault}
 use Rattle.msb_paths.specs.declared.errors.PathFault.TheVariants.{AboveRoot, Empty}
 
@@ -29,7 +57,8 @@ parent_of names = if length names == 0 then None else Some (take (length names -
 -- the place that one segment leads to, as the names from the root down
 abbrev pub entered : List (List ℕ) → List ℕ → Option (List (List ℕ))
 entered names segment =
-    if is_here segment then Some names else (if is_parent segment then parent_of names else Some (names ++ segment ∷ []))
+    if is_here segment then Some names else
+    (if is_parent segment then parent_of names else Some (names ++ segment ∷ []))
 
 -- the place that the segments lead to, taken from the left
 abbrev pub walked : List (List ℕ) → List (List ℕ) → Option (List (List ℕ))

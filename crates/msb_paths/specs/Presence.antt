@@ -5,4 +5,5 @@ use Rattle.std.specs.Str.{bytes_eq}
 
 -- one of the files has the path, or lies below it
 abbrev pub is_there : List (List ℕ) → List ℕ → Bool
-is_there files path = list_any (λ file. bytes_eq file path || starts_with nat_eq file (path ++ 47 ∷ [])) files
+is_there files path = list_any (λ file. bytes_eq file path
+    || starts_with nat_eq file (path ++ 47 ∷ [])) files

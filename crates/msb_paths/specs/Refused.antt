@@ -4,7 +4,12 @@ use Rattle.msb_paths.specs.Normal.{normalized, is_normal}
 use Rattle.msb_paths.specs.declared.errors.PathFault.{PathFault}
 use Rattle.msb_paths.specs.declared.errors.PathFault.TheVariants as path
 use Rattle.msb_paths.specs.declared.errors.NormalFault.{NormalFault}
-use Rattle.msb_paths.specs.declared.errors.NormalFault.TheVariants.{AboveRoot, Empty, ControlCharacter, Memory}
+use Rattle.msb_paths.specs.declared.errors.NormalFault.TheVariants.{
+  AboveRoot,
+  Empty,
+  ControlCharacter,
+  Memory,
+}
 
 abbrev pub normal_fault : PathFault → NormalFault
 normal_fault path.AboveRoot = AboveRoot

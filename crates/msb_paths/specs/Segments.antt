@@ -35,4 +35,5 @@ is_parent segment = bytes_eq segment (codes "..")
 
 -- not empty, not `.` or `..`, and of plain bytes
 abbrev pub is_normal_segment : List ℕ → Bool
-is_normal_segment segment = not (is_here segment) && not (is_parent segment) && list_all is_plain segment
+is_normal_segment segment = not (is_here segment) && not (is_parent segment)
+    && list_all is_plain segment

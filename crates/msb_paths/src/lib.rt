@@ -1,7 +1,8 @@
-//! Normal paths, and the parts of an item's identity, as MSBuild's well-known item metadata has them.
+//! Normal paths, and the parts of an item's identity, as MSBuild's well-known item metadata has
+//! them.
 //!
-//! A normal path is one or more segments joined by `/`. A segment is not empty, not `.` or `..`, and
-//! has no `/`, `\` or control character.
+//! A normal path is one or more segments joined by `/`. A segment is not empty, not `.` or `..`,
+//! and has no `/`, `\` or control character.
 #![tactic(auto)]
 
 mod errors;

@@ -1,7 +1,16 @@
 ghost use Rattle.std.specs.Prelude.{◌≡◌, true, false, Err, [], ◌++◌, map, Some, IfOk};
 ghost use Rattle.std.specs.List.{slice_split};
 ghost use Rattle.msb_paths.specs.Answer.{Gives, ComesTo};
-ghost use Rattle.msb_paths.specs.Normal.{is_normal, is_clean, is_rooted, start_of, entered, walked, path_of, normalized};
+ghost use Rattle.msb_paths.specs.Normal.{
+  is_normal,
+  is_clean,
+  is_rooted,
+  start_of,
+  entered,
+  walked,
+  path_of,
+  normalized,
+};
 ghost use Rattle.msb_paths.specs.Refused.{normal_path, GivesNormal};
 ghost use Rattle.msb_paths.specs.Segments.{is_backslash, segments};
 ghost use Rattle.msb_paths.specs.declared.errors.NormalFault.TheVariants.{ControlCharacter};
@@ -33,11 +42,13 @@ pub fn normalize(alloc: Global, base: &str, text: &str) -> Result<Word, PathFaul
 
 /// The normal path of a text on a base folder, made as [`normalize`] makes it.
 ///
-/// A path that has a character below U+0020 is refused; such a character in a segment that `..` takes away is not.
+/// A path that has a character below U+0020 is refused; such a character in a segment that `..`
+/// takes away is not.
 pub fn normal_path(alloc: Global, base: &str, text: &str) -> Result<Word, NormalFault>
     ensures exact { GivesNormal result (normal_path base.now text.now) }
     ensures normal { IfOk result (λ path. is_normal path ≡ true) }
-    ensures control { result ≡ Err ControlCharacter → is_clean base.now ≡ true → is_clean text.now ≡ false }
+    ensures control { result ≡ Err ControlCharacter → is_clean base.now ≡ true
+        → is_clean text.now ≡ false }
 {
     let path = normalize(alloc, base, text)?;
     if is_normal(path.as_str()) {

@@ -1,6 +1,12 @@
 ghost use Rattle.std.specs.Prelude.{◌≡◌};
 ghost use Rattle.std.specs.List.{list_all};
-ghost use Rattle.msb_paths.specs.Segments.{is_plain, is_separator, is_here, is_parent, is_normal_segment};
+ghost use Rattle.msb_paths.specs.Segments.{
+  is_plain,
+  is_separator,
+  is_here,
+  is_parent,
+  is_normal_segment,
+};
 
 pub(crate) fn is_separator(byte: u8) -> bool
     ensures { result ≡ is_separator byte }

@@ -76,7 +76,8 @@ module _ {P I A : Type 0} (w : World P I A) (low : Bool) where
           IsOutcomeAt w low events end outcome → AreMeant out (uses_in w events)
       are_meant events None outcome h = absurd h
       are_meant events (Some (Root result)) outcome h =
-          tools_are_used_as_meant w out whole steady events h.state h.history result h.journal h.ends
+          tools_are_used_as_meant w out whole steady events h.state h.history result h.journal
+          h.ends
       are_meant events (Some (Circular runs)) outcome h =
           absurd (no-circles w out whole steady events runs h.0)
       are_meant events (Some (TooDeep keys)) outcome h =

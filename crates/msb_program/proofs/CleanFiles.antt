@@ -1,5 +1,5 @@
--- What a store has once a list of acts was done whole, or to a place, of a build that gives what the
--- clean build gives.
+-- What a store has once a list of acts was done whole, or to a place, of a build that gives what
+-- the clean build gives.
 use Rattle.std.proofs.Common.{
   ◌≡◌,
   ◌≢◌,
@@ -163,7 +163,8 @@ apart : (p q : List ℕ) → bytes_eq p q ≡ false → p ≢ q
 apart p q is same = let t = (bytes_eq-Decides p q).1 same in cc
 
 has_bytes : (N : File → Type 0) (bytes : List ℕ) (now : Option File) →
-    IsSomeAnd now (λ f. (f.bytes ≡ bytes) × N f) → option_map (λ (f : File). f.bytes) now ≡ Some bytes
+    IsSomeAnd now (λ f. (f.bytes ≡ bytes) × N f)
+    → option_map (λ (f : File). f.bytes) now ≡ Some bytes
 has_bytes N bytes None h = absurd h
 has_bytes N bytes (Some f) h = ap Some h.0
 

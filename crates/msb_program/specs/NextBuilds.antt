@@ -47,8 +47,8 @@ pub record MeansRepeated (tools : Answering) (words : List (List ℕ)) (told : O
   pub settled : IsSettledBuild tools given out
   pub repeated : IsRepeatedBuild tools given left clean again
 
--- over the tree that is left the clean build is fresh, no output of a piece is older than the inputs
--- that it is paired with, and runs without a piece keep off: so it is up to date there
+-- over the tree that is left the clean build is fresh, no output of a piece is older than the
+-- inputs that it is paired with, and runs without a piece keep off: so it is up to date there
 pub record StaysFresh (tools : Answering) (given : World) (left : Tree)
     (again : Given Site ToolInput RequestResult) : Type 0 where
   pub fresh : IsFresh tools left.files (clean_over tools given left) again.value again.journal

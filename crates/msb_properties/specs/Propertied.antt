@@ -1,6 +1,25 @@
 -- The properties of a list of laid-out elements, each seeing those before it.
 -- (MSBuild properties; Property element; PropertyGroup element; Project element)
-use Rattle.std.specs.Prelude.{ℕ, List, [], ◌∷◌, ◌++◌, ◌||◌, Bool, true, false, not, is_some, Option, Some, None, Result, Ok, Err, codes}
+use Rattle.std.specs.Prelude.{
+  ℕ,
+  List,
+  [],
+  ◌∷◌,
+  ◌++◌,
+  ◌||◌,
+  Bool,
+  true,
+  false,
+  not,
+  is_some,
+  Option,
+  Some,
+  None,
+  Result,
+  Ok,
+  Err,
+  codes,
+}
 use Rattle.std.specs.List.{list_any}
 use Rattle.std.specs.BTreeMap.{insert_entry}
 use Rattle.std.specs.Ordering.{nat_cmp}
@@ -22,7 +41,8 @@ use Rattle.msb_properties.specs.Settings.{Setting, Properties, scene_at, view_fr
 
 -- the Condition of an element, whose Exists starts from a folder
 abbrev pub holds_from : List ℕ → Setting → Properties → At → Result Bool EvalFault
-holds_from folder s p e = or_fault e (condition_holds (view_from folder s p e) (attribute_of (codes "Condition") e))
+holds_from folder s p e = or_fault e
+    (condition_holds (view_from folder s p e) (attribute_of (codes "Condition") e))
 
 -- of a PropertyGroup, an Import or an ImportGroup, where the folder is that of its file
 abbrev pub holds_in_file : Setting → Properties → At → Result Bool EvalFault
@@ -34,14 +54,17 @@ holds_in_project s p e = holds_from (folder_of s.path) s p e
 
 -- the last definition of a property wins
 abbrev pub with_value : Properties → List ℕ → List ℕ → Properties
-with_value p name text = record { values = insert_entry (slice_cmp nat_cmp) p.values name text; local = p.local }
+with_value p name text = record
+    { values = insert_entry (slice_cmp nat_cmp) p.values name text; local = p.local }
 
 -- a global property is not changed, unless a file has made it its own
 abbrev pub may_change : Setting → Properties → List ℕ → Bool
-may_change s p name = not (is_some (value_at name s.globals)) || list_any (λ own. bytes_eq own name) p.local
+may_change s p name = not (is_some (value_at name s.globals))
+    || list_any (λ own. bytes_eq own name) p.local
 
 abbrev pub set_if : Bool → Setting → Properties → At → List ℕ → Result Properties EvalFault
-set_if true s p e name = map_ok (with_value p name) (or_fault e (expanded (scene_at s p InProperty e) (inner_text e.node)))
+set_if true s p e name = map_ok (with_value p name)
+    (or_fault e (expanded (scene_at s p InProperty e) (inner_text e.node)))
 set_if false s p e name = Ok p
 
 -- a property that the engine sets is refused
@@ -83,7 +106,8 @@ with_local p items = record { values = p.values; local = p.local ++ names_in ite
 
 abbrev pub made_local : Option (List ℕ) → Setting → Properties → At → Result Properties EvalFault
 made_local None s p e = Ok p
-made_local (Some text) s p e = map_ok (with_local p) (or_fault e (expanded_items (scene_at s p Definition e) text))
+made_local (Some text) s p e = map_ok (with_local p)
+    (or_fault e (expanded_items (scene_at s p Definition e) text))
 
 -- the Project element of a file, whose TreatAsLocalProperty is read where the file begins
 abbrev pub with_project : Setting → Properties → At → Result Properties EvalFault
@@ -96,7 +120,8 @@ element_if false false s p e = Ok p
 
 -- no other element changes a property
 abbrev pub with_element : Setting → Properties → At → Result Properties EvalFault
-with_element s p e = element_if (bytes_eq (name_of e.node) (codes "Project")) (bytes_eq (name_of e.node) (codes "PropertyGroup")) s p e
+with_element s p e = element_if (bytes_eq (name_of e.node) (codes "Project"))
+    (bytes_eq (name_of e.node) (codes "PropertyGroup")) s p e
 
 -- they begin as the global ones
 abbrev pub first_properties : Setting → Properties

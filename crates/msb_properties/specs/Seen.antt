@@ -19,9 +19,15 @@ abbrev pub IsPlain : Setting → Kept → Type 0
 IsPlain s kept = kept.scope ≡ scope_with s (seen_properties kept)
 
 abbrev pub seen_laid : Laid → Layout
-seen_laid laid = record { elements = map seen_placed laid.elements.items; files = laid.files; duplicates = laid.duplicates }
+seen_laid laid = record {
+  elements = map seen_placed laid.elements.items;
+  files = laid.files;
+  duplicates =
+      laid.duplicates;
+}
 
 -- the properties that are kept are those of the elements so far
 pub record IsKept (s : Setting) (laid : Laid) : Type 0 where
   pub plain : IsPlain s laid.properties
-  pub kept : properties_of s (map seen_placed laid.elements.items) ≡ Ok (seen_properties laid.properties)
+  pub kept : properties_of s (map seen_placed laid.elements.items)
+      ≡ Ok (seen_properties laid.properties)

@@ -20,7 +20,8 @@ pub record Setting : Type 0 where
 abbrev pub setting : List File → InstanceKey → Setting
 setting files key = record { files = files; path = key.path; globals = key.globals }
 
--- the properties so far, and the global ones that a file has made its own (Project element, TreatAsLocalProperty)
+-- the properties so far, and the global ones that a file has made its own (Project element,
+-- TreatAsLocalProperty)
 pub record Properties : Type 0 where
   pub values : List (List ℕ × List ℕ)
   pub local : List (List ℕ)
@@ -30,8 +31,17 @@ abbrev pub scope_with : Setting → Properties → Scope
 scope_with s p = record { globals = s.globals; props = p.values; items = []; defaults = [] }
 
 abbrev pub scene_at : Setting → Properties → Use → At → Scene
-scene_at s p usage e = record { scope = scope_with s p; project = s.path; file = e.file; usage = usage; own = None; bucket = None }
+scene_at s p usage e = record {
+  scope = scope_with s p;
+  project = s.path;
+  file = e.file;
+  usage = usage;
+  own = None;
+  bucket =
+      None;
+}
 
 -- what a condition of an element sees, whose Exists starts from a folder
 abbrev pub view_from : List ℕ → Setting → Properties → At → View
-view_from folder s p e = record { scene = scene_at s p Definition e; folder = folder; files = paths_of s.files }
+view_from folder s p e = record
+    { scene = scene_at s p Definition e; folder = folder; files = paths_of s.files }

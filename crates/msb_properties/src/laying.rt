@@ -5,8 +5,24 @@ ghost use Rattle.build_world.specs.Elements.{seen_element};
 ghost use Rattle.build_world.specs.Readings.{project_of};
 ghost use Rattle.msb_elements.specs.Nodes.{name_of};
 ghost use Rattle.msb_properties.specs.declared.part.Part.TheVariants.{Grouped};
-ghost use Rattle.msb_properties.specs.Laid.{import_text, imported_as, lay_import, lay, part_of, lay_all, lay_chosen, lay_project, lay_within};
-ghost use Rattle.msb_properties.specs.Seen.{seen_setting, seen_properties, seen_laid, IsPlain, IsKept};
+ghost use Rattle.msb_properties.specs.Laid.{
+  import_text,
+  imported_as,
+  lay_import,
+  lay,
+  part_of,
+  lay_all,
+  lay_chosen,
+  lay_project,
+  lay_within,
+};
+ghost use Rattle.msb_properties.specs.Seen.{
+  seen_setting,
+  seen_properties,
+  seen_laid,
+  IsPlain,
+  IsKept,
+};
 
 use crate::layout::Layout;
 use crate::part::Part;
@@ -21,7 +37,8 @@ use msb_import::{ImportFault, resolve};
 use msb_values::{Cause, Copied, List, NoMemory, Text, unescape};
 use std::alloc::Global;
 
-/// Lays out the file at a path, which the last of the chain imports. (How MSBuild builds projects, evaluation phase.)
+/// Lays out the file at a path, which the last of the chain imports. (How MSBuild builds projects,
+/// evaluation phase.)
 #[cycle(laying)]
 pub(crate) fn lay_file(
     alloc: Global,
@@ -32,7 +49,9 @@ pub(crate) fn lay_file(
 ) -> Result<(), EvalFault>
     requires short { length chain.now < 64 }
     requires kept { IsKept (seen_setting setting.now) layout.old }
-    ensures laid { GivesFault (λ _. seen_laid layout.new) result (lay_within (64 - length chain.now) (seen_setting setting.now) chain.now path.now (seen_laid layout.old)) }
+    ensures laid { GivesFault (λ _. seen_laid layout.new) result
+        (lay_within (64 - length chain.now) (seen_setting setting.now) chain.now path.now
+        (seen_laid layout.old)) }
     ensures kept { OnOk result (IsKept (seen_setting setting.now) layout.new) }
 {
     let Some(file) = setting.tree.find(path.as_str()) else {
@@ -80,7 +99,9 @@ fn lay_project(
     root: Element,
 ) -> Result<(), EvalFault>
     requires { IsKept (seen_setting setting.now) layout.old }
-    ensures laid { GivesFault (λ _. seen_laid layout.new) result (lay_project (lay_within (64 - length chain.now) (seen_setting setting.now)) (seen_setting setting.now) chain.now file.now (seen_laid layout.old) (view root)) }
+    ensures laid { GivesFault (λ _. seen_laid layout.new) result
+        (lay_project (lay_within (64 - length chain.now) (seen_setting setting.now))
+        (seen_setting setting.now) chain.now file.now (seen_laid layout.old) (view root)) }
     ensures kept { OnOk result (IsKept (seen_setting setting.now) layout.new) }
 {
     let (element, children) = root.split(alloc);
@@ -100,7 +121,10 @@ fn lay_all(
     children: Vec<Element>,
 ) -> Result<(), EvalFault>
     requires { IsKept (seen_setting setting.now) layout.old }
-    ensures laid { GivesFault (λ _. seen_laid layout.new) result (lay_all (lay_within (64 - length chain.now) (seen_setting setting.now)) (seen_setting setting.now) chain.now file.now (seen_laid layout.old) (views children.items)) }
+    ensures laid { GivesFault (λ _. seen_laid layout.new) result
+        (lay_all (lay_within (64 - length chain.now) (seen_setting setting.now))
+        (seen_setting setting.now) chain.now file.now (seen_laid layout.old)
+        (views children.items)) }
     ensures kept { OnOk result (IsKept (seen_setting setting.now) layout.new) }
 {
     for child in children {
@@ -119,7 +143,9 @@ fn lay_one(
     child: Element,
 ) -> Result<(), EvalFault>
     requires { IsKept (seen_setting setting.now) layout.old }
-    ensures laid { GivesFault (λ _. seen_laid layout.new) result (lay (lay_within (64 - length chain.now) (seen_setting setting.now)) (seen_setting setting.now) chain.now file.now (seen_laid layout.old) (view child)) }
+    ensures laid { GivesFault (λ _. seen_laid layout.new) result
+        (lay (lay_within (64 - length chain.now) (seen_setting setting.now))
+        (seen_setting setting.now) chain.now file.now (seen_laid layout.old) (view child)) }
     ensures kept { OnOk result (IsKept (seen_setting setting.now) layout.new) }
 {
     match Part::of(child.name()) {
@@ -152,7 +178,9 @@ fn lay_group(
 ) -> Result<(), EvalFault>
     requires group { part_of (name_of (view group)) ≡ Grouped }
     requires kept { IsKept (seen_setting setting.now) layout.old }
-    ensures laid { GivesFault (λ _. seen_laid layout.new) result (lay (lay_within (64 - length chain.now) (seen_setting setting.now)) (seen_setting setting.now) chain.now file.now (seen_laid layout.old) (view group)) }
+    ensures laid { GivesFault (λ _. seen_laid layout.new) result
+        (lay (lay_within (64 - length chain.now) (seen_setting setting.now))
+        (seen_setting setting.now) chain.now file.now (seen_laid layout.old) (view group)) }
     ensures kept { OnOk result (IsKept (seen_setting setting.now) layout.new) }
 {
     let element = PlacedElement {
@@ -166,7 +194,8 @@ fn lay_group(
     Ok(())
 }
 
-/// The first of the children of a Choose whose Condition holds; an Otherwise has none. (Choose element.)
+/// The first of the children of a Choose whose Condition holds; an Otherwise has none. (Choose
+/// element.)
 #[cycle(laying)]
 fn lay_chosen(
     alloc: Global,
@@ -177,7 +206,10 @@ fn lay_chosen(
     choices: Vec<Element>,
 ) -> Result<(), EvalFault>
     requires { IsKept (seen_setting setting.now) layout.old }
-    ensures laid { GivesFault (λ _. seen_laid layout.new) result (lay_chosen (lay_within (64 - length chain.now) (seen_setting setting.now)) (seen_setting setting.now) chain.now file.now (seen_laid layout.old) (views choices.items)) }
+    ensures laid { GivesFault (λ _. seen_laid layout.new) result
+        (lay_chosen (lay_within (64 - length chain.now) (seen_setting setting.now))
+        (seen_setting setting.now) chain.now file.now (seen_laid layout.old)
+        (views choices.items)) }
     ensures kept { OnOk result (IsKept (seen_setting setting.now) layout.new) }
 {
     for choice in choices {
@@ -206,7 +238,9 @@ fn lay_import(
     element: &PlacedElement<'_>,
 ) -> Result<(), EvalFault>
     requires { IsKept (seen_setting setting.now) layout.old }
-    ensures laid { GivesFault (λ _. seen_laid layout.new) result (lay_import (lay_within (64 - length chain.now) (seen_setting setting.now)) (seen_setting setting.now) chain.now (seen_laid layout.old) (seen_element element.now)) }
+    ensures laid { GivesFault (λ _. seen_laid layout.new) result
+        (lay_import (lay_within (64 - length chain.now) (seen_setting setting.now))
+        (seen_setting setting.now) chain.now (seen_laid layout.old) (seen_element element.now)) }
     ensures kept { OnOk result (IsKept (seen_setting setting.now) layout.new) }
 {
     if !layout.properties.holds_in_file(alloc, setting, element)? {
@@ -217,7 +251,8 @@ fn lay_import(
     lay_found(alloc, setting, layout, chain, element, found)
 }
 
-/// What an import brings in, or why it brings in nothing. A file that was laid out before is noted and ignored.
+/// What an import brings in, or why it brings in nothing. A file that was laid out before is noted
+/// and ignored.
 #[cycle(laying)]
 fn lay_found(
     alloc: Global,
@@ -229,7 +264,9 @@ fn lay_found(
 ) -> Result<(), EvalFault>
     requires short { IfOk found (λ _. length chain.now < 64) }
     requires kept { IsKept (seen_setting setting.now) layout.old }
-    ensures laid { GivesFault (λ _. seen_laid layout.new) result (imported_as (lay_within (64 - length chain.now) (seen_setting setting.now)) chain.now (seen_laid layout.old) (seen_element element.now) found) }
+    ensures laid { GivesFault (λ _. seen_laid layout.new) result
+        (imported_as (lay_within (64 - length chain.now) (seen_setting setting.now)) chain.now
+        (seen_laid layout.old) (seen_element element.now) found) }
     ensures kept { OnOk result (IsKept (seen_setting setting.now) layout.new) }
 {
     match found {
@@ -250,7 +287,9 @@ fn import_text(
     element: &PlacedElement<'_>,
 ) -> Result<Text, EvalFault>
     requires { IsPlain (seen_setting setting.now) properties.now }
-    ensures { GivesFault (λ text. text) result (import_text (seen_setting setting.now) (seen_properties properties.now) (seen_element element.now)) }
+    ensures { GivesFault (λ text. text) result
+        (import_text (seen_setting setting.now) (seen_properties properties.now)
+        (seen_element element.now)) }
 {
     let written = match element.element.attribute("Project") {
         Some(written) => written,

@@ -13,8 +13,9 @@ use msb_import::LaidOut;
 use msb_values::{Copied, List, NoMemory, Text};
 use std::alloc::Global;
 
-/// The elements so far with the properties that they give, the files that they come from, and the imports that were
-/// ignored; and the trees of files that are kept meanwhile, of which no contract speaks.
+/// The elements so far with the properties that they give, the files that they come from, and the
+/// imports that were ignored; and the trees of files that are kept meanwhile, of which no contract
+/// speaks.
 pub(crate) struct Layout {
     pub properties: Properties,
     pub elements: Vec<Placed>,
@@ -66,7 +67,9 @@ impl Layout {
         element: Element,
     ) -> Result<(), EvalFault>
         requires { IsKept (seen_setting setting.now) self.old }
-        ensures laid { GivesFault (λ _. seen_laid self.new) result (extended (seen_setting setting.now) (seen_laid self.old) (at file.now (view element))) }
+        ensures laid { GivesFault (λ _. seen_laid self.new) result
+            (extended (seen_setting setting.now) (seen_laid self.old)
+            (at file.now (view element))) }
         ensures kept { OnOk result (IsKept (seen_setting setting.now) self.new) }
     {
         let placed = PlacedElement {
@@ -85,7 +88,8 @@ impl Layout {
 
     /// Notes that a file is laid out.
     pub(crate) fn add_file(&mut self, alloc: Global, file: &Text) -> Result<(), EvalFault>
-        ensures laid { GivesFault (λ _. seen_laid self.new) result (Ok (with_file (seen_laid self.old) file.now)) }
+        ensures laid { GivesFault (λ _. seen_laid self.new) result
+            (Ok (with_file (seen_laid self.old) file.now)) }
         ensures kept { (s : Given) → IsKept s self.old → OnOk result (IsKept s self.new) }
     {
         match self.files.push(file) {
@@ -96,7 +100,8 @@ impl Layout {
 
     /// Notes an import that is ignored.
     pub(crate) fn add_duplicate(&mut self, alloc: Global, file: Text) -> Result<(), EvalFault>
-        ensures laid { GivesFault (λ _. seen_laid self.new) result (Ok (with_duplicate (seen_laid self.old) file)) }
+        ensures laid { GivesFault (λ _. seen_laid self.new) result
+            (Ok (with_duplicate (seen_laid self.old) file)) }
         ensures kept { (s : Given) → IsKept s self.old → OnOk result (IsKept s self.new) }
     {
         match self.duplicates.push(file) {

@@ -18,8 +18,8 @@ use msb_values::{InstanceKey, List};
 use std::alloc::Global;
 use std::mem;
 
-/// Lays out the project of an instance, and takes its properties in order; or its first fault, with the file and the
-/// place of its element. (How MSBuild builds projects, evaluation phase.)
+/// Lays out the project of an instance, and takes its properties in order; or its first fault, with
+/// the file and the place of its element. (How MSBuild builds projects, evaluation phase.)
 ///
 /// No file is read whose tree is kept, and the trees of those that are imported are kept.
 pub fn property_pass(
@@ -74,7 +74,9 @@ fn taken(alloc: Global, trees: &mut ElementTrees) -> ElementTrees {
 /// What is laid out, with the targets that it names.
 fn with_targets(alloc: Global, setting: &Setting<'_>, layout: Layout) -> Result<LaidOut, EvalFault>
     requires { IsKept (seen_setting setting.now) layout }
-    ensures { GivesFault seen_layout result (with_targets (seen_setting setting.now) (seen_laid layout) (seen_properties layout.properties)) }
+    ensures { GivesFault seen_layout result
+        (with_targets (seen_setting setting.now) (seen_laid layout)
+        (seen_properties layout.properties)) }
 {
     let elements = layout.elements.as_slice();
     let initial = initial_targets(alloc, setting, &layout.properties, elements)?;

@@ -5,7 +5,12 @@ ghost use Rattle.msb_expand.specs.Scenes.{scene_of};
 ghost use Rattle.msb_expand.specs.Written.{expanded, expanded_items, target_names};
 ghost use Rattle.msb_expand.specs.declared.lens.Use.TheVariants.{Definition};
 ghost use Rattle.msb_properties.specs.Settings.{scene_at};
-ghost use Rattle.msb_properties.specs.Propertied.{holds_from, holds_in_file, holds_in_project, first_properties};
+ghost use Rattle.msb_properties.specs.Propertied.{
+  holds_from,
+  holds_in_file,
+  holds_in_project,
+  first_properties,
+};
 ghost use Rattle.msb_properties.specs.Seen.{seen_setting, seen_properties, IsPlain};
 
 use crate::setting::Setting;
@@ -33,7 +38,8 @@ impl Properties {
     /// They begin as the global ones.
     pub(crate) fn first(alloc: Global, setting: &Setting<'_>) -> Result<Properties, NoMemory>
         ensures plain { IfOk result (λ p. IsPlain (seen_setting setting.now) p) }
-        ensures first { IfOk result (λ p. seen_properties p ≡ first_properties (seen_setting setting.now)) }
+        ensures first { IfOk result (λ p. seen_properties p
+            ≡ first_properties (seen_setting setting.now)) }
     {
         Ok(Properties {
             scope: Scope {
@@ -63,7 +69,15 @@ impl Properties {
         folder: &'a str,
         usage: Use,
     ) -> Lens<'a>
-        ensures scene { scene_of result ≡ record { scope = self.now.scope; project = setting.now.key.now.path; file = file.now; usage = usage; own = None; bucket = None } }
+        ensures scene { scene_of result ≡ record {
+          scope = self.now.scope;
+          project = setting.now.key.now.path;
+          file = file.now;
+          usage =
+              usage;
+          own = None;
+          bucket = None;
+        } }
         ensures folder { result.dir.now ≡ folder.now }
     {
         Lens {
@@ -87,7 +101,11 @@ impl Properties {
         written: &str,
     ) -> Result<Text, EvalFault>
         requires { IsPlain (seen_setting setting.now) self.now }
-        ensures { GivesFault (λ text. text) result (or_fault (seen_element element.now) (expanded (scene_at (seen_setting setting.now) (seen_properties self.now) usage (seen_element element.now)) written.now)) }
+        ensures { GivesFault (λ text. text) result
+            (or_fault (seen_element element.now)
+            (expanded
+            (scene_at (seen_setting setting.now) (seen_properties self.now) usage
+            (seen_element element.now)) written.now)) }
     {
         match expand_text(alloc, &self.lens(setting, element.file, "", usage), written) {
             Ok(text) => Ok(text),
@@ -104,7 +122,11 @@ impl Properties {
         written: &str,
     ) -> Result<List<Item>, EvalFault>
         requires { IsPlain (seen_setting setting.now) self.now }
-        ensures { GivesFault (λ items. items) result (or_fault (seen_element element.now) (expanded_items (scene_at (seen_setting setting.now) (seen_properties self.now) Definition (seen_element element.now)) written.now)) }
+        ensures { GivesFault (λ items. items) result
+            (or_fault (seen_element element.now)
+            (expanded_items
+            (scene_at (seen_setting setting.now) (seen_properties self.now) Definition
+            (seen_element element.now)) written.now)) }
     {
         let lens = self.lens(setting, element.file, "", Use::Definition);
         match expand_list(alloc, &lens, written) {
@@ -122,7 +144,11 @@ impl Properties {
         written: &str,
     ) -> Result<List<Name>, EvalFault>
         requires { IsPlain (seen_setting setting.now) self.now }
-        ensures { GivesFault (λ names. names) result (or_fault (seen_element element.now) (target_names (scene_at (seen_setting setting.now) (seen_properties self.now) Definition (seen_element element.now)) written.now)) }
+        ensures { GivesFault (λ names. names) result
+            (or_fault (seen_element element.now)
+            (target_names
+            (scene_at (seen_setting setting.now) (seen_properties self.now) Definition
+            (seen_element element.now)) written.now)) }
     {
         let lens = self.lens(setting, element.file, "", Use::Definition);
         match expand_names(alloc, &lens, written) {
@@ -140,7 +166,9 @@ impl Properties {
         folder: &str,
     ) -> Result<bool, EvalFault>
         requires { IsPlain (seen_setting setting.now) self.now }
-        ensures { GivesFault (λ holds. holds) result (holds_from folder.now (seen_setting setting.now) (seen_properties self.now) (seen_element element.now)) }
+        ensures { GivesFault (λ holds. holds) result
+            (holds_from folder.now (seen_setting setting.now) (seen_properties self.now)
+            (seen_element element.now)) }
     {
         let lens = self.lens(setting, element.file, folder, Use::Definition);
         match condition_holds(
@@ -162,7 +190,9 @@ impl Properties {
         element: &PlacedElement<'_>,
     ) -> Result<bool, EvalFault>
         requires { IsPlain (seen_setting setting.now) self.now }
-        ensures { GivesFault (λ holds. holds) result (holds_in_file (seen_setting setting.now) (seen_properties self.now) (seen_element element.now)) }
+        ensures { GivesFault (λ holds. holds) result
+            (holds_in_file (seen_setting setting.now) (seen_properties self.now)
+            (seen_element element.now)) }
     {
         self.holds_from(alloc, setting, element, folder_of(element.file))
     }
@@ -175,7 +205,9 @@ impl Properties {
         element: &PlacedElement<'_>,
     ) -> Result<bool, EvalFault>
         requires { IsPlain (seen_setting setting.now) self.now }
-        ensures { GivesFault (λ holds. holds) result (holds_in_project (seen_setting setting.now) (seen_properties self.now) (seen_element element.now)) }
+        ensures { GivesFault (λ holds. holds) result
+            (holds_in_project (seen_setting setting.now) (seen_properties self.now)
+            (seen_element element.now)) }
     {
         self.holds_from(
             alloc,

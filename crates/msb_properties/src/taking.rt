@@ -9,7 +9,17 @@ ghost use Rattle.msb_values.specs.Caused.{UnlessMemory};
 ghost use Rattle.msb_values.specs.declared.cause.Cause.TheVariants.{Reserved};
 ghost use Rattle.build_world.specs.Answers.{GivesFault};
 ghost use Rattle.build_world.specs.Elements.{at, fault_of, seen_element};
-ghost use Rattle.msb_properties.specs.Propertied.{may_change, set_if, set_named, with_property, with_group, names_if, names_in, with_project, with_element};
+ghost use Rattle.msb_properties.specs.Propertied.{
+  may_change,
+  set_if,
+  set_named,
+  with_property,
+  with_group,
+  names_if,
+  names_in,
+  with_project,
+  with_element,
+};
 ghost use Rattle.msb_properties.specs.Seen.{seen_setting, seen_properties, IsPlain};
 
 use crate::properties::Properties;
@@ -20,7 +30,8 @@ use msb_expand::{Use, is_reserved};
 use msb_values::{Cause, Item, List, Name, NameFault, Text};
 use std::alloc::Global;
 
-/// Takes what a laid-out element changes of the properties. (PropertyGroup element; Project element.)
+/// Takes what a laid-out element changes of the properties. (PropertyGroup element; Project
+/// element.)
 pub(crate) fn take_element(
     alloc: Global,
     setting: &Setting<'_>,
@@ -28,7 +39,9 @@ pub(crate) fn take_element(
     element: &PlacedElement<'_>,
 ) -> Result<(), EvalFault>
     requires { IsPlain (seen_setting setting.now) properties.old }
-    ensures taken { GivesFault (λ _. seen_properties properties.new) result (with_element (seen_setting setting.now) (seen_properties properties.old) (seen_element element.now)) }
+    ensures taken { GivesFault (λ _. seen_properties properties.new) result
+        (with_element (seen_setting setting.now) (seen_properties properties.old)
+        (seen_element element.now)) }
     ensures plain { OnOk result (IsPlain (seen_setting setting.now) properties.new) }
 {
     match element.element.name() {
@@ -38,7 +51,8 @@ pub(crate) fn take_element(
     }
 }
 
-/// The global properties that a Project element makes its own; an entry that is no name is passed over.
+/// The global properties that a Project element makes its own; an entry that is no name is passed
+/// over.
 fn take_project(
     alloc: Global,
     setting: &Setting<'_>,
@@ -46,7 +60,9 @@ fn take_project(
     element: &PlacedElement<'_>,
 ) -> Result<(), EvalFault>
     requires { IsPlain (seen_setting setting.now) properties.old }
-    ensures taken { GivesFault (λ _. seen_properties properties.new) result (with_project (seen_setting setting.now) (seen_properties properties.old) (seen_element element.now)) }
+    ensures taken { GivesFault (λ _. seen_properties properties.new) result
+        (with_project (seen_setting setting.now) (seen_properties properties.old)
+        (seen_element element.now)) }
     ensures plain { OnOk result (IsPlain (seen_setting setting.now) properties.new) }
 {
     match element.element.attribute("TreatAsLocalProperty") {
@@ -68,7 +84,8 @@ fn add_names(alloc: Global, names: &mut List<Name>, items: &[Item]) -> Result<()
 }
 
 fn add_name(alloc: Global, names: &mut List<Name>, item: &Item) -> Result<(), EvalFault>
-    ensures { GivesFault (λ _. names.new) result (Ok (names.old ++ names_if (key_of item.now.ident) [])) }
+    ensures { GivesFault (λ _. names.new) result
+        (Ok (names.old ++ names_if (key_of item.now.ident) [])) }
 {
     match Name::read(alloc, item.ident.as_str()) {
         Ok(name) => match names.push(name) {
@@ -88,7 +105,9 @@ fn take_group(
     element: &PlacedElement<'_>,
 ) -> Result<(), EvalFault>
     requires { IsPlain (seen_setting setting.now) properties.old }
-    ensures taken { GivesFault (λ _. seen_properties properties.new) result (with_group (seen_setting setting.now) (seen_properties properties.old) (seen_element element.now)) }
+    ensures taken { GivesFault (λ _. seen_properties properties.new) result
+        (with_group (seen_setting setting.now) (seen_properties properties.old)
+        (seen_element element.now)) }
     ensures plain { OnOk result (IsPlain (seen_setting setting.now) properties.new) }
 {
     if properties.holds_in_file(alloc, setting, element)? {
@@ -111,7 +130,10 @@ fn take_each(
     elements: &[Element],
 ) -> Result<(), EvalFault>
     requires { IsPlain (seen_setting setting.now) properties.old }
-    ensures taken { GivesFault (λ _. seen_properties properties.new) result (fold_ok (λ p element. with_property (seen_setting setting.now) p (at file.now (view element))) (seen_properties properties.old) elements.now) }
+    ensures taken { GivesFault (λ _. seen_properties properties.new) result
+        (fold_ok
+        (λ p element. with_property (seen_setting setting.now) p (at file.now (view element)))
+        (seen_properties properties.old) elements.now) }
     ensures plain { OnOk result (IsPlain (seen_setting setting.now) properties.new) }
 {
     for element in elements {
@@ -127,7 +149,9 @@ fn take_property(
     element: &PlacedElement<'_>,
 ) -> Result<(), EvalFault>
     requires { IsPlain (seen_setting setting.now) properties.old }
-    ensures taken { GivesFault (λ _. seen_properties properties.new) result (with_property (seen_setting setting.now) (seen_properties properties.old) (seen_element element.now)) }
+    ensures taken { GivesFault (λ _. seen_properties properties.new) result
+        (with_property (seen_setting setting.now) (seen_properties properties.old)
+        (seen_element element.now)) }
     ensures plain { OnOk result (IsPlain (seen_setting setting.now) properties.new) }
 {
     if properties.holds_in_project(alloc, setting, element)? {
@@ -144,7 +168,9 @@ fn take_named(
     element: &PlacedElement<'_>,
 ) -> Result<(), EvalFault>
     requires { IsPlain (seen_setting setting.now) properties.old }
-    ensures taken { GivesFault (λ _. seen_properties properties.new) result (set_named (key_of (name_of (view element.now.element.now))) (seen_setting setting.now) (seen_properties properties.old) (seen_element element.now)) }
+    ensures taken { GivesFault (λ _. seen_properties properties.new) result
+        (set_named (key_of (name_of (view element.now.element.now))) (seen_setting setting.now)
+        (seen_properties properties.old) (seen_element element.now)) }
     ensures plain { OnOk result (IsPlain (seen_setting setting.now) properties.new) }
 {
     match Name::read(alloc, element.element.name()) {
@@ -160,7 +186,8 @@ fn take_named(
 
 /// The fault of a property that the engine sets.
 fn reserved(alloc: Global, element: &PlacedElement<'_>, name: &Name) -> EvalFault
-    ensures { UnlessMemory result.cause (result ≡ fault_of (seen_element element.now) (Reserved name.now)) }
+    ensures { UnlessMemory result.cause (result
+        ≡ fault_of (seen_element element.now) (Reserved name.now)) }
 {
     match Text::of(alloc, name.key()) {
         Ok(name) => element.fault(alloc, Cause::Reserved(name)),
@@ -168,7 +195,8 @@ fn reserved(alloc: Global, element: &PlacedElement<'_>, name: &Name) -> EvalFaul
     }
 }
 
-/// Gives a property the text of the element, unless it is a global one that no file has made its own.
+/// Gives a property the text of the element, unless it is a global one that no file has made its
+/// own.
 fn set(
     alloc: Global,
     setting: &Setting<'_>,
@@ -177,7 +205,10 @@ fn set(
     name: Name,
 ) -> Result<(), EvalFault>
     requires { IsPlain (seen_setting setting.now) properties.old }
-    ensures taken { GivesFault (λ _. seen_properties properties.new) result (set_if (may_change (seen_setting setting.now) (seen_properties properties.old) name) (seen_setting setting.now) (seen_properties properties.old) (seen_element element.now) name) }
+    ensures taken { GivesFault (λ _. seen_properties properties.new) result
+        (set_if (may_change (seen_setting setting.now) (seen_properties properties.old) name)
+        (seen_setting setting.now) (seen_properties properties.old) (seen_element element.now)
+        name) }
     ensures plain { OnOk result (IsPlain (seen_setting setting.now) properties.new) }
 {
     if !may_change(setting, properties, &name) {
@@ -197,7 +228,8 @@ fn set(
 }
 
 fn may_change(setting: &Setting<'_>, properties: &Properties, name: &Name) -> bool
-    ensures { result ≡ may_change (seen_setting setting.now) (seen_properties properties.now) name.now }
+    ensures { result ≡ may_change (seen_setting setting.now) (seen_properties properties.now)
+        name.now }
 {
     match setting.key.globals.get(name) {
         Some(_) => is_among(properties.local.as_slice(), name),

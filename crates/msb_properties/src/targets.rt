@@ -20,7 +20,9 @@ pub(crate) fn initial_targets(
     elements: &[Placed],
 ) -> Result<List<Name>, EvalFault>
     requires { IsPlain (seen_setting setting.now) properties.now }
-    ensures { GivesFault (λ names. names) result (initial_of (seen_setting setting.now) (seen_properties properties.now) (map seen_placed elements.now)) }
+    ensures { GivesFault (λ names. names) result
+        (initial_of (seen_setting setting.now) (seen_properties properties.now)
+        (map seen_placed elements.now)) }
 {
     let mut names = List::new(alloc);
     for placed in elements {
@@ -37,7 +39,9 @@ fn add_initial(
     names: &mut List<Name>,
 ) -> Result<(), EvalFault>
     requires { IsPlain (seen_setting setting.now) properties.now }
-    ensures { GivesFault (λ _. names.new) result (with_initial (seen_setting setting.now) (seen_properties properties.now) names.old (seen_placed placed.now)) }
+    ensures { GivesFault (λ _. names.new) result
+        (with_initial (seen_setting setting.now) (seen_properties properties.now) names.old
+        (seen_placed placed.now)) }
 {
     let Some(written) = on_project(&placed.element, "InitialTargets") else {
         return Ok(());
@@ -67,7 +71,9 @@ pub(crate) fn default_targets(
     elements: &[Placed],
 ) -> Result<List<Name>, EvalFault>
     requires { IsPlain (seen_setting setting.now) properties.now }
-    ensures { GivesFault (λ names. names) result (default_of (seen_setting setting.now) (seen_properties properties.now) (map seen_placed elements.now)) }
+    ensures { GivesFault (λ names. names) result
+        (default_of (seen_setting setting.now) (seen_properties properties.now)
+        (map seen_placed elements.now)) }
 {
     for placed in elements {
         if let Some(written) = on_project(&placed.element, "DefaultTargets") {

@@ -1,5 +1,20 @@
 -- Folded texts in UTF-8 are equal just where their characters are.
-use Rattle.std.proofs.Common.{◌≡◌, ℕ, ◌≤◌, List, [], ◌∷◌, length, refl, ap, ap₂, arith, length-append, encode_utf8, encode_utf8_all}
+use Rattle.std.proofs.Common.{
+  ◌≡◌,
+  ℕ,
+  ◌≤◌,
+  List,
+  [],
+  ◌∷◌,
+  length,
+  refl,
+  ap,
+  ap₂,
+  arith,
+  length-append,
+  encode_utf8,
+  encode_utf8_all,
+}
 use Rattle.std.proofs.lemmas.Bool.Decides.{same_from_decides}
 use Rattle.std.proofs.lemmas.Str.{encode_same, length-encode, len_utf8_bounds}
 use Rattle.std.proofs.lemmas.Slice.Eq.{bytes_eq-Decides}
@@ -7,7 +22,12 @@ use Rattle.msb_values.specs.Same.{folded}
 use Rattle.msb_values.specs.Folded.{folded_bytes, FoldsAsCompared}
 
 some_bytes : (c : ℕ) (cs : List ℕ) → 1 ≤ length (encode_utf8_all (c ∷ cs))
-some_bytes c cs = omega (arith, length-append (encode_utf8 c) (encode_utf8_all cs), length-encode c, (len_utf8_bounds c).0)
+some_bytes c cs = omega (
+  arith,
+  length-append (encode_utf8 c) (encode_utf8_all cs),
+  length-encode c,
+  (len_utf8_bounds c).0,
+)
 
 encodings_same : (xs ys : List ℕ) → encode_utf8_all xs ≡ encode_utf8_all ys → xs ≡ ys
 encodings_same [] [] e = refl
@@ -21,4 +41,6 @@ pub folds_as_compared : FoldsAsCompared
 folds_as_compared a b =
     let bytes = bytes_eq-Decides (folded_bytes a) (folded_bytes b) in
     let characters = bytes_eq-Decides (folded a) (folded b) in
-    same_from_decides _ _ (λ h. encodings_same (folded a) (folded b) (bytes.0 h), λ e. bytes.1 (ap encode_utf8_all e)) characters
+    same_from_decides _ _
+    (λ h. encodings_same (folded a) (folded b) (bytes.0 h), λ e. bytes.1 (ap encode_utf8_all e))
+    characters

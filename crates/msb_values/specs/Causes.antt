@@ -2,7 +2,35 @@
 use Rattle.std.specs.Prelude.{ℕ, List, [], ◌∷◌, ◌++◌, codes}
 use Rattle.std.specs.Fmt.{decimal}
 use Rattle.msb_values.specs.declared.cause.Cause.{Cause}
-use Rattle.msb_values.specs.declared.cause.Cause.TheVariants.{NotYet, NotJson, NotElement, UnknownElement, Misplaced, MissingAttribute, BothAttributes, BadName, Unclosed, BadTransform, NestedTransform, ItemsHere, MetadataHere, UnknownFunction, TooLong, MixedList, Syntax, NotBoolean, NotNumbers, BadPath, StarsInSegment, MissingImport, ImportDepth, Reserved, NoList, NoValue, Memory}
+use Rattle.msb_values.specs.declared.cause.Cause.TheVariants.{
+  NotYet,
+  NotJson,
+  NotElement,
+  UnknownElement,
+  Misplaced,
+  MissingAttribute,
+  BothAttributes,
+  BadName,
+  Unclosed,
+  BadTransform,
+  NestedTransform,
+  ItemsHere,
+  MetadataHere,
+  UnknownFunction,
+  TooLong,
+  MixedList,
+  Syntax,
+  NotBoolean,
+  NotNumbers,
+  BadPath,
+  StarsInSegment,
+  MissingImport,
+  ImportDepth,
+  Reserved,
+  NoList,
+  NoValue,
+  Memory,
+}
 
 abbrev pub label_of : Cause → List ℕ
 label_of NotYet = codes "0 NotYet"

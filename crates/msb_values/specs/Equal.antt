@@ -14,4 +14,5 @@ same_pairs = pointwise same_pair
 
 -- one identity from one place, with the same metadata
 abbrev pub same_item : Item → Item → Bool
-same_item a b = bytes_eq a.ident b.ident && (bytes_eq a.recursive b.recursive && same_pairs a.meta b.meta)
+same_item a b = bytes_eq a.ident b.ident
+    && (bytes_eq a.recursive b.recursive && same_pairs a.meta b.meta)

@@ -1,5 +1,24 @@
 -- Escaped characters in a text. (MSBuild special characters.)
-use Rattle.std.specs.Prelude.{ℕ, List, [], ◌∷◌, ◌++◌, ◌+◌, ◌*◌, ◌&&◌, ◌==◌, Bool, true, false, nat_lt, Option, Some, None, codes, if◌then◌else◌}
+use Rattle.std.specs.Prelude.{
+  ℕ,
+  List,
+  [],
+  ◌∷◌,
+  ◌++◌,
+  ◌+◌,
+  ◌*◌,
+  ◌&&◌,
+  ◌==◌,
+  Bool,
+  true,
+  false,
+  nat_lt,
+  Option,
+  Some,
+  None,
+  codes,
+  if◌then◌else◌,
+}
 use Rattle.std.specs.Char.{digit_value, encode_utf8}
 use Rattle.std.specs.List.{flat_map}
 
@@ -36,5 +55,6 @@ unescaped text = text
 
 -- the number of the two hexadecimal digits that a text begins with
 abbrev pub number_at : List ℕ → Option ℕ
-number_at (high ∷ low ∷ rest) = if is_hex high && is_hex low then Some (hex_number high low) else None
+number_at (high ∷ low ∷ rest) = if is_hex high
+    && is_hex low then Some (hex_number high low) else None
 number_at text = None

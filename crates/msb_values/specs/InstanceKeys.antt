@@ -1,4 +1,5 @@
--- How a report names an instance of a project. (MSBuild task; MSBuild properties, global properties)
+-- How a report names an instance of a project. (MSBuild task; MSBuild properties, global
+-- properties)
 use Rattle.std.specs.Prelude.{ℕ, List, [], ◌∷◌, ◌++◌, codes}
 use Rattle.std.specs.List.{flat_map}
 use Rattle.msb_values.specs.declared.key.InstanceKey.{InstanceKey}

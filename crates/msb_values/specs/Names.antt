@@ -1,5 +1,21 @@
 -- What a name is, in characters. (MSBuild properties; MSBuild items; MSBuild targets.)
-use Rattle.std.specs.Prelude.{ℕ, List, [], ◌∷◌, ◌+◌, ◌&&◌, ◌||◌, ◌==◌, Bool, not, nat_le, Option, Some, option_map, if◌then◌else◌}
+use Rattle.std.specs.Prelude.{
+  ℕ,
+  List,
+  [],
+  ◌∷◌,
+  ◌+◌,
+  ◌&&◌,
+  ◌||◌,
+  ◌==◌,
+  Bool,
+  not,
+  nat_le,
+  Option,
+  Some,
+  option_map,
+  if◌then◌else◌,
+}
 use Rattle.std.specs.List.{position}
 
 -- an ASCII letter or `_`
@@ -17,4 +33,5 @@ is_target_byte b = is_name_byte b || b == 46 || b == 58
 -- the place of the first byte that a name can't have there, which an empty text lacks at 0
 abbrev pub bad_place : (ℕ → Bool) → List ℕ → Option ℕ
 bad_place may_follow [] = Some 0
-bad_place may_follow (b ∷ bs) = if is_letter b then option_map (λ n. n + 1) (position (λ c. not (may_follow c)) bs) else Some 0
+bad_place may_follow (b ∷ bs) = if is_letter b then option_map (λ n. n + 1)
+    (position (λ c. not (may_follow c)) bs) else Some 0

@@ -6,11 +6,13 @@ use Rattle.std.specs.Ordering.{nat_cmp}
 use Rattle.msb_values.specs.Pairs.{value_at}
 
 -- a metadata, where the item does not have it itself
-abbrev pub put_missing : Option (List ℕ) → List (List ℕ × List ℕ) → List ℕ → List ℕ → List (List ℕ × List ℕ)
+abbrev pub put_missing : Option (List ℕ) → List (List ℕ × List ℕ) → List ℕ → List ℕ
+    → List (List ℕ × List ℕ)
 put_missing (Some text) own name default = own
 put_missing None own name default = insert_entry (slice_cmp nat_cmp) own name default
 
 -- the item's own, and the defaults that it does not have itself
 abbrev pub overlaid : List (List ℕ × List ℕ) → List (List ℕ × List ℕ) → List (List ℕ × List ℕ)
 overlaid [] own = own
-overlaid (pair ∷ defaults) own = overlaid defaults (put_missing (value_at pair.0 own) own pair.0 pair.1)
+overlaid (pair ∷ defaults) own = overlaid defaults
+    (put_missing (value_at pair.0 own) own pair.0 pair.1)

@@ -19,7 +19,8 @@ AreRising pairs = IsStrictlySortedBy (slice_cmp nat_cmp) (keys_of pairs)
 -- what a name has is changed, if the name is there
 abbrev pub changed_at : {T : Type 0} → List ℕ → (T → T) → List (List ℕ × T) → List (List ℕ × T)
 changed_at name change [] = []
-changed_at name change (p ∷ ps) = if bytes_eq name p.0 then (p.0, change p.1) ∷ ps else p ∷ changed_at name change ps
+changed_at name change (p ∷ ps) = if bytes_eq name p.0 then (p.0, change p.1) ∷ ps else p
+    ∷ changed_at name change ps
 
 -- without a name, if it is there
 abbrev pub without_name : {T : Type 0} → List ℕ → List (List ℕ × T) → List (List ℕ × T)

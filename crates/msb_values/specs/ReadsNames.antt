@@ -6,6 +6,7 @@ use Rattle.msb_values.specs.declared.errors.NameFault.{NameFault}
 use Rattle.msb_values.specs.declared.errors.NameFault.TheVariants.{BadName, Memory}
 
 abbrev pub ReadsName : (ℕ → Bool) → List ℕ → Result (List ℕ) NameFault → Type 0
-ReadsName may_follow text (Ok name) = (bad_place may_follow text ≡ None) × (name ≡ str_to_ascii_lowercase text)
+ReadsName may_follow text (Ok name) = (bad_place may_follow text ≡ None)
+    × (name ≡ str_to_ascii_lowercase text)
 ReadsName may_follow text (Err (BadName at)) = bad_place may_follow text ≡ Some at
 ReadsName may_follow text (Err Memory) = Unit {0}

@@ -1,4 +1,5 @@
--- Texts that are equal without case: equal by Unicode's default caseless matching. (MSBuild conditions.)
+-- Texts that are equal without case: equal by Unicode's default caseless matching. (MSBuild
+-- conditions.)
 use Rattle.std.specs.Prelude.{ℕ, List, Bool, chars}
 use Rattle.std.specs.Str.{bytes_eq}
 use Rattle.caseless.specs.Caseless.{default_case_fold}

@@ -3,7 +3,8 @@ ghost use Rattle.msb_values.specs.Acts.{act_path, act_bytes};
 
 use crate::{Copied, NoMemory, Put, Text};
 
-/// What is done to a path: a file is written there whole, or what stands there is removed. (Delete task.)
+/// What is done to a path: a file is written there whole, or what stands there is removed. (Delete
+/// task.)
 pub enum Act {
     Write(Put),
     Remove(Text),

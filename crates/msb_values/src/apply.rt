@@ -1,5 +1,10 @@
 ghost use Rattle.std.specs.Prelude.{◌≡◌, ◌++◌, IfOk, OnOk, OnErr};
-ghost use Rattle.msb_values.specs.declared.change.Change.TheVariants.{SetProp, AddItems, RemoveItems, SetMeta};
+ghost use Rattle.msb_values.specs.declared.change.Change.TheVariants.{
+  SetProp,
+  AddItems,
+  RemoveItems,
+  SetMeta,
+};
 ghost use Rattle.msb_values.specs.Pairs.{changed_at};
 ghost use Rattle.msb_values.specs.Changes.{applied, with_added, without_named, with_metadata_on};
 
@@ -10,9 +15,9 @@ use std::alloc::Global;
 impl Scope {
     /// Does what a target's body changed; where there is no memory, the scope stays as it was.
     ///
-    /// A property gets its value, and items are put behind those of their type. An item goes whose identity equals one
-    /// of the texts without case; an item that equals one of the given gets the metadata.
-    /// (MSBuild targets; PropertyGroup element; ItemGroup element.)
+    /// A property gets its value, and items are put behind those of their type. An item goes whose
+    /// identity equals one of the texts without case; an item that equals one of the given gets the
+    /// metadata. (MSBuild targets; PropertyGroup element; ItemGroup element.)
     pub fn apply(&mut self, alloc: Global, change: &Change) -> Result<(), NoMemory>
         ensures ok { OnOk result (self.new ≡ applied change.now self.old) }
         ensures err { OnErr result (self.new ≡ self.old) }
@@ -130,7 +135,8 @@ fn set_metadata(
     given: &List<Item>,
     pairs: &Pairs,
 ) -> Result<(), NoMemory>
-    ensures ok { OnOk result (lists.new ≡ changed_at kind.now (with_metadata_on given.now pairs.now) lists.old) }
+    ensures ok { OnOk result
+        (lists.new ≡ changed_at kind.now (with_metadata_on given.now pairs.now) lists.old) }
     ensures err { OnErr result (lists.new ≡ lists.old) }
 {
     match lists.get(kind) {

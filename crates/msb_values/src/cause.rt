@@ -148,7 +148,8 @@ impl Cause {
     }
 
     fn push_details(&self, shown: &mut String) -> Result<(), NoMemory>
-        ensures { OnOk result (string_bytes shown.new ≡ string_bytes shown.old ++ details_of self.now) }
+        ensures { OnOk result (string_bytes shown.new
+            ≡ string_bytes shown.old ++ details_of self.now) }
     {
         match self {
             Cause::BadName(place)
@@ -185,7 +186,8 @@ fn push_text(shown: &mut String, text: &Text) -> Result<(), NoMemory>
 }
 
 fn push_number(shown: &mut String, number: u64) -> Result<(), NoMemory>
-    ensures { OnOk result (string_bytes shown.new ≡ string_bytes shown.old ++ detail (decimal number)) }
+    ensures { OnOk result (string_bytes shown.new
+        ≡ string_bytes shown.old ++ detail (decimal number)) }
 {
     Ok(write!(shown, " {number}")?)
 }

@@ -1,8 +1,14 @@
-//! The items of a type after a change. Texts and items are looked up in a set, so the time grows with their number.
+//! The items of a type after a change. Texts and items are looked up in a set, so the time grows
+//! with their number.
 ghost use Rattle.std.specs.Prelude.{◌≡◌, [], ◌∷◌, ◌++◌, IfOk, OnOk, map, if◌then◌else◌};
 ghost use Rattle.std.specs.HashSet.{contains};
 ghost use Rattle.std.specs.List.{list_any};
-ghost use Rattle.msb_values.specs.Changes.{is_named_in, without_named, with_metadata_if, with_metadata_on};
+ghost use Rattle.msb_values.specs.Changes.{
+  is_named_in,
+  without_named,
+  with_metadata_if,
+  with_metadata_on,
+};
 ghost use Rattle.msb_values.specs.Folded.{folded_bytes, FoldsAsCompared};
 ghost use Rattle.msb_values.specs.Pairs.{all_put};
 
@@ -82,7 +88,8 @@ fn all_folded(alloc: Global, texts: &[Text]) -> Result<Vec<Folded>, NoMemory>
 
 /// The set of these keys.
 fn set_of<K: Eq + Hash + Drop>(alloc: Global, keys: Vec<K>) -> Result<HashSet<K>, NoMemory>
-    ensures { IfOk result (λ set. (key : K) → contains K.eq set key ≡ list_any (λ one. K.eq one key) keys.items) }
+    ensures { IfOk result (λ set. (key : K) → contains K.eq set key
+        ≡ list_any (λ one. K.eq one key) keys.items) }
 {
     let mut set = HashSet::new(alloc);
     for key in keys {

@@ -1,4 +1,5 @@
-//! Equality, order and hashes of lists and of names with values: entry by entry. They take no memory.
+//! Equality, order and hashes of lists and of names with values: entry by entry. They take no
+//! memory.
 
 use crate::{List, Named};
 use std::cmp::Ordering;

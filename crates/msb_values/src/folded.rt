@@ -8,9 +8,11 @@ use std::cmp::Ordering;
 use std::hash::{Hash, Hasher};
 use std::marker::Model;
 
-/// A text in Unicode's default case folding, for texts that are compared without case many times. (MSBuild conditions.)
+/// A text in Unicode's default case folding, for texts that are compared without case many times.
+/// (MSBuild conditions.)
 ///
-/// Two are equal where [`same_text`](crate::same_text) holds of the texts; they are ordered by their bytes.
+/// Two are equal where [`same_text`](crate::same_text) holds of the texts; they are ordered by
+/// their bytes.
 pub struct Folded {
     text: Text,
 }

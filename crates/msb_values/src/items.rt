@@ -78,7 +78,8 @@ impl SharedItems {
         }
     }
 
-    /// Puts items behind these; where there is no memory, they stay as they were. Where they are not shared, none is copied.
+    /// Puts items behind these; where there is no memory, they stay as they were. Where they are
+    /// not shared, none is copied.
     pub fn append(&mut self, alloc: Global, more: List<Item>) -> Result<(), NoMemory>
         ensures ok { OnOk result (self.new ≡ self.old ++ more) }
         ensures err { OnErr result (self.new ≡ self.old) }

@@ -6,8 +6,8 @@ use crate::{Copied, Name, NoMemory, Pairs, Text};
 use std::alloc::Global;
 use std::collections::btree_map;
 
-/// Which instance of a project: the path of its file, and the global properties that it is built with.
-/// (MSBuild task; MSBuild properties, global properties.)
+/// Which instance of a project: the path of its file, and the global properties that it is built
+/// with. (MSBuild task; MSBuild properties, global properties.)
 #[derive(Drop, PartialEq, Eq, PartialOrd, Ord, Hash)]
 pub struct InstanceKey {
     pub path: Text,
@@ -17,7 +17,8 @@ pub struct InstanceKey {
 impl InstanceKey {
     ghost use Rattle.msb_values.specs.InstanceKeys.{key_text};
 
-    /// The path, and behind it the global properties in brackets if there are any, as a report names the instance.
+    /// The path, and behind it the global properties in brackets if there are any, as a report
+    /// names the instance.
     pub fn shown(&self, alloc: Global) -> Result<Text, NoMemory>
         ensures { IfOk result (λ t. t ≡ key_text self.now) }
     {
@@ -37,7 +38,8 @@ impl Copied for InstanceKey {
 }
 
 fn push_globals(shown: &mut String, globals: &Pairs) -> Result<(), NoMemory>
-    ensures { OnOk result (string_bytes shown.new ≡ string_bytes shown.old ++ globals_text globals.now) }
+    ensures { OnOk result (string_bytes shown.new
+        ≡ string_bytes shown.old ++ globals_text globals.now) }
 {
     let mut pairs = globals.iter();
     let Some((name, value)) = pairs.next() else {
@@ -53,7 +55,8 @@ fn push_next_pairs(
     shown: &mut String,
     pairs: btree_map::Iter<'_, Name, Text>,
 ) -> Result<(), NoMemory>
-    ensures { OnOk result (string_bytes shown.new ≡ string_bytes shown.old ++ flat_map next_pair pairs.entry) }
+    ensures { OnOk result (string_bytes shown.new
+        ≡ string_bytes shown.old ++ flat_map next_pair pairs.entry) }
 {
     for (name, value) in pairs {
         shown.push(';')?;
@@ -63,7 +66,8 @@ fn push_next_pairs(
 }
 
 fn push_pair(shown: &mut String, name: &Name, value: &Text) -> Result<(), NoMemory>
-    ensures { OnOk result (string_bytes shown.new ≡ string_bytes shown.old ++ pair_text (name.now, value.now)) }
+    ensures { OnOk result (string_bytes shown.new
+        ≡ string_bytes shown.old ++ pair_text (name.now, value.now)) }
 {
     shown.push_str(name.key())?;
     shown.push('=')?;

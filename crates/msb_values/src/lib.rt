@@ -1,7 +1,9 @@
-//! Texts, names and lists, as every other crate holds them, and the plain data that is made of them.
+//! Texts, names and lists, as every other crate holds them, and the plain data that is made of
+//! them.
 //!
-//! A contract sees each of these as a list: a [`Text`] and a [`Text8`] as their bytes, a [`List`] as its entries,
-//! a [`Name`] as the bytes of its key, and a [`Named`] as its names with what they have.
+//! A contract sees each of these as a list: a [`Text`] and a [`Text8`] as their bytes, a [`List`]
+//! as its entries, a [`Name`] as the bytes of its key, and a [`Named`] as its names with what they
+//! have.
 #![tactic(auto)]
 
 mod act;

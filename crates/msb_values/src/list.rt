@@ -1,4 +1,20 @@
-ghost use Rattle.std.specs.Prelude.{◌≡◌, ◌==◌, ◌<◌, ◌↔◌, [], ◌∷◌, ◌++◌, length, IfOk, IsSome, OnOk, OnErr, slice_get, option_copied, option_to_list};
+ghost use Rattle.std.specs.Prelude.{
+  ◌≡◌,
+  ◌==◌,
+  ◌<◌,
+  ◌↔◌,
+  [],
+  ◌∷◌,
+  ◌++◌,
+  length,
+  IfOk,
+  IsSome,
+  OnOk,
+  OnErr,
+  slice_get,
+  option_copied,
+  option_to_list,
+};
 
 use crate::NoMemory;
 use std::alloc::{AllocError, Global};
@@ -82,7 +98,8 @@ impl<T> From<Vec<T>> for List<T> {
 }
 
 impl<T: Drop> List<T> {
-    /// Adds an entry at the end; where there is no memory, the list stays as it was, and the entry is dropped.
+    /// Adds an entry at the end; where there is no memory, the list stays as it was, and the entry
+    /// is dropped.
     pub fn push(&mut self, entry: T) -> Result<(), NoMemory>
         ensures ok { OnOk result (self.new ≡ self.old ++ entry ∷ []) }
         ensures err { OnErr result (self.new ≡ self.old) }
@@ -99,7 +116,8 @@ impl<T: Drop> List<T> {
         self.entries.pop()
     }
 
-    /// Adds entries at the end; where there is no memory, the list stays as it was, and the entries are dropped.
+    /// Adds entries at the end; where there is no memory, the list stays as it was, and the entries
+    /// are dropped.
     pub fn append(&mut self, more: List<T>) -> Result<(), NoMemory>
         ensures ok { OnOk result (self.new ≡ self.old ++ more) }
         ensures err { OnErr result (self.new ≡ self.old) }

@@ -1,11 +1,18 @@
 ghost use Rattle.std.specs.Prelude.{◌≡◌, IfOk};
 ghost use Rattle.std.specs.List.{list_all, prefix_len, suffix_len};
-ghost use Rattle.msb_values.specs.Lists.{is_list_space, trimmed_start, trimmed_end, trimmed, list_of};
+ghost use Rattle.msb_values.specs.Lists.{
+  is_list_space,
+  trimmed_start,
+  trimmed_end,
+  trimmed,
+  list_of,
+};
 
 use crate::{List, NoMemory, Text};
 use std::alloc::Global;
 
-/// The list that a text holds: what stands between each `;`, trimmed of spaces, tabs, CR and LF, without the empty pieces.
+/// The list that a text holds: what stands between each `;`, trimmed of spaces, tabs, CR and LF,
+/// without the empty pieces.
 ///
 /// An escaped `;` (`%3B`) cuts nothing, and stays escaped. (MSBuild items.)
 pub fn split_list(alloc: Global, text: &str) -> Result<List<Text>, NoMemory>

@@ -13,7 +13,8 @@ use std::marker::Model;
 
 /// The name of a property, an item type, a metadata, a task or a target.
 ///
-/// Names are compared without case, so a name is held and printed in lower case. (MSBuild properties; MSBuild targets.)
+/// Names are compared without case, so a name is held and printed in lower case. (MSBuild
+/// properties; MSBuild targets.)
 pub struct Name {
     key: Text,
 }
@@ -56,7 +57,8 @@ impl Name {
         }
     }
 
-    /// The name that a text is, as it is looked up; a text that is none names nothing. (MSBuild properties.)
+    /// The name that a text is, as it is looked up; a text that is none names nothing. (MSBuild
+    /// properties.)
     pub fn written(alloc: Global, text: &str) -> Result<Option<Name>, NoMemory>
         ensures { IfOk result (λ name. name ≡ key_of text.now) }
     {
@@ -90,7 +92,8 @@ impl Name {
     }
 }
 
-/// The place of the first byte that a name which is no target's can't have there, or 0 for an empty text.
+/// The place of the first byte that a name which is no target's can't have there, or 0 for an empty
+/// text.
 pub fn bad_name(text: &str) -> Option<u64>
     ensures { result ≡ bad_place is_name_byte text.now }
 {

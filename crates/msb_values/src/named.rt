@@ -1,4 +1,14 @@
-ghost use Rattle.std.specs.Prelude.{◌≡◌, ◌==◌, [], length, IfOk, OnOk, OnErr, option_copied, unwrap_or};
+ghost use Rattle.std.specs.Prelude.{
+  ◌≡◌,
+  ◌==◌,
+  [],
+  length,
+  IfOk,
+  OnOk,
+  OnErr,
+  option_copied,
+  unwrap_or,
+};
 ghost use Rattle.std.specs.Ordering.{nat_cmp};
 ghost use Rattle.std.specs.BTreeMap.{insert_entry};
 ghost use Rattle.std.specs.Cmp.Lexicographic.{slice_cmp};
@@ -103,13 +113,14 @@ impl<T: Drop> Named<T> {
         Ok(())
     }
 
-    /// Puts a value in the place of what a name has, and gives that back; where the name isn't there, the value comes
-    /// back.
+    /// Puts a value in the place of what a name has, and gives that back; where the name isn't
+    /// there, the value comes back.
     pub fn replace(&mut self, name: &Name, value: T) -> T
         ensures had { result ≡ unwrap_or (value_at name.now self.old) value }
 
         // An insert at the name makes the same of it as of what was there before.
-        ensures inserted { (next : T) → insert_entry (slice_cmp nat_cmp) self.new name.now next ≡ insert_entry (slice_cmp nat_cmp) self.old name.now next }
+        ensures inserted { (next : T) → insert_entry (slice_cmp nat_cmp) self.new name.now next
+            ≡ insert_entry (slice_cmp nat_cmp) self.old name.now next }
         ensures left { self.new ≡ changed_at name.now (λ _. value) self.old }
     {
         match self.map.get_mut(name) {
@@ -124,7 +135,8 @@ impl<T: Drop> Named<T> {
         ensures left { self.new ≡ without_name name.now self.old }
 
         // An insert at the name makes the same of what is left as of what was there before.
-        ensures inserted { (next : T) → insert_entry (slice_cmp nat_cmp) self.new name.now next ≡ insert_entry (slice_cmp nat_cmp) self.old name.now next }
+        ensures inserted { (next : T) → insert_entry (slice_cmp nat_cmp) self.new name.now next
+            ≡ insert_entry (slice_cmp nat_cmp) self.old name.now next }
     {
         self.names_rise();
         self.map.remove(name)

@@ -4,7 +4,8 @@ ghost use Rattle.msb_values.specs.Pairs.{value_at};
 
 use crate::{Copied, Name, NoMemory, Pairs, Text};
 
-/// An item's own metadata, and the defaults that it does not have itself. (MSBuild item definitions.)
+/// An item's own metadata, and the defaults that it does not have itself. (MSBuild item
+/// definitions.)
 pub fn overlaid(defaults: &Pairs, own: &Pairs) -> Result<Pairs, NoMemory>
     ensures { IfOk result (λ meta. meta ≡ overlaid defaults.now own.now) }
 {
@@ -13,7 +14,8 @@ pub fn overlaid(defaults: &Pairs, own: &Pairs) -> Result<Pairs, NoMemory>
     Ok(meta)
 }
 
-/// Puts the defaults into an item's own metadata that it does not have itself. (MSBuild item definitions.)
+/// Puts the defaults into an item's own metadata that it does not have itself. (MSBuild item
+/// definitions.)
 ///
 /// Where there is no memory, some of them may be in.
 pub fn put_all_missing(meta: &mut Pairs, defaults: &Pairs) -> Result<(), NoMemory>
@@ -26,7 +28,8 @@ pub fn put_all_missing(meta: &mut Pairs, defaults: &Pairs) -> Result<(), NoMemor
 }
 
 fn put_missing(meta: &mut Pairs, name: &Name, default: &Text) -> Result<(), NoMemory>
-    ensures { OnOk result (meta.new ≡ put_missing (value_at name.now meta.old) meta.old name.now default.now) }
+    ensures { OnOk result
+        (meta.new ≡ put_missing (value_at name.now meta.old) meta.old name.now default.now) }
 {
     match meta.get(name) {
         Some(_) => Ok(()),

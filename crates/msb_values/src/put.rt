@@ -1,6 +1,7 @@
 use crate::{Copied, NoMemory, Shared, Text, Text8};
 
-/// A file that is to be written whole: its path from the root of the store, and its bytes, which copies share.
+/// A file that is to be written whole: its path from the root of the store, and its bytes, which
+/// copies share.
 pub struct Put {
     pub path: Text,
     pub bytes: Shared<Text8>,

@@ -2,7 +2,8 @@ ghost use Rattle.std.specs.Prelude.{◌≡◌};
 
 use crate::{Defaults, Lists, Pairs};
 
-/// What a text of a project sees: properties, items and metadata. (MSBuild properties; MSBuild items; Item definitions.)
+/// What a text of a project sees: properties, items and metadata. (MSBuild properties; MSBuild
+/// items; Item definitions.)
 pub struct Scope {
     /// The global properties of the build.
     pub globals: Pairs,
@@ -27,7 +28,8 @@ impl Drop for Scope {
 }
 
 impl Scope {
-    /// Its global properties, its properties, the items of each type, and the metadata that they have by default.
+    /// Its global properties, its properties, the items of each type, and the metadata that they
+    /// have by default.
     pub fn parts(self) -> (Pairs, Pairs, Lists, Defaults)
         ensures globals { result.0 ≡ self.globals }
         ensures props { result.1 ≡ self.props }

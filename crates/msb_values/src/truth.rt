@@ -3,8 +3,8 @@ ghost use Rattle.msb_values.specs.Truths.{is_one_of, true_words, false_words, tr
 
 use crate::same_text;
 
-/// The truth value that a text is, without case: `true`, `on`, `yes` and `!false`, `!off`, `!no`, or the opposites.
-/// (MSBuild conditions.)
+/// The truth value that a text is, without case: `true`, `on`, `yes` and `!false`, `!off`, `!no`,
+/// or the opposites. (MSBuild conditions.)
 pub fn truth_of(text: &str) -> Option<bool>
     ensures { result ≡ truth_of text.now }
 {

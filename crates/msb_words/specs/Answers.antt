@@ -1,4 +1,5 @@
--- How an answer is the one that a definition gives, but for want of memory. (MSBuild command-line reference.)
+-- How an answer is the one that a definition gives, but for want of memory. (MSBuild command-line
+-- reference.)
 use Rattle.std.specs.Prelude.{◌≡◌, Option, Some, None, Result, Ok, Err}
 use Rattle.msb_values.specs.declared.errors.NameFault.{NameFault}
 use Rattle.msb_values.specs.declared.errors.NameFault.TheVariants.{BadName, Memory}

@@ -1,5 +1,26 @@
--- The two words and the values of options that stand on the command line. (MSBuild command-line reference.)
-use Rattle.std.specs.Prelude.{ℕ, List, [], ◌∷◌, ◌++◌, ◌&&◌, ◌||◌, ◌==◌, Bool, false, not, Option, Some, None, if◌then◌else◌, codes, find, option_map, option_and_then}
+-- The two words and the values of options that stand on the command line. (MSBuild command-line
+-- reference.)
+use Rattle.std.specs.Prelude.{
+  ℕ,
+  List,
+  [],
+  ◌∷◌,
+  ◌++◌,
+  ◌&&◌,
+  ◌||◌,
+  ◌==◌,
+  Bool,
+  false,
+  not,
+  Option,
+  Some,
+  None,
+  if◌then◌else◌,
+  codes,
+  find,
+  option_map,
+  option_and_then,
+}
 use Rattle.std.specs.List.{list_any, before_first, after_first}
 use Rattle.std.specs.Str.{bytes_eq}
 use Rattle.msb_words.specs.declared.given.Given.{Given as GivenWords}
@@ -11,7 +32,8 @@ is_value (b ∷ bs) = not (b == 45)
 
 -- the value behind the first `=`, if there is one
 abbrev pub value_behind : List ℕ → Option (List ℕ)
-value_behind text = if list_any (λ b. b == 61) text then Some (after_first (λ b. b == 61) text) else None
+value_behind text = if list_any (λ b. b == 61) text then Some (after_first (λ b. b == 61) text) else
+    None
 
 -- `NAME` or `NAME=VALUE`
 abbrev pub option_in : List ℕ → Option (List ℕ × Option (List ℕ))
@@ -44,8 +66,8 @@ has name names = list_any (λ n. bytes_eq n.0 name) names
 abbrev pub with : List ℕ → List ℕ → Names → Names
 with name value names = names ++ (name, value) ∷ []
 
--- what the words so far have given: which places are left for words that stand alone, which option waits for its
--- value, and the names with their values
+-- what the words so far have given: which places are left for words that stand alone, which option
+-- waits for its value, and the names with their values
 pub record Taken : Type 0 where
   pub places : List (List ℕ)
   pub waiting : Option (List ℕ)
@@ -54,7 +76,8 @@ pub record Taken : Type 0 where
 -- a word that stands alone takes the first place
 abbrev pub placed : List (List ℕ) → Names → List ℕ → Option Taken
 placed [] names word = None
-placed (place ∷ places) names word = Some (record { places = places; waiting = None; names = with place word names })
+placed (place ∷ places) names word = Some
+    (record { places = places; waiting = None; names = with place word names })
 
 -- an option has one value
 abbrev pub valued : List (List ℕ) → Names → List ℕ → List ℕ → Option Taken
@@ -65,7 +88,8 @@ valued places names name value =
 -- the value stands behind `=`, or is the next word
 abbrev pub opened : List (List ℕ) → Names → List ℕ → Option (List ℕ) → Option Taken
 opened places names name (Some value) = valued places names name value
-opened places names name None = Some (record { places = places; waiting = Some name; names = names })
+opened places names name None = Some
+    (record { places = places; waiting = Some name; names = names })
 
 -- a flag comes once, and without a value
 abbrev pub flagged : List (List ℕ) → Names → List ℕ → Option (List ℕ) → Option Taken
@@ -82,13 +106,15 @@ optioned places names None = None
 
 -- one word more
 abbrev pub taken : List (List ℕ) → Option (List ℕ) → Names → List ℕ → Option Taken
-taken places None names word = if is_value word then placed places names word else optioned places names (option_of word)
+taken places None names word = if is_value word then placed places names word else optioned places
+    names (option_of word)
 taken places (Some name) names word = valued places names name word
 
 -- the words in turn
 unfoldable pub taken_all : Taken → List (List ℕ) → Option Taken
 taken_all t [] = Some t
-taken_all t (word ∷ words) = option_and_then (λ more. taken_all more words) (taken t.places t.waiting t.names word)
+taken_all t (word ∷ words) = option_and_then (λ more. taken_all more words)
+    (taken t.places t.waiting t.names word)
 
 -- no option waits at the end
 abbrev pub names_if : Option (List ℕ) → Names → Option Names
@@ -129,7 +155,8 @@ seen g = record {
 
 -- both words are there
 abbrev pub given_with :
-    Option (List ℕ) → Option (List ℕ) → Option (List ℕ) → Option (List ℕ) → Option (List ℕ) → Bool → Option (List ℕ) → Option (List ℕ) → Option Given
+    Option (List ℕ) → Option (List ℕ) → Option (List ℕ) → Option (List ℕ) → Option (List ℕ) → Bool
+    → Option (List ℕ) → Option (List ℕ) → Option Given
 given_with (Some action) (Some project) target property nodes clean show size = Some (record {
   action = action;
   project = project;
@@ -145,7 +172,8 @@ given_with action project target property nodes clean show size = None
 -- by what a name has, and whether the flag is there
 abbrev pub given_by : (List ℕ → Option (List ℕ)) → Bool → Option Given
 given_by value clean =
-    given_with (value (codes "action")) (value (codes "project")) (value (codes "target")) (value (codes "property"))
+    given_with (value (codes "action")) (value (codes "project")) (value (codes "target"))
+    (value (codes "property"))
     (value (codes "nodes")) clean (value (codes "show")) (value (codes "size"))
 
 abbrev pub value_in : Names → List ℕ → Option (List ℕ)

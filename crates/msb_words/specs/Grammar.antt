@@ -1,4 +1,5 @@
--- The command line: an action and a project, options with a value each, and a flag. (MSBuild command-line reference.)
+-- The command line: an action and a project, options with a value each, and a flag. (MSBuild
+-- command-line reference.)
 use Rattle.std.specs.Prelude.{ℕ, List, Some, true, codes}
 use Rattle.clap.specs.Walk.{Rule}
 use Rattle.clap.specs.Simple.{App, Shape, new_app, new_rule, on_top, with_rule}

@@ -1,5 +1,26 @@
 -- What the values of options say. (MSBuild command-line reference; MSBuild global properties.)
-use Rattle.std.specs.Prelude.{ℕ, ◌^◌, List, [], ◌∷◌, ◌==◌, ◌&&◌, nat_le, nat_lt, length, Bool, true, false, Option, Some, None, if◌then◌else◌, codes, option_map, option_and_then}
+use Rattle.std.specs.Prelude.{
+  ℕ,
+  ◌^◌,
+  List,
+  [],
+  ◌∷◌,
+  ◌==◌,
+  ◌&&◌,
+  nat_le,
+  nat_lt,
+  length,
+  Bool,
+  true,
+  false,
+  Option,
+  Some,
+  None,
+  if◌then◌else◌,
+  codes,
+  option_map,
+  option_and_then,
+}
 use Rattle.std.specs.List.{list_any, before_first, after_first}
 use Rattle.std.specs.Str.{all_ascii_digits, bytes_eq}
 use Rattle.std.specs.Str.Parse.{digits_value}
@@ -56,7 +77,8 @@ global_of entry = option_and_then named (cut_at_equals entry)
 abbrev pub globals_after : List (List ℕ × List ℕ) → List (List ℕ) → Option (List (List ℕ × List ℕ))
 globals_after globals [] = Some globals
 globals_after globals (entry ∷ entries) =
-    option_and_then (λ g. globals_after (insert_entry (slice_cmp nat_cmp) globals g.0 g.1) entries) (global_of entry)
+    option_and_then (λ g. globals_after (insert_entry (slice_cmp nat_cmp) globals g.0 g.1) entries)
+    (global_of entry)
 
 abbrev pub globals_in : List ℕ → Option (List (List ℕ × List ℕ))
 globals_in value = option_and_then (globals_after []) (entries_in value)
@@ -67,11 +89,13 @@ globals_if (Some value) = globals_in value
 
 -- decimal digits, one or more and at most so many
 abbrev pub are_digits : ℕ → List ℕ → Bool
-are_digits most value = nat_lt 0 (length value) && nat_le (length value) most && all_ascii_digits value
+are_digits most value = nat_lt 0 (length value) && nat_le (length value) most
+    && all_ascii_digits value
 
 -- the number of so many digits at most, if it is below 2^64
 abbrev pub number_of : ℕ → List ℕ → Option ℕ
-number_of most value = if are_digits most value && nat_lt (digits_value 10 value) (2 ^ 64) then Some (digits_value 10 value) else None
+number_of most value = if are_digits most value
+    && nat_lt (digits_value 10 value) (2 ^ 64) then Some (digits_value 10 value) else None
 
 -- a number from 1 to the most
 abbrev pub up_to : ℕ → ℕ → Option ℕ

@@ -1,4 +1,5 @@
--- The words that a parse may take: values, and options that have no value or one. (MSBuild command-line reference.)
+-- The words that a parse may take: values, and options that have no value or one. (MSBuild
+-- command-line reference.)
 use Rattle.std.specs.Prelude.{ℕ, List, ◌||◌, Bool, true, false, Option, Some, None}
 use Rattle.msb_words.specs.Given.{is_value, option_of}
 

@@ -41,7 +41,8 @@ impl<'a> Given<'a> {
 
     // The value of the flag is `true`, or else its default, `false`.
     fn among(matches: &ArgMatches<'a>) -> Result<Given<'a>, WordFault>
-        ensures { (clean : Bool) → one_text (found_of matches.now) (codes "clean") ≡ Some (bool_text clean)
+        ensures { (clean : Bool) → one_text (found_of matches.now) (codes "clean")
+            ≡ Some (bool_text clean)
             → ReadsAs seen (given_by (first_value (found_of matches.now)) clean) result }
     {
         let Some(action) = matches.get_str("action") else {
@@ -84,7 +85,8 @@ fn are_words(words: &[String]) -> bool
     true
 }
 
-// A value, or an option whose value may be one: a parse would take the others for words that stand alone.
+// A value, or an option whose value may be one: a parse would take the others for words that stand
+// alone.
 fn is_word(word: &str) -> bool
     ensures { result ≡ is_word word.now }
 {

@@ -1,6 +1,13 @@
 ghost use Rattle.std.specs.Prelude.{◌≡◌, [], option_map};
 ghost use Rattle.msb_words.specs.Answers.{Reads};
-ghost use Rattle.msb_words.specs.Values.{cut_at_equals, global_of, globals_after, globals_if, globals_in, property_name};
+ghost use Rattle.msb_words.specs.Values.{
+  cut_at_equals,
+  global_of,
+  globals_after,
+  globals_if,
+  globals_in,
+  property_name,
+};
 
 use crate::WordFault;
 use crate::entries::entries_in;
@@ -8,7 +15,8 @@ use msb_expand::is_reserved;
 use msb_values::{Name, Named, Pairs, Text};
 use std::alloc::Global;
 
-/// The global properties that are given, or none where the option is left out. (MSBuild global properties.)
+/// The global properties that are given, or none where the option is left out. (MSBuild global
+/// properties.)
 pub(crate) fn globals(alloc: Global, value: Option<&str>) -> Result<Pairs, WordFault>
     ensures { Reads (globals_if (option_map (λ v. v.now) value.entry)) result }
 {

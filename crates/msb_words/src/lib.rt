@@ -1,7 +1,7 @@
 //! The words of the command line: an action, a project and options.
 //!
-//! What the words ask for stands in `specs/Options.antt`, above how words are cut into options and others, in
-//! `specs/Given.antt`, and what a value may be, in `specs/Values.antt`.
+//! What the words ask for stands in `specs/Options.antt`, above how words are cut into options and
+//! others, in `specs/Given.antt`, and what a value may be, in `specs/Values.antt`.
 #![tactic(auto)]
 
 mod entries;

@@ -1,7 +1,15 @@
 ghost use Rattle.std.specs.Prelude.{◌≡◌, ◌<◌, ◌≤◌, IfOk, map, string_bytes, option_map};
 ghost use Rattle.msb_words.specs.Answers.{Reads};
 ghost use Rattle.msb_words.specs.Given.{seen};
-ghost use Rattle.msb_words.specs.Options.{action_of, has_options, nodes_without, options_in, options_for, options_of, seed_for};
+ghost use Rattle.msb_words.specs.Options.{
+  action_of,
+  has_options,
+  nodes_without,
+  options_in,
+  options_for,
+  options_of,
+  seed_for,
+};
 ghost use Rattle.msb_words.specs.Values.{low_if};
 
 use crate::WordFault;
@@ -23,7 +31,8 @@ pub enum Action {
     Eval,
     /// Show its targets.
     Targets,
-    /// Build a generated set twice, on one node and on several, and tell whether the builds are equal.
+    /// Build a generated set twice, on one node and on several, and tell whether the builds are
+    /// equal.
     Trial,
 }
 

@@ -1,4 +1,5 @@
--- The walk of a request may go to another thread where its tools may. What holds elements is shown here, since they hold one another.
+-- The walk of a request may go to another thread where its tools may. What holds elements is shown
+-- here, since they hold one another.
 use denote.RattleType.{RattleType}
 use denote.Ref.{NamedLft}
 use denote.Struct.Declared as Struct
@@ -85,7 +86,8 @@ placed-sync : IsSync Placed.the_field.row
 placed-sync = struct_sync (Struct.shape Placed.the_type) (text.the_sync, (element-sync, tt))
 
 used-send : IsSend UsedTarget.the_field.row
-used-send = struct_send (Struct.shape UsedTarget.the_type) (name.the_send, (placed-send, (search sendable, tt)))
+used-send = struct_send (Struct.shape UsedTarget.the_type)
+    (name.the_send, (placed-send, (search sendable, tt)))
 
 used-sync : IsSync UsedTarget.the_field.row
 used-sync = struct_sync (Struct.shape UsedTarget.the_type)
@@ -98,24 +100,41 @@ UsedTarget-sync : IsSync UsedTarget.the_row
 UsedTarget-sync = recorded_sync _ _ _ UsedTarget.the_type.to_one used-sync
 
 inside-send : IsSend Inside.the_row
-inside-send = recorded_send _ _ _ Inside.the_type.to_one (struct_send (Struct.shape Inside.the_type) (list.the_send UsedTarget.the_row UsedTarget-send, (search (map.the_send, string.the_send, hasher.the_send, folds.the_send, heap.the_send, allocator.the_frees, owned, sendable) depth 60 fits 20000, tt)))
+inside-send = recorded_send _ _ _ Inside.the_type.to_one
+    (struct_send (Struct.shape Inside.the_type) (
+      list.the_send UsedTarget.the_row UsedTarget-send,
+      (
+        search (
+          map.the_send,
+          string.the_send,
+          hasher.the_send,
+          folds.the_send,
+          heap.the_send,
+          allocator.the_frees,
+          owned,
+          sendable,
+        ) depth 60 fits 20000,
+        tt,
+      ),
+    ))
 
 inside-sync : IsSync Inside.the_row
-inside-sync = recorded_sync _ _ _ Inside.the_type.to_one (struct_sync (Struct.shape Inside.the_type) (
-  list.the_sync UsedTarget.the_row UsedTarget-sync,
-  (
-    search (
-      map.the_sync,
-      string.the_sync,
-      hasher.the_sync,
-      folds.the_sync,
-      heap.the_sync,
-      owned,
-      sendable,
-    ) depth 60 fits 20000,
-    tt,
-  ),
-))
+inside-sync = recorded_sync _ _ _ Inside.the_type.to_one
+    (struct_sync (Struct.shape Inside.the_type) (
+      list.the_sync UsedTarget.the_row UsedTarget-sync,
+      (
+        search (
+          map.the_sync,
+          string.the_sync,
+          hasher.the_sync,
+          folds.the_sync,
+          heap.the_sync,
+          owned,
+          sendable,
+        ) depth 60 fits 20000,
+        tt,
+      ),
+    ))
 
 targets-send : IsSend UsedTargets.the_row
 targets-send = view_send _ _ _ _ _ inside-send
@@ -130,7 +149,13 @@ instance-send = struct_send (Struct.shape Instance.the_type) (
     list.the_send TargetRow.the_row row.the_send,
     (
       targets-send,
-      (list.the_send Name.the_row name.the_send, (list.the_send Name.the_row name.the_send, (list.the_send Text.the_row text.the_send, tt))),
+      (
+        list.the_send Name.the_row name.the_send,
+        (
+          list.the_send Name.the_row name.the_send,
+          (list.the_send Text.the_row text.the_send, tt),
+        ),
+      ),
     ),
   ),
 )
@@ -231,28 +256,42 @@ module _ (T : RattleType) (s : IsSend T) where
   )
 
   stage-send : IsSend (Stage.the_field T).row
-  stage-send = enum_send (Enum.shape (Stage.the_type T)) (tt, ((visit-send, tt), ((reply.the_send, tt), tt)))
+  stage-send = enum_send (Enum.shape (Stage.the_type T))
+      (tt, ((visit-send, tt), ((reply.the_send, tt), tt)))
 
   parts-send : IsSend (VisitParts.the_field T).row
-  parts-send = struct_send (Struct.shape (VisitParts.the_type T)) (standing.the_field_send, (order.the_send, (name.the_send, (at.the_field_send T s, tt))))
+  parts-send = struct_send (Struct.shape (VisitParts.the_type T))
+      (standing.the_field_send, (order.the_send, (name.the_send, (at.the_field_send T s, tt))))
 
   former_visit-send : IsSend (FormerVisit.the_field T).row
-  former_visit-send = enum_send (Enum.shape (FormerVisit.the_type T)) ((stage-send, tt), ((parts-send, tt), tt))
+  former_visit-send = enum_send (Enum.shape (FormerVisit.the_type T))
+      ((stage-send, tt), ((parts-send, tt), tt))
 
   former-send : IsSend (Former.the_field T).row
   former-send = enum_send (Enum.shape (Former.the_type T)) (
     tt,
     (
       (at.the_field_send T s, (journal.the_send, tt)),
-      ((former_visit-send, (journal.the_send, (shared.the_send RunRef.the_row run_ref.the_send run_ref.the_sync, tt))), tt),
+      (
+        (
+          former_visit-send,
+          (
+            journal.the_send,
+            (shared.the_send RunRef.the_row run_ref.the_send run_ref.the_sync, tt),
+          ),
+        ),
+        tt,
+      ),
     ),
   )
 
   Before-send : IsSend (Before.the_row T)
-  Before-send = recorded_send _ _ _ (Before.the_type T).to_one (struct_send (Struct.shape (Before.the_type T)) (former-send, (search sendable, tt)))
+  Before-send = recorded_send _ _ _ (Before.the_type T).to_one
+      (struct_send (Struct.shape (Before.the_type T)) (former-send, (search sendable, tt)))
 
   before-send : IsSend (Option.the_field (Before.the_row T)).row
-  before-send = enum_send (Enum.shape (Option.the_type (Before.the_row T))) (tt, ((Before-send, tt), tt))
+  before-send = enum_send (Enum.shape (Option.the_type (Before.the_row T)))
+      (tt, ((Before-send, tt), tt))
 
   module _ (a : NamedLft) where
     request-send : IsSend (Request.the_field a T).row
@@ -260,9 +299,17 @@ module _ (T : RattleType) (s : IsSend T) where
       heap.the_field_send,
       (
         search (world.the_sync, sendable),
-        (key.the_field_send, (journal.the_send, (shared.the_send RunRef.the_row run_ref.the_send run_ref.the_sync, (stage-send, tt)))),
+        (
+          key.the_field_send,
+          (
+            journal.the_send,
+            (shared.the_send RunRef.the_row run_ref.the_send run_ref.the_sync, (stage-send, tt)),
+          ),
+        ),
       ),
     )
 
     pub Walk-send : IsSend (Walk.the_row a T)
-    Walk-send = recorded_send _ _ _ (Walk.the_type a T).to_one (struct_send (Struct.shape (Walk.the_type a T)) (request-send, (table.the_send, (search sendable, (before-send, (replayed-send, tt))))))
+    Walk-send = recorded_send _ _ _ (Walk.the_type a T).to_one
+        (struct_send (Struct.shape (Walk.the_type a T))
+        (request-send, (table.the_send, (search sendable, (before-send, (replayed-send, tt))))))

@@ -1,5 +1,32 @@
 -- Lists are joined, up to the first fault.
-use Rattle.std.proofs.Common.{◌≡◌, ℕ, suc, ◌+◌, ◌<◌, ◌≤◌, List, [], ◌∷◌, ◌++◌, length, drop, map, get_or, Result, Ok, Err, refl, sym, ap, ◌∙◌, append_assoc, append-nil, add-one, drop-cons, arith}
+use Rattle.std.proofs.Common.{
+  ◌≡◌,
+  ℕ,
+  suc,
+  ◌+◌,
+  ◌<◌,
+  ◌≤◌,
+  List,
+  [],
+  ◌∷◌,
+  ◌++◌,
+  length,
+  drop,
+  map,
+  get_or,
+  Result,
+  Ok,
+  Err,
+  refl,
+  sym,
+  ap,
+  ◌∙◌,
+  append_assoc,
+  append-nil,
+  add-one,
+  drop-cons,
+  arith,
+}
 use Rattle.std.specs.List.{flat_map}
 use Rattle.std.proofs.lemmas.Grind.{common_steps}
 use Rattle.msb_laws.specs.Results.{and_then, map_ok, all_ok}
@@ -30,19 +57,26 @@ module _ {X E : Type 0} (of : X → Result Names E) where
   pub read_first : (xs : List X) → AreRead xs 0 []
   read_first xs = record { is = nothing_behind (all_ok of xs) }
 
-  one_behind : (front more : Names) (r : Result (List Names) E) → behind front (map_ok (λ lists. more ∷ lists) r) ≡ behind (front ++ more) r
-  one_behind front more (Ok lists) = ap Ok (sym (append_assoc front more (flat_map (λ names. names) lists)))
+  one_behind : (front more : Names) (r : Result (List Names) E)
+      → behind front (map_ok (λ lists. more ∷ lists) r) ≡ behind (front ++ more) r
+  one_behind front more (Ok lists) = ap Ok
+      (sym (append_assoc front more (flat_map (λ names. names) lists)))
   one_behind front more (Err fault) = refl
 
-  module _ (xs : List X) (i : ℕ) (front : Names) (now : AreRead xs i front) (x : X) (h : i < length xs) (at : x ≡ get_or xs i x) where
-    next : joined_of of xs ≡ behind front (and_then (of x) (λ names. map_ok (λ lists. names ∷ lists) (all_ok of (drop (suc i) xs))))
+  module _ (xs : List X) (i : ℕ) (front : Names) (now : AreRead xs i front) (x : X)
+      (h : i < length xs) (at : x ≡ get_or xs i x) where
+    next : joined_of of xs
+        ≡ behind front
+        (and_then (of x) (λ names. map_ok (λ lists. names ∷ lists) (all_ok of (drop (suc i) xs))))
     next = now.is ∙ rw (drop-cons xs i x, ← at) refl
 
     pub read_more : (more : Names) → of x ≡ Ok more → AreRead xs (i + 1) (front ++ more)
-    read_more more is = record { is = rw add-one (next ∙ rw is (one_behind front more (all_ok of (drop (suc i) xs)))) }
+    read_more more is = record
+        { is = rw add-one (next ∙ rw is (one_behind front more (all_ok of (drop (suc i) xs)))) }
 
     pub read_fault : (fault : E) → of x ≡ Err fault → joined_of of xs ≡ Err fault
     read_fault fault is = next ∙ rw is refl
 
-  pub read_all : (xs : List X) (i : ℕ) (front : Names) → AreRead xs i front → length xs ≤ i → joined_of of xs ≡ Ok front
+  pub read_all : (xs : List X) (i : ℕ) (front : Names) → AreRead xs i front → length xs ≤ i
+      → joined_of of xs ≡ Ok front
   read_all xs i front now h = now.is ∙ rw (past xs i h) (ap Ok (append-nil front))

@@ -1,5 +1,21 @@
 -- What an answer has replaced, and where a request stands when it is put back.
-use Rattle.std.proofs.Common.{◌≡◌, ℕ, List, Bool, true, false, Option, None, Some, option_map, refl, sym, ap, ◌∙◌, subst}
+use Rattle.std.proofs.Common.{
+  ◌≡◌,
+  ℕ,
+  List,
+  Bool,
+  true,
+  false,
+  Option,
+  None,
+  Some,
+  option_map,
+  refl,
+  sym,
+  ap,
+  ◌∙◌,
+  subst,
+}
 use Rattle.std.proofs.Math.Logic.{∥∥₁_elim}
 use Rattle.std.proofs.Props.{props}
 use Rattle.target_order.specs.declared.visits.Asked.TheVariants.{Body as ForBody}
@@ -41,66 +57,95 @@ module _ {T : Type 0} where
   wants_visit (Visits v) wants = (v, refl)
   wants_visit (Over reply) wants = absurd wants
 
-  pub waits_visit : (calls : T → List (List ℕ × ToolInput)) (w : Given) (results : List RequestResult) (stage : Stage T) → WaitsFor calls w results stage → (v : Visit T) × (stage ≡ Visits v)
+  pub waits_visit : (calls : T → List (List ℕ × ToolInput)) (w : Given)
+      (results : List RequestResult) (stage : Stage T) → WaitsFor calls w results stage
+      → (v : Visit T) × (stage ≡ Visits v)
   waits_visit calls w results Begins waits = absurd waits
   waits_visit calls w results (Visits v) waits = (v, refl)
   waits_visit calls w results (Over reply) waits = absurd waits
 
   -- a stage that shows this visit
-  pub shown_begun : (stage : Stage T) (o : Option (Visited T)) (instance : InstanceKey) → seen_stage stage ≡ o → ∥ IsVisitOf instance o ∥₁ → has_begun stage ≡ true
-  shown_begun Begins o instance is of = absurd (∥∥₁_elim of (λ p q. absurd p) (λ x. subst (IsVisitOf instance) (sym is) x))
+  pub shown_begun : (stage : Stage T) (o : Option (Visited T)) (instance : InstanceKey)
+      → seen_stage stage ≡ o → ∥ IsVisitOf instance o ∥₁ → has_begun stage ≡ true
+  shown_begun Begins o instance is of = absurd
+      (∥∥₁_elim of (λ p q. absurd p) (λ x. subst (IsVisitOf instance) (sym is) x))
   shown_begun (Visits v) o instance is of = refl
-  shown_begun (Over reply) o instance is of = absurd (∥∥₁_elim of (λ p q. absurd p) (λ x. subst (IsVisitOf instance) (sym is) x))
+  shown_begun (Over reply) o instance is of = absurd
+      (∥∥₁_elim of (λ p q. absurd p) (λ x. subst (IsVisitOf instance) (sym is) x))
 
-  pub shown_own : (stage : Stage T) (o : Option (Visited T)) (instance : InstanceKey) → seen_stage stage ≡ o → ∥ IsVisitOf instance o ∥₁ → instance_in instance stage ≡ instance
+  pub shown_own : (stage : Stage T) (o : Option (Visited T)) (instance : InstanceKey)
+      → seen_stage stage ≡ o → ∥ IsVisitOf instance o ∥₁ → instance_in instance stage ≡ instance
   shown_own Begins o instance is of = refl
-  shown_own (Visits v) o instance is of = ∥∥₁_elim of (hlevel props) (λ x. (subst (IsVisitOf instance) (sym is) x).2)
+  shown_own (Visits v) o instance is of = ∥∥₁_elim of (hlevel props)
+      (λ x. (subst (IsVisitOf instance) (sym is) x).2)
   shown_own (Over reply) o instance is of = refl
 
-  module _ (calls : T → List (List ℕ × ToolInput)) (w : Given) (key : RequestKey) (journal : Journal) where
-    pub shown_place : (stage : Stage T) (o : Option (Visited T)) (instance : InstanceKey) → seen_stage stage ≡ o → ∥ IsVisitOf instance o ∥₁ → place_of calls w key journal stage ≡ place_seen calls w key journal o
-    shown_place Begins o instance is of = absurd (∥∥₁_elim of (λ p q. absurd p) (λ x. subst (IsVisitOf instance) (sym is) x))
+  module _ (calls : T → List (List ℕ × ToolInput)) (w : Given) (key : RequestKey)
+      (journal : Journal) where
+    pub shown_place : (stage : Stage T) (o : Option (Visited T)) (instance : InstanceKey)
+        → seen_stage stage ≡ o → ∥ IsVisitOf instance o ∥₁
+        → place_of calls w key journal stage ≡ place_seen calls w key journal o
+    shown_place Begins o instance is of = absurd
+        (∥∥₁_elim of (λ p q. absurd p) (λ x. subst (IsVisitOf instance) (sym is) x))
     shown_place (Visits v) o instance is of = ap (place_seen calls w key journal) is
-    shown_place (Over reply) o instance is of = absurd (∥∥₁_elim of (λ p q. absurd p) (λ x. subst (IsVisitOf instance) (sym is) x))
+    shown_place (Over reply) o instance is of = absurd
+        (∥∥₁_elim of (λ p q. absurd p) (λ x. subst (IsVisitOf instance) (sym is) x))
 
-    pub shown_position : (runs : List RunId) (stage : Stage T) (o : Option (Visited T)) (instance : InstanceKey) → seen_stage stage ≡ o → ∥ IsVisitOf instance o ∥₁ →
-        position_of calls w key journal runs stage ≡ record { journal = journal; runs = runs; place = place_seen calls w key journal o }
-    shown_position runs stage o instance is of = ap (λ place. record { journal = journal; runs = runs; place = place }) (shown_place stage o instance is of)
+    pub shown_position : (runs : List RunId) (stage : Stage T) (o : Option (Visited T))
+        (instance : InstanceKey) → seen_stage stage ≡ o → ∥ IsVisitOf instance o ∥₁ →
+        position_of calls w key journal runs stage
+        ≡ record { journal = journal; runs = runs; place = place_seen calls w key journal o }
+    shown_position runs stage o instance is of = ap
+        (λ place. record { journal = journal; runs = runs; place = place })
+        (shown_place stage o instance is of)
 
   -- a stage that shows the visit of another one
-  pub shown_of : (stage : Stage T) (n : Visit T) → seen_stage stage ≡ Some (seen_visit n) → (calls : T → List (List ℕ × ToolInput)) (w : Given) (key : RequestKey) (journal : Journal) → place_of calls w key journal stage ≡ place_of calls w key journal (Visits n)
+  pub shown_of : (stage : Stage T) (n : Visit T) → seen_stage stage ≡ Some (seen_visit n)
+      → (calls : T → List (List ℕ × ToolInput)) (w : Given) (key : RequestKey) (journal : Journal)
+      → place_of calls w key journal stage ≡ place_of calls w key journal (Visits n)
   shown_of Begins n is calls w key journal = absurd (cc)
   shown_of (Visits v) n is calls w key journal = ap (place_seen calls w key journal) is
   shown_of (Over reply) n is calls w key journal = absurd (cc)
 
   -- a stage that shows a visit is one
-  pub is_visit : (stage : Stage T) (f : Visited T → Visited T) → ∥ ((instance : InstanceKey) × IsVisitOf instance (option_map f (seen_stage stage))) ∥₁ → IsVisit stage
+  pub is_visit : (stage : Stage T) (f : Visited T → Visited T)
+      → ∥ ((instance : InstanceKey) × IsVisitOf instance (option_map f (seen_stage stage))) ∥₁
+      → IsVisit stage
   is_visit Begins f of = absurd (∥∥₁_elim of (λ p q. absurd p) (λ x. x.1))
   is_visit (Visits v) f of = tt
   is_visit (Over reply) f of = absurd (∥∥₁_elim of (λ p q. absurd p) (λ x. x.1))
 
   -- the visit of a stage is its own
-  pub own_visit : (stage : Stage T) (instance : InstanceKey) → IsVisit stage → instance_in instance stage ≡ instance → IsVisitOf instance (seen_stage stage)
+  pub own_visit : (stage : Stage T) (instance : InstanceKey) → IsVisit stage
+      → instance_in instance stage ≡ instance → IsVisitOf instance (seen_stage stage)
   own_visit Begins instance is own = absurd is
   own_visit (Visits v) instance is own = (v.asks_body, v.own_body, own)
   own_visit (Over reply) instance is own = absurd is
 
-  pub made_begun : (table : Records) (journal : Journal) (stage : Stage T) → HasMade table journal stage → has_begun stage ≡ true
+  pub made_begun : (table : Records) (journal : Journal) (stage : Stage T)
+      → HasMade table journal stage → has_begun stage ≡ true
   made_begun table journal Begins has = absurd has
   made_begun table journal (Visits v) has = refl
   made_begun table journal (Over reply) has = absurd has
 
   -- a visit by its parts
   abbrev visited : Instance → Standing → Progress → InstanceKey → List ℕ → At T → Visited T
-  visited i s order key name at = record { instance = i; standing = s; order = order; run = run_of key name; at = at }
+  visited i s order key name at = record
+      { instance = i; standing = s; order = order; run = run_of key name; at = at }
 
   -- a visit with other parts
-  pub with_parts_is : (n v : Visit T) (p : VisitParts T) → n.instance ≡ v.instance → n.standing ≡ p.standing → n.order ≡ p.order → n.run.instance ≡ v.run.instance → n.run.target ≡ p.target → n.at ≡ p.at →
+  pub with_parts_is : (n v : Visit T) (p : VisitParts T) → n.instance ≡ v.instance
+      → n.standing ≡ p.standing → n.order ≡ p.order → n.run.instance ≡ v.run.instance
+      → n.run.target ≡ p.target → n.at ≡ p.at →
       seen_visit n ≡ with_parts p (seen_visit v)
   with_parts_is n v p instance standing order own target at =
-      ap (λ i. visited (seen_instance i) n.standing n.order n.run.instance n.run.target n.at) instance
-      ∙ (ap (λ s. visited (seen_instance v.instance) s n.order n.run.instance n.run.target n.at) standing
-      ∙ (ap (λ o. visited (seen_instance v.instance) p.standing o n.run.instance n.run.target n.at) order
+      ap (λ i. visited (seen_instance i) n.standing n.order n.run.instance n.run.target n.at)
+      instance
+      ∙ (ap (λ s. visited (seen_instance v.instance) s n.order n.run.instance n.run.target n.at)
+      standing
+      ∙ (ap (λ o. visited (seen_instance v.instance) p.standing o n.run.instance n.run.target n.at)
+      order
       ∙ (ap (λ k. visited (seen_instance v.instance) p.standing p.order k n.run.target n.at) own
-      ∙ (ap (λ t. visited (seen_instance v.instance) p.standing p.order v.run.instance t n.at) target
+      ∙ (ap (λ t. visited (seen_instance v.instance) p.standing p.order v.run.instance t n.at)
+      target
       ∙ ap (visited (seen_instance v.instance) p.standing p.order v.run.instance p.target) at))))

@@ -1,5 +1,24 @@
 -- How the run of a target is made, as the code makes it.
-use Rattle.std.proofs.Common.{◌≡◌, ℕ, List, [], ◌∷◌, ◌++◌, length, map, Option, None, Some, IfSome, IsSome, refl, sym, ap, ◌∙◌, subst}
+use Rattle.std.proofs.Common.{
+  ◌≡◌,
+  ℕ,
+  List,
+  [],
+  ◌∷◌,
+  ◌++◌,
+  length,
+  map,
+  Option,
+  None,
+  Some,
+  IfSome,
+  IsSome,
+  refl,
+  sym,
+  ap,
+  ◌∙◌,
+  subst,
+}
 use Rattle.std.specs.List.{flat_map}
 use Rattle.std.proofs.lemmas.List.{append-nil}
 use Rattle.msb_values.specs.declared.scope.Scope.{Scope}
@@ -14,7 +33,18 @@ use Rattle.build_meaning.specs.SoFar.{nothing_yet, recorded}
 use Rattle.build_meaning.specs.Stop.{ends}
 use Rattle.target_body.specs.Pieces.{Chooser, choice_of}
 use Rattle.target_body.specs.States.{Run}
-use Rattle.target_body.specs.Standings.{Standing, begins, waits, over, Fits, body_in, run_with, standing, standing_in, tool_use}
+use Rattle.target_body.specs.Standings.{
+  Standing,
+  begins,
+  waits,
+  over,
+  Fits,
+  body_in,
+  run_with,
+  standing,
+  standing_in,
+  tool_use,
+}
 use Rattle.target_body.specs.declared.body.Body.{Body}
 use Rattle.target_body.specs.declared.body.BodyAsk.{BodyAsk}
 use Rattle.target_body.specs.declared.body.BodyAsk.TheVariants.{Call, Finished}
@@ -29,65 +59,104 @@ abbrev Uses : Type 0 → Type 0
 Uses T = Log (Log T ℕ) (Log T ℕ)
 
 -- where the body of a run has stopped, it is the body of that run
-pub step_run : {T : Type 0} (run : RunId) (body : Body) (log : Uses T) (ask : BodyAsk) (step : Step T) → body.run ≡ run → IsStep run body log ask step → run_in run step.at ≡ run
+pub step_run : {T : Type 0} (run : RunId) (body : Body) (log : Uses T) (ask : BodyAsk)
+    (step : Step T) → body.run ≡ run → IsStep run body log ask step → run_in run step.at ≡ run
 step_run run body log (Call keys) step own is = ap (run_in run) is.0 ∙ own
 step_run run body log (Finished made) step own is = ap (run_in run) is.0
 
-pub finished_run : {T : Type 0} (run : RunId) (log : Uses T) (step : Step T) → IsFinished run log (recorded nothing_made []) step → run_in run step.at ≡ run
+pub finished_run : {T : Type 0} (run : RunId) (log : Uses T) (step : Step T)
+    → IsFinished run log (recorded nothing_made []) step → run_in run step.at ≡ run
 finished_run run log step is = ap (run_in run) is.0
 
-module _ {T : Type 0} (answer : List ℕ → ToolInput → ToolAnswer) (calls : T → List (List ℕ × ToolInput)) (w : Given) (run : RunId) where
+module _ {T : Type 0} (answer : List ℕ → ToolInput → ToolAnswer)
+    (calls : T → List (List ℕ × ToolInput)) (w : Given) (run : RunId) where
   none_used : (log : Uses T) → log.items ≡ [] → uses_in calls log ≡ []
   none_used log empty = ap (flat_map (uses_between calls)) empty
 
   -- a body that begins
-  pub begins_steps : (target : Option UsedTarget) (scope : Scope) (body : Body) (log : Uses T) (results : List RequestResult) (before after : Journal) (old new : T) (step : Step T) → log.items ≡ [] → ((choose : Chooser) (r : Run) → standing choose r body ≡ begins scope) → IsSome target
-      → IfSome target (λ t. Plays answer calls w run t (standing_in w run t body) results before after old new log step) → Steps answer calls w run target (body_if w run target scope before) nothing_yet before after old new step
+  pub begins_steps : (target : Option UsedTarget) (scope : Scope) (body : Body) (log : Uses T)
+      (results : List RequestResult) (before after : Journal) (old new : T) (step : Step T)
+      → log.items ≡ [] → ((choose : Chooser) (r : Run) → standing choose r body ≡ begins scope)
+      → IsSome target
+      → IfSome target
+      (λ t. Plays answer calls w run t (standing_in w run t body) results before after old new
+      log step)
+      → Steps answer calls w run target (body_if w run target scope before) nothing_yet before
+      after old new step
   begins_steps None scope body log results before after old new step empty at is plays = absurd (cc)
   begins_steps (Some t) scope body log results before after old new step empty at is plays =
-      subst (λ us. Steps answer calls w run (Some t) (body_in w run t scope before) (record { segments = []; tools = map tool_use us }) before after old new step) (none_used log empty)
-      (subst (λ st. Plays answer calls w run t st results before after old new log step) (at (choice_of w.mode (run_with w run t)) (run_with w run t)) plays)
+      subst
+      (λ us. Steps answer calls w run (Some t) (body_in w run t scope before)
+      (record { segments = []; tools = map tool_use us }) before after old new step)
+      (none_used log empty)
+      (subst (λ st. Plays answer calls w run t st results before after old new log step)
+      (at (choice_of w.mode (run_with w run t)) (run_with w run t)) plays)
 
-  pub begins_fits : (target : Option UsedTarget) (scope : Scope) (body : Body) (results : List RequestResult) → results ≡ [] → ((choose : Chooser) (r : Run) → standing choose r body ≡ begins scope) → IfSome target (λ t. Fits (standing_in w run t body) results)
+  pub begins_fits : (target : Option UsedTarget) (scope : Scope) (body : Body)
+      (results : List RequestResult) → results ≡ []
+      → ((choose : Chooser) (r : Run) → standing choose r body ≡ begins scope)
+      → IfSome target (λ t. Fits (standing_in w run t body) results)
   begins_fits None scope body results none at = tt
-  begins_fits (Some t) scope body results none at = subst (λ st. Fits st results) (sym (at (choice_of w.mode (run_with w run t)) (run_with w run t))) none
+  begins_fits (Some t) scope body results none at = subst (λ st. Fits st results)
+      (sym (at (choice_of w.mode (run_with w run t)) (run_with w run t))) none
 
   -- a target that the project has not
-  pub nothing_steps : (target : Option UsedTarget) (scope : Scope) (log : Uses T) (journal : Journal) (tools : T) (step : Step T) → target ≡ None → log.items ≡ [] → IsFinished run log (recorded nothing_made []) step
-      → Steps answer calls w run target (body_if w run target scope journal) nothing_yet journal journal tools tools step
-  nothing_steps target scope log journal tools step none empty is = subst (λ t. Steps answer calls w run t (body_if w run t scope journal) nothing_yet journal journal tools tools step) (sym none) (record {
-    uses = [];
-    called = sym (append-nil (calls tools));
-    stopped = record { stop = ends nothing_made; journal = journal; so_far = nothing_yet };
-    is = refl;
-    halted = ap (halt_at calls w run None) is.0 ∙ ap (λ us. Some (record { segments = []; tools = map tool_use us }, ends nothing_made)) (none_used log empty);
-    tools = refl;
-    journal = refl;
-    asks_so = is.1;
-  })
+  pub nothing_steps : (target : Option UsedTarget) (scope : Scope) (log : Uses T)
+      (journal : Journal) (tools : T) (step : Step T) → target ≡ None → log.items ≡ []
+      → IsFinished run log (recorded nothing_made []) step
+      → Steps answer calls w run target (body_if w run target scope journal) nothing_yet journal
+      journal tools tools step
+  nothing_steps target scope log journal tools step none empty is = subst
+      (λ t. Steps answer calls w run t (body_if w run t scope journal) nothing_yet journal journal
+      tools tools step) (sym none) (record {
+        uses = [];
+        called = sym (append-nil (calls tools));
+        stopped = record { stop = ends nothing_made; journal = journal; so_far = nothing_yet };
+        is = refl;
+        halted = ap (halt_at calls w run None) is.0
+            ∙ ap (λ us. Some (record { segments = []; tools = map tool_use us }, ends nothing_made))
+            (none_used log empty);
+        tools = refl;
+        journal = refl;
+        asks_so = is.1;
+      })
 
   -- a body that waits for results
-  standing_fits : (st : Standing) (uses : List (List ℕ × ToolInput)) (results : List RequestResult) → IsWaiting (halt_by uses st) results → Fits st results
+  standing_fits : (st : Standing) (uses : List (List ℕ × ToolInput)) (results : List RequestResult)
+      → IsWaiting (halt_by uses st) results → Fits st results
   standing_fits (begins scope) uses results waiting = absurd waiting
   standing_fits (waits segments key keys go) uses results waiting = waiting
   standing_fits over uses results waiting = absurd waiting
 
-  pub waits_there : (target : Option UsedTarget) (body : Body) (uses : List (List ℕ × ToolInput)) (results : List RequestResult) → IsWaiting (halt_of w run body uses target) results → IsSome target
+  pub waits_there : (target : Option UsedTarget) (body : Body) (uses : List (List ℕ × ToolInput))
+      (results : List RequestResult) → IsWaiting (halt_of w run body uses target) results
+      → IsSome target
   waits_there None body uses results waiting = absurd waiting
   waits_there (Some t) body uses results waiting = refl
 
-  pub waits_fits : (target : Option UsedTarget) (body : Body) (uses : List (List ℕ × ToolInput)) (results : List RequestResult) → IsWaiting (halt_of w run body uses target) results → IfSome target (λ t. Fits (standing_in w run t body) results)
+  pub waits_fits : (target : Option UsedTarget) (body : Body) (uses : List (List ℕ × ToolInput))
+      (results : List RequestResult) → IsWaiting (halt_of w run body uses target) results
+      → IfSome target (λ t. Fits (standing_in w run t body) results)
   waits_fits None body uses results waiting = tt
-  waits_fits (Some t) body uses results waiting = standing_fits (standing_in w run t body) uses results waiting
+  waits_fits (Some t) body uses results waiting = standing_fits (standing_in w run t body) uses
+      results waiting
 
-  plays_at : (t : UsedTarget) (st : Standing) (log : Uses T) (results : List RequestResult) (before after : Journal) (old new : T) (step : Step T) → Plays answer calls w run t st results before after old new log step
-      → GoesOnFrom answer calls w run (Some t) (halt_by (uses_in calls log) st) results before after old new step
+  plays_at : (t : UsedTarget) (st : Standing) (log : Uses T) (results : List RequestResult)
+      (before after : Journal) (old new : T) (step : Step T)
+      → Plays answer calls w run t st results before after old new log step
+      → GoesOnFrom answer calls w run (Some t) (halt_by (uses_in calls log) st) results before after
+      old new step
   plays_at t (begins scope) log results before after old new step plays = tt
   plays_at t (waits segments key keys go) log results before after old new step plays = plays
   plays_at t over log results before after old new step plays = tt
 
-  pub plays_on : (target : Option UsedTarget) (body : Body) (log : Uses T) (results : List RequestResult) (before after : Journal) (old new : T) (step : Step T)
-      → IfSome target (λ t. Plays answer calls w run t (standing_in w run t body) results before after old new log step)
-      → GoesOnFrom answer calls w run target (halt_of w run body (uses_in calls log) target) results before after old new step
+  pub plays_on : (target : Option UsedTarget) (body : Body) (log : Uses T)
+      (results : List RequestResult) (before after : Journal) (old new : T) (step : Step T)
+      → IfSome target
+      (λ t. Plays answer calls w run t (standing_in w run t body) results before after old new
+      log step)
+      → GoesOnFrom answer calls w run target (halt_of w run body (uses_in calls log) target) results
+      before after old new step
   plays_on None body log results before after old new step plays = tt
-  plays_on (Some t) body log results before after old new step plays = plays_at t (standing_in w run t body) log results before after old new step plays
+  plays_on (Some t) body log results before after old new step plays = plays_at t
+      (standing_in w run t body) log results before after old new step plays

@@ -1,5 +1,32 @@
 -- The runs of results, replayed one result after another.
-use Rattle.std.proofs.Common.{◌≡◌, ℕ, ◌+◌, ◌-◌, ◌<◌, true, List, [], ◌∷◌, ◌++◌, length, map, drop, take, get_or, slice_get, Option, Some, None, IsSome, refl, ap, ◌∙◌, sym, subst, arith}
+use Rattle.std.proofs.Common.{
+  ◌≡◌,
+  ℕ,
+  ◌+◌,
+  ◌-◌,
+  ◌<◌,
+  true,
+  List,
+  [],
+  ◌∷◌,
+  ◌++◌,
+  length,
+  map,
+  drop,
+  take,
+  get_or,
+  slice_get,
+  Option,
+  Some,
+  None,
+  IsSome,
+  refl,
+  ap,
+  ◌∙◌,
+  sym,
+  subst,
+  arith,
+}
 use Rattle.std.proofs.lemmas.List.{drop_more, map-append, take_all}
 use Rattle.std.specs.Cmp.Lexicographic.{pointwise, pointwise_decides}
 use Rattle.msb_laws.specs.Asking.{and_then}
@@ -13,33 +40,53 @@ use Rattle.result_cache.proofs.RunTests.{same_run-true, same_run-eq}
 use Rattle.build_meaning.specs.SoFar.{runs_of}
 
 module _ (one : RunId → Journal → Option Journal) where
-  from_run : (o : Option Journal) (first rest : List Effect) → ((j : Journal) → replays one (first ++ rest) j ≡ and_then (replays one first j) (replays one rest)) →
-      and_then o (replays one (first ++ rest)) ≡ and_then (and_then o (replays one first)) (replays one rest)
+  from_run : (o : Option Journal) (first rest : List Effect)
+      → ((j : Journal) → replays one (first ++ rest) j
+      ≡ and_then (replays one first j) (replays one rest)) →
+      and_then o (replays one (first ++ rest))
+      ≡ and_then (and_then o (replays one first)) (replays one rest)
   from_run None first rest later = refl
   from_run (Some j) first rest later = later j
 
-  replays-append : (first rest : List Effect) (journal : Journal) → replays one (first ++ rest) journal ≡ and_then (replays one first journal) (replays one rest)
+  replays-append : (first rest : List Effect) (journal : Journal)
+      → replays one (first ++ rest) journal ≡ and_then (replays one first journal)
+      (replays one rest)
   replays-append [] rest journal = refl
-  replays-append (puts_act run place act ∷ first) rest journal = replays-append first rest (add journal (acted run place act))
-  replays-append (replays_run run ∷ first) rest journal = from_run (one run journal) first rest (replays-append first rest)
+  replays-append (puts_act run place act ∷ first) rest journal = replays-append first rest
+      (add journal (acted run place act))
+  replays-append (replays_run run ∷ first) rest journal = from_run (one run journal) first rest
+      (replays-append first rest)
 
-module _ (table : Records) (results : List RequestResult) (i : ℕ) (r : RequestResult) (within : i < length results) (at : r ≡ get_or results i r) where
+module _ (table : Records) (results : List RequestResult) (i : ℕ) (r : RequestResult)
+    (within : i < length results) (at : r ≡ get_or results i r) where
   next : drop i results ≡ r ∷ drop (i + 1) results
   next = drop_more results i r within ∙ ap (λ x. x ∷ drop (i + 1) results) (sym at)
 
-  result_first : (journal : Journal) → replay_all table (runs_of (drop i results)) journal ≡ and_then (replay_all table r.runs journal) (replay_all table (runs_of (drop (i + 1) results)))
+  result_first : (journal : Journal) → replay_all table (runs_of (drop i results)) journal
+      ≡ and_then (replay_all table r.runs journal)
+      (replay_all table (runs_of (drop (i + 1) results)))
   result_first journal =
       ap (λ rs. replay_all table (runs_of rs) journal) next
-      ∙ (ap (λ effects. replays (replay table) effects journal) (map-append replays_run r.runs (runs_of (drop (i + 1) results)))
-      ∙ replays-append (replay table) (map replays_run r.runs) (map replays_run (runs_of (drop (i + 1) results))) journal)
+      ∙ (ap (λ effects. replays (replay table) effects journal)
+      (map-append replays_run r.runs (runs_of (drop (i + 1) results)))
+      ∙ replays-append (replay table) (map replays_run r.runs)
+      (map replays_run (runs_of (drop (i + 1) results))) journal)
 
-  pub result_step : (journal after : Journal) → replay_all table r.runs journal ≡ Some after → replay_all table (runs_of (drop (i + 1) results)) after ≡ replay_all table (runs_of (drop i results)) journal
-  result_step journal after made = sym (result_first journal ∙ ap (λ o. and_then o (replay_all table (runs_of (drop (i + 1) results)))) made)
+  pub result_step : (journal after : Journal) → replay_all table r.runs journal ≡ Some after
+      → replay_all table (runs_of (drop (i + 1) results)) after
+      ≡ replay_all table (runs_of (drop i results)) journal
+  result_step journal after made = sym (result_first journal
+      ∙ ap (λ o. and_then o (replay_all table (runs_of (drop (i + 1) results)))) made)
 
-  pub result_defined : (journal : Journal) → IsSome (replay_all table (runs_of (drop i results)) journal) → IsSome (replay_all table r.runs journal)
-  result_defined journal defined = first_some (replay_all table r.runs journal) (replay_all table (runs_of (drop (i + 1) results))) (subst (λ o. IsSome o) (result_first journal) defined)
+  pub result_defined : (journal : Journal)
+      → IsSome (replay_all table (runs_of (drop i results)) journal)
+      → IsSome (replay_all table r.runs journal)
+  result_defined journal defined = first_some (replay_all table r.runs journal)
+      (replay_all table (runs_of (drop (i + 1) results)))
+      (subst (λ o. IsSome o) (result_first journal) defined)
     where
-      first_some : (o : Option Journal) (f : Journal → Option Journal) → IsSome (and_then o f) → IsSome o
+      first_some : (o : Option Journal) (f : Journal → Option Journal) → IsSome (and_then o f)
+          → IsSome o
       first_some None f h = h
       first_some (Some j) f h = refl
 

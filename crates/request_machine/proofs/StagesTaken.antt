@@ -25,46 +25,66 @@ use Rattle.request_machine.specs.declared.turn.Stand.TheVariants.{Over as IsOver
 use Rattle.request_machine.proofs.PlacesAnswered.{fresh_begun, record_goes, record_used}
 use Rattle.request_machine.proofs.Starting.{over_stands}
 
-pub made_visits : {T : Type 0} (table : Records) (journal : Journal) (stage : Stage T) → HasMade table journal stage → IsVisit stage
+pub made_visits : {T : Type 0} (table : Records) (journal : Journal) (stage : Stage T)
+    → HasMade table journal stage → IsVisit stage
 made_visits table journal Begins has = absurd has
 made_visits table journal (Visits v) has = tt
 made_visits table journal (Over reply) has = absurd has
 
 -- a request that is over after the run
-pub over_taken : {T : Type 0} (old new : Stage T) (f : Follow) (reply : Reply) → f.stand ≡ IsOver reply → new ≡ Over reply → TakenOn old f new
+pub over_taken : {T : Type 0} (old new : Stage T) (f : Follow) (reply : Reply)
+    → f.stand ≡ IsOver reply → new ≡ Over reply → TakenOn old f new
 over_taken Begins new f reply stand is = tt
 over_taken (Visits v) new f reply stand is = λ key own w journal.
     let p = project_of w key (seen_instance v.instance) in
-    over_stands w key journal reply (left_by p key (bodies_of w p) f.standing f.order journal f.stand) new is (ap (left_by p key (bodies_of w p) f.standing f.order journal) stand)
+    over_stands w key journal reply
+    (left_by p key (bodies_of w p) f.standing f.order journal f.stand) new is
+    (ap (left_by p key (bodies_of w p) f.standing f.order journal) stand)
 over_taken (Over other) new f reply stand is = tt
 
-module _ {T : Type 0} (w : Given) (key : RequestKey) (table : Records) (journal : Journal) (runs : List RunId) where
-  pub after_ready : (old : Stage T) (a : After) → HasMade table journal old → IsAfter w key table journal runs old a → IsReady a.follow.stand a.follow.order
+module _ {T : Type 0} (w : Given) (key : RequestKey) (table : Records) (journal : Journal)
+    (runs : List RunId) where
+  pub after_ready : (old : Stage T) (a : After) → HasMade table journal old
+      → IsAfter w key table journal runs old a → IsReady a.follow.stand a.follow.order
   after_ready Begins a has is = absurd has
   after_ready (Visits v) a has is = is.follows.ready
   after_ready (Over reply) a has is = absurd has
 
-  pub after_own : (old new : Stage T) (a : After) → instance_in key.instance old ≡ key.instance → HasMade table journal old → TakenOn old a.follow new → instance_in key.instance new ≡ key.instance
+  pub after_own : (old new : Stage T) (a : After) → instance_in key.instance old ≡ key.instance
+      → HasMade table journal old → TakenOn old a.follow new
+      → instance_in key.instance new ≡ key.instance
   after_own Begins new a own has taken = absurd has
   after_own (Visits v) new a own has taken = (taken key own w journal).own
   after_own (Over reply) new a own has taken = absurd has
 
-  pub after_begun : (old new : Stage T) (a : After) → instance_in key.instance old ≡ key.instance → HasMade table journal old → TakenOn old a.follow new → has_begun new ≡ true
+  pub after_begun : (old new : Stage T) (a : After) → instance_in key.instance old ≡ key.instance
+      → HasMade table journal old → TakenOn old a.follow new → has_begun new ≡ true
   after_begun Begins new a own has taken = absurd has
   after_begun (Visits v) new a own has taken = fresh_begun new (taken key own w journal).fresh
   after_begun (Over reply) new a own has taken = absurd has
 
   module _ (answer : List ℕ → ToolInput → ToolAnswer) (calls : T → List (List ℕ × ToolInput)) where
-    pub after_goes : (old new : Stage T) (a : After) → instance_in key.instance old ≡ key.instance → HasMade table journal old → IsAfter w key table journal runs old a → TakenOn old a.follow new →
-        GoesOn (world_of answer w) table (position_of calls w key journal runs old) (position_of calls w key a.journal a.runs new) Use a.ask
+    pub after_goes : (old new : Stage T) (a : After) → instance_in key.instance old ≡ key.instance
+        → HasMade table journal old → IsAfter w key table journal runs old a
+        → TakenOn old a.follow new →
+        GoesOn (world_of answer w) table (position_of calls w key journal runs old)
+        (position_of calls w key a.journal a.runs new) Use a.ask
     after_goes Begins new a own has is taken = absurd has
     after_goes (Visits v) new a own has is taken =
-        subst (λ rs. GoesOn (world_of answer w) table (position_of calls w key journal runs (Visits v)) (position_of calls w key a.journal rs new) Use a.ask) (sym is.runs_are)
-        (record_goes answer calls w key v own table journal a.journal runs is.made a.follow new is.follows (taken key own) a.ask has is.is (is.asks ∙ ap (λ rs. asked_by key.instance rs a.follow.stand) is.runs_are))
+        subst
+        (λ rs. GoesOn (world_of answer w) table
+        (position_of calls w key journal runs (Visits v))
+        (position_of calls w key a.journal rs new) Use a.ask) (sym is.runs_are)
+        (record_goes answer calls w key v own table journal a.journal runs is.made a.follow new
+        is.follows (taken key own) a.ask has is.is
+        (is.asks ∙ ap (λ rs. asked_by key.instance rs a.follow.stand) is.runs_are))
     after_goes (Over reply) new a own has is taken = absurd has
 
-    pub after_used : (old new : Stage T) (a : After) → instance_in key.instance old ≡ key.instance → HasMade table journal old → IsAfter w key table journal runs old a → TakenOn old a.follow new →
+    pub after_used : (old new : Stage T) (a : After) → instance_in key.instance old ≡ key.instance
+        → HasMade table journal old → IsAfter w key table journal runs old a
+        → TakenOn old a.follow new →
         used_between (place_of calls w key journal old) (place_of calls w key a.journal new) ≡ []
     after_used Begins new a own has is taken = absurd has
-    after_used (Visits v) new a own has is taken = record_used answer calls w key v own table journal a.journal runs is.made a.follow new is.follows (taken key own)
+    after_used (Visits v) new a own has is taken = record_used answer calls w key v own table
+        journal a.journal runs is.made a.follow new is.follows (taken key own)
     after_used (Over reply) new a own has is taken = absurd has

@@ -37,9 +37,12 @@ WantsRun (Visits v) = is_wanted v.at ≡ true
 WantsRun (Over reply) = ⊥
 
 -- the body of its run waits for so many results
-abbrev pub WaitsFor : {T : Type 0} → (T → List (List ℕ × ToolInput)) → Given → List RequestResult → Stage T → Type 0
+abbrev pub WaitsFor : {T : Type 0} → (T → List (List ℕ × ToolInput)) → Given → List RequestResult
+    → Stage T → Type 0
 WaitsFor calls w results Begins = ⊥
-WaitsFor calls w results (Visits v) = IsWaiting (halt_at calls w v.run (target_named (seen_instance v.instance).targets v.run.target) v.at) results
+WaitsFor calls w results (Visits v) = IsWaiting
+    (halt_at calls w v.run (target_named (seen_instance v.instance).targets v.run.target) v.at)
+    results
 WaitsFor calls w results (Over reply) = ⊥
 
 -- the record of its run is there, among those of a table or since its own body has ended
@@ -54,10 +57,13 @@ HasMade table journal (Visits v) = HasRecord table v.run journal v.at
 HasMade table journal (Over reply) = ⊥
 
 -- this is the record, and the second journal is the first with all that it says
-abbrev pub IsRecord : {T : Type 0} → Records → RunId → (before after : Journal) → At T → Record → Type 0
-IsRecord table run before after Wanted made = (found table run ≡ Some made) × (replay table run before ≡ Some after)
+abbrev pub IsRecord : {T : Type 0} → Records → RunId → (before after : Journal) → At T → Record
+    → Type 0
+IsRecord table run before after Wanted made = (found table run ≡ Some made)
+    × (replay table run before ≡ Some after)
 IsRecord table run before after (Called body log) made = Unit {0}
-IsRecord table run before after (Made own log) made = (made ≡ own) × (after ≡ add before (ended run own))
+IsRecord table run before after (Made own log) made = (made ≡ own)
+    × (after ≡ add before (ended run own))
 
 -- an answer takes a request from one position to the next, where it asks this
 pub record GoesOn (w : World Site ToolInput ToolAnswer) (table : Records)

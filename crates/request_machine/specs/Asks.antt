@@ -25,4 +25,6 @@ asked_by instance runs (Over reply) = Done (result_of reply runs)
 -- this is what it asks at its stage, in any world and by any journal
 abbrev pub AsksAt : {T : Type 0} → List RunId → Stage T → Ask → Type 0
 AsksAt {T} runs stage ask =
-    (calls : T → List (List ℕ × ToolInput)) (w : Given) (key : RequestKey) (journal : Journal) → instance_in key.instance stage ≡ key.instance → ask ≡ ask_at runs (place_of calls w key journal stage)
+    (calls : T → List (List ℕ × ToolInput)) (w : Given) (key : RequestKey) (journal : Journal)
+    → instance_in key.instance stage ≡ key.instance
+    → ask ≡ ask_at runs (place_of calls w key journal stage)

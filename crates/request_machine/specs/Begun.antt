@@ -59,7 +59,8 @@ instance_in key (Over reply) = key
 -- what is left of the request
 abbrev pub left_by : Project → RequestKey → Bodies → Standing → Progress → Journal → Stand →
     Walk Site ToolInput ToolAnswer
-left_by p key bodies standing order journal (Wants name) = walk p key bodies (asks_of (body_of name) (left order)) standing journal
+left_by p key bodies standing order journal (Wants name) = walk p key bodies
+    (asks_of (body_of name) (left order)) standing journal
 left_by p key bodies standing order journal (IsOver reply) = gives reply
 
 -- an order that wants a run has asked for its body
@@ -72,9 +73,13 @@ pub record StandsAt {T : Type 0} (w : Given) (key : RequestKey) (journal : Journ
     (tree : Walk Site ToolInput ToolAnswer) (stage : Stage T) : Type 0 where
   pub fresh : is_fresh stage ≡ true
   pub own : instance_in key.instance stage ≡ key.instance
-  pub stands : (calls : T → List (List ℕ × ToolInput)) → place_of calls w key journal stage ≡ walking tree
+  pub stands : (calls : T → List (List ℕ × ToolInput))
+      → place_of calls w key journal stage ≡ walking tree
 
 -- the stage of a request that stands so, in any world and by any journal
-abbrev pub StandsBy : {T : Type 0} → RequestKey → Instance → Standing → Progress → Stand → Stage T → Type 0
+abbrev pub StandsBy : {T : Type 0} → RequestKey → Instance → Standing → Progress → Stand → Stage T
+    → Type 0
 StandsBy key instance standing order stand stage =
-    (w : Given) (journal : Journal) → let p = project_of w key instance in StandsAt w key journal (left_by p key (bodies_of w p) standing order journal stand) stage
+    (w : Given) (journal : Journal)
+    → let p = project_of w key instance in StandsAt w key journal
+    (left_by p key (bodies_of w p) standing order journal stand) stage

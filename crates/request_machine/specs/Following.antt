@@ -23,12 +23,15 @@ FitsBody (Answer answer) = fits ForBody answer ≡ true
 FitsBody (Stop stand) = Unit {0}
 
 -- the order goes on by an answer; where the request has stopped it stays as it is
-abbrev pub FollowsTurn : Project → RequestKey → Standing → Journal → Progress → Turn → Stand → Progress → Type 0
-FollowsTurn p key s journal order (Answer answer) stand now = StandsNext p key s journal (left order answer) stand now
+abbrev pub FollowsTurn : Project → RequestKey → Standing → Journal → Progress → Turn → Stand
+    → Progress → Type 0
+FollowsTurn p key s journal order (Answer answer) stand now = StandsNext p key s journal
+    (left order answer) stand now
 FollowsTurn p key s journal order (Stop stopped) stand now = stand ≡ stopped
 
 -- what follows is what the definition says of the run of this target
-pub record Follows (p : Project) (key : RequestKey) (s : Standing) (journal : Journal) (order : Progress) (name : List ℕ) (made : Record) (f : Follow) : Type 0 where
+pub record Follows (p : Project) (key : RequestKey) (s : Standing) (journal : Journal)
+    (order : Progress) (name : List ℕ) (made : Record) (f : Follow) : Type 0 where
   pub ready : IsReady f.stand f.order
   pub goes : (bodies : Bodies) →
       after_target p (λ answer. walk p key bodies (left order answer)) s name made journal

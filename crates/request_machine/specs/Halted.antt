@@ -19,11 +19,14 @@ use Rattle.request_machine.specs.declared.stage.Stage.{Stage}
 use Rattle.request_machine.specs.declared.stage.Stage.TheVariants.{Begins, Visits, Over}
 use Rattle.request_machine.specs.declared.visit.Visit.{Visit}
 
-module _ {T : Type 0} (answer : List ℕ → ToolInput → ToolAnswer) (calls : T → List (List ℕ × ToolInput)) (w : Given) where
+module _ {T : Type 0} (answer : List ℕ → ToolInput → ToolAnswer)
+    (calls : T → List (List ℕ × ToolInput)) (w : Given) where
   -- the run that was wanted is made until its body stops
-  pub record HasMadeRun (v : Visit T) (before after : Journal) (old new : T) (step : Step T) : Type 0 where
+  pub record HasMadeRun (v : Visit T) (before after : Journal) (old new : T) (step : Step T) : Type
+      0 where
     pub steps : let target = target_named (seen_instance v.instance).targets v.run.target in
-        Steps answer calls w v.run target (body_if w v.run target v.standing.scope before) nothing_yet before after old new step
+        Steps answer calls w v.run target (body_if w v.run target v.standing.scope before)
+        nothing_yet before after old new step
     pub own : run_in v.run step.at ≡ v.run
 
   abbrev pub IsMade : Stage T → (before after : Journal) → (old new : T) → Step T → Type 0
@@ -32,14 +35,18 @@ module _ {T : Type 0} (answer : List ℕ → ToolInput → ToolAnswer) (calls : 
   IsMade (Over reply) before after old new step = Unit {0}
 
   -- the runs of the results are replayed, and the body goes on until it stops again
-  pub record HasResumedRun (table : Records) (results : List RequestResult) (v : Visit T) (before after : Journal) (old new : T) (step : Step T) : Type 0 where
+  pub record HasResumedRun (table : Records) (results : List RequestResult) (v : Visit T)
+      (before after : Journal) (old new : T) (step : Step T) : Type 0 where
     pub replayed : Journal
     pub is : replay_all table (runs_of results) before ≡ Some replayed
     pub goes : let target = target_named (seen_instance v.instance).targets v.run.target in
-        GoesOnFrom answer calls w v.run target (halt_at calls w v.run target v.at) results replayed after old new step
+        GoesOnFrom answer calls w v.run target (halt_at calls w v.run target v.at) results replayed
+        after old new step
     pub own : run_in v.run step.at ≡ v.run
 
-  abbrev pub IsResumed : Records → List RequestResult → Stage T → (before after : Journal) → (old new : T) → Step T → Type 0
+  abbrev pub IsResumed : Records → List RequestResult → Stage T → (before after : Journal)
+      → (old new : T) → Step T → Type 0
   IsResumed table results Begins before after old new step = Unit {0}
-  IsResumed table results (Visits v) before after old new step = HasResumedRun table results v before after old new step
+  IsResumed table results (Visits v) before after old new step = HasResumedRun table results v
+      before after old new step
   IsResumed table results (Over reply) before after old new step = Unit {0}

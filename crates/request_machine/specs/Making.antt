@@ -13,7 +13,10 @@ use Rattle.build_meaning.specs.SoFar.{SoFar, called, recorded, with_calls}
 use Rattle.build_meaning.specs.Stop.{Stop, Stopped, ends, asks, run_on}
 use Rattle.build_meaning.specs.Walk.{Body as Tree}
 use Rattle.build_scheduler.specs.declared.walker.Ask.{Ask}
-use Rattle.build_scheduler.specs.declared.walker.Ask.TheVariants.{Call as AskCall, Finished as AskFinished}
+use Rattle.build_scheduler.specs.declared.walker.Ask.TheVariants.{
+  Call as AskCall,
+  Finished as AskFinished,
+}
 use Rattle.target_body.specs.Standings.{Standing, begins, waits, over, body_in, tool_use}
 use Rattle.target_body.specs.declared.body.Body.{Body}
 use Rattle.target_body.specs.declared.body.BodyAsk.{BodyAsk}
@@ -33,7 +36,8 @@ abbrev pub IsFinished : {T : Type 0} → RunId → Log (Log T ℕ) (Log T ℕ) �
 IsFinished run log made step = (step.at ≡ Made made log) × (step.ask ≡ AskFinished run made)
 
 -- what the code makes of what the body asks
-abbrev pub IsStep : {T : Type 0} → RunId → Body → Log (Log T ℕ) (Log T ℕ) → BodyAsk → Step T → Type 0
+abbrev pub IsStep : {T : Type 0} → RunId → Body → Log (Log T ℕ) (Log T ℕ) → BodyAsk → Step T
+    → Type 0
 IsStep run body log (Call keys) step = (step.at ≡ Called body log) × (step.ask ≡ AskCall keys)
 IsStep run body log (Finished made) step = IsFinished run log made step
 
@@ -46,33 +50,50 @@ abbrev pub IsWaiting : Option Halt → List RequestResult → Type 0
 IsWaiting None results = ⊥
 IsWaiting (Some halt) results = IsStopped halt.1 results
 
-module _ {T : Type 0} (answer : List ℕ → ToolInput → ToolAnswer) (calls : T → List (List ℕ × ToolInput)) (w : Given) (run : RunId) (target : Option UsedTarget) where
-  -- A body goes on from here, with what it has done to files, called and used, and stops where the definition says. The second tools have been called as
-  -- the first ones were, and then as the body says.
-  pub record Steps (b : Tree ToolInput ToolAnswer) (so_far : SoFar ToolInput) (before after : Journal) (old new : T) (step : Step T) : Type 0 where
-    pub uses : List (List ℕ × ToolInput)
-    pub called : calls new ≡ calls old ++ uses
-    pub stopped : Stopped ToolInput ToolAnswer
-    pub is : run_on answer run b before so_far ≡ stopped
-    pub halted : halt_at calls w run target step.at ≡ Some (stopped.so_far, stopped.stop)
-    pub tools : stopped.so_far.tools ≡ so_far.tools ++ map tool_use uses
-    pub journal : after ≡ stopped.journal
-    pub asks_so : step.ask ≡ ask_in run stopped.so_far stopped.stop
+module _ {T : Type 0} (answer : List ℕ → ToolInput → ToolAnswer)
+    (calls : T → List (List ℕ × ToolInput)) (w : Given) (run : RunId) (target : Option UsedTarget)
+  where
+    -- A body goes on from here, with what it has done to files, called and used, and stops where the
+    -- definition says. The second tools have been called as the first ones were, and then as the body
+    -- says.
+    pub record Steps (b : Tree ToolInput ToolAnswer) (so_far : SoFar ToolInput)
+        (before after : Journal) (old new : T) (step : Step T) : Type 0 where
+      pub uses : List (List ℕ × ToolInput)
+      pub called : calls new ≡ calls old ++ uses
+      pub stopped : Stopped ToolInput ToolAnswer
+      pub is : run_on answer run b before so_far ≡ stopped
+      pub halted : halt_at calls w run target step.at ≡ Some (stopped.so_far, stopped.stop)
+      pub tools : stopped.so_far.tools ≡ so_far.tools ++ map tool_use uses
+      pub journal : after ≡ stopped.journal
+      pub asks_so : step.ask ≡ ask_in run stopped.so_far stopped.stop
 
-  -- by the results of its calls it goes on from where it has stopped
-  abbrev pub GoesOnAt : SoFar ToolInput → Stop ToolInput ToolAnswer → List RequestResult → (before after : Journal) → (old new : T) → Step T → Type 0
-  GoesOnAt so_far (ends outcome) results before after old new step = Unit {0}
-  GoesOnAt so_far (asks key keys go) results before after old new step = Steps (go results before) (with_calls so_far (key ∷ keys) results) before after old new step
+    -- by the results of its calls it goes on from where it has stopped
+    abbrev pub GoesOnAt : SoFar ToolInput → Stop ToolInput ToolAnswer → List RequestResult
+        → (before after : Journal) → (old new : T) → Step T → Type 0
+    GoesOnAt so_far (ends outcome) results before after old new step = Unit {0}
+    GoesOnAt so_far (asks key keys go) results before after old new step = Steps (go results before)
+        (with_calls so_far (key ∷ keys) results) before after old new step
 
-  abbrev pub GoesOnFrom : Option Halt → List RequestResult → (before after : Journal) → (old new : T) → Step T → Type 0
-  GoesOnFrom None results before after old new step = Unit {0}
-  GoesOnFrom (Some halt) results before after old new step = GoesOnAt halt.0 halt.1 results before after old new step
+    abbrev pub GoesOnFrom : Option Halt → List RequestResult → (before after : Journal)
+        → (old new : T) → Step T → Type 0
+    GoesOnFrom None results before after old new step = Unit {0}
+    GoesOnFrom (Some halt) results before after old new step = GoesOnAt halt.0 halt.1 results before
+        after old new step
 
-module _ {T : Type 0} (answer : List ℕ → ToolInput → ToolAnswer) (calls : T → List (List ℕ × ToolInput)) (w : Given) (run : RunId) (target : UsedTarget) where
+module _ {T : Type 0} (answer : List ℕ → ToolInput → ToolAnswer)
+    (calls : T → List (List ℕ × ToolInput)) (w : Given) (run : RunId) (target : UsedTarget) where
   -- from where the body stands, by the results that have come
-  abbrev pub Plays : Standing → List RequestResult → (before after : Journal) → (old new : T) → Log (Log T ℕ) (Log T ℕ) → Step T → Type 0
+  abbrev pub Plays : Standing → List RequestResult → (before after : Journal) → (old new : T)
+      → Log (Log T ℕ) (Log T ℕ) → Step T → Type 0
   Plays (begins scope) results before after old new log step =
-      Steps answer calls w run (Some target) (body_in w run target scope before) (record { segments = []; tools = map tool_use (uses_in calls log) }) before after old new step
+      Steps answer calls w run (Some target) (body_in w run target scope before)
+      (record { segments = []; tools = map tool_use (uses_in calls log) }) before after old new
+      step
   Plays (waits segments key keys go) results before after old new log step =
-      Steps answer calls w run (Some target) (go results before) (record { segments = segments ++ called (key ∷ keys) results; tools = map tool_use (uses_in calls log) }) before after old new step
+      Steps answer calls w run (Some target) (go results before)
+      (record {
+        segments = segments ++ called (key ∷ keys) results;
+        tools = map tool_use
+            (uses_in calls log);
+      }) before after old new step
   Plays over results before after old new log step = Unit {0}

@@ -1,4 +1,5 @@
--- Where the walk of a request stands, by what the code holds of it. (Target build order; MSBuild task)
+-- Where the walk of a request stands, by what the code holds of it. (Target build order; MSBuild
+-- task)
 use Rattle.std.specs.Prelude.{ℕ, List, [], ◌∷◌, ◌++◌, length, drop, map, Option, Some, None}
 use Rattle.std.specs.List.{flat_map}
 use Rattle.msb_laws.specs.Asking.{asks as asks_of}
@@ -32,7 +33,14 @@ use Rattle.request_machine.specs.declared.stage.Stage.TheVariants.{Begins, Visit
 
 -- what the record of a run says besides its segments
 abbrev pub outcome_in : Record → Outcome
-outcome_in made = record { ok = made.ok; decisions = made.decisions; items = made.items; changes = made.changes; notes = made.notes }
+outcome_in made = record {
+  ok = made.ok;
+  decisions = made.decisions;
+  items = made.items;
+  changes = made.changes;
+  notes =
+      made.notes;
+}
 
 -- what a run has done to files and called so far, and where it has stopped
 abbrev pub Halt : Type 0
@@ -40,7 +48,8 @@ Halt = SoFar ToolInput × Stop ToolInput ToolAnswer
 
 abbrev pub halt_by : List (List ℕ × ToolInput) → Standing → Option Halt
 halt_by uses (begins scope) = None
-halt_by uses (waits segments key keys go) = Some (record { segments = segments; tools = map tool_use uses }, asks key keys go)
+halt_by uses (waits segments key keys go) = Some
+    (record { segments = segments; tools = map tool_use uses }, asks key keys go)
 halt_by uses over = None
 
 module _ {T : Type 0} (calls : T → List (List ℕ × ToolInput)) where
@@ -67,7 +76,11 @@ module _ {T : Type 0} (calls : T → List (List ℕ × ToolInput)) (w : Given) w
   abbrev pub halt_at : RunId → Option UsedTarget → At T → Option Halt
   halt_at run target Wanted = None
   halt_at run target (Called body log) = halt_of w run body (uses_in calls log) target
-  halt_at run target (Made made log) = Some (record { segments = made.segments; tools = map tool_use (uses_in calls log) }, ends (outcome_in made))
+  halt_at run target (Made made log) = Some (
+    record { segments = made.segments; tools = map tool_use (uses_in calls log) },
+    ends
+        (outcome_in made),
+  )
 
   abbrev pub project_by : RequestKey → Visited T → Project
   project_by key v = project_of w key v.instance
@@ -85,8 +98,11 @@ module _ {T : Type 0} (calls : T → List (List ℕ × ToolInput)) (w : Given) w
       }) halt.1
 
   abbrev pub place_by : RequestKey → Visited T → Journal → At T → Place Site ToolInput ToolAnswer
-  place_by key v journal Wanted = let p : Project = project_by key v in walking (walk p key (bodies_of w p) (asks_of (body_of v.run.target) (left v.order)) v.standing journal)
-  place_by key v journal at = in_body_by key v (halt_at v.run (target_at (project_by key v) v.run.target) at)
+  place_by key v journal Wanted = let p : Project = project_by key v in walking
+      (walk p key (bodies_of w p) (asks_of (body_of v.run.target) (left v.order)) v.standing
+      journal)
+  place_by key v journal at = in_body_by key v
+      (halt_at v.run (target_at (project_by key v) v.run.target) at)
 
   -- by the code's visit
   abbrev pub in_body : RequestKey → Visit T → Option Halt → Place Site ToolInput ToolAnswer
@@ -102,4 +118,5 @@ module _ {T : Type 0} (calls : T → List (List ℕ × ToolInput)) (w : Given) w
 
   abbrev pub position_of : RequestKey → Journal → List RunId → Stage T →
       Position Site ToolInput ToolAnswer
-  position_of key journal runs stage = record { journal = journal; runs = runs; place = place_of key journal stage }
+  position_of key journal runs stage = record
+      { journal = journal; runs = runs; place = place_of key journal stage }

@@ -1,6 +1,27 @@
--- A request of a project: what it asks of the project between its runs, and what it gives. (Target build order; OnError element; MSBuild task,
--- TargetOutputs)
-use Rattle.std.specs.Prelude.{ℕ, List, [], ◌∷◌, ◌++◌, filter, not, Bool, true, false, ◌&&◌, Option, Some, None, Result, Ok, Err, codes, length, ◌==◌}
+-- A request of a project: what it asks of the project between its runs, and what it gives. (Target
+-- build order; OnError element; MSBuild task, TargetOutputs)
+use Rattle.std.specs.Prelude.{
+  ℕ,
+  List,
+  [],
+  ◌∷◌,
+  ◌++◌,
+  filter,
+  not,
+  Bool,
+  true,
+  false,
+  ◌&&◌,
+  Option,
+  Some,
+  None,
+  Result,
+  Ok,
+  Err,
+  codes,
+  length,
+  ◌==◌,
+}
 use Rattle.std.specs.List.{flat_map, find}
 use Rattle.std.specs.Str.{bytes_eq}
 use Rattle.msb_laws.specs.Results.{and_then, map_ok, all_ok}
@@ -28,9 +49,11 @@ pub record Project : Type 0 where
   pub key : InstanceKey
   pub instance : Instance
 
--- what the texts of its targets see at a moment: the scope then, and the files as the request's journal has them
+-- what the texts of its targets see at a moment: the scope then, and the files as the request's
+-- journal has them
 abbrev pub place_of : Project → Scope → Journal → Place
-place_of p scope journal = item_place (paths (record { files = p.files; journal = journal })) p.key.path scope
+place_of p scope journal = item_place (paths (record { files = p.files; journal = journal }))
+    p.key.path scope
 
 -- whether the Condition of an element holds
 abbrev pub holds_at : Project → Scope → Journal → At → Result Bool EvalFault
@@ -43,7 +66,8 @@ names_if scene (Some written) = target_names scene written
 
 -- the targets that a list of an element names
 abbrev pub names_at : Project → Scope → List ℕ → At → Result (List (List ℕ)) EvalFault
-names_at p scope attribute e = or_fault e (names_if (scene_at scope p.key.path e.file All) (attribute_of attribute e))
+names_at p scope attribute e = or_fault e
+    (names_if (scene_at scope p.key.path e.file All) (attribute_of attribute e))
 
 -- the target of this name
 abbrev pub target_at : Project → List ℕ → Option UsedTarget
@@ -65,18 +89,23 @@ errors_if false p scope e = Ok []
 
 -- a child of a target, by whether it is an OnError element
 abbrev pub errors_by : Bool → Project → Scope → Journal → At → Result (List (List ℕ)) EvalFault
-errors_by true p scope journal e = and_then (holds_at p scope journal e) (λ holds. errors_if holds p scope e)
+errors_by true p scope journal e = and_then (holds_at p scope journal e)
+    (λ holds. errors_if holds p scope e)
 errors_by false p scope journal e = Ok []
 
 abbrev pub errors_at : Project → Scope → Journal → At → Result (List (List ℕ)) EvalFault
-errors_at p scope journal e = errors_by (bytes_eq (name_of e.node) (codes "OnError")) p scope journal e
+errors_at p scope journal e = errors_by (bytes_eq (name_of e.node) (codes "OnError")) p scope
+    journal e
 
 -- the targets that the OnError elements among some children name, in order
 abbrev pub errors_of : Project → Scope → Journal → List At → Result (List (List ℕ)) EvalFault
-errors_of p scope journal elements = map_ok (flat_map (λ names. names)) (all_ok (errors_at p scope journal) elements)
+errors_of p scope journal elements = map_ok (flat_map (λ names. names))
+    (all_ok (errors_at p scope journal) elements)
 
--- those of a failed target: all Conditions and lists are read before the first of the targets is visited
-abbrev pub on_error : Project → Scope → Journal → Option UsedTarget → Result (List (List ℕ)) EvalFault
+-- those of a failed target: all Conditions and lists are read before the first of the targets is
+-- visited
+abbrev pub on_error : Project → Scope → Journal → Option UsedTarget
+    → Result (List (List ℕ)) EvalFault
 on_error p scope journal None = Ok []
 on_error p scope journal (Some target) = errors_of p scope journal (children_of target.element)
 
@@ -108,7 +137,13 @@ returned_of returned name = if_returned (find (λ r. bytes_eq r.target name) ret
 -- what the request gives where it succeeds: the items that the targets asked for have returned
 abbrev pub succeeded : Instance → RequestKey → List Returned → Reply
 succeeded instance key returned =
-    record { ok = true; evaluated = true; returned = flat_map (returned_of returned) (once (asked_targets instance key)); error = None }
+    record {
+      ok = true;
+      evaluated = true;
+      returned = flat_map (returned_of returned)
+          (once (asked_targets instance key));
+      error = None;
+    }
 
 -- a failed request returns no items
 abbrev pub failed : Option (List ℕ) → Reply

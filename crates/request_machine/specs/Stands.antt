@@ -22,8 +22,13 @@ use Rattle.request_machine.specs.Walk.{walk}
 abbrev pub Bodies : Type 0
 Bodies = List ℕ → Scope → Journal → Body ToolInput ToolAnswer
 
--- the tree of the request is one that wants the run of this target and goes on with the order, or one that is over
-abbrev pub StandsNext : Project → RequestKey → Standing → Journal → Asking Question OrderAnswer End → Stand → Progress → Type 0
+-- the tree of the request is one that wants the run of this target and goes on with the order, or
+-- one that is over
+abbrev pub StandsNext : Project → RequestKey → Standing → Journal → Asking Question OrderAnswer End
+    → Stand → Progress → Type 0
 StandsNext p key s journal tree (Wants name) order =
-    (order.asked ≡ ForBody) × ((bodies : Bodies) → walk p key bodies tree s journal ≡ walk p key bodies (asks (body name) (left order)) s journal)
-StandsNext p key s journal tree (Over reply) order = (bodies : Bodies) → walk p key bodies tree s journal ≡ gives reply
+    (order.asked ≡ ForBody)
+    × ((bodies : Bodies) → walk p key bodies tree s journal
+    ≡ walk p key bodies (asks (body name) (left order)) s journal)
+StandsNext p key s journal tree (Over reply) order = (bodies : Bodies)
+    → walk p key bodies tree s journal ≡ gives reply

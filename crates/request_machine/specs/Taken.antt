@@ -26,7 +26,8 @@ IsVisit (Over reply) = ⊥
 
 -- it stands as what follows the run says
 abbrev pub GoesTo : {T : Type 0} → Visit T → Follow → Stage T → Type 0
-GoesTo v f stage = (key : RequestKey) → v.run.instance ≡ key.instance → StandsBy key (seen_instance v.instance) f.standing f.order f.stand stage
+GoesTo v f stage = (key : RequestKey) → v.run.instance ≡ key.instance
+    → StandsBy key (seen_instance v.instance) f.standing f.order f.stand stage
 
 abbrev pub TakenOn : {T : Type 0} → (before : Stage T) → Follow → (after : Stage T) → Type 0
 TakenOn Begins f after = Unit {0}
@@ -34,14 +35,17 @@ TakenOn (Visits v) f after = GoesTo v f after
 TakenOn (Over reply) f after = Unit {0}
 
 -- what comes after the run, by its record
-pub record ComesAfter {T : Type 0} (w : Given) (key : RequestKey) (table : Records) (journal : Journal) (runs : List RunId) (v : Visit T) (a : After) : Type 0 where
+pub record ComesAfter {T : Type 0} (w : Given) (key : RequestKey) (table : Records)
+    (journal : Journal) (runs : List RunId) (v : Visit T) (a : After) : Type 0 where
   pub made : Record
   pub is : IsRecord table v.run journal a.journal v.at made
-  pub follows : Follows (project_of w key (seen_instance v.instance)) key v.standing a.journal v.order v.run.target made a.follow
+  pub follows : Follows (project_of w key (seen_instance v.instance)) key v.standing a.journal
+      v.order v.run.target made a.follow
   pub runs_are : a.runs ≡ runs ++ v.run ∷ []
   pub asks : a.ask ≡ asked_by key.instance a.runs a.follow.stand
 
-abbrev pub IsAfter : {T : Type 0} → Given → RequestKey → Records → Journal → List RunId → Stage T → After → Type 0
+abbrev pub IsAfter : {T : Type 0} → Given → RequestKey → Records → Journal → List RunId → Stage T
+    → After → Type 0
 IsAfter w key table journal runs Begins a = Unit {0}
 IsAfter w key table journal runs (Visits v) a = ComesAfter w key table journal runs v a
 IsAfter w key table journal runs (Over reply) a = Unit {0}

@@ -1,8 +1,16 @@
--- What comes of an ask of the order: it is answered, or the request wants a run or is over. (Target build order)
+-- What comes of an ask of the order: it is answered, or the request wants a run or is over. (Target
+-- build order)
 use Rattle.std.specs.Prelude.{ℕ, List, Bool, true, false, Some, None, Result, Ok, Err}
 use Rattle.msb_laws.specs.Results.{map_ok}
 use Rattle.target_order.specs.declared.asks.OrderAsk.{OrderAsk}
-use Rattle.target_order.specs.declared.asks.OrderAsk.TheVariants.{Condition, Depends, Body, Done, Circle, Unknown}
+use Rattle.target_order.specs.declared.asks.OrderAsk.TheVariants.{
+  Condition,
+  Depends,
+  Body,
+  Done,
+  Circle,
+  Unknown,
+}
 use Rattle.target_order.specs.declared.asks.OrderAnswer.{OrderAnswer}
 use Rattle.target_order.specs.declared.asks.OrderAnswer.TheVariants.{Truth, Names}
 use Rattle.build_world.specs.declared.fault.EvalFault.{EvalFault}
@@ -13,7 +21,14 @@ use Rattle.request_machine.specs.declared.standing.Standing.{Standing}
 use Rattle.request_machine.specs.declared.turn.Stand.TheVariants.{Wants, Over}
 use Rattle.request_machine.specs.declared.turn.Turn.{Turn}
 use Rattle.request_machine.specs.declared.turn.Turn.TheVariants.{Answer, Stop}
-use Rattle.request_machine.specs.Requests.{Project, holds_of, depends_of, target_at, succeeded, failed}
+use Rattle.request_machine.specs.Requests.{
+  Project,
+  holds_of,
+  depends_of,
+  target_at,
+  succeeded,
+  failed,
+}
 use Rattle.request_machine.specs.Walk.{circle_text, unknown_text, faulted}
 
 -- an answer of the project, or the end of the request
@@ -27,8 +42,10 @@ end_turn true p key s = failed None
 end_turn false p key s = succeeded p.instance key s.returned
 
 abbrev pub turn_of : Project → RequestKey → Standing → Journal → Bool → OrderAsk → Turn
-turn_of p key s journal has_failed (Condition name) = answer_turn (map_ok Truth (holds_of p s.scope journal (target_at p name)))
-turn_of p key s journal has_failed (Depends name) = answer_turn (map_ok Names (depends_of p s.scope (target_at p name)))
+turn_of p key s journal has_failed (Condition name) = answer_turn
+    (map_ok Truth (holds_of p s.scope journal (target_at p name)))
+turn_of p key s journal has_failed (Depends name) = answer_turn
+    (map_ok Names (depends_of p s.scope (target_at p name)))
 turn_of p key s journal has_failed (Body name) = Stop (Wants name)
 turn_of p key s journal has_failed Done = Stop (Over (end_turn has_failed p key s))
 turn_of p key s journal has_failed (Circle names) = Stop (Over (failed (Some (circle_text names))))

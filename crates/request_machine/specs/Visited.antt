@@ -17,7 +17,14 @@ pub record Visited (T : Type 0) : Type 0 where
   pub at : At T
 
 abbrev pub seen_visit : {T : Type 0} → Visit T → Visited T
-seen_visit v = record { instance = seen_instance v.instance; standing = v.standing; order = v.order; run = v.run; at = v.at }
+seen_visit v = record {
+  instance = seen_instance v.instance;
+  standing = v.standing;
+  order = v.order;
+  run = v.run;
+  at =
+      v.at;
+}
 
 -- the visit of a stage, where a target is visited
 abbrev pub seen_stage : {T : Type 0} → Stage T → Option (Visited T)

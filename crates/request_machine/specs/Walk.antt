@@ -1,14 +1,46 @@
 -- One request of a build, as a tree of the runs that it wants: the order of targets, answered by
 -- the project. (Target build order; OnError element)
-use Rattle.std.specs.Prelude.{ℕ, List, [], ◌∷◌, ◌++◌, Bool, true, false, Option, Some, None, Result, Ok, Err, codes}
+use Rattle.std.specs.Prelude.{
+  ℕ,
+  List,
+  [],
+  ◌∷◌,
+  ◌++◌,
+  Bool,
+  true,
+  false,
+  Option,
+  Some,
+  None,
+  Result,
+  Ok,
+  Err,
+  codes,
+}
 use Rattle.std.specs.List.{flat_map}
 use Rattle.msb_laws.specs.Asking.{Asking, gives as ends, asks}
 use Rattle.msb_laws.specs.Results.{map_ok}
 use Rattle.msb_values.specs.declared.key.InstanceKey.{InstanceKey}
 use Rattle.msb_values.specs.declared.scope.Scope.{Scope}
-use Rattle.target_order.specs.Visit.{Question, condition, depends, body, End, finished, stopped, circle, unknown, order}
+use Rattle.target_order.specs.Visit.{
+  Question,
+  condition,
+  depends,
+  body,
+  End,
+  finished,
+  stopped,
+  circle,
+  unknown,
+  order,
+}
 use Rattle.target_order.specs.declared.asks.OrderAnswer.{OrderAnswer}
-use Rattle.target_order.specs.declared.asks.OrderAnswer.TheVariants.{Truth, Names, Ok as Ran, Failed}
+use Rattle.target_order.specs.declared.asks.OrderAnswer.TheVariants.{
+  Truth,
+  Names,
+  Ok as Ran,
+  Failed,
+}
 use Rattle.build_world.specs.Faults.{fault_text}
 use Rattle.build_world.specs.declared.fault.EvalFault.{EvalFault}
 use Rattle.build_world.specs.Instances.{UsedTarget}
@@ -19,11 +51,25 @@ use Rattle.result_cache.specs.declared.record.Record.{Record}
 use Rattle.result_cache.specs.declared.request.RequestKey.{RequestKey}
 use Rattle.build_meaning.specs.Walk.{Walk, gives, wants, Body, Reply}
 use Rattle.request_machine.specs.declared.standing.Standing.{Standing}
-use Rattle.request_machine.specs.Requests.{Project, holds_of, depends_of, on_error, target_at, all_targets, succeeded, failed, has_no_targets}
+use Rattle.request_machine.specs.Requests.{
+  Project,
+  holds_of,
+  depends_of,
+  on_error,
+  target_at,
+  all_targets,
+  succeeded,
+  failed,
+  has_no_targets,
+}
 
 -- a target has run
 abbrev pub after_run : Standing → List ℕ → Record → Standing
-after_run s name made = record { scope = all_applied made.changes s.scope; returned = s.returned ++ record { target = name; items = made.items } ∷ [] }
+after_run s name made = record {
+  scope = all_applied made.changes s.scope;
+  returned = s.returned
+      ++ record { target = name; items = made.items } ∷ [];
+}
 
 -- the one run of a target of an instance
 abbrev pub run_of : InstanceKey → List ℕ → RunId
@@ -52,7 +98,8 @@ reply_of p key stopped s = failed None
 reply_of p key (circle names) s = failed (Some (circle_text names))
 reply_of p key (unknown name) s = failed (Some (unknown_text name))
 
--- a run has succeeded, or has failed: then the OnError elements of its target are read in the scope that it leaves
+-- a run has succeeded, or has failed: then the OnError elements of its target are read in the scope
+-- that it leaves
 abbrev pub answer_of : Project → Bool → Standing → Journal → List ℕ → Result OrderAnswer EvalFault
 answer_of p true s journal name = Ok Ran
 answer_of p false s journal name = map_ok Failed (on_error p s.scope journal (target_at p name))

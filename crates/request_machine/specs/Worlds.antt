@@ -1,6 +1,22 @@
--- The world of a build: its root request, and what each request and each run does, by the files, the mode and the tools. (MSBuild command-line
--- reference; MSBuild task)
-use Rattle.std.specs.Prelude.{ℕ, List, [], ◌∷◌, ◌++◌, Bool, true, false, Option, Some, None, Result, Ok, Err, codes}
+-- The world of a build: its root request, and what each request and each run does, by the files,
+-- the mode and the tools. (MSBuild command-line reference; MSBuild task)
+use Rattle.std.specs.Prelude.{
+  ℕ,
+  List,
+  [],
+  ◌∷◌,
+  ◌++◌,
+  Bool,
+  true,
+  false,
+  Option,
+  Some,
+  None,
+  Result,
+  Ok,
+  Err,
+  codes,
+}
 use Rattle.msb_values.specs.declared.mode.Mode.{Mode}
 use Rattle.msb_values.specs.declared.scope.Scope.{Scope}
 use Rattle.file_store.specs.Files.{file_at}
@@ -78,7 +94,12 @@ is_some_named [] = false
 is_some_named (name ∷ names) = true
 
 abbrev pub root_of : Given → RequestKey
-root_of w = record { instance = record { path = w.root; globals = w.globals }; targets = w.targets; named = is_some_named w.targets }
+root_of w = record {
+  instance = record { path = w.root; globals = w.globals };
+  targets = w.targets;
+  named =
+      is_some_named w.targets;
+}
 
 abbrev pub world_of : (List ℕ → ToolInput → ToolAnswer) → Given →
     World Site ToolInput ToolAnswer

@@ -28,8 +28,9 @@ use result_cache::{RequestKey, RunId};
 use std::alloc::Global;
 use target_order::{OrderAnswer, OrderWalk};
 
-/// Where a request stands when it begins: its project is evaluated, and the order is answered until it wants the run of a
-/// target, or the request is over. (How MSBuild builds projects, evaluation phase; Target build order.)
+/// Where a request stands when it begins: its project is evaluated, and the order is answered until
+/// it wants the run of a target, or the request is over. (How MSBuild builds projects, evaluation
+/// phase; Target build order.)
 pub fn begin<T>(
     alloc: Global,
     world: &World,
@@ -75,7 +76,9 @@ fn begin_visit<T>(
     journal: &Journal,
     instance: InstanceRef,
 ) -> Result<Stage<T>, NoMemory>
-    ensures { IfOk result (let p = project_of world.now key.now (seen_instance instance) in StandsAt world.now key.now journal.now (walk_in p key.now (bodies_of world.now p) journal.now)) }
+    ensures { IfOk result
+        (let p = project_of world.now key.now (seen_instance instance) in StandsAt world.now key.now
+        journal.now (walk_in p key.now (bodies_of world.now p) journal.now)) }
 {
     let evaluated = instance.get();
     if has_no_targets(evaluated, key) {

@@ -28,7 +28,8 @@ use std::alloc::Global;
 use std::mem;
 use target_order::OrderWalk;
 
-/// What follows the run of a target: the scope with its changes and what has been returned, and how the order goes on.
+/// What follows the run of a target: the scope with its changes and what has been returned, and how
+/// the order goes on.
 pub struct Follow {
     pub standing: Standing,
     pub order: OrderWalk,
@@ -46,7 +47,8 @@ impl Drop for Follow {
     }
 }
 
-/// A request after the run of a target: what follows, the journal and the runs then, and what it asks.
+/// A request after the run of a target: what follows, the journal and the runs then, and what it
+/// asks.
 #[derive(Drop)]
 pub struct After {
     pub follow: Follow,
@@ -110,7 +112,8 @@ fn want<T>(
 ) -> FormerVisit<T>
     requires visits { IsVisit stage.old }
     requires ready { order.asked ≡ ForBody }
-    ensures taken { TakenOn stage.old (record { standing = standing; order = order; stand = Wants target }) stage.new }
+    ensures taken { TakenOn stage.old
+        (record { standing = standing; order = order; stand = Wants target }) stage.new }
     ensures before { visit_before stage.new result ≡ seen_stage stage.old }
 {
     let parts = VisitParts {
@@ -126,8 +129,8 @@ fn want<T>(
 }
 
 impl<'a> Moment<'a> {
-    /// What follows the run of a target that was wanted here, by its record and the journal then. (Target build order;
-    /// OnError element.)
+    /// What follows the run of a target that was wanted here, by its record and the journal then.
+    /// (Target build order; OnError element.)
     pub fn follow(
         &self,
         alloc: Global,
@@ -136,7 +139,9 @@ impl<'a> Moment<'a> {
         made: &Record,
     ) -> Result<Follow, NoMemory>
         requires { order.now.asked ≡ ForBody }
-        ensures { IfOk result (Follows (seen_project self.now.project) self.now.key.now self.now.standing.now self.now.journal.now order.now name.now made.now) }
+        ensures { IfOk result
+            (Follows (seen_project self.now.project) self.now.key.now self.now.standing.now
+            self.now.journal.now order.now name.now made.now) }
     {
         let standing = after_run(alloc, self.standing, name, made)?;
         let moment = Moment {
@@ -164,7 +169,9 @@ impl<'a> Moment<'a> {
     ) -> Result<Stand, NoMemory>
         requires asked { order.old.asked ≡ ForBody }
         requires fits { FitsBody turn }
-        ensures { IfOk result (λ stand. FollowsTurn (seen_project self.now.project) self.now.key.now self.now.standing.now self.now.journal.now order.old turn stand order.new) }
+        ensures { IfOk result
+            (λ stand. FollowsTurn (seen_project self.now.project) self.now.key.now
+            self.now.standing.now self.now.journal.now order.old turn stand order.new) }
     {
         match turn {
             Turn::Answer(answer) => self.go_on(alloc, order, answer),

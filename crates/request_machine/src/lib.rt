@@ -1,5 +1,5 @@
-//! The walk of one request of a build: the order of its targets, answered by the evaluated project, and the runs that it
-//! wants. (Target build order; MSBuild task.)
+//! The walk of one request of a build: the order of its targets, answered by the evaluated project,
+//! and the runs that it wants. (Target build order; MSBuild task.)
 //!
 //! What a request does is one tree, `walk_of` in `specs/Worlds.antt`.
 #![tactic(auto)]

@@ -36,7 +36,8 @@ pub struct Step<T> {
 }
 
 impl<'a> Making<'a> {
-    /// The body begins in this scope, and goes on until it calls requests or is over. (Target element.)
+    /// The body begins in this scope, and goes on until it calls requests or is over. (Target
+    /// element.)
     pub fn begin<T: CountedTools>(
         &self,
         alloc: Global,
@@ -44,9 +45,14 @@ impl<'a> Making<'a> {
         scope: &Scope,
         journal: &mut Journal,
     ) -> Result<Step<T>, NoMemory>
-        requires { IsSome (target_named (seen_instance self.now.instance.now).targets self.now.run.now.target) }
-        ensures goes { IfOk result (let target = target_named (seen_instance self.now.instance.now).targets self.now.run.now.target in
-            Steps T.answer T.calls self.now.world.now self.now.run.now target (body_if self.now.world.now self.now.run.now target scope.now journal.old) nothing_yet journal.old journal.new tools.old tools.new) }
+        requires { IsSome
+            (target_named (seen_instance self.now.instance.now).targets self.now.run.now.target) }
+        ensures goes { IfOk result
+            (let target = target_named (seen_instance self.now.instance.now).targets
+            self.now.run.now.target in
+            Steps T.answer T.calls self.now.world.now self.now.run.now target
+            (body_if self.now.world.now self.now.run.now target scope.now journal.old) nothing_yet
+            journal.old journal.new tools.old tools.new) }
         ensures tools { BeginsWith (T.calls tools.old) (T.calls tools.new) }
         ensures run { IfOk result (λ step. run_in self.now.run.now step.at ≡ self.now.run.now) }
     {
@@ -55,7 +61,8 @@ impl<'a> Making<'a> {
         self.step(alloc, tools, body, &Log::new(), journal, &none)
     }
 
-    /// The body goes on by the results that have come, until it calls requests or is over. (Target element; MSBuild task.)
+    /// The body goes on by the results that have come, until it calls requests or is over. (Target
+    /// element; MSBuild task.)
     pub fn step<T: CountedTools>(
         &self,
         alloc: Global,
@@ -66,11 +73,19 @@ impl<'a> Making<'a> {
         results: &List<RequestResult>,
     ) -> Result<Step<T>, NoMemory>
         requires run { body.run ≡ self.now.run.now }
-        requires target { IsSome (target_named (seen_instance self.now.instance.now).targets self.now.run.now.target) }
-        requires fits { IfSome (target_named (seen_instance self.now.instance.now).targets self.now.run.now.target) (λ target.
+        requires target { IsSome
+            (target_named (seen_instance self.now.instance.now).targets self.now.run.now.target) }
+        requires fits { IfSome
+            (target_named (seen_instance self.now.instance.now).targets self.now.run.now.target)
+            (λ target.
             Fits (standing_in self.now.world.now self.now.run.now target body) results.now) }
-        ensures goes { IfOk result (λ step. IfSome (target_named (seen_instance self.now.instance.now).targets self.now.run.now.target) (λ target.
-            Plays T.answer T.calls self.now.world.now self.now.run.now target (standing_in self.now.world.now self.now.run.now target body) results.now journal.old journal.new tools.old tools.new uses.now step)) }
+        ensures goes { IfOk result
+            (λ step.
+            IfSome (target_named (seen_instance self.now.instance.now).targets self.now.run.now.target)
+            (λ target.
+            Plays T.answer T.calls self.now.world.now self.now.run.now target
+            (standing_in self.now.world.now self.now.run.now target body) results.now journal.old
+            journal.new tools.old tools.new uses.now step)) }
         ensures tools { BeginsWith (T.calls tools.old) (T.calls tools.new) }
         ensures run { IfOk result (λ step. run_in self.now.run.now step.at ≡ self.now.run.now) }
     {

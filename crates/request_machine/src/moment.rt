@@ -7,7 +7,15 @@ ghost use Rattle.build_world.specs.Answers.{GivesFault};
 ghost use Rattle.build_world.specs.Elements.{seen_element, seen_placed};
 ghost use Rattle.build_world.specs.Instances.{seen_target};
 ghost use Rattle.msb_items.specs.Places.{view_in};
-ghost use Rattle.request_machine.specs.Requests.{holds_at, names_at, names_if, holds_of, depends_of, target_at, place_of};
+ghost use Rattle.request_machine.specs.Requests.{
+  holds_at,
+  names_at,
+  names_if,
+  holds_of,
+  depends_of,
+  target_at,
+  place_of,
+};
 ghost use Rattle.request_machine.specs.Seen.{seen_project};
 
 use crate::project::Project;
@@ -20,8 +28,8 @@ use msb_values::{Cause, List, Name};
 use result_cache::RequestKey;
 use std::alloc::Global;
 
-/// A request of an evaluated project at a moment between its runs: what its texts see is the scope then, and the files as
-/// its journal has them.
+/// A request of an evaluated project at a moment between its runs: what its texts see is the scope
+/// then, and the files as its journal has them.
 #[derive(Clone, Copy)]
 pub struct Moment<'a> {
     pub project: Project<'a>,
@@ -33,7 +41,9 @@ pub struct Moment<'a> {
 impl<'a> Moment<'a> {
     /// Whether the Condition of an element holds; an absent one does. (MSBuild conditions.)
     pub fn holds(&self, alloc: Global, element: &PlacedElement<'_>) -> Result<bool, EvalFault>
-        ensures { GivesFault (λ holds. holds) result (holds_at (seen_project self.now.project) self.now.standing.now.scope self.now.journal.now (seen_element element.now)) }
+        ensures { GivesFault (λ holds. holds) result
+            (holds_at (seen_project self.now.project) self.now.standing.now.scope
+            self.now.journal.now (seen_element element.now)) }
     {
         let files = FileView::of(self.project.tree, self.journal);
         let lens = self.lens(element.file);
@@ -43,14 +53,17 @@ impl<'a> Moment<'a> {
         }
     }
 
-    /// The targets that a list of an element names; an absent list names none. (Target build order.)
+    /// The targets that a list of an element names; an absent list names none. (Target build
+    /// order.)
     pub fn names(
         &self,
         alloc: Global,
         attribute: &str,
         element: &PlacedElement<'_>,
     ) -> Result<List<Name>, EvalFault>
-        ensures { GivesFault (λ names. names) result (names_at (seen_project self.now.project) self.now.standing.now.scope attribute.now (seen_element element.now)) }
+        ensures { GivesFault (λ names. names) result
+            (names_at (seen_project self.now.project) self.now.standing.now.scope attribute.now
+            (seen_element element.now)) }
     {
         let lens = self.lens(element.file);
         match names_if(alloc, &lens, element.element.attribute(attribute)) {
@@ -60,7 +73,12 @@ impl<'a> Moment<'a> {
     }
 
     fn lens<'s>(&'s self, file: &'s str) -> Lens<'s>
-        ensures { view_of result (paths (record { files = self.now.project.tree.now.files; journal = self.now.journal.now })) ≡ view_in (place_of (seen_project self.now.project) self.now.standing.now.scope self.now.journal.now) file.entry.now }
+        ensures { view_of result
+            (paths
+            (record { files = self.now.project.tree.now.files; journal = self.now.journal.now }))
+            ≡ view_in
+            (place_of (seen_project self.now.project) self.now.standing.now.scope
+            self.now.journal.now) file.entry.now }
     {
         Lens::new(
             &self.standing.scope,
@@ -72,7 +90,9 @@ impl<'a> Moment<'a> {
 
     /// Whether the Condition of the target of this name holds.
     pub fn condition(&self, alloc: Global, name: &Name) -> Result<bool, EvalFault>
-        ensures { GivesFault (λ holds. holds) result (holds_of (seen_project self.now.project) self.now.standing.now.scope self.now.journal.now (target_at (seen_project self.now.project) name.now)) }
+        ensures { GivesFault (λ holds. holds) result
+            (holds_of (seen_project self.now.project) self.now.standing.now.scope
+            self.now.journal.now (target_at (seen_project self.now.project) name.now)) }
     {
         match self.project.target(name) {
             Some(target) => self.holds(alloc, &PlacedElement::of(&target.at)),
@@ -82,7 +102,9 @@ impl<'a> Moment<'a> {
 
     /// The targets that DependsOnTargets of the target of this name names.
     pub fn depends(&self, alloc: Global, name: &Name) -> Result<List<Name>, EvalFault>
-        ensures { GivesFault (λ names. names) result (depends_of (seen_project self.now.project) self.now.standing.now.scope (target_at (seen_project self.now.project) name.now)) }
+        ensures { GivesFault (λ names. names) result
+            (depends_of (seen_project self.now.project) self.now.standing.now.scope
+            (target_at (seen_project self.now.project) name.now)) }
     {
         match self.project.target(name) {
             Some(target) => self.names(alloc, "DependsOnTargets", &PlacedElement::of(&target.at)),

@@ -13,10 +13,12 @@ use msb_values::{List, Name};
 use std::alloc::Global;
 
 impl<'a> Moment<'a> {
-    /// The targets that the OnError elements of the failed target of this name name, in order; the Condition and the list of
-    /// each is read first. (OnError element.)
+    /// The targets that the OnError elements of the failed target of this name name, in order; the
+    /// Condition and the list of each is read first. (OnError element.)
     pub fn on_error(&self, alloc: Global, name: &Name) -> Result<List<Name>, EvalFault>
-        ensures { GivesFault (λ names. names) result (on_error (seen_project self.now.project) self.now.standing.now.scope self.now.journal.now (target_at (seen_project self.now.project) name.now)) }
+        ensures { GivesFault (λ names. names) result
+            (on_error (seen_project self.now.project) self.now.standing.now.scope
+            self.now.journal.now (target_at (seen_project self.now.project) name.now)) }
     {
         match self.project.target(name) {
             Some(target) => self.all_errors(
@@ -35,7 +37,9 @@ impl<'a> Moment<'a> {
         file: &str,
         elements: &[Element],
     ) -> Result<List<Name>, EvalFault>
-        ensures { GivesFault (λ names. names) result (errors_of (seen_project self.now.project) self.now.standing.now.scope self.now.journal.now (map (at file.now) (map view elements.now))) }
+        ensures { GivesFault (λ names. names) result
+            (errors_of (seen_project self.now.project) self.now.standing.now.scope
+            self.now.journal.now (map (at file.now) (map view elements.now))) }
     {
         let mut names = List::new(alloc);
         for element in elements {
@@ -49,7 +53,9 @@ impl<'a> Moment<'a> {
 
     // Of an element, which names none unless it is an OnError element.
     fn errors(&self, alloc: Global, element: &PlacedElement<'_>) -> Result<List<Name>, EvalFault>
-        ensures { GivesFault (λ names. names) result (errors_at (seen_project self.now.project) self.now.standing.now.scope self.now.journal.now (seen_element element.now)) }
+        ensures { GivesFault (λ names. names) result
+            (errors_at (seen_project self.now.project) self.now.standing.now.scope
+            self.now.journal.now (seen_element element.now)) }
     {
         if element.element.name() == "OnError" && self.holds(alloc, element)? {
             self.names(alloc, "ExecuteTargets", element)

@@ -8,8 +8,8 @@ use file_store::Tree;
 use msb_instance::InstanceRef;
 use msb_values::{InstanceKey, Name};
 
-/// An instance of a project as it was evaluated, with the files of the build as they stood at the start. (How MSBuild
-/// builds projects, execution phase.)
+/// An instance of a project as it was evaluated, with the files of the build as they stood at the
+/// start. (How MSBuild builds projects, execution phase.)
 #[derive(Clone, Copy)]
 pub struct Project<'a> {
     pub tree: &'a Tree,
@@ -20,7 +20,8 @@ pub struct Project<'a> {
 impl<'a> Project<'a> {
     /// The target of this name.
     pub fn target(&self, name: &Name) -> Option<&'a UsedTarget>
-        ensures { option_map seen_target (option_copied result) ≡ target_at (seen_project self.now) name.now }
+        ensures { option_map seen_target (option_copied result)
+            ≡ target_at (seen_project self.now) name.now }
     {
         self.instance.get().targets.find(name)
     }

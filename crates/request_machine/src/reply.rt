@@ -35,7 +35,8 @@ impl Model for Reply {
 
     ghost Value = { Told };
 
-    ghost view = { λ r. record { ok = r.ok; evaluated = r.evaluated; returned = r.returned; error = r.error } };
+    ghost view = { λ r.
+        record { ok = r.ok; evaluated = r.evaluated; returned = r.returned; error = r.error } };
 }
 
 impl Reply {

@@ -150,7 +150,9 @@ impl<'a, T> Request<'a, T> {
     // What comes after its run.
     fn after_run(&self, learnt: &Table) -> Result<After, NoMemory>
         requires { HasMade learnt.now.finished self.now.journal self.now.stage }
-        ensures { IfOk result (IsAfter self.now.world.now self.now.key learnt.now.finished self.now.journal self.now.runs self.now.stage) }
+        ensures { IfOk result
+            (IsAfter self.now.world.now self.now.key learnt.now.finished self.now.journal
+            self.now.runs self.now.stage) }
     {
         match &self.stage {
             Stage::Visits(visit) => self.after_visit(learnt, visit),
@@ -160,7 +162,9 @@ impl<'a, T> Request<'a, T> {
 
     fn after_visit(&self, learnt: &Table, visit: &Visit<T>) -> Result<After, NoMemory>
         requires { HasRecord learnt.now.finished visit.now.run self.now.journal visit.now.at }
-        ensures { IfOk result (ComesAfter self.now.world.now self.now.key learnt.now.finished self.now.journal self.now.runs visit.now) }
+        ensures { IfOk result
+            (ComesAfter self.now.world.now self.now.key learnt.now.finished self.now.journal
+            self.now.runs visit.now) }
     {
         let run = RunRef::new(self.alloc, &visit.run)?;
         let mut journal = self.journal.copy()?;
@@ -187,7 +191,10 @@ impl<'a, T> Request<'a, T> {
 
     // What follows the run of a visit, by its record and the journal then.
     fn follow(&self, visit: &Visit<T>, journal: &Journal, made: &Record) -> Result<Follow, NoMemory>
-        ensures { IfOk result (Follows (project_of self.now.world.now self.now.key (seen_instance visit.now.instance)) self.now.key visit.now.standing journal.now visit.now.order visit.now.run.target made.now) }
+        ensures { IfOk result
+            (Follows (project_of self.now.world.now self.now.key (seen_instance visit.now.instance))
+            self.now.key visit.now.standing journal.now visit.now.order visit.now.run.target
+            made.now) }
     {
         let moment = Moment {
             project: Project {
@@ -204,10 +211,26 @@ impl<'a, T> Request<'a, T> {
 }
 
 impl<'a, T: CountedTools + 'a> Request<'a, T> {
-    ghost use Rattle.std.specs.Prelude.{◌++◌, [], false, true, map, IfOk, IfSome, IsSome, OnErr, OnOk};
+    ghost use Rattle.std.specs.Prelude.{
+      ◌++◌,
+      [],
+      false,
+      true,
+      map,
+      IfOk,
+      IfSome,
+      IsSome,
+      OnErr,
+      OnOk,
+    };
     ghost use Rattle.build_meaning.specs.SoFar.{runs_of};
     ghost use Rattle.build_scheduler.specs.Position.{answered, used_between};
-    ghost use Rattle.build_scheduler.specs.declared.walker.Answer.TheVariants.{First, Go, Use, Results};
+    ghost use Rattle.build_scheduler.specs.declared.walker.Answer.TheVariants.{
+      First,
+      Go,
+      Use,
+      Results,
+    };
     ghost use Rattle.result_cache.specs.Replay.{replay_all};
     ghost use Rattle.result_cache.specs.Table.{Records};
     ghost use Rattle.build_world.specs.Instances.{seen_instance};
@@ -226,9 +249,9 @@ impl<'a, T: CountedTools + 'a> Request<'a, T> {
     ghost use Rattle.request_machine.specs.WalkPosition.{request_position};
     ghost use Rattle.request_machine.specs.Worlds.{world_of};
 
-    /// Goes on with an answer to the next ask, from a journal that is there for the runs of the first
-    /// of its results. Where there is no memory, the request is as it was, and the calls of tools
-    /// begin with those of before. (Target build order; MSBuild task.)
+    /// Goes on with an answer to the next ask, from a journal that is there for the runs of the
+    /// first of its results. Where there is no memory, the request is as it was, and the calls of
+    /// tools begin with those of before. (Target build order; MSBuild task.)
     pub fn advance(
         &mut self,
         learnt: &Table,
@@ -236,7 +259,9 @@ impl<'a, T: CountedTools + 'a> Request<'a, T> {
         site: &mut Site<'a, &'a mut T>,
         answer: &Answer,
     ) -> Result<Advanced<T>, NoMemory>
-        requires fits { IsSome (answered (world_of T.answer self.old.world.now) learnt.now.finished (request_position T.calls self.old) answer.now) }
+        requires fits { IsSome
+            (answered (world_of T.answer self.old.world.now) learnt.now.finished
+            (request_position T.calls self.old) answer.now) }
         requires turn { IsNext (has_begun self.old.stage) answer.now }
         requires known { ∥ IfSome replayed.now
             (IsReplayed learnt.now.finished self.old.journal) ∥₁ }
@@ -244,7 +269,10 @@ impl<'a, T: CountedTools + 'a> Request<'a, T> {
             (world_of T.answer self.old.world.now) }
         ensures place { Suits T.answer site.new.world.now site.new.instances
             (world_of T.answer self.old.world.now) }
-        ensures goes { IfOk result (λ advanced. GoesOn (world_of T.answer self.old.world.now) learnt.now.finished (request_position T.calls self.old) (request_position T.calls self.new) answer.now advanced.ask) }
+        ensures goes { IfOk result
+            (λ advanced. GoesOn (world_of T.answer self.old.world.now) learnt.now.finished
+            (request_position T.calls self.old) (request_position T.calls self.new) answer.now
+            advanced.ask) }
         ensures lent { site.new.tools.ghost_name ≡ site.old.tools.ghost_name }
         ensures used { OnOk result (map tool_use (T.calls site.new.tools.now) ≡ map tool_use
             (T.calls site.old.tools.now)
@@ -253,7 +281,8 @@ impl<'a, T: CountedTools + 'a> Request<'a, T> {
         ensures begun { OnOk result (has_begun self.new.stage ≡ true) }
         ensures world { world_of T.answer self.new.world.now
             ≡ world_of T.answer self.old.world.now }
-        ensures former { IfOk result (λ advanced. Replaces T.calls self.old self.new advanced.former) }
+        ensures former { IfOk result
+            (λ advanced. Replaces T.calls self.old self.new advanced.former) }
         ensures tools { BeginsWith (T.calls site.old.tools.now) (T.calls site.new.tools.now) }
         ensures err { OnErr result (self.new ≡ self.old) }
     {
@@ -278,12 +307,19 @@ impl<'a, T: CountedTools + 'a> Request<'a, T> {
         requires world { world_of T.answer self.old.world.now ≡ world_of T.answer world.now }
         requires kept { AreEvaluated world.now.tree.files instances.old }
         ensures kept { AreEvaluated world.entry.now.tree.files instances.new }
-        ensures goes { (table : Records) → IfOk result (λ advanced. GoesOn (world_of T.answer self.old.world.now) table (request_position T.calls self.old) (request_position T.calls self.new) First advanced.ask) }
-        ensures used { OnOk result (used_between (request_position T.calls self.old).place (request_position T.calls self.new).place ≡ []) }
+        ensures goes { (table : Records)
+            → IfOk result
+            (λ advanced. GoesOn (world_of T.answer self.old.world.now) table
+            (request_position T.calls self.old) (request_position T.calls self.new) First
+            advanced.ask) }
+        ensures used { OnOk result
+            (used_between (request_position T.calls self.old).place
+            (request_position T.calls self.new).place ≡ []) }
         ensures begun { OnOk result (has_begun self.new.stage ≡ true) }
         ensures world { world_of T.answer self.new.world.now
             ≡ world_of T.answer self.old.world.now }
-        ensures former { IfOk result (λ advanced. Replaces T.calls self.old self.new advanced.former) }
+        ensures former { IfOk result
+            (λ advanced. Replaces T.calls self.old self.new advanced.former) }
         ensures err { OnErr result (self.new ≡ self.old) }
     {
         let Begun { stage, ask } = self.begun(world, instances)?;
@@ -298,11 +334,19 @@ impl<'a, T: CountedTools + 'a> Request<'a, T> {
     // It makes the run that it wants. (Target element.)
     fn go(&mut self, tools: &mut T) -> Result<Advanced<T>, NoMemory>
         requires { WantsRun self.old.stage }
-        ensures goes { (table : Records) → IfOk result (λ advanced. GoesOn (world_of T.answer self.old.world.now) table (request_position T.calls self.old) (request_position T.calls self.new) Go advanced.ask) }
-        ensures used { OnOk result (map tool_use (T.calls tools.new) ≡ map tool_use (T.calls tools.old) ++ used_between (request_position T.calls self.old).place (request_position T.calls self.new).place) }
+        ensures goes { (table : Records)
+            → IfOk result
+            (λ advanced. GoesOn (world_of T.answer self.old.world.now) table
+            (request_position T.calls self.old) (request_position T.calls self.new) Go
+            advanced.ask) }
+        ensures used { OnOk result (map tool_use (T.calls tools.new)
+            ≡ map tool_use (T.calls tools.old)
+            ++ used_between (request_position T.calls self.old).place
+            (request_position T.calls self.new).place) }
         ensures begun { OnOk result (has_begun self.new.stage ≡ true) }
         ensures world { self.new.world ≡ self.old.world }
-        ensures former { IfOk result (λ advanced. Replaces T.calls self.old self.new advanced.former) }
+        ensures former { IfOk result
+            (λ advanced. Replaces T.calls self.old self.new advanced.former) }
         ensures tools { BeginsWith (T.calls tools.old) (T.calls tools.new) }
         ensures err { OnErr result (self.new ≡ self.old) }
     {
@@ -318,7 +362,9 @@ impl<'a, T: CountedTools + 'a> Request<'a, T> {
 
     fn made(&self, tools: &mut T) -> Result<Halted<T>, NoMemory>
         requires { WantsRun self.now.stage }
-        ensures halted { IfOk result (λ halted. IsMade T.answer T.calls self.now.world.now self.now.stage self.now.journal halted.journal tools.old tools.new halted.step) }
+        ensures halted { IfOk result
+            (λ halted. IsMade T.answer T.calls self.now.world.now self.now.stage self.now.journal
+            halted.journal tools.old tools.new halted.step) }
         ensures tools { BeginsWith (T.calls tools.old) (T.calls tools.new) }
     {
         match &self.stage {
@@ -328,7 +374,9 @@ impl<'a, T: CountedTools + 'a> Request<'a, T> {
     }
 
     fn made_at(&self, visit: &Visit<T>, tools: &mut T) -> Result<Halted<T>, NoMemory>
-        ensures halted { IfOk result (λ halted. HasMadeRun T.answer T.calls self.now.world.now visit.now self.now.journal halted.journal tools.old tools.new halted.step) }
+        ensures halted { IfOk result
+            (λ halted. HasMadeRun T.answer T.calls self.now.world.now visit.now self.now.journal
+            halted.journal tools.old tools.new halted.step) }
         ensures tools { BeginsWith (T.calls tools.old) (T.calls tools.new) }
     {
         let mut journal = self.journal.copy()?;
@@ -336,7 +384,8 @@ impl<'a, T: CountedTools + 'a> Request<'a, T> {
         Ok(Halted { step, journal })
     }
 
-    // The body of its run goes on by the results of its calls, whose runs are replayed first, in call order. (MSBuild task.)
+    // The body of its run goes on by the results of its calls, whose runs are replayed first, in
+    // call order. (MSBuild task.)
     fn take_results(
         &mut self,
         learnt: &Table,
@@ -345,14 +394,22 @@ impl<'a, T: CountedTools + 'a> Request<'a, T> {
         results: &List<RequestResult>,
     ) -> Result<Advanced<T>, NoMemory>
         requires waits { WaitsFor T.calls self.old.world.now results.now self.old.stage }
-        requires replays { IsSome (replay_all learnt.now.finished (runs_of results.now) self.old.journal) }
+        requires replays { IsSome
+            (replay_all learnt.now.finished (runs_of results.now) self.old.journal) }
         requires known { ∥ IfSome replayed.now
             (IsReplayed learnt.now.finished self.old.journal) ∥₁ }
-        ensures goes { IfOk result (λ advanced. GoesOn (world_of T.answer self.old.world.now) learnt.now.finished (request_position T.calls self.old) (request_position T.calls self.new) (Results results.now) advanced.ask) }
-        ensures used { OnOk result (map tool_use (T.calls tools.new) ≡ map tool_use (T.calls tools.old) ++ used_between (request_position T.calls self.old).place (request_position T.calls self.new).place) }
+        ensures goes { IfOk result
+            (λ advanced. GoesOn (world_of T.answer self.old.world.now) learnt.now.finished
+            (request_position T.calls self.old) (request_position T.calls self.new)
+            (Results results.now) advanced.ask) }
+        ensures used { OnOk result (map tool_use (T.calls tools.new)
+            ≡ map tool_use (T.calls tools.old)
+            ++ used_between (request_position T.calls self.old).place
+            (request_position T.calls self.new).place) }
         ensures begun { OnOk result (has_begun self.new.stage ≡ true) }
         ensures world { self.new.world ≡ self.old.world }
-        ensures former { IfOk result (λ advanced. Replaces T.calls self.old self.new advanced.former) }
+        ensures former { IfOk result
+            (λ advanced. Replaces T.calls self.old self.new advanced.former) }
         ensures tools { BeginsWith (T.calls tools.old) (T.calls tools.new) }
         ensures err { OnErr result (self.new ≡ self.old) }
     {
@@ -374,10 +431,13 @@ impl<'a, T: CountedTools + 'a> Request<'a, T> {
         results: &List<RequestResult>,
     ) -> Result<Halted<T>, NoMemory>
         requires waits { WaitsFor T.calls self.now.world.now results.now self.now.stage }
-        requires replays { IsSome (replay_all learnt.now.finished (runs_of results.now) self.now.journal) }
+        requires replays { IsSome
+            (replay_all learnt.now.finished (runs_of results.now) self.now.journal) }
         requires known { ∥ IfSome replayed.now
             (IsReplayed learnt.now.finished self.now.journal) ∥₁ }
-        ensures halted { IfOk result (λ halted. IsResumed T.answer T.calls self.now.world.now learnt.now.finished results.now self.now.stage self.now.journal halted.journal tools.old tools.new halted.step) }
+        ensures halted { IfOk result
+            (λ halted. IsResumed T.answer T.calls self.now.world.now learnt.now.finished results.now
+            self.now.stage self.now.journal halted.journal tools.old tools.new halted.step) }
         ensures tools { BeginsWith (T.calls tools.old) (T.calls tools.new) }
     {
         let entries = results.as_slice();
@@ -395,11 +455,16 @@ impl<'a, T: CountedTools + 'a> Request<'a, T> {
         tools: &mut T,
         results: &List<RequestResult>,
     ) -> Result<Halted<T>, NoMemory>
-        requires { IsWaiting (halt_at T.calls self.now.world.now visit.now.run (target_named (seen_instance visit.now.instance).targets visit.now.run.target) visit.now.at) results.now }
+        requires { IsWaiting
+            (halt_at T.calls self.now.world.now visit.now.run
+            (target_named (seen_instance visit.now.instance).targets visit.now.run.target)
+            visit.now.at) results.now }
         ensures goes { IfOk result (λ halted.
-            let target = target_named (seen_instance visit.now.instance).targets visit.now.run.target in
+            let target = target_named (seen_instance visit.now.instance).targets
+            visit.now.run.target in
             GoesOnFrom T.answer T.calls self.now.world.now visit.now.run target
-            (halt_at T.calls self.now.world.now visit.now.run target visit.now.at) results.now journal
+            (halt_at T.calls self.now.world.now visit.now.run target visit.now.at) results.now
+            journal
             halted.journal tools.old tools.new halted.step) }
         ensures own { IfOk result (λ halted. run_in visit.now.run halted.step.at ≡ visit.now.run) }
         ensures tools { BeginsWith (T.calls tools.old) (T.calls tools.new) }
@@ -409,15 +474,21 @@ impl<'a, T: CountedTools + 'a> Request<'a, T> {
         Ok(Halted { step, journal })
     }
 
-    // It goes on with the record of its run, which another request has made, or its own body. (Target build order; OnError
-    // element.)
+    // It goes on with the record of its run, which another request has made, or its own body.
+    // (Target build order; OnError element.)
     fn use_record(&mut self, learnt: &Table) -> Result<Advanced<T>, NoMemory>
         requires { HasMade learnt.now.finished self.old.journal self.old.stage }
-        ensures goes { IfOk result (λ advanced. GoesOn (world_of T.answer self.old.world.now) learnt.now.finished (request_position T.calls self.old) (request_position T.calls self.new) Use advanced.ask) }
-        ensures used { OnOk result (used_between (request_position T.calls self.old).place (request_position T.calls self.new).place ≡ []) }
+        ensures goes { IfOk result
+            (λ advanced. GoesOn (world_of T.answer self.old.world.now) learnt.now.finished
+            (request_position T.calls self.old) (request_position T.calls self.new) Use
+            advanced.ask) }
+        ensures used { OnOk result
+            (used_between (request_position T.calls self.old).place
+            (request_position T.calls self.new).place ≡ []) }
         ensures begun { OnOk result (has_begun self.new.stage ≡ true) }
         ensures world { self.new.world ≡ self.old.world }
-        ensures former { IfOk result (λ advanced. Replaces T.calls self.old self.new advanced.former) }
+        ensures former { IfOk result
+            (λ advanced. Replaces T.calls self.old self.new advanced.former) }
         ensures err { OnErr result (self.new ≡ self.old) }
     {
         let After {

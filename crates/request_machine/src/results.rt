@@ -99,7 +99,8 @@ fn replay_results(
     results: &[RequestResult],
 ) -> Result<(), NoMemory>
     requires { IsSome (replay_all learnt.now.finished (runs_of results.now) journal.old) }
-    ensures { OnOk result (replay_all learnt.now.finished (runs_of results.now) journal.old ≡ Some journal.new) }
+    ensures { OnOk result (replay_all learnt.now.finished (runs_of results.now) journal.old
+        ≡ Some journal.new) }
 {
     for result in results {
         journal.replay_all(alloc, learnt, result.runs.as_slice())?;

@@ -2,7 +2,15 @@ ghost use Rattle.std.specs.Prelude.{◌≡◌, ◌++◌, IfOk, OnOk, option_copi
 ghost use Rattle.std.specs.List.{find, flat_map, list_any};
 ghost use Rattle.std.specs.Str.{bytes_eq};
 ghost use Rattle.build_world.specs.Instances.{seen_instance};
-ghost use Rattle.request_machine.specs.Requests.{all_targets, asked_targets, if_returned, named_or, once, returned_of, succeeded};
+ghost use Rattle.request_machine.specs.Requests.{
+  all_targets,
+  asked_targets,
+  if_returned,
+  named_or,
+  once,
+  returned_of,
+  succeeded,
+};
 ghost use Rattle.request_machine.specs.Each.{returned_unless};
 ghost use Rattle.request_machine.specs.Seen.{seen_project};
 
@@ -15,10 +23,12 @@ use result_cache::{RequestKey, Returned};
 use std::alloc::Global;
 
 impl<'a> Moment<'a> {
-    /// A request whose targets were all visited: it returns the items of the targets asked for, in their order, each name
-    /// once. (MSBuild task, TargetOutputs.)
+    /// A request whose targets were all visited: it returns the items of the targets asked for, in
+    /// their order, each name once. (MSBuild task, TargetOutputs.)
     pub fn success(&self, alloc: Global) -> Result<Reply, NoMemory>
-        ensures { IfOk result (λ reply. reply ≡ succeeded (seen_project self.now.project).instance self.now.key.now self.now.standing.now.returned) }
+        ensures { IfOk result (λ reply. reply
+            ≡ succeeded (seen_project self.now.project).instance self.now.key.now
+            self.now.standing.now.returned) }
     {
         let names = asked_targets(self.project.instance.get(), self.key);
         let returned = self.standing.returned.entries(alloc)?;
@@ -82,7 +92,9 @@ fn push_returned(
     ahead: &[Name],
     name: &Name,
 ) -> Result<(), NoMemory>
-    ensures { OnOk result (by.new ≡ by.old ++ returned_unless (list_any (bytes_eq name.now) ahead.now) returned.now name.now) }
+    ensures { OnOk result
+        (by.new ≡ by.old ++ returned_unless (list_any (bytes_eq name.now) ahead.now) returned.now
+        name.now) }
 {
     if is_among(ahead, name) {
         return Ok(());

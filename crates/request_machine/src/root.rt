@@ -5,8 +5,8 @@ use build_world::World;
 use msb_values::{Copied, InstanceKey, NoMemory};
 use result_cache::RequestKey;
 
-/// The key of the root request of a build: its default targets are asked for where none is named. (MSBuild command-line
-/// reference.)
+/// The key of the root request of a build: its default targets are asked for where none is named.
+/// (MSBuild command-line reference.)
 pub fn root_key(world: &World) -> Result<RequestKey, NoMemory>
     ensures { IfOk result (λ key. key ≡ root_of world.now) }
 {

@@ -31,8 +31,11 @@ impl<T: CountedTools> Visit<T> {
         tools: &mut T,
         journal: &mut Journal,
     ) -> Result<Step<T>, NoMemory>
-        ensures goes { IfOk result (let target = target_named (seen_instance self.now.instance).targets self.now.run.target in
-            Steps T.answer T.calls world.now self.now.run target (body_if world.now self.now.run target self.now.standing.scope journal.old) nothing_yet journal.old journal.new tools.old tools.new) }
+        ensures goes { IfOk result
+            (let target = target_named (seen_instance self.now.instance).targets self.now.run.target in
+            Steps T.answer T.calls world.now self.now.run target
+            (body_if world.now self.now.run target self.now.standing.scope journal.old) nothing_yet
+            journal.old journal.new tools.old tools.new) }
         ensures tools { BeginsWith (T.calls tools.old) (T.calls tools.new) }
         ensures run { IfOk result (λ step. run_in self.now.run step.at ≡ self.now.run) }
     {
@@ -62,9 +65,15 @@ impl<T: CountedTools> Visit<T> {
         journal: &mut Journal,
         results: &List<RequestResult>,
     ) -> Result<Step<T>, NoMemory>
-        requires { IsWaiting (halt_at T.calls world.now self.now.run (target_named (seen_instance self.now.instance).targets self.now.run.target) self.now.at) results.now }
-        ensures goes { IfOk result (let target = target_named (seen_instance self.now.instance).targets self.now.run.target in
-            GoesOnFrom T.answer T.calls world.now self.now.run target (halt_at T.calls world.now self.now.run target self.now.at) results.now journal.old journal.new tools.old tools.new) }
+        requires { IsWaiting
+            (halt_at T.calls world.now self.now.run
+            (target_named (seen_instance self.now.instance).targets self.now.run.target)
+            self.now.at) results.now }
+        ensures goes { IfOk result
+            (let target = target_named (seen_instance self.now.instance).targets self.now.run.target in
+            GoesOnFrom T.answer T.calls world.now self.now.run target
+            (halt_at T.calls world.now self.now.run target self.now.at) results.now journal.old
+            journal.new tools.old tools.new) }
         ensures tools { BeginsWith (T.calls tools.old) (T.calls tools.new) }
         ensures run { IfOk result (λ step. run_in self.now.run step.at ≡ self.now.run) }
     {
@@ -85,8 +94,8 @@ impl<T: CountedTools> Visit<T> {
 }
 
 impl<T> Visit<T> {
-    /// The record of its run, all of which the journal has then: another request has made it, or its own body. (Target build
-    /// order.)
+    /// The record of its run, all of which the journal has then: another request has made it, or
+    /// its own body. (Target build order.)
     pub fn record(
         &self,
         alloc: Global,
@@ -95,7 +104,8 @@ impl<T> Visit<T> {
         journal: &mut Journal,
     ) -> Result<RecordRef, NoMemory>
         requires { HasRecord learnt.now.finished run.now journal.old self.now.at }
-        ensures { IfOk result (IsRecord learnt.now.finished run.now journal.old journal.new self.now.at) }
+        ensures { IfOk result
+            (IsRecord learnt.now.finished run.now journal.old journal.new self.now.at) }
     {
         match &self.at {
             At::Wanted => replayed(alloc, learnt, journal, run),
@@ -118,7 +128,8 @@ fn replayed(
     requires known { IsSome (found learnt.now.finished run.now) }
     requires replays { IsSome (replay learnt.now.finished run.now journal.old) }
     ensures known { IfOk result (λ made. found learnt.now.finished run.now ≡ Some made) }
-    ensures replays { OnOk result (replay learnt.now.finished run.now journal.old ≡ Some journal.new) }
+    ensures replays { OnOk result (replay learnt.now.finished run.now journal.old
+        ≡ Some journal.new) }
 {
     match learnt.find_ref(run) {
         Found::Done(made) => {

@@ -54,8 +54,8 @@ impl<T> Copied for Shared<T> {
     }
 }
 
-/// A list that grows at its end. Its copies share its entries: a copy takes a time and room that grow with the logarithm of
-/// the length, and so does a push, if one takes the mean of many.
+/// A list that grows at its end. Its copies share its entries: a copy takes a time and room that
+/// grow with the logarithm of the length, and so does a push, if one takes the mean of many.
 pub struct SharedList<T> {
     /// In order; each is larger than the next one.
     layers: List<Shared<List<Shared<T>>>>,
@@ -96,7 +96,8 @@ impl<T> SharedList<T> {
 }
 
 impl<T: Drop> SharedList<T> {
-    /// Adds an entry at the end; where there is no memory, the list stays as it was, and the entry is dropped.
+    /// Adds an entry at the end; where there is no memory, the list stays as it was, and the entry
+    /// is dropped.
     pub fn push(&mut self, alloc: Global, entry: T) -> Result<(), NoMemory>
         ensures ok { OnOk result (self.new ≡ self.old ++ entry ∷ []) }
         ensures err { OnErr result (self.new ≡ self.old) }
@@ -169,8 +170,9 @@ fn copies_of<T: Copied + Drop>(alloc: Global, entries: &[Shared<T>]) -> Result<L
     Ok(List::from(copies))
 }
 
-// The layers with entries behind them, which take in the last layers that are no larger: so each layer is larger than the
-// next one, and there are no more of them than the logarithm of the number of entries.
+// The layers with entries behind them, which take in the last layers that are no larger: so each
+// layer is larger than the next one, and there are no more of them than the logarithm of the number
+// of entries.
 fn with_last<T: Drop>(
     alloc: Global,
     layers: &[Shared<List<Shared<T>>>],

@@ -42,8 +42,8 @@ impl<T> Stage<T> {
         }
     }
 
-    /// How a request stands that is over. In the body of a run it is over only where its project has
-    /// no such target, and has failed then.
+    /// How a request stands that is over. In the body of a run it is over only where its project
+    /// has no such target, and has failed then.
     pub fn ended(&self, alloc: Global) -> Result<Stage<T>, NoMemory>
         ensures { IfOk result (λ stage. stage ≡ ended_stage self.now) }
     {

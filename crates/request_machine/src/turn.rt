@@ -4,7 +4,14 @@ ghost use Rattle.msb_values.specs.Caused.{UnlessMemory};
 ghost use Rattle.build_world.specs.declared.fault.EvalFault.{EvalFault as TheFault};
 ghost use Rattle.target_order.specs.declared.asks.OrderAnswer.{OrderAnswer as TheAnswer};
 ghost use Rattle.target_order.specs.declared.asks.OrderAnswer.TheVariants.{Truth, Names, Failed};
-ghost use Rattle.request_machine.specs.Requests.{depends_of, failed, holds_of, on_error, succeeded, target_at};
+ghost use Rattle.request_machine.specs.Requests.{
+  depends_of,
+  failed,
+  holds_of,
+  on_error,
+  succeeded,
+  target_at,
+};
 ghost use Rattle.request_machine.specs.Turns.{answer_turn, end_turn, turn_of};
 ghost use Rattle.request_machine.specs.Walk.{answer_of};
 ghost use Rattle.request_machine.specs.Seen.{seen_project};
@@ -34,7 +41,9 @@ pub enum Turn {
 impl<'a> Moment<'a> {
     /// What comes of an ask of the order, which has failed or not. (Target build order.)
     pub fn turn(&self, alloc: Global, ask: &OrderAsk, has_failed: bool) -> Result<Turn, NoMemory>
-        ensures { IfOk result (λ turn. turn ≡ turn_of (seen_project self.now.project) self.now.key.now self.now.standing.now self.now.journal.now has_failed ask.now) }
+        ensures { IfOk result
+            (λ turn. turn ≡ turn_of (seen_project self.now.project) self.now.key.now
+            self.now.standing.now self.now.journal.now has_failed ask.now) }
     {
         match ask {
             OrderAsk::Condition(name) => self.condition_turn(alloc, name),
@@ -47,7 +56,12 @@ impl<'a> Moment<'a> {
     }
 
     fn condition_turn(&self, alloc: Global, name: &Name) -> Result<Turn, NoMemory>
-        ensures { IfOk result (λ turn. turn ≡ answer_turn (map_ok Truth (holds_of (seen_project self.now.project) self.now.standing.now.scope self.now.journal.now (target_at (seen_project self.now.project) name.now)))) }
+        ensures { IfOk result
+            (λ turn. turn
+            ≡ answer_turn
+            (map_ok Truth
+            (holds_of (seen_project self.now.project) self.now.standing.now.scope
+            self.now.journal.now (target_at (seen_project self.now.project) name.now)))) }
     {
         match self.condition(alloc, name) {
             Ok(holds) => Ok(Turn::Answer(OrderAnswer::Truth(holds))),
@@ -56,7 +70,12 @@ impl<'a> Moment<'a> {
     }
 
     fn depends_turn(&self, alloc: Global, name: &Name) -> Result<Turn, NoMemory>
-        ensures { IfOk result (λ turn. turn ≡ answer_turn (map_ok Names (depends_of (seen_project self.now.project) self.now.standing.now.scope (target_at (seen_project self.now.project) name.now)))) }
+        ensures { IfOk result
+            (λ turn. turn
+            ≡ answer_turn
+            (map_ok Names
+            (depends_of (seen_project self.now.project) self.now.standing.now.scope
+            (target_at (seen_project self.now.project) name.now)))) }
     {
         match self.depends(alloc, name) {
             Ok(names) => Ok(Turn::Answer(OrderAnswer::Names(names))),
@@ -64,9 +83,14 @@ impl<'a> Moment<'a> {
         }
     }
 
-    /// How the order is answered by the run of a target that has succeeded or failed. (OnError element.)
+    /// How the order is answered by the run of a target that has succeeded or failed. (OnError
+    /// element.)
     pub fn run_turn(&self, alloc: Global, ok: bool, name: &Name) -> Result<Turn, NoMemory>
-        ensures { IfOk result (λ turn. turn ≡ answer_turn (answer_of (seen_project self.now.project) ok self.now.standing.now self.now.journal.now name.now)) }
+        ensures { IfOk result
+            (λ turn. turn
+            ≡ answer_turn
+            (answer_of (seen_project self.now.project) ok self.now.standing.now self.now.journal.now
+            name.now)) }
     {
         if ok {
             return Ok(Turn::Answer(OrderAnswer::Ok));
@@ -79,7 +103,9 @@ impl<'a> Moment<'a> {
 
     // How a request ends whose targets were all visited, or whose target has failed.
     fn end(&self, alloc: Global, has_failed: bool) -> Result<Reply, NoMemory>
-        ensures { IfOk result (λ reply. reply ≡ end_turn has_failed (seen_project self.now.project) self.now.key.now self.now.standing.now) }
+        ensures { IfOk result (λ reply. reply
+            ≡ end_turn has_failed (seen_project self.now.project) self.now.key.now
+            self.now.standing.now) }
     {
         if has_failed {
             return Ok(Reply::failed(alloc, None));
@@ -90,7 +116,8 @@ impl<'a> Moment<'a> {
 
 // A fault in a Condition or a list is the request's error.
 fn fault_turn(alloc: Global, fault: &EvalFault) -> Result<Turn, NoMemory>
-    ensures { IfOk result (λ turn. (given : Result TheAnswer TheFault) → UnlessMemory fault.now.cause (given ≡ Err fault.now) → turn ≡ answer_turn given) }
+    ensures { IfOk result (λ turn. (given : Result TheAnswer TheFault)
+        → UnlessMemory fault.now.cause (given ≡ Err fault.now) → turn ≡ answer_turn given) }
 {
     if let Cause::Memory = fault.cause {
         return Err(NoMemory);

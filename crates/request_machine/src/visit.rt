@@ -33,7 +33,8 @@ impl<T> Drop for At<T> {
     }
 }
 
-/// A request of an evaluated project that wants the run of a target, or makes it. (Target build order.)
+/// A request of an evaluated project that wants the run of a target, or makes it. (Target build
+/// order.)
 pub struct Visit<T> {
     pub instance: InstanceRef,
     pub standing: Standing,

@@ -11,7 +11,8 @@ use std::alloc::Global;
 use target_order::{OrderAnswer, OrderWalk};
 
 impl<'a> Moment<'a> {
-    /// Answers what the order asks, until it wants the run of a target, or the request is over. (Target build order.)
+    /// Answers what the order asks, until it wants the run of a target, or the request is over.
+    /// (Target build order.)
     pub fn go_on(
         &self,
         alloc: Global,
@@ -19,7 +20,9 @@ impl<'a> Moment<'a> {
         first: OrderAnswer,
     ) -> Result<Stand, NoMemory>
         requires { Fits order.old first }
-        ensures { IfOk result (λ stand. StandsNext (seen_project self.now.project) self.now.key.now self.now.standing.now self.now.journal.now (left order.old first) stand order.new) }
+        ensures { IfOk result
+            (λ stand. StandsNext (seen_project self.now.project) self.now.key.now
+            self.now.standing.now self.now.journal.now (left order.old first) stand order.new) }
     {
         let mut answer = first;
         loop {

@@ -23,7 +23,8 @@ pub struct WorldRef<'a> {
     pub world: &'a World,
 }
 
-/// The walk of a request of a build, with the records that it has learnt. (Target build order; MSBuild task.)
+/// The walk of a request of a build, with the records that it has learnt. (Target build order;
+/// MSBuild task.)
 pub struct Walk<'a, T> {
     pub(crate) request: Request<'a, T>,
     pub(crate) learnt: Table,
@@ -58,11 +59,14 @@ impl<'a, T: CountedTools> Walk<'a, T> {
     ghost use Rattle.request_machine.specs.WalkPosition.{walk_position, walk_world};
     ghost use Rattle.request_machine.specs.Worlds.{root_of, world_of};
 
-    /// The walk of the root request of a build, which had no answer yet; its key is that of `root_key`. A root project that is
-    /// not among the files is not evaluated, and the request says so. (MSBuild command-line reference.)
+    /// The walk of the root request of a build, which had no answer yet; its key is that of
+    /// `root_key`. A root project that is not among the files is not evaluated, and the request
+    /// says so. (MSBuild command-line reference.)
     pub fn start(alloc: Global, world: &'a World) -> Result<Walk<'a, T>, NoMemory>
-        ensures world { IfOk result (λ walk. walk_world T.answer walk ≡ world_of T.answer world.entry.now) }
-        ensures begins { IfOk result (λ walk. walk_position T.calls walk ≡ begins (world_of T.answer world.entry.now) (root_of world.entry.now) []) }
+        ensures world { IfOk result (λ walk. walk_world T.answer walk
+            ≡ world_of T.answer world.entry.now) }
+        ensures begins { IfOk result (λ walk. walk_position T.calls walk
+            ≡ begins (world_of T.answer world.entry.now) (root_of world.entry.now) []) }
         ensures asked { IfOk result (λ walk. walk.asked ≡ 0) }
         ensures learnt { IfOk result (λ walk. walk.learnt.finished ≡ []) }
         ensures before { IfOk result (λ walk. walk.before ≡ None) }
@@ -97,7 +101,8 @@ impl<'a, T: CountedTools> Walk<'a, T> {
     // The walk of a request that begins with a journal.
     fn of(alloc: Global, world: &'a World, key: RequestKey, journal: Journal) -> Walk<'a, T>
         ensures world { result.request.world.now ≡ world.entry.now }
-        ensures begins { walk_position T.calls result ≡ begins (world_of T.answer world.entry.now) key journal }
+        ensures begins { walk_position T.calls result
+            ≡ begins (world_of T.answer world.entry.now) key journal }
         ensures asked { result.asked ≡ 0 }
         ensures learnt { result.learnt.finished ≡ [] }
         ensures before { result.before ≡ None }
@@ -118,7 +123,12 @@ impl<'a, T: CountedTools + 'a> Walker for Walk<'a, T> {
     ghost use Rattle.request_machine.specs.Sites.{Suits};
     ghost use Rattle.request_machine.specs.SuitsOnce.{suits-once};
     ghost use Rattle.request_machine.specs.Walk.{Site};
-    ghost use Rattle.request_machine.specs.WalkPosition.{earlier_position, tools_used, walk_position, walk_world};
+    ghost use Rattle.request_machine.specs.WalkPosition.{
+      earlier_position,
+      tools_used,
+      walk_position,
+      walk_world,
+    };
     ghost use Rattle.request_machine.specs.Worlds.{world_of};
     ghost use Rattle.task_trait.specs.declared.tools.ToolAnswer.{ToolAnswer};
     ghost use Rattle.task_trait.specs.declared.tools.ToolInput.{ToolInput};

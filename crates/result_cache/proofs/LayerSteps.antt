@@ -1,14 +1,57 @@
 -- What is found in layers of runs one after the other, one layer on, and how layers are joined.
-use Rattle.std.proofs.Common.{◌≡◌, ℕ, zero, suc, ◌+◌, ◌-◌, ◌<◌, ◌≤◌, List, [], ◌∷◌, ◌++◌, length, take, drop, get_or, true, false, Some, None, refl, ap, subst, ◌∙◌, sym, arith, length-append, length-drop}
+use Rattle.std.proofs.Common.{
+  ◌≡◌,
+  ℕ,
+  zero,
+  suc,
+  ◌+◌,
+  ◌-◌,
+  ◌<◌,
+  ◌≤◌,
+  List,
+  [],
+  ◌∷◌,
+  ◌++◌,
+  length,
+  take,
+  drop,
+  get_or,
+  true,
+  false,
+  Some,
+  None,
+  refl,
+  ap,
+  subst,
+  ◌∙◌,
+  sym,
+  arith,
+  length-append,
+  length-drop,
+}
 use Rattle.std.specs.List.{slice_get}
-use Rattle.std.proofs.lemmas.List.{append-nil, append_assoc, take-append-drop, drop_more, take_all, take_more}
+use Rattle.std.proofs.lemmas.List.{
+  append-nil,
+  append_assoc,
+  take-append-drop,
+  drop_more,
+  take_all,
+  take_more,
+}
 use Rattle.result_cache.specs.declared.run.RunId.{RunId}
 use Rattle.result_cache.specs.declared.record.Record.{Record}
 use Rattle.result_cache.specs.Kept.{runs_of, all_of}
 use Rattle.result_cache.specs.Lists.{this_or}
 use Rattle.result_cache.specs.Same.{same_run, AreDistinct}
 use Rattle.result_cache.specs.Table.{FinishedRun, Records, found}
-use Rattle.result_cache.proofs.RunLists.{run_laws, found-here, found-later, absent-before, distinct-front, distinct-back}
+use Rattle.result_cache.proofs.RunLists.{
+  run_laws,
+  found-here,
+  found-later,
+  absent-before,
+  distinct-front,
+  distinct-back,
+}
 
 slice_get_front : {X : Type 0} (xs ys : List X) (n : ℕ) → n < length xs
     → slice_get (xs ++ ys) n ≡ slice_get xs n

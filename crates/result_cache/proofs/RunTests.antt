@@ -1,5 +1,29 @@
 -- Tests on runs and marks, and what they say.
-use Rattle.std.proofs.Common.{◌≡◌, Bool, true, false, ◌==◌, ◌||◌, ◌&&◌, ◌⊎◌, inl, inr, List, [], ◌∷◌, Option, None, Some, ℕ, nat_eq, ◌≢◌, refl, sym, ap, ◌∙◌}
+use Rattle.std.proofs.Common.{
+  ◌≡◌,
+  Bool,
+  true,
+  false,
+  ◌==◌,
+  ◌||◌,
+  ◌&&◌,
+  ◌⊎◌,
+  inl,
+  inr,
+  List,
+  [],
+  ◌∷◌,
+  Option,
+  None,
+  Some,
+  ℕ,
+  nat_eq,
+  ◌≢◌,
+  refl,
+  sym,
+  ap,
+  ◌∙◌,
+}
 use Rattle.std.specs.Cmp.{unsigned_Decides}
 use Rattle.std.proofs.lemmas.Bool.{eqb-true, eq-eqb}
 use Rattle.msb_laws.specs.Asking.{and_then}
@@ -84,8 +108,10 @@ is_in-true r (x ∷ runs) (inr i) = or_right (same_run x r) (is_in r runs) (is_i
 
 pub in-is_in : (r : RunId) (runs : List RunId) → is_in r runs ≡ true → In r runs
 in-is_in r [] h = absurd (cc)
-in-is_in r (x ∷ runs) h = elim (or_cases (same_run x r) (is_in r runs) h) [ inl p ↦ inl (same_run-true x r p) | inr p ↦ inr (in-is_in r runs p) ]
+in-is_in r (x ∷ runs) h = elim (or_cases (same_run x r) (is_in r runs) h)
+    [ inl p ↦ inl (same_run-true x r p) | inr p ↦ inr (in-is_in r runs p) ]
 
-pub and_then-some : {X Y : Type 0} (o : Option X) (f : X → Option Y) (y : Y) → and_then o f ≡ Some y → (x : X) × (o ≡ Some x) × (f x ≡ Some y)
+pub and_then-some : {X Y : Type 0} (o : Option X) (f : X → Option Y) (y : Y) → and_then o f ≡ Some y
+    → (x : X) × (o ≡ Some x) × (f x ≡ Some y)
 and_then-some None f y h = absurd (cc)
 and_then-some (Some x) f y h = (x, refl, h)

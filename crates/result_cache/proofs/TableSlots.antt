@@ -1,6 +1,39 @@
 -- The slots of a table: what holds of them after a run is begun or finished, and that each run is
 -- there once.
-use Rattle.std.proofs.Common.{◌≡◌, ℕ, zero, suc, ◌+◌, ◌<◌, true, false, ◌||◌, ◌⊎◌, inl, inr, List, [], ◌∷◌, ◌++◌, length, map, reverse, slice_get, Option, None, Some, is_some, IsSome, not, refl, sym, ap, subst, ◌∙◌, arith}
+use Rattle.std.proofs.Common.{
+  ◌≡◌,
+  ℕ,
+  zero,
+  suc,
+  ◌+◌,
+  ◌<◌,
+  true,
+  false,
+  ◌||◌,
+  ◌⊎◌,
+  inl,
+  inr,
+  List,
+  [],
+  ◌∷◌,
+  ◌++◌,
+  length,
+  map,
+  reverse,
+  slice_get,
+  Option,
+  None,
+  Some,
+  is_some,
+  IsSome,
+  not,
+  refl,
+  sym,
+  ap,
+  subst,
+  ◌∙◌,
+  arith,
+}
 use Rattle.std.specs.List.{IsDistinct}
 use Rattle.std.specs.Map.{keys_of, lookup, lookup_key}
 use Rattle.std.specs.Option.{option_map}
@@ -15,10 +48,36 @@ use Rattle.result_cache.specs.Kept.{KeptRuns, runs_of}
 use Rattle.result_cache.specs.Lists.{In}
 use Rattle.result_cache.specs.Same.{same_run, is_in, AreDistinct}
 use Rattle.result_cache.specs.Slots.{Slot, Slots, begun_in, with_begun, IsKept, AreSlots}
-use Rattle.result_cache.specs.Table.{Records, found, BegunRun, is_begun, request_of, TableRuns, HasEachOnce}
+use Rattle.result_cache.specs.Table.{
+  Records,
+  found,
+  BegunRun,
+  is_begun,
+  request_of,
+  TableRuns,
+  HasEachOnce,
+}
 use Rattle.result_cache.proofs.RunTests.{clash, same_run-true}
-use Rattle.result_cache.proofs.RunLists.{run_laws, found-other, found-last, distinct-behind, distinct-push, found-reverse, distinct-reverse}
-use Rattle.result_cache.proofs.SlotEntries.{request_if, told-request, request-begun, lookup-in, begun-some, begun-push, taken-length, taken-in, absent-behind}
+use Rattle.result_cache.proofs.RunLists.{
+  run_laws,
+  found-other,
+  found-last,
+  distinct-behind,
+  distinct-push,
+  found-reverse,
+  distinct-reverse,
+}
+use Rattle.result_cache.proofs.SlotEntries.{
+  request_if,
+  told-request,
+  request-begun,
+  lookup-in,
+  begun-some,
+  begun-push,
+  taken-length,
+  taken-in,
+  absent-behind,
+}
 
 not-some : {X : Type 0} (o : Option X) → true ≡ not (is_some o) → o ≡ None
 not-some None h = refl

@@ -12,8 +12,10 @@ beq-truth false true = refl
 beq-truth false false = refl
 
 -- two lists of one length are the same where their entries are, place by place
-pub pointwise-zip : {X : Type 0} (same : X → X → Bool) (a b : List X) → length a ≡ length b → list_all (λ p. same p.0 p.1) (zip a b) ≡ pointwise same a b
+pub pointwise-zip : {X : Type 0} (same : X → X → Bool) (a b : List X) → length a ≡ length b
+    → list_all (λ p. same p.0 p.1) (zip a b) ≡ pointwise same a b
 pointwise-zip same [] [] long = refl
 pointwise-zip same [] (y ∷ b) long = absurd (omega arith)
 pointwise-zip same (x ∷ a) [] long = absurd (omega arith)
-pointwise-zip same (x ∷ a) (y ∷ b) long = let rest : length a ≡ length b = omega arith in ap (λ t. same x y && t) (pointwise-zip same a b rest)
+pointwise-zip same (x ∷ a) (y ∷ b) long = let rest : length a
+    ≡ length b = omega arith in ap (λ t. same x y && t) (pointwise-zip same a b rest)

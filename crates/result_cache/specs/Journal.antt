@@ -1,4 +1,5 @@
--- What a request knows of the files that targets have written or removed, and of the runs that have ended. (MSBuild targets.)
+-- What a request knows of the files that targets have written or removed, and of the runs that have
+-- ended. (MSBuild targets.)
 use Rattle.std.specs.Prelude.{ℕ, Bool, true, false, ◌==◌, ◌||◌, ◌&&◌, List, [], ◌∷◌, Option, None}
 use Rattle.std.specs.Str.{bytes_eq}
 use Rattle.msb_values.specs.declared.act.Act.{Act}
@@ -8,7 +9,8 @@ use Rattle.result_cache.specs.declared.record.Record.{Record}
 use Rattle.result_cache.specs.Lists.{this_or}
 use Rattle.result_cache.specs.Same.{same_run}
 
--- what a run did to a path, with its place among the segments of the run's record; a run that has ended, with its record
+-- what a run did to a path, with its place among the segments of the run's record; a run that has
+-- ended, with its record
 pub data Entry : Type 0 where
   acted : RunId → ℕ → Act → Entry
   ended : RunId → Record → Entry
@@ -48,19 +50,23 @@ add_unless false journal e = e ∷ journal
 abbrev pub add : Journal → Entry → Journal
 add journal e = add_unless (has (mark e) journal) journal e
 
--- the journal with the entries of another that it has not, in their order: this joins calls made at once (MSBuild task, BuildInParallel)
+-- the journal with the entries of another that it has not, in their order: this joins calls made at
+-- once (MSBuild task, BuildInParallel)
 abbrev pub merge : Journal → Journal → Journal
 merge journal [] = journal
 merge journal (e ∷ other) = add (merge journal other) e
 
--- what the last act on a path left there, which is nothing where it removed the file; none where no run has acted on the path
+-- what the last act on a path left there, which is nothing where it removed the file; none where no
+-- run has acted on the path
 abbrev pub content : Journal → List ℕ → Option (Option (List ℕ))
 content [] path = None
-content (acted run place act ∷ journal) path = this_or (bytes_eq (act_path act) path) (content journal path) (act_bytes act)
+content (acted run place act ∷ journal) path = this_or (bytes_eq (act_path act) path)
+    (content journal path) (act_bytes act)
 content (ended run made ∷ journal) path = content journal path
 
 -- the record of a run that has ended
 abbrev pub record_of : Journal → RunId → Option Record
 record_of [] run = None
 record_of (acted other place act ∷ journal) run = record_of journal run
-record_of (ended other made ∷ journal) run = this_or (same_run other run) (record_of journal run) made
+record_of (ended other made ∷ journal) run = this_or (same_run other run) (record_of journal run)
+    made

@@ -23,14 +23,17 @@ abbrev pub pair_order : List ℕ × List ℕ → List ℕ × List ℕ → Orderi
 pair_order p q = ordering_then (slice_cmp nat_cmp p.0 q.0) (slice_cmp nat_cmp p.1 q.1)
 
 abbrev pub instance_order : InstanceKey → InstanceKey → Ordering
-instance_order a b = ordering_then (slice_cmp nat_cmp a.path b.path) (slice_cmp pair_order a.globals b.globals)
+instance_order a b = ordering_then (slice_cmp nat_cmp a.path b.path)
+    (slice_cmp pair_order a.globals b.globals)
 
 abbrev pub run_order : RunId → RunId → Ordering
-run_order a b = ordering_then (instance_order a.instance b.instance) (slice_cmp nat_cmp a.target b.target)
+run_order a b = ordering_then (instance_order a.instance b.instance)
+    (slice_cmp nat_cmp a.target b.target)
 
 -- what a hash is fed of a run
 abbrev pub run_writes : RunId → HashWrites
-run_writes run = (str run.instance.path ++ slice (λ p. str p.0 ++ str p.1) run.instance.globals) ++ str run.target
+run_writes run = (str run.instance.path ++ slice (λ p. str p.0 ++ str p.1) run.instance.globals)
+    ++ str run.target
 
 -- the run is one of these
 abbrev pub is_in : RunId → List RunId → Bool
@@ -51,7 +54,8 @@ same_truth false false = true
 
 -- one instance, the same targets, and named in both or in neither
 unfoldable pub same_key : RequestKey → RequestKey → Bool
-same_key a b = same_instance a.instance b.instance && (pointwise bytes_eq a.targets b.targets && same_truth a.named b.named)
+same_key a b = same_instance a.instance b.instance
+    && (pointwise bytes_eq a.targets b.targets && same_truth a.named b.named)
 
 -- the same requests in the same order
 abbrev pub same_keys : List RequestKey → List RequestKey → Bool

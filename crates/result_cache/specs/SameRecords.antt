@@ -4,14 +4,25 @@ use Rattle.std.specs.Cmp.Lexicographic.{pointwise}
 use Rattle.std.specs.Str.{bytes_eq}
 use Rattle.msb_values.specs.Equal.{same_pairs, same_item}
 use Rattle.msb_values.specs.declared.change.Change.{Change}
-use Rattle.msb_values.specs.declared.change.Change.TheVariants.{SetProp, AddItems, RemoveItems, SetMeta}
+use Rattle.msb_values.specs.declared.change.Change.TheVariants.{
+  SetProp,
+  AddItems,
+  RemoveItems,
+  SetMeta,
+}
 use Rattle.msb_values.specs.declared.note.Note.{Note}
 use Rattle.msb_values.specs.declared.note.Note.TheVariants.{Low, Message, Warning, Fail}
 use Rattle.msb_values.specs.declared.act.Act.{Act}
 use Rattle.msb_values.specs.declared.act.Act.TheVariants.{Write, Remove}
 use Rattle.msb_values.specs.declared.put.Put.{Put}
 use Rattle.result_cache.specs.declared.record.Decision.{Decision}
-use Rattle.result_cache.specs.declared.record.Decision.TheVariants.{Ran, UpToDate, NothingToDo, Part, Failed}
+use Rattle.result_cache.specs.declared.record.Decision.TheVariants.{
+  Ran,
+  UpToDate,
+  NothingToDo,
+  Part,
+  Failed,
+}
 use Rattle.result_cache.specs.declared.record.Record.{Record}
 use Rattle.result_cache.specs.declared.record.Segment.{Segment}
 use Rattle.result_cache.specs.declared.record.Segment.TheVariants.{File, Call}
@@ -40,7 +51,8 @@ abbrev pub same_change : Change → Change → Bool
 same_change (SetProp n a) (SetProp m b) = bytes_eq n m && bytes_eq a b
 same_change (AddItems n a) (AddItems m b) = bytes_eq n m && pointwise same_item a b
 same_change (RemoveItems n a) (RemoveItems m b) = bytes_eq n m && pointwise bytes_eq a b
-same_change (SetMeta n a p) (SetMeta m b q) = bytes_eq n m && (pointwise same_item a b && same_pairs p q)
+same_change (SetMeta n a p) (SetMeta m b q) = bytes_eq n m
+    && (pointwise same_item a b && same_pairs p q)
 same_change a b = false
 
 -- one decision, of as many items
@@ -61,5 +73,7 @@ same_segment a b = false
 -- all is the same
 unfoldable pub same_record : Record → Record → Bool
 same_record a b =
-    same_truth a.ok b.ok && (pointwise same_decision a.decisions b.decisions && (pointwise same_item a.items b.items
-    && (pointwise same_change a.changes b.changes && (pointwise same_note a.notes b.notes && pointwise same_segment a.segments b.segments))))
+    same_truth a.ok b.ok
+    && (pointwise same_decision a.decisions b.decisions && (pointwise same_item a.items b.items
+    && (pointwise same_change a.changes b.changes
+    && (pointwise same_note a.notes b.notes && pointwise same_segment a.segments b.segments))))

@@ -44,7 +44,8 @@ abbrev pub without : RunId → List BegunRun → List BegunRun
 without run [] = []
 without run (b ∷ begun) = begun_unless (same_run b.run run) b (without run begun)
 
--- what a table holds: the records of the runs that are finished, and the runs that are begun and not finished, each with the last one first
+-- what a table holds: the records of the runs that are finished, and the runs that are begun and
+-- not finished, each with the last one first
 pub record TableRuns : Type 0 where
   pub finished : Records
   pub begun : List BegunRun

@@ -1,4 +1,15 @@
-ghost use Rattle.std.specs.Prelude.{◌≡◌, [], ◌∷◌, ◌++◌, None, length, OnOk, option_copied, slice_get, option_map};
+ghost use Rattle.std.specs.Prelude.{
+  ◌≡◌,
+  [],
+  ◌∷◌,
+  ◌++◌,
+  None,
+  length,
+  OnOk,
+  option_copied,
+  slice_get,
+  option_map,
+};
 ghost use Rattle.result_cache.specs.Found.{seen_finished};
 ghost use Rattle.result_cache.specs.Kept.{runs_of};
 ghost use Rattle.result_cache.specs.Same.{AreDistinct};

@@ -1,4 +1,19 @@
-ghost use Rattle.std.specs.Prelude.{◌≡◌, ◌<◌, [], ◌∷◌, ◌++◌, None, Some, IsSome, IfOk, length, reverse, slice_get, OnErr, OnOk};
+ghost use Rattle.std.specs.Prelude.{
+  ◌≡◌,
+  ◌<◌,
+  [],
+  ◌∷◌,
+  ◌++◌,
+  None,
+  Some,
+  IsSome,
+  IfOk,
+  length,
+  reverse,
+  slice_get,
+  OnErr,
+  OnOk,
+};
 ghost use Rattle.indexmap.specs.IndexMap.{index_map_len, get, spare, IsUnique};
 ghost use Rattle.indexmap.specs.Layout.{set_value_at};
 ghost use Rattle.std.specs.Option.{option_map};
@@ -49,10 +64,11 @@ pub enum Found<'a> {
     Done(&'a RecordRef),
 }
 
-/// The runs that are finished, with their records, and those that are begun. (MSBuild task: a target is run once.)
+/// The runs that are finished, with their records, and those that are begun. (MSBuild task: a
+/// target is run once.)
 ///
-/// A run is begun by one request, and is finished once. Contracts see the finished runs and the begun ones as two lists,
-/// each with the last one first.
+/// A run is begun by one request, and is finished once. Contracts see the finished runs and the
+/// begun ones as two lists, each with the last one first.
 pub struct Table {
     finished: Finished,
     /// All runs in the order of their beginnings; nothing is kept of one that is finished.
@@ -107,13 +123,14 @@ impl Table {
         })
     }
 
-    /// Enters a run that a request begins, with the room that its record will need. Where there is no memory, nothing
-    /// changes.
+    /// Enters a run that a request begins, with the room that its record will need. Where there is
+    /// no memory, nothing changes.
     pub fn begin(&mut self, run: &RunId, request: u64) -> Result<(), NoMemory>
         requires unfinished { found self.old.finished run.now ≡ None }
         requires unbegun { request_of self.old.begun run.now ≡ None }
         ensures finished { self.new.finished ≡ self.old.finished }
-        ensures begun { OnOk result (self.new.begun ≡ record { run = run.now; by = request } ∷ self.old.begun) }
+        ensures begun { OnOk result (self.new.begun
+            ≡ record { run = run.now; by = request } ∷ self.old.begun) }
         ensures err { OnErr result (self.new.begun ≡ self.old.begun) }
     {
         let alloc = *self.begun.allocator();
@@ -131,7 +148,8 @@ impl Table {
     /// Gives a begun run its record: it is finished. This needs no memory.
     pub fn finish(&mut self, run: &RunId, made: RecordRef)
         requires { IsSome (request_of self.old.begun run.now) }
-        ensures finished { self.new.finished ≡ record { run = run.now; made = made } ∷ self.old.finished }
+        ensures finished { self.new.finished ≡ record { run = run.now; made = made }
+            ∷ self.old.finished }
         ensures begun { self.new.begun ≡ without run.now self.old.begun }
     {
         let probe = RunProbe::of(run);

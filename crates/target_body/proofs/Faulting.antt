@@ -21,9 +21,15 @@ told Memory noted p = absurd (noted refl)
 told cause noted p = p
 
 -- a fault is noted, and then the word for the bucket
-pub faulted_so : (fault : EvalFault) (journal : Journal) (tools : List (List ℕ × ToolInput)) (held noted after : Held)
-    → noted ≡ record held { notes = held.notes ++ Fail (fault_text fault) ∷ [] } → after ≡ record noted { decisions = noted.decisions ++ Failed ∷ [] }
-    → ◌≡◌ {A = Reached (Result State Stopped)} (over (Err (as_failed (faulted (with_notes (Fail (fault_text fault) ∷ []) (seen_state held journal))))) (seen_done held journal tools))
+pub faulted_so : (fault : EvalFault) (journal : Journal) (tools : List (List ℕ × ToolInput))
+    (held noted after : Held)
+    → noted ≡ record held { notes = held.notes ++ Fail (fault_text fault) ∷ [] }
+    → after ≡ record noted { decisions = noted.decisions ++ Failed ∷ [] }
+    → ◌≡◌ {A = Reached (Result State Stopped)}
+    (over
+    (Err
+    (as_failed (faulted (with_notes (Fail (fault_text fault) ∷ []) (seen_state held journal)))))
+    (seen_done held journal tools))
     (over (Err (faulted (seen_state after journal))) (seen_done after journal tools))
 faulted_so fault journal tools held noted after noted_so after_so =
     sym (ap (λ (h : Held). over (Err (faulted (seen_state h journal))) (seen_done h journal tools))

@@ -1,5 +1,27 @@
 -- What is taken of a task that has answered.
-use Rattle.std.proofs.Common.{◌≡◌, ◌∙◌, ◌++◌, ◌==◌, ◌<◌, ℕ, List, [], ◌∷◌, Bool, true, false, Result, Ok, Err, IfOk, eqb-true, ap, sym, subst, length}
+use Rattle.std.proofs.Common.{
+  ◌≡◌,
+  ◌∙◌,
+  ◌++◌,
+  ◌==◌,
+  ◌<◌,
+  ℕ,
+  List,
+  [],
+  ◌∷◌,
+  Bool,
+  true,
+  false,
+  Result,
+  Ok,
+  Err,
+  IfOk,
+  eqb-true,
+  ap,
+  sym,
+  subst,
+  length,
+}
 use Rattle.msb_laws.specs.Results as results
 use Rattle.msb_expand.specs.Reserved.{folder_of}
 use Rattle.msb_expand.specs.declared.lens.Bucket.{Bucket}
@@ -44,96 +66,204 @@ not_empty n is none =
     cc
 
 -- a value that was read, and a fault
-pub read_on : {X S : Type 0} (p : Player) (s : State) (d : Done) (next : X → Work (Result S Stopped)) (r : Result X EvalFault) (x : X) → r ≡ Ok x
+pub read_on : {X S : Type 0} (p : Player) (s : State) (d : Done)
+    (next : X → Work (Result S Stopped)) (r : Result X EvalFault) (x : X) → r ≡ Ok x
     → played p (unless_stopped (or_stop s r) next) d ≡ played p (next x) d
 read_on p s d next r x is = ap (λ r. played p (unless_stopped (or_stop s r) next) d) is
 
 module _ (run : Run) (e : At) (gives : Bool) (bucket : Bucket) (on_error : OnError) where
-  pub answered_so : (output : TaskOutput) (held noted after : Held) (journal : Journal) (ending : Ending)
+  pub answered_so : (output : TaskOutput) (held noted after : Held) (journal : Journal)
+      (ending : Ending)
       → noted ≡ record held { notes = held.notes ++ notes_by on_error output.notes }
-      → ended ending (seen_state after journal) ≡ taken (outputs_if gives (called_place run (seen_state noted journal) bucket) output.outputs e) (seen_state noted journal)
-      → answered_to run e gives bucket on_error (seen_state held journal, output) ≡ results.and_then (ended ending (seen_state after journal)) (ended_by on_error output.ok)
+      → ended ending (seen_state after journal)
+      ≡ taken
+      (outputs_if gives (called_place run (seen_state noted journal) bucket) output.outputs e)
+      (seen_state noted journal)
+      → answered_to run e gives bucket on_error (seen_state held journal, output)
+      ≡ results.and_then (ended ending (seen_state after journal)) (ended_by on_error output.ok)
   answered_so output held noted after journal ending is taken_so =
-      let P : Held → Type 0 = λ h. ended ending (seen_state after journal) ≡ taken (outputs_if gives (called_place run (seen_state h journal) bucket) output.outputs e) (seen_state h journal) in
+      let P : Held → Type 0 = λ h. ended ending (seen_state after journal)
+      ≡ taken
+      (outputs_if gives (called_place run (seen_state h journal) bucket) output.outputs e)
+      (seen_state h journal) in
       sym (ap (λ r. results.and_then r (ended_by on_error output.ok)) (subst P is taken_so))
 
-  pub given_ends : (p : Player) (output : TaskOutput) (before after : Moment) (held : Held) (ending : Ending)
-      → played p (all_acted output.acts (state_at before)) (done_at before) ≡ over (seen_state held after.journal) (seen_done held after.journal after.tools)
+  pub given_ends : (p : Player) (output : TaskOutput) (before after : Moment) (held : Held)
+      (ending : Ending)
+      → played p (all_acted output.acts (state_at before)) (done_at before)
+      ≡ over (seen_state held after.journal) (seen_done held after.journal after.tools)
       → held.segments ≡ after.held.segments
-      → answered_to run e gives bucket on_error (seen_state held after.journal, output) ≡ ended ending (state_at after)
-      → EndsAs p (λ s. followed_by (given s output) (λ x. done (answered_to run e gives bucket on_error x))) before ending after
+      → answered_to run e gives bucket on_error (seen_state held after.journal, output)
+      ≡ ended ending (state_at after)
+      → EndsAs p
+      (λ s.
+      followed_by (given s output) (λ x. done (answered_to run e gives bucket on_error x)))
+      before ending after
   given_ends p output before after held ending acted same answered =
-      regrouped p (all_acted output.acts (state_at before)) (λ s. done (s, output)) (λ x. done (answered_to run e gives bucket on_error x)) (done_at before)
-      ∙ plays_then p (all_acted output.acts (state_at before)) (λ s. done (answered_to run e gives bucket on_error (s, output))) (done_at before) _ acted
+      regrouped p (all_acted output.acts (state_at before)) (λ s. done (s, output))
+      (λ x. done (answered_to run e gives bucket on_error x)) (done_at before)
+      ∙ plays_then p (all_acted output.acts (state_at before))
+      (λ s. done (answered_to run e gives bucket on_error (s, output))) (done_at before) _ acted
       ∙ ap (λ r. over r (seen_done held after.journal after.tools)) answered
-      ∙ ap (λ (segments : List Segment). over (ended ending (state_at after)) (record { segments = segments; tools = after.tools; journal = after.journal })) same
+      ∙ ap
+      (λ (segments : List Segment). over (ended ending (state_at after))
+      (record { segments = segments; tools = after.tools; journal = after.journal })) same
 
-  pub made_over : (p : Player) (plan : Plan) (results : List RequestResult) (output : TaskOutput) (before after : Moment) (ending : Ending) → length (next_calls plan results) ≡ 0 → output ≡ gathered plan results
-      → EndsAs p (λ s. followed_by (given s output) (λ x. done (answered_to run e gives bucket on_error x))) before ending after
-      → Plays (call_frames run e gives bucket) p (λ s. followed_by (made_from plan results s) (λ x. done (answered_to run e gives bucket on_error (x.0, gathered plan x.1)))) before (Over ending) after
+  pub made_over : (p : Player) (plan : Plan) (results : List RequestResult) (output : TaskOutput)
+      (before after : Moment) (ending : Ending) → length (next_calls plan results) ≡ 0
+      → output ≡ gathered plan results
+      → EndsAs p
+      (λ s.
+      followed_by (given s output) (λ x. done (answered_to run e gives bucket on_error x)))
+      before ending after
+      → Plays (call_frames run e gives bucket) p
+      (λ s. followed_by (made_from plan results s)
+      (λ x. done (answered_to run e gives bucket on_error (x.0, gathered plan x.1)))) before
+      (Over ending) after
   made_over p plan results output before after ending none is ends =
-      let P : TaskOutput → Type 0 = λ o. EndsAs p (λ s. followed_by (given s o) (λ x. done (answered_to run e gives bucket on_error x))) before ending after in
-      ap (λ w. played p (followed_by w (λ x. done (answered_to run e gives bucket on_error (x.0, gathered plan x.1)))) (done_at before)) (calls_over plan results (state_at before) none)
+      let P : TaskOutput
+      → Type 0 = λ o.
+      EndsAs p
+      (λ s. followed_by (given s o) (λ x. done (answered_to run e gives bucket on_error x)))
+      before ending after in
+      ap
+      (λ w.
+      played p
+      (followed_by w
+      (λ x. done (answered_to run e gives bucket on_error (x.0, gathered plan x.1))))
+      (done_at before)) (calls_over plan results (state_at before) none)
       ∙ subst P is ends
 
   -- the calls of an MSBuild task, from the first ones on
   pub planned_on : (p : Player) (plan : Plan) (s : State) (d : Done)
-      → played p (followed_by (followed_by (made plan s) (λ x. done (x.0, gathered plan x.1))) (λ x. done (answered_to run e gives bucket on_error x))) d
-      ≡ played p (followed_by (made_from plan [] s) (λ x. done (answered_to run e gives bucket on_error (x.0, gathered plan x.1)))) d
+      → played p
+      (followed_by (followed_by (made plan s) (λ x. done (x.0, gathered plan x.1)))
+      (λ x. done (answered_to run e gives bucket on_error x))) d
+      ≡ played p
+      (followed_by (made_from plan [] s)
+      (λ x. done (answered_to run e gives bucket on_error (x.0, gathered plan x.1)))) d
   planned_on p plan s d =
-      regrouped p (made plan s) (λ x. done (x.0, gathered plan x.1)) (λ x. done (answered_to run e gives bucket on_error x)) d
-      ∙ ap (λ w. played p (followed_by w (λ x. done (answered_to run e gives bucket on_error (x.0, gathered plan x.1)))) d) (sym (made_first plan s))
+      regrouped p (made plan s) (λ x. done (x.0, gathered plan x.1))
+      (λ x. done (answered_to run e gives bucket on_error x)) d
+      ∙ ap
+      (λ w.
+      played p
+      (followed_by w
+      (λ x. done (answered_to run e gives bucket on_error (x.0, gathered plan x.1)))) d)
+      (sym (made_first plan s))
 
-  pub resumed_on : (p : Player) (at : AtCall) (results more : List RequestResult) (before after : Moment) (step : Step AtCall)
-      → at.on_error ≡ on_error → 0 < length (waiting at) → length more ≡ length (waiting at) → results ≡ at.results ++ more
-      → Plays (call_frames run e gives bucket) p (λ s. followed_by (made_from at.plan results s) (λ x. done (answered_to run e gives bucket at.on_error (x.0, gathered at.plan x.1)))) before step after
-      → Plays (call_frames run e gives bucket) p (λ s. call_left run e gives bucket at s more before.journal) before step after
+  pub resumed_on : (p : Player) (at : AtCall) (results more : List RequestResult)
+      (before after : Moment) (step : Step AtCall)
+      → at.on_error ≡ on_error → 0 < length (waiting at) → length more ≡ length (waiting at)
+      → results ≡ at.results ++ more
+      → Plays (call_frames run e gives bucket) p
+      (λ s. followed_by (made_from at.plan results s)
+      (λ x. done (answered_to run e gives bucket at.on_error (x.0, gathered at.plan x.1))))
+      before step after
+      → Plays (call_frames run e gives bucket) p
+      (λ s. call_left run e gives bucket at s more before.journal) before step after
   resumed_on p at results more before after step same waits fits is plays =
-      ap (λ w. played p (followed_by w (λ x. done (answered_to run e gives bucket at.on_error (x.0, gathered at.plan x.1)))) (done_at before))
-      (results_on at more (state_at before) before.journal waits fits ∙ ap (λ (r : List RequestResult). made_from at.plan r (state_at before)) (sym is))
+      ap
+      (λ w.
+      played p
+      (followed_by w
+      (λ x. done (answered_to run e gives bucket at.on_error (x.0, gathered at.plan x.1))))
+      (done_at before))
+      (results_on at more (state_at before) before.journal waits fits
+      ∙ ap (λ (r : List RequestResult). made_from at.plan r (state_at before)) (sym is))
       ∙ plays
 
-  pub all_resumed : {E : Type 0} (p : Player) (at : AtCall) (results more : List RequestResult) (before after : Moment) (r : Result (Step AtCall) E)
-      → at.on_error ≡ on_error → 0 < length (waiting at) → length more ≡ length (waiting at) → results ≡ at.results ++ more
-      → IfOk r (λ step. Plays (call_frames run e gives bucket) p (λ s. followed_by (made_from at.plan results s) (λ x. done (answered_to run e gives bucket at.on_error (x.0, gathered at.plan x.1)))) before step after)
-      → IfOk r (λ step. Plays (call_frames run e gives bucket) p (λ s. call_left run e gives bucket at s more before.journal) before step after)
-  all_resumed p at results more before after (Ok step) same waits fits is plays = resumed_on p at results more before after step same waits fits is plays
+  pub all_resumed : {E : Type 0} (p : Player) (at : AtCall) (results more : List RequestResult)
+      (before after : Moment) (r : Result (Step AtCall) E)
+      → at.on_error ≡ on_error → 0 < length (waiting at) → length more ≡ length (waiting at)
+      → results ≡ at.results ++ more
+      → IfOk r
+      (λ step. Plays (call_frames run e gives bucket) p
+      (λ s. followed_by (made_from at.plan results s)
+      (λ x. done (answered_to run e gives bucket at.on_error (x.0, gathered at.plan x.1))))
+      before step after)
+      → IfOk r
+      (λ step. Plays (call_frames run e gives bucket) p
+      (λ s. call_left run e gives bucket at s more before.journal) before step after)
+  all_resumed p at results more before after (Ok step) same waits fits is plays = resumed_on p at
+      results more before after step same waits fits is plays
   all_resumed p at results more before after (Err error) same waits fits is plays = plays
 
-  pub planned_so : (p : Player) (plan : Plan) (params : List Param) (first : List RequestResult) (before after : Moment) (step : Step AtCall)
-      → plan ≡ plan_of run.files (folder_of run.instance.path) run.instance.globals params → first ≡ []
-      → Plays (call_frames run e gives bucket) p (λ s. followed_by (made_from plan first s) (λ x. done (answered_to run e gives bucket on_error (x.0, gathered plan x.1)))) before step after
-      → Plays (call_frames run e gives bucket) p (λ s. followed_by (msbuild run s params) (λ x. done (answered_to run e gives bucket on_error x))) before step after
+  pub planned_so : (p : Player) (plan : Plan) (params : List Param) (first : List RequestResult)
+      (before after : Moment) (step : Step AtCall)
+      → plan ≡ plan_of run.files (folder_of run.instance.path) run.instance.globals params
+      → first ≡ []
+      → Plays (call_frames run e gives bucket) p
+      (λ s. followed_by (made_from plan first s)
+      (λ x. done (answered_to run e gives bucket on_error (x.0, gathered plan x.1)))) before
+      step after
+      → Plays (call_frames run e gives bucket) p
+      (λ s. followed_by (msbuild run s params)
+      (λ x. done (answered_to run e gives bucket on_error x))) before step after
   planned_so p plan params first before after step is none plays =
-      let reached : Reached (Result State Stopped) = reached_by (call_frames run e gives bucket) step after in
+      let reached : Reached (Result State Stopped) = reached_by (call_frames run e gives bucket)
+      step after in
       let P : Plan → List RequestResult → Type 0 = λ plan first.
-      played p (followed_by (made_from plan first (state_at before)) (λ x. done (answered_to run e gives bucket on_error (x.0, gathered plan x.1)))) (done_at before) ≡ reached in
-      let of_plan : Plan = plan_of run.files (folder_of run.instance.path) run.instance.globals params in
-      planned_on p of_plan (state_at before) (done_at before) ∙ subst (λ (pl : Plan). P pl []) is (subst (λ (f : List RequestResult). P plan f) none plays)
+      played p
+      (followed_by (made_from plan first (state_at before))
+      (λ x. done (answered_to run e gives bucket on_error (x.0, gathered plan x.1))))
+      (done_at before) ≡ reached in
+      let of_plan : Plan = plan_of run.files (folder_of run.instance.path) run.instance.globals
+      params in
+      planned_on p of_plan (state_at before) (done_at before)
+      ∙ subst (λ (pl : Plan). P pl []) is
+      (subst (λ (f : List RequestResult). P plan f) none plays)
 
-  pub all_planned : {E : Type 0} (p : Player) (plan : Plan) (params : List Param) (first : List RequestResult) (before after : Moment) (r : Result (Step AtCall) E)
-      → plan ≡ plan_of run.files (folder_of run.instance.path) run.instance.globals params → first ≡ []
-      → IfOk r (λ step. Plays (call_frames run e gives bucket) p (λ s. followed_by (made_from plan first s) (λ x. done (answered_to run e gives bucket on_error (x.0, gathered plan x.1)))) before step after)
-      → IfOk r (λ step. Plays (call_frames run e gives bucket) p (λ s. followed_by (msbuild run s params) (λ x. done (answered_to run e gives bucket on_error x))) before step after)
-  all_planned p plan params first before after (Ok step) is none plays = planned_so p plan params first before after step is none plays
+  pub all_planned : {E : Type 0} (p : Player) (plan : Plan) (params : List Param)
+      (first : List RequestResult) (before after : Moment) (r : Result (Step AtCall) E)
+      → plan ≡ plan_of run.files (folder_of run.instance.path) run.instance.globals params
+      → first ≡ []
+      → IfOk r
+      (λ step. Plays (call_frames run e gives bucket) p
+      (λ s. followed_by (made_from plan first s)
+      (λ x. done (answered_to run e gives bucket on_error (x.0, gathered plan x.1)))) before
+      step after)
+      → IfOk r
+      (λ step. Plays (call_frames run e gives bucket) p
+      (λ s. followed_by (msbuild run s params)
+      (λ x. done (answered_to run e gives bucket on_error x))) before step after)
+  all_planned p plan params first before after (Ok step) is none plays = planned_so p plan params
+      first before after step is none plays
   all_planned p plan params first before after (Err error) is none plays = plays
 
 -- a tool, and one that can't be handed its files
 module _ (p : Player) (task : List ℕ) (f : State × TaskOutput → Work (Result State Stopped)) where
-  pub tool_ends : (input : ToolInput) (r : Result ToolInput Failure) (output : TaskOutput) (before : Moment) (held : Held) (journal : Journal) (calls : List (List ℕ × ToolInput)) (ending : Ending)
-      → r ≡ Ok input → output ≡ foreign_output task before.held.written (p.tools task input) → calls ≡ before.tools ++ (task, input) ∷ []
-      → EndsAs p (λ s. followed_by (given s output) f) (moment before.held before.journal calls) ending (moment held journal calls)
-      → played p (followed_by (tool task (state_at before) r) f) (done_at before) ≡ over (ended ending (seen_state held journal)) (seen_done held journal calls)
+  pub tool_ends : (input : ToolInput) (r : Result ToolInput Failure) (output : TaskOutput)
+      (before : Moment) (held : Held) (journal : Journal) (calls : List (List ℕ × ToolInput))
+      (ending : Ending)
+      → r ≡ Ok input → output ≡ foreign_output task before.held.written (p.tools task input)
+      → calls ≡ before.tools ++ (task, input) ∷ []
+      → EndsAs p (λ s. followed_by (given s output) f) (moment before.held before.journal calls)
+      ending (moment held journal calls)
+      → played p (followed_by (tool task (state_at before) r) f) (done_at before)
+      ≡ over (ended ending (seen_state held journal)) (seen_done held journal calls)
   tool_ends input r output before held journal calls ending is output_so calls_so ends =
       let P : TaskOutput → List (List ℕ × ToolInput) → Type 0 = λ o t.
-      played p (followed_by (given (state_at before) o) f) (seen_done before.held before.journal t) ≡ over (ended ending (seen_state held journal)) (seen_done held journal calls) in
-      ap (λ (r : Result ToolInput Failure). played p (followed_by (tool task (state_at before) r) f) (done_at before)) is
-      ∙ subst (λ (t : List (List ℕ × ToolInput)). P (foreign_output task before.held.written (p.tools task input)) t) calls_so (subst (λ (o : TaskOutput). P o calls) output_so ends)
+      played p (followed_by (given (state_at before) o) f) (seen_done before.held before.journal t)
+      ≡ over (ended ending (seen_state held journal)) (seen_done held journal calls) in
+      ap
+      (λ (r : Result ToolInput Failure). played p
+      (followed_by (tool task (state_at before) r) f) (done_at before)) is
+      ∙ subst
+      (λ (t : List (List ℕ × ToolInput)). P
+      (foreign_output task before.held.written (p.tools task input)) t) calls_so
+      (subst (λ (o : TaskOutput). P o calls) output_so ends)
 
-  pub tool_fails : (failure : Failure) (r : Result ToolInput Failure) (output : TaskOutput) (before after : Moment) (ending : Ending)
+  pub tool_fails : (failure : Failure) (r : Result ToolInput Failure) (output : TaskOutput)
+      (before after : Moment) (ending : Ending)
       → r ≡ Err failure → output ≡ failed task failure
       → EndsAs p (λ s. followed_by (given s output) f) before ending after
-      → played p (followed_by (tool task (state_at before) r) f) (done_at before) ≡ over (ended ending (state_at after)) (done_at after)
+      → played p (followed_by (tool task (state_at before) r) f) (done_at before)
+      ≡ over (ended ending (state_at after)) (done_at after)
   tool_fails failure r output before after ending is output_so ends =
-      let P : TaskOutput → Type 0 = λ o. EndsAs p (λ s. followed_by (given s o) f) before ending after in
-      ap (λ (r : Result ToolInput Failure). played p (followed_by (tool task (state_at before) r) f) (done_at before)) is ∙ subst P output_so ends
+      let P : TaskOutput
+      → Type 0 = λ o. EndsAs p (λ s. followed_by (given s o) f) before ending after in
+      ap
+      (λ (r : Result ToolInput Failure). played p
+      (followed_by (tool task (state_at before) r) f) (done_at before)) is
+      ∙ subst P output_so ends

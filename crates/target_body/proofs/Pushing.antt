@@ -8,7 +8,9 @@ use Rattle.result_cache.specs.declared.request.RequestResult.{RequestResult}
 use Rattle.build_meaning.specs.SoFar.{called}
 use Rattle.target_body.specs.Seen.{call_segment}
 
-pub called_pairs : (keys : List RequestKey) (results : List RequestResult) → flat_map call_segment (zip keys results) ≡ called keys results
+pub called_pairs : (keys : List RequestKey) (results : List RequestResult)
+    → flat_map call_segment (zip keys results) ≡ called keys results
 called_pairs [] results = refl
 called_pairs (key ∷ keys) [] = refl
-called_pairs (key ∷ keys) (result ∷ results) = ap (λ (l : List Segment). Call key result.runs ∷ l) (called_pairs keys results)
+called_pairs (key ∷ keys) (result ∷ results) = ap (λ (l : List Segment). Call key result.runs ∷ l)
+    (called_pairs keys results)

@@ -1,4 +1,5 @@
--- How a task is answered: by the tasks that are built in, by the requests that it calls, or by a tool. (Task element; MSBuild tasks; MSBuild task)
+-- How a task is answered: by the tasks that are built in, by the requests that it calls, or by a
+-- tool. (Task element; MSBuild tasks; MSBuild task)
 use Rattle.std.specs.Prelude.{ℕ, List, [], ◌∷◌, ◌++◌, Bool, true, false, Result, Ok, Err, codes}
 use Rattle.std.specs.Str.{bytes_eq}
 use Rattle.msb_values.specs.declared.act.Act.{Act}
@@ -34,16 +35,19 @@ at_once [] s = done (s, [])
 at_once (key ∷ keys) s = calls key keys (λ results journal. done (with_journal journal s, results))
 
 -- or one after the other, up to one that fails, if it is to stop there
-abbrev pub in_order : Plan → List RequestResult → List RequestKey → State → Work (State × List RequestResult)
+abbrev pub in_order : Plan → List RequestResult → List RequestKey → State
+    → Work (State × List RequestResult)
 in_order plan results [] s = done (s, results)
 in_order plan results (key ∷ keys) s =
     elim (has_stopped plan results) [
       | true ↦ done (s, results)
-      | false ↦ calls key [] (λ more journal. in_order plan (results ++ more) keys (with_journal journal s))
+      | false ↦ calls key []
+          (λ more journal. in_order plan (results ++ more) keys (with_journal journal s))
     ]
 
 abbrev pub made : Plan → State → Work (State × List RequestResult)
-made plan s = elim plan.parallel [ true ↦ at_once plan.calls s | false ↦ in_order plan [] plan.calls s ]
+made plan s = elim plan.parallel
+    [ true ↦ at_once plan.calls s | false ↦ in_order plan [] plan.calls s ]
 
 abbrev pub msbuild : Run → State → List Param → Work (State × TaskOutput)
 msbuild run s params =
@@ -52,17 +56,23 @@ msbuild run s params =
 
 -- a tool is handed the parameters and the files of Sources
 abbrev pub tool : List ℕ → State → Result ToolInput Failure → Work (State × TaskOutput)
-tool task s (Ok input) = uses task input (λ given_answer. given s (foreign_output task s.written given_answer))
+tool task s (Ok input) = uses task input
+    (λ given_answer. given s (foreign_output task s.written given_answer))
 tool task s (Err failure) = done (s, failed task failure)
 
-abbrev pub not_built_in : Bool → Run → State → (task : List ℕ) → List Param → Work (State × TaskOutput)
+abbrev pub not_built_in : Bool → Run → State → (task : List ℕ) → List Param
+    → Work (State × TaskOutput)
 not_built_in true run s task params = msbuild run s params
-not_built_in false run s task params = tool task s (foreign_input (folder_of run.instance.path) (view_of run s) params)
+not_built_in false run s task params = tool task s
+    (foreign_input (folder_of run.instance.path) (view_of run s) params)
 
-abbrev pub answered_by : ToolAnswer → Run → State → (task : List ℕ) → List Param → Work (State × TaskOutput)
+abbrev pub answered_by : ToolAnswer → Run → State → (task : List ℕ) → List Param
+    → Work (State × TaskOutput)
 answered_by (Made output) run s task params = given s output
-answered_by Unknown run s task params = not_built_in (bytes_eq task (codes "msbuild")) run s task params
+answered_by Unknown run s task params = not_built_in (bytes_eq task (codes "msbuild")) run s task
+    params
 
 -- the answer to a task, when its acts are done and its requests have come back
 abbrev pub answered : Run → State → (task : List ℕ) → List Param → Work (State × TaskOutput)
-answered run s task params = answered_by (answer task (folder_of run.instance.path) (view_of run s) params s.written) run s task params
+answered run s task params = answered_by
+    (answer task (folder_of run.instance.path) (view_of run s) params s.written) run s task params

@@ -1,4 +1,5 @@
--- The children of a target. (Target element; PropertyGroup element; ItemGroup element; Task element)
+-- The children of a target. (Target element; PropertyGroup element; ItemGroup element; Task
+-- element)
 use Rattle.std.specs.Prelude.{ℕ, List, ◌||◌, Result, Ok, codes, if◌then◌else◌}
 use Rattle.std.specs.Str.{bytes_eq}
 use Rattle.msb_laws.specs.Results.{map_ok}
@@ -7,12 +8,22 @@ use Rattle.build_world.specs.Elements.{At, children_of}
 use Rattle.msb_items.specs.TargetGroups.{group_changes}
 use Rattle.target_incremental.specs.declared.decision.Choice.{Choice}
 use Rattle.target_body.specs.Work.{Work, done, followed_by, each_in_turn}
-use Rattle.target_body.specs.States.{Run, State, Stopped, or_stop, with_changes_seen, without_scope, settled, place_in}
+use Rattle.target_body.specs.States.{
+  Run,
+  State,
+  Stopped,
+  or_stop,
+  with_changes_seen,
+  without_scope,
+  settled,
+  place_in,
+}
 use Rattle.target_body.specs.Tasks.{task}
 
 -- a PropertyGroup or an ItemGroup: all its changes, or none where one of its texts has a fault
 abbrev pub group : Run → At → State → Result State Stopped
-group run e s = map_ok (λ changes. with_changes_seen changes s) (or_stop (without_scope s) (group_changes (place_in run s s.scope) e))
+group run e s = map_ok (λ changes. with_changes_seen changes s)
+    (or_stop (without_scope s) (group_changes (place_in run s s.scope) e))
 
 pub data Kind : Type 0 where
   group_element : Kind
@@ -21,7 +32,8 @@ pub data Kind : Type 0 where
 
 abbrev pub kind_of : List ℕ → Kind
 kind_of name =
-    if bytes_eq name (codes "PropertyGroup") || bytes_eq name (codes "ItemGroup") then group_element else
+    if bytes_eq name (codes "PropertyGroup") || bytes_eq name (codes "ItemGroup") then group_element
+    else
     if bytes_eq name (codes "OnError") then on_error_element else task_element
 
 -- an OnError does nothing here: the request visits its targets where the run has failed
@@ -32,7 +44,8 @@ child_by task_element run choice e s = task run choice e s
 
 -- a child, whose changes the scope has when it is over
 abbrev pub child : Run → Choice → At → State → Work (Result State Stopped)
-child run choice e s = followed_by (child_by (kind_of (name_of e.node)) run choice e s) (λ end. done (map_ok settled end))
+child run choice e s = followed_by (child_by (kind_of (name_of e.node)) run choice e s)
+    (λ end. done (map_ok settled end))
 
 -- the children in order, by what is decided of the bucket
 abbrev pub children : Run → Choice → State → Work (Result State Stopped)

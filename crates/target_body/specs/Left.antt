@@ -1,5 +1,20 @@
--- Where the run of a target waits for the results of calls, and what is left of it then: what the machine's stack stands for. (MSBuild task)
-use Rattle.std.specs.Prelude.{◌≡◌, ℕ, suc, List, [], ◌∷◌, ◌++◌, length, drop, Bool, true, false, Result}
+-- Where the run of a target waits for the results of calls, and what is left of it then: what the
+-- machine's stack stands for. (MSBuild task)
+use Rattle.std.specs.Prelude.{
+  ◌≡◌,
+  ℕ,
+  suc,
+  List,
+  [],
+  ◌∷◌,
+  ◌++◌,
+  length,
+  drop,
+  Bool,
+  true,
+  false,
+  Result,
+}
 use Rattle.msb_laws.specs.Results.{map_ok}
 use Rattle.msb_expand.specs.declared.lens.Bucket.{Bucket}
 use Rattle.result_cache.specs.Journal.{Journal}
@@ -12,7 +27,15 @@ use Rattle.task_msbuild.specs.Plans.{next_calls}
 use Rattle.target_incremental.specs.declared.decision.Choice.{Choice}
 use Rattle.task_msbuild.specs.declared.plans.Plan.{Plan}
 use Rattle.target_body.specs.Work.{Work, done, calls, followed_by, and_then, each_in_turn}
-use Rattle.target_body.specs.States.{Run, State, Stopped, outcome_of, settled, with_decision, with_journal}
+use Rattle.target_body.specs.States.{
+  Run,
+  State,
+  Stopped,
+  outcome_of,
+  settled,
+  with_decision,
+  with_journal,
+}
 use Rattle.target_body.specs.Answers.{in_order}
 use Rattle.target_body.specs.Tasks.{answered_to, call, then_inferred}
 use Rattle.target_body.specs.Children.{child}
@@ -32,18 +55,23 @@ abbrev pub waiting : AtCall → List RequestKey
 waiting c = next_calls c.plan c.results
 
 -- the calls that are left when these results have come
-abbrev pub results_left : AtCall → State → List RequestResult → Journal → Work (State × List RequestResult)
+abbrev pub results_left : AtCall → State → List RequestResult → Journal
+    → Work (State × List RequestResult)
 results_left c s results journal =
     elim c.plan.parallel [
       | true ↦ done (with_journal journal s, c.results ++ results)
-      | false ↦ in_order c.plan (c.results ++ results) (drop (suc (length c.results)) c.plan.calls) (with_journal journal s)
+      | false ↦ in_order c.plan (c.results ++ results) (drop (suc (length c.results)) c.plan.calls)
+          (with_journal journal s)
     ]
 
-abbrev pub rest_at_once : List RequestKey → List RequestResult → State → Work (State × List RequestResult)
+abbrev pub rest_at_once : List RequestKey → List RequestResult → State
+    → Work (State × List RequestResult)
 rest_at_once [] results s = done (s, results)
-rest_at_once (key ∷ keys) results s = calls key keys (λ more journal. done (with_journal journal s, results ++ more))
+rest_at_once (key ∷ keys) results s = calls key keys
+    (λ more journal. done (with_journal journal s, results ++ more))
 
--- the calls of a plan from the next one on, when these are the results of the first ones; calls that are made at once have no results, or all
+-- the calls of a plan from the next one on, when these are the results of the first ones; calls
+-- that are made at once have no results, or all
 abbrev pub made_from : Plan → List RequestResult → State → Work (State × List RequestResult)
 made_from plan results s =
     elim plan.parallel [
@@ -52,35 +80,46 @@ made_from plan results s =
     ]
 
 -- of a bucket of a task element
-abbrev pub call_left : Run → At → Bool → Bucket → AtCall → State → List RequestResult → Journal → Work (Result State Stopped)
+abbrev pub call_left : Run → At → Bool → Bucket → AtCall → State → List RequestResult → Journal
+    → Work (Result State Stopped)
 call_left run e gives bucket c s results journal =
-    followed_by (results_left c s results journal) (λ x. done (answered_to run e gives bucket c.on_error (x.0, gathered c.plan x.1)))
+    followed_by (results_left c s results journal)
+    (λ x. done (answered_to run e gives bucket c.on_error (x.0, gathered c.plan x.1)))
 
 -- and the buckets of the element that come later
-abbrev pub calls_left : Run → AtTask → State → List RequestResult → Journal → Work (Result State Stopped)
+abbrev pub calls_left : Run → AtTask → State → List RequestResult → Journal
+    → Work (Result State Stopped)
 calls_left run t s results journal =
     let e : At = child_at run t.child in
-    and_then (call_left run e t.gives t.bucket t.call s results journal) (λ s. each_in_turn (call run e t.gives) t.later s)
+    and_then (call_left run e t.gives t.bucket t.call s results journal)
+    (λ s. each_in_turn (call run e t.gives) t.later s)
 
 -- and where the Outputs of the element are inferred, these
 abbrev pub inferred_unless : Bool → Run → At → Result State Stopped → Result State Stopped
 inferred_unless true run e end = end
 inferred_unless false run e end = then_inferred run e end
 
-abbrev pub child_left : Run → AtTask → State → List RequestResult → Journal → Work (Result State Stopped)
+abbrev pub child_left : Run → AtTask → State → List RequestResult → Journal
+    → Work (Result State Stopped)
 child_left run t s results journal =
-    followed_by (calls_left run t s results journal) (λ end. done (map_ok settled (inferred_unless t.gives run (child_at run t.child) end)))
+    followed_by (calls_left run t s results journal)
+    (λ end. done (map_ok settled (inferred_unless t.gives run (child_at run t.child) end)))
 
 -- and the children that come later
-abbrev pub children_left : Run → Choice → AtTask → State → List RequestResult → Journal → Work (Result State Stopped)
+abbrev pub children_left : Run → Choice → AtTask → State → List RequestResult → Journal
+    → Work (Result State Stopped)
 children_left run choice t s results journal =
-    and_then (child_left run t s results journal) (λ s. each_in_turn (child run choice) (drop (suc t.child) (children_of run.target.element)) s)
+    and_then (child_left run t s results journal)
+    (λ s. each_in_turn (child run choice) (drop (suc t.child) (children_of run.target.element))
+    s)
 
 -- and what the bucket of the target returns
-abbrev pub bucket_left : Run → AtBucket → State → List RequestResult → Journal → Work (Result State Stopped)
+abbrev pub bucket_left : Run → AtBucket → State → List RequestResult → Journal
+    → Work (Result State Stopped)
 bucket_left run b s results journal =
     followed_by
-    (and_then (children_left run b.choice b.task s results journal) (λ s. done (map_ok (with_decision (word_of b.choice b.items)) (returned run b.bucket s))))
+    (and_then (children_left run b.choice b.task s results journal)
+    (λ s. done (map_ok (with_decision (word_of b.choice b.items)) (returned run b.bucket s))))
     (λ end. done (or_failed end))
 
 -- and the buckets of the target that come later

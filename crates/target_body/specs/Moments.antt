@@ -33,7 +33,8 @@ state_at m = seen_state m.held m.journal
 abbrev pub done_at : Moment → Done
 done_at m = seen_done m.held m.journal m.tools
 
--- what the frames of a part of the machine stand for: the requests whose results are waited for, and what is left of the part then
+-- what the frames of a part of the machine stand for: the requests whose results are waited for,
+-- and what is left of the part then
 pub record Frames (F : Type 0) : Type 0 where
   pub keys : F → List RequestKey
   pub left : F → State → List RequestResult → Journal → Work (Result State Stopped)
@@ -41,15 +42,23 @@ pub record Frames (F : Type 0) : Type 0 where
 -- how far a part has come by a step of the machine: it is over in a state, or waits
 abbrev pub reached_by : {F : Type 0} → Frames F → Step F → Moment → Reached (Result State Stopped)
 reached_by frames (Over ending) m = over (ended ending (state_at m)) (done_at m)
-reached_by frames (Waits frame) m = waits (frames.keys frame) (frames.left frame (state_at m)) (done_at m)
+reached_by frames (Waits frame) m = waits (frames.keys frame) (frames.left frame (state_at m))
+    (done_at m)
 
 -- a part of the run, and what follows on a step of another part
-abbrev pub Plays : {F : Type 0} → Frames F → Player → (State → Work (Result State Stopped)) → Moment → Step F → Moment → Type 0
-Plays frames p part before step after = played p (part (state_at before)) (done_at before) ≡ reached_by frames step after
+abbrev pub Plays : {F : Type 0} → Frames F → Player → (State → Work (Result State Stopped)) → Moment
+    → Step F → Moment → Type 0
+Plays frames p part before step after = played p (part (state_at before)) (done_at before)
+    ≡ reached_by frames step after
 
-abbrev pub GoesOn : {E F : Type 0} → Frames E → Frames F → Player → (Result State Stopped → Work (Result State Stopped)) → Step E → Moment → Step F → Moment → Type 0
-GoesOn from frames p next step before step_then after = reached_then p (reached_by from step before) next ≡ reached_by frames step_then after
+abbrev pub GoesOn : {E F : Type 0} → Frames E → Frames F → Player
+    → (Result State Stopped → Work (Result State Stopped)) → Step E → Moment → Step F → Moment
+    → Type 0
+GoesOn from frames p next step before step_then after = reached_then p (reached_by from step before)
+    next ≡ reached_by frames step_then after
 
 -- a part that doesn't wait
-abbrev pub EndsAs : Player → (State → Work (Result State Stopped)) → Moment → Ending → Moment → Type 0
-EndsAs p part before ending after = played p (part (state_at before)) (done_at before) ≡ over (ended ending (state_at after)) (done_at after)
+abbrev pub EndsAs : Player → (State → Work (Result State Stopped)) → Moment → Ending → Moment
+    → Type 0
+EndsAs p part before ending after = played p (part (state_at before)) (done_at before)
+    ≡ over (ended ending (state_at after)) (done_at after)

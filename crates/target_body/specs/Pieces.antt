@@ -1,5 +1,18 @@
--- A bucket of a target: what is decided of it, its children, and what it returns. (Target element; Incremental builds)
-use Rattle.std.specs.Prelude.{ℕ, List, length, Option, Some, None, option_map, Result, Ok, Err, codes}
+-- A bucket of a target: what is decided of it, its children, and what it returns. (Target element;
+-- Incremental builds)
+use Rattle.std.specs.Prelude.{
+  ℕ,
+  List,
+  length,
+  Option,
+  Some,
+  None,
+  option_map,
+  Result,
+  Ok,
+  Err,
+  codes,
+}
 use Rattle.msb_laws.specs.Results.{map_ok}
 use Rattle.msb_values.specs.declared.item.Item.{Item}
 use Rattle.msb_values.specs.declared.mode.Mode.{Mode}
@@ -8,12 +21,35 @@ use Rattle.msb_expand.specs.declared.lens.Bucket.{Bucket}
 use Rattle.build_world.specs.Elements.{attribute_of}
 use Rattle.build_world.specs.declared.fault.EvalFault.{EvalFault}
 use Rattle.result_cache.specs.declared.record.Decision.{Decision}
-use Rattle.result_cache.specs.declared.record.Decision.TheVariants.{Ran, UpToDate, NothingToDo, Part as InPart, Failed}
+use Rattle.result_cache.specs.declared.record.Decision.TheVariants.{
+  Ran,
+  UpToDate,
+  NothingToDo,
+  Part as InPart,
+  Failed,
+}
 use Rattle.target_incremental.specs.Decisions.{decision}
 use Rattle.target_incremental.specs.declared.decision.Choice.{Choice}
-use Rattle.target_incremental.specs.declared.decision.Choice.TheVariants.{Run as RunAll, Skip, Nothing, Part}
+use Rattle.target_incremental.specs.declared.decision.Choice.TheVariants.{
+  Run as RunAll,
+  Skip,
+  Nothing,
+  Part,
+}
 use Rattle.target_body.specs.Work.{Work, done, followed_by, unless_stopped, and_then}
-use Rattle.target_body.specs.States.{Run, State, Stopped, faulted, failed, or_stop, entered, on_part, with_decision, view_of, place_in}
+use Rattle.target_body.specs.States.{
+  Run,
+  State,
+  Stopped,
+  faulted,
+  failed,
+  or_stop,
+  entered,
+  on_part,
+  with_decision,
+  view_of,
+  place_in,
+}
 use Rattle.target_body.specs.Children.{children}
 use Rattle.target_texts.specs.Lists.{Lists, lists_by}
 use Rattle.target_texts.specs.Returned.{in_target}
@@ -23,7 +59,8 @@ use Rattle.target_body.specs.Returned.{returned}
 abbrev pub lists_at : Run → Bucket → State → Result (Option Lists) EvalFault
 lists_at run bucket s =
     let e = run.target.element in
-    lists_by (in_target (place_in run s s.scope) bucket) e (attribute_of (codes "Inputs") e) (attribute_of (codes "Outputs") e)
+    lists_by (in_target (place_in run s s.scope) bucket) e (attribute_of (codes "Inputs") e)
+    (attribute_of (codes "Outputs") e)
 
 -- what is chosen for a bucket of a target that has Inputs and Outputs, by its lists and the state
 -- in which it begins
@@ -42,7 +79,8 @@ on_old None old s = s
 on_old (Some typed) old s = on_part typed.0 old s
 
 -- the children under what is decided: where there is nothing to do they are passed over
-abbrev pub treated : Run → Choice → Option (List ℕ × List Item) → State → Work (Result State Stopped)
+abbrev pub treated : Run → Choice → Option (List ℕ × List Item) → State
+    → Work (Result State Stopped)
 treated run RunAll items s = children run RunAll s
 treated run Skip items s = children run Skip s
 treated run Nothing items s = done (Ok s)
@@ -60,9 +98,11 @@ word_of Nothing items = NothingToDo
 word_of (Part old) items = InPart (length old) (number_of items)
 
 -- the children, then the items that are returned, and the word
-abbrev pub decided : Run → Bucket → Choice → Option (List ℕ × List Item) → State → Work (Result State Stopped)
+abbrev pub decided : Run → Bucket → Choice → Option (List ℕ × List Item) → State
+    → Work (Result State Stopped)
 decided run bucket choice items s =
-    and_then (treated run choice items s) (λ end. done (map_ok (with_decision (word_of choice items)) (returned run bucket end)))
+    and_then (treated run choice items s)
+    (λ end. done (map_ok (with_decision (word_of choice items)) (returned run bucket end)))
 
 -- A bucket with its lists, from the state in which it begins. Where the target has Inputs and
 -- Outputs it is done as is chosen; a bucket of any other target runs.

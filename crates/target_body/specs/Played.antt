@@ -1,6 +1,5 @@
--- How far the run of a target gets by itself: what it does to files goes into the journal and tools answer, until requests
--- have to be called or it is over.
--- (Target element; MSBuild task)
+-- How far the run of a target gets by itself: what it does to files goes into the journal and tools
+-- answer, until requests have to be called or it is over. (Target element; MSBuild task)
 use Rattle.std.specs.Prelude.{ℕ, List, [], ◌∷◌, ◌++◌, length}
 use Rattle.msb_values.specs.declared.act.Act.{Act}
 use Rattle.result_cache.specs.Journal.{Journal, acted, add}
@@ -30,7 +29,8 @@ with_act run act d =
     record { segments = d.segments ++ File act ∷ []; tools = d.tools; journal = journal }
 
 abbrev pub with_tool : List ℕ → ToolInput → Done → Done
-with_tool name input d = record { segments = d.segments; tools = d.tools ++ (name, input) ∷ []; journal = d.journal }
+with_tool name input d = record
+    { segments = d.segments; tools = d.tools ++ (name, input) ∷ []; journal = d.journal }
 
 -- it is over, or waits for the results of these requests
 pub data Reached (R : Type 0) : Type 0 where
@@ -46,4 +46,5 @@ played p (calls key keys go) d = waits (key ∷ keys) go d
 -- and goes on with what follows
 abbrev pub reached_then : {R S : Type 0} → Player → Reached R → (R → Work S) → Reached S
 reached_then p (over end d) next = played p (next end) d
-reached_then p (waits keys go d) next = waits keys (λ results journal. followed_by (go results journal) next) d
+reached_then p (waits keys go d) next = waits keys
+    (λ results journal. followed_by (go results journal) next) d

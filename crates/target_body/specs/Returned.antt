@@ -9,8 +9,10 @@ use Rattle.target_body.specs.States.{Run, State, Stopped, or_stop, with_items, p
 
 abbrev pub items_if : Run → Bucket → State → Option (List ℕ) → Result (List Item) EvalFault
 items_if run bucket s None = Ok []
-items_if run bucket s (Some written) = returned_items (place_in run s s.scope) bucket run.target.element s.items written
+items_if run bucket s (Some written) = returned_items (place_in run s s.scope) bucket
+    run.target.element s.items written
 
 -- the items that a bucket returns, after its children
 abbrev pub returned : Run → Bucket → State → Result State Stopped
-returned run bucket s = map_ok (λ items. with_items items s) (or_stop s (items_if run bucket s (returns_of run.target)))
+returned run bucket s = map_ok (λ items. with_items items s)
+    (or_stop s (items_if run bucket s (returns_of run.target)))

@@ -9,7 +9,12 @@ use Rattle.result_cache.specs.declared.request.RequestKey.{RequestKey}
 use Rattle.result_cache.specs.declared.request.RequestResult.{RequestResult}
 use Rattle.task_trait.specs.declared.tools.ToolInput.{ToolInput}
 use Rattle.target_body.specs.Played.{Done}
-use Rattle.target_body.specs.Children.{Kind as TheKind, group_element, on_error_element, task_element}
+use Rattle.target_body.specs.Children.{
+  Kind as TheKind,
+  group_element,
+  on_error_element,
+  task_element,
+}
 use Rattle.target_body.specs.Pieces.{Chooser, choice_of}
 use Rattle.target_body.specs.States.{Run, State, Stopped, faulted, failed}
 use Rattle.target_body.specs.declared.children.Kind.{Kind}

@@ -1,4 +1,5 @@
--- Where the body of a run stands between its calls, and what its next step is by the definition of bodies. (Target element; MSBuild task)
+-- Where the body of a run stands between its calls, and what its next step is by the definition of
+-- bodies. (Target element; MSBuild task)
 use Rattle.std.specs.Prelude.{◌≡◌, ℕ, List, [], ◌∷◌, ◌++◌, length, map, Option}
 use Rattle.std.specs.List.{find}
 use Rattle.std.specs.Str.{bytes_eq}
@@ -42,14 +43,17 @@ run_with world = run_at world.tree.files
 abbrev pub body_in : World → RunId → UsedTarget → Scope → Journal → Body ToolInput ToolAnswer
 body_in world id target = body world.mode (run_with world id target)
 
--- It has not begun, and will begin in this scope. Or it has done this to files and called this, and waits for the results
--- of these requests, by which and by the journal then it goes on. Or it is over.
+-- It has not begun, and will begin in this scope. Or it has done this to files and called this, and
+-- waits for the results of these requests, by which and by the journal then it goes on. Or it is
+-- over.
 pub data Standing : Type 0 where
   begins : Scope → Standing
-  waits : List Segment → RequestKey → List RequestKey → (List RequestResult → Journal → Body ToolInput ToolAnswer) → Standing
+  waits : List Segment → RequestKey → List RequestKey
+      → (List RequestResult → Journal → Body ToolInput ToolAnswer) → Standing
   over : Standing
 
-abbrev pub waits_if : List RequestKey → List Segment → (List RequestResult → Journal → Body ToolInput ToolAnswer) → Standing
+abbrev pub waits_if : List RequestKey → List Segment
+    → (List RequestResult → Journal → Body ToolInput ToolAnswer) → Standing
 waits_if [] segments go = over
 waits_if (key ∷ keys) segments go = waits segments key keys go
 
@@ -82,12 +86,16 @@ tool_use call = record { name = call.0; input = call.1 }
 -- what it asks where it has stopped, and where it stands then
 abbrev pub IsTold : Stop ToolInput ToolAnswer → List Segment → BodyAsk → Standing → Type 0
 IsTold (ends outcome) segments ask now = (ask ≡ Finished (recorded outcome segments)) × (now ≡ over)
-IsTold (asks key keys go) segments ask now = (ask ≡ Call (key ∷ keys)) × (now ≡ waits segments key keys go)
+IsTold (asks key keys go) segments ask now = (ask ≡ Call (key ∷ keys))
+    × (now ≡ waits segments key keys go)
 
--- A body goes on from here, with what it has done to files and called: files are written and removed and tools are used
--- until it stops. The second list of calls of tools is the first with those that it makes behind it, and so it is whatever tools it used before.
-pub record Advances (answer : List ℕ → ToolInput → ToolAnswer) (run : RunId) (b : Body ToolInput ToolAnswer) (segments : List Segment)
-    (before after : Journal) (called called_then : List (List ℕ × ToolInput)) (ask : BodyAsk) (now : Standing) : Type 0 where
+-- A body goes on from here, with what it has done to files and called: files are written and
+-- removed and tools are used until it stops. The second list of calls of tools is the first with
+-- those that it makes behind it, and so it is whatever tools it used before.
+pub record Advances (answer : List ℕ → ToolInput → ToolAnswer) (run : RunId)
+    (b : Body ToolInput ToolAnswer) (segments : List Segment)
+    (before after : Journal) (called called_then : List (List ℕ × ToolInput)) (ask : BodyAsk)
+    (now : Standing) : Type 0 where
   pub uses : List (List ℕ × ToolInput)
   pub calls : called_then ≡ called ++ uses
   pub stop : Stop ToolInput ToolAnswer
@@ -95,7 +103,12 @@ pub record Advances (answer : List ℕ → ToolInput → ToolAnswer) (run : RunI
   pub told : IsTold stop written ask now
   pub stops : (used : List (ToolUse ToolInput)) →
       run_on answer run b before (record { segments = segments; tools = used })
-      ≡ record { stop = stop; journal = after; so_far = record { segments = written; tools = used ++ map tool_use uses } }
+      ≡ record {
+        stop = stop;
+        journal = after;
+        so_far = record
+            { segments = written; tools = used ++ map tool_use uses };
+      }
 
 -- one step of the machine, in a run of which this is the body, by the results that have come
 abbrev pub Goes : (answer : List ℕ → ToolInput → ToolAnswer) → RunId →

@@ -1,5 +1,21 @@
 -- What the run of a target has come to, and where it stops. (Target element)
-use Rattle.std.specs.Prelude.{ℕ, ◌+◌, true, false, List, [], ◌∷◌, ◌++◌, fold, Option, Some, None, Result, Ok, Err}
+use Rattle.std.specs.Prelude.{
+  ℕ,
+  ◌+◌,
+  true,
+  false,
+  List,
+  [],
+  ◌∷◌,
+  ◌++◌,
+  fold,
+  Option,
+  Some,
+  None,
+  Result,
+  Ok,
+  Err,
+}
 use Rattle.file_store.specs.declared.tree.File.{File}
 use Rattle.msb_values.specs.Changes.{applied}
 use Rattle.msb_values.specs.Pairs.{all_put}
@@ -35,9 +51,11 @@ pub record Run : Type 0 where
 abbrev pub run_at : List File → RunId → UsedTarget → Run
 run_at files id target = record { files = files; instance = id.instance; target = target }
 
--- The scope of the bucket at hand. Where its tasks run on a part of a list, the type and the items that they see of it. The changes of the task
--- element at hand, which the scope has not yet. The journal of files, and the number of bytes that the run itself has written. Then what its record says: what was decided
--- of each bucket, the items that are returned, the changes of the request's scope, and the notes.
+-- The scope of the bucket at hand. Where its tasks run on a part of a list, the type and the items
+-- that they see of it. The changes of the task element at hand, which the scope has not yet. The
+-- journal of files, and the number of bytes that the run itself has written. Then what its record
+-- says: what was decided of each bucket, the items that are returned, the changes of the request's
+-- scope, and the notes.
 pub record State : Type 0 where
   pub scope : Scope
   pub part : Option (List ℕ × List Item)
@@ -51,11 +69,23 @@ pub record State : Type 0 where
 
 -- at the beginning of a run
 abbrev pub begun : Scope → Journal → State
-begun scope journal = record { scope = scope; part = None; unseen = []; journal = journal; written = 0; decisions = []; items = []; changes = []; notes = [] }
+begun scope journal = record {
+  scope = scope;
+  part = None;
+  unseen = [];
+  journal = journal;
+  written = 0;
+  decisions = [];
+  items
+      = [];
+  changes = [];
+  notes = [];
+}
 
 -- a bucket begins: it sees of the batched lists only its own items (MSBuild batching)
 abbrev pub entered : Scope → Bucket → State → State
-entered found bucket s = record s { scope = record found { items = all_put found.items bucket.lists }; part = None; unseen = [] }
+entered found bucket s = record s
+    { scope = record found { items = all_put found.items bucket.lists }; part = None; unseen = [] }
 
 -- tasks see these items of a type, and everything else sees all of them
 abbrev pub on_part : List ℕ → List Item → State → State
@@ -76,7 +106,8 @@ no_scope = record { globals = []; props = []; items = []; defaults = [] }
 -- a change is made of the part as of the items of its type in a scope, where it looks at no others
 abbrev pub part_after : Change → Option (List ℕ × List Item) → Option (List ℕ × List Item)
 part_after change None = None
-part_after change (Some part) = Some (part.0, list_of (applied change (with_list no_scope part.0 part.1)) part.0)
+part_after change (Some part) = Some
+    (part.0, list_of (applied change (with_list no_scope part.0 part.1)) part.0)
 
 abbrev pub part_after_all : List Change → Option (List ℕ × List Item) → Option (List ℕ × List Item)
 part_after_all changes part = fold (λ part change. part_after change part) part changes
@@ -87,7 +118,12 @@ with_change s change = record s { scope = applied change s.scope; part = part_af
 
 -- changes that the scope has at once
 abbrev pub with_changes_seen : List Change → State → State
-with_changes_seen changes s = record s { scope = all_applied changes s.scope; part = part_after_all changes s.part; changes = s.changes ++ changes }
+with_changes_seen changes s = record s {
+  scope = all_applied changes s.scope;
+  part = part_after_all changes s.part;
+  changes = s.changes
+      ++ changes;
+}
 
 -- nothing looks at the scope any more
 abbrev pub without_scope : State → State
@@ -151,7 +187,10 @@ view_of run s = record { files = run.files; journal = s.journal }
 abbrev pub place_in : Run → State → Scope → Place
 place_in run s scope = item_place (views.paths (view_of run s)) run.instance.path scope
 
--- what the record says of a run that came to its end, and of one that stopped: what went before is kept, and nothing is returned
+-- what the record says of a run that came to its end, and of one that stopped: what went before is
+-- kept, and nothing is returned
 abbrev pub outcome_of : Result State Stopped → Outcome
-outcome_of (Ok s) = record { ok = true; decisions = s.decisions; items = s.items; changes = s.changes; notes = s.notes }
-outcome_of (Err stop) = let s = state_at stop in record { ok = false; decisions = s.decisions; items = []; changes = s.changes; notes = s.notes }
+outcome_of (Ok s) = record
+    { ok = true; decisions = s.decisions; items = s.items; changes = s.changes; notes = s.notes }
+outcome_of (Err stop) = let s = state_at stop in record
+    { ok = false; decisions = s.decisions; items = []; changes = s.changes; notes = s.notes }

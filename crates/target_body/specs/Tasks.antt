@@ -1,4 +1,5 @@
--- A task element: it is called, or its Outputs are inferred where it is not. (Task element; MSBuild batching; Incremental builds: output inference)
+-- A task element: it is called, or its Outputs are inferred where it is not. (Task element; MSBuild
+-- batching; Incremental builds: output inference)
 use Rattle.std.specs.Prelude.{ℕ, List, [], Bool, true, false, Option, Some, None, Result, Ok, Err}
 use Rattle.msb_laws.specs.Results as results
 use Rattle.msb_laws.specs.Results.{map_ok}
@@ -13,11 +14,28 @@ use Rattle.task_trait.specs.declared.failures.Failure.TheVariants.{UnknownTask}
 use Rattle.task_trait.specs.declared.tools.TaskOutput.{TaskOutput}
 use Rattle.task_trait.specs.declared.tools.Param.{Param}
 use Rattle.target_incremental.specs.declared.decision.Choice.{Choice}
-use Rattle.target_incremental.specs.declared.decision.Choice.TheVariants.{Run as RunAll, Skip, Nothing, Part}
+use Rattle.target_incremental.specs.declared.decision.Choice.TheVariants.{
+  Run as RunAll,
+  Skip,
+  Nothing,
+  Part,
+}
 use Rattle.target_texts.specs.declared.on_error.OnError.{OnError}
 use Rattle.target_texts.specs.declared.on_error.OnError.TheVariants.{Stop, Warn, Continue}
 use Rattle.target_body.specs.Work.{Work, done, followed_by, unless_stopped, each_in_turn}
-use Rattle.target_body.specs.States.{Run, State, Stopped, failed, faulted, state_of, or_stop, taken, task_scope, with_notes, place_in}
+use Rattle.target_body.specs.States.{
+  Run,
+  State,
+  Stopped,
+  failed,
+  faulted,
+  state_of,
+  or_stop,
+  taken,
+  task_scope,
+  with_notes,
+  place_in,
+}
 use Rattle.target_texts.specs.Made.{Made, all_made}
 use Rattle.target_texts.specs.OnErrors.{on_error_at, notes_by}
 use Rattle.target_texts.specs.Parameters.{task_buckets, params_at}
@@ -45,15 +63,19 @@ outputs_if true p given e = outputs p given e
 outputs_if false p given e = all_made []
 
 -- its notes and its Outputs, be it that it has failed; and then the body goes on, or stops
-abbrev pub answered_to : Run → At → Bool → Bucket → OnError → State × TaskOutput → Result State Stopped
+abbrev pub answered_to : Run → At → Bool → Bucket → OnError → State × TaskOutput
+    → Result State Stopped
 answered_to run e gives bucket on_error x =
     results.and_then
-    (taken (outputs_if gives (called_place run x.0 bucket) x.1.outputs e) (with_notes (notes_by on_error x.1.notes) x.0))
+    (taken (outputs_if gives (called_place run x.0 bucket) x.1.outputs e)
+    (with_notes (notes_by on_error x.1.notes) x.0))
     (ended_by on_error x.1.ok)
 
--- what a task is called with, unless its Condition is false: what comes of a failure, and its parameters
+-- what a task is called with, unless its Condition is false: what comes of a failure, and its
+-- parameters
 abbrev pub readied_if : Bool → Place → At → Result (Option (OnError × List Param)) EvalFault
-readied_if true p e = results.and_then (on_error_at p e) (λ on_error. map_ok (λ params. Some (on_error, params)) (params_at p e (task_of e)))
+readied_if true p e = results.and_then (on_error_at p e)
+    (λ on_error. map_ok (λ params. Some (on_error, params)) (params_at p e (task_of e)))
 readied_if false p e = Ok None
 
 abbrev pub readied : Place → At → Result (Option (OnError × List Param)) EvalFault
@@ -64,18 +86,22 @@ abbrev pub answered_if : Option (List ℕ) → Run → State → At → List Par
 answered_if (Some task) run s e params = answered run s task params
 answered_if None run s e params = done (s, failed_output (task_of e) UnknownTask)
 
-abbrev pub called_with : Run → At → Bool → Bucket → State → Option (OnError × List Param) → Work (Result State Stopped)
+abbrev pub called_with : Run → At → Bool → Bucket → State → Option (OnError × List Param)
+    → Work (Result State Stopped)
 called_with run e gives bucket s None = done (Ok s)
 called_with run e gives bucket s (Some ready) =
-    followed_by (answered_if (key_of (name_of e.node)) run s e ready.1) (λ x. done (answered_to run e gives bucket ready.0 x))
+    followed_by (answered_if (key_of (name_of e.node)) run s e ready.1)
+    (λ x. done (answered_to run e gives bucket ready.0 x))
 
 -- a bucket
 abbrev pub call : Run → At → Bool → Bucket → State → Work (Result State Stopped)
-call run e gives bucket s = unless_stopped (or_stop s (readied (called_place run s bucket) e)) (called_with run e gives bucket s)
+call run e gives bucket s = unless_stopped (or_stop s (readied (called_place run s bucket) e))
+    (called_with run e gives bucket s)
 
 -- it is called bucket by bucket, each of which sees the scope as the element found it
 abbrev pub called : Run → At → Bool → State → Work (Result State Stopped)
-called run e gives s = unless_stopped (or_stop s (task_buckets (place_in run s (task_scope s)) e)) (λ buckets. each_in_turn (call run e gives) buckets s)
+called run e gives s = unless_stopped (or_stop s (task_buckets (place_in run s (task_scope s)) e))
+    (λ buckets. each_in_turn (call run e gives) buckets s)
 
 abbrev pub inferred : Run → At → State → Result State Stopped
 inferred run e s = taken (inferred_at (place_in run s s.scope) e) s

@@ -1,5 +1,6 @@
--- A part of the run of a target, by what it does next: it writes and removes files, uses tools and calls requests, and
--- comes to an end from which the next part goes on. (Target element; MSBuild task, BuildInParallel)
+-- A part of the run of a target, by what it does next: it writes and removes files, uses tools and
+-- calls requests, and comes to an end from which the next part goes on. (Target element; MSBuild
+-- task, BuildInParallel)
 use Rattle.std.specs.Prelude.{ℕ, List, [], ◌∷◌, Result, Ok, Err}
 use Rattle.msb_values.specs.declared.act.Act.{Act}
 use Rattle.result_cache.specs.declared.request.RequestKey.{RequestKey}
@@ -10,8 +11,9 @@ use Rattle.task_trait.specs.declared.tools.ToolInput.{ToolInput}
 use Rattle.build_meaning.specs.Walk as walk
 use Rattle.build_meaning.specs.Walk.{Body, Outcome}
 
--- It is done. Or it writes or removes a file, and goes on by the journal then; uses a tool by name, and goes on by the
--- answer; or calls requests at once, a first one and perhaps more, and goes on by their results and the journal then.
+-- It is done. Or it writes or removes a file, and goes on by the journal then; uses a tool by name,
+-- and goes on by the answer; or calls requests at once, a first one and perhaps more, and goes on
+-- by their results and the journal then.
 pub data Work (R : Type 0) : Type 0 where
   done : R → Work R
   does : Act → (Journal → Work R) → Work R
@@ -23,17 +25,21 @@ abbrev pub followed_by : {R S : Type 0} → Work R → (R → Work S) → Work S
 followed_by (done end) next = next end
 followed_by (does act go) next = does act (λ journal. followed_by (go journal) next)
 followed_by (uses name input go) next = uses name input (λ answer. followed_by (go answer) next)
-followed_by (calls key keys go) next = calls key keys (λ results journal. followed_by (go results journal) next)
+followed_by (calls key keys go) next = calls key keys
+    (λ results journal. followed_by (go results journal) next)
 
 -- one part after another, unless one of them stops
-abbrev pub unless_stopped : {X R E : Type 0} → Result X E → (X → Work (Result R E)) → Work (Result R E)
+abbrev pub unless_stopped : {X R E : Type 0} → Result X E → (X → Work (Result R E))
+    → Work (Result R E)
 unless_stopped (Ok x) next = next x
 unless_stopped (Err stop) next = done (Err stop)
 
-abbrev pub and_then : {X R E : Type 0} → Work (Result X E) → (X → Work (Result R E)) → Work (Result R E)
+abbrev pub and_then : {X R E : Type 0} → Work (Result X E) → (X → Work (Result R E))
+    → Work (Result R E)
 and_then work next = followed_by work (λ end. unless_stopped end next)
 
-abbrev pub each_in_turn : {S X E : Type 0} → (X → S → Work (Result S E)) → List X → S → Work (Result S E)
+abbrev pub each_in_turn : {S X E : Type 0} → (X → S → Work (Result S E)) → List X → S
+    → Work (Result S E)
 each_in_turn part [] s = done (Ok s)
 each_in_turn part (x ∷ xs) s = and_then (part x s) (λ next. each_in_turn part xs next)
 

@@ -25,10 +25,12 @@ impl State {
         acts: Vec<Act>,
         journal: &mut Journal,
     ) -> Result<(), NoMemory>
-        ensures { OnOk result ((answer : List ℕ → ToolInput → ToolAnswer) (tools : List (List ℕ × ToolInput)) →
+        ensures { OnOk result
+            ((answer : List ℕ → ToolInput → ToolAnswer) (tools : List (List ℕ × ToolInput)) →
             let before = moment self.old journal.old tools in
             let after = moment self.new journal.new tools in
-            played (player run.now answer) (all_acted acts.items (state_at before)) (done_at before) ≡ over (state_at after) (done_at after)) }
+            played (player run.now answer) (all_acted acts.items (state_at before)) (done_at before)
+            ≡ over (state_at after) (done_at after)) }
     {
         for act in acts {
             self.act(alloc, run, act, journal)?;

@@ -7,7 +7,17 @@ ghost use Rattle.target_body.specs.Bodies.{body_by};
 ghost use Rattle.target_body.specs.Left.{left, waiting_run};
 ghost use Rattle.target_body.specs.Pieces.{Chooser};
 ghost use Rattle.target_body.specs.Seen.{ended, seen_chooser, seen_run, seen_state};
-ghost use Rattle.target_body.specs.Standings.{Advances, Fits, Goes, Tells, begins, body_in, standing_by, standing_in, target_named};
+ghost use Rattle.target_body.specs.Standings.{
+  Advances,
+  Fits,
+  Goes,
+  Tells,
+  begins,
+  body_in,
+  standing_by,
+  standing_in,
+  target_named,
+};
 ghost use Rattle.target_body.specs.States.{Run, outcome_of};
 ghost use Rattle.target_body.specs.Work.{body_of};
 
@@ -26,14 +36,15 @@ use task_trait::CountedTools;
 /// What the body of a run does next.
 #[derive(Drop)]
 pub enum BodyAsk {
-    /// It calls these requests at once, at least one, and goes on when all their results have come. (MSBuild task.)
+    /// It calls these requests at once, at least one, and goes on when all their results have come.
+    /// (MSBuild task.)
     Call(List<RequestKey>),
     /// It is over, and this is the record of the run.
     Finished(Record),
 }
 
-/// The body of a run: it goes on by itself, adds what it does to files to the journal and uses tools, until it calls
-/// requests or is over. (Target element; MSBuild task.)
+/// The body of a run: it goes on by itself, adds what it does to files to the journal and uses
+/// tools, until it calls requests or is over. (Target element; MSBuild task.)
 pub struct Body {
     pub(crate) run: RunRef,
     pub(crate) stand: Stand,
@@ -98,9 +109,10 @@ impl Body {
         self.run.copy()
     }
 
-    /// Goes on by the results of the requests that it called last, of which there are none at first, as the definition of bodies
-    /// says: `Goes` in `specs/Standings.antt`. The instance and the world are those of the first call. After want of memory the body is spent, and
-    /// nothing is claimed of the journal; the calls of the tools then begin with those of before.
+    /// Goes on by the results of the requests that it called last, of which there are none at
+    /// first, as the definition of bodies says: `Goes` in `specs/Standings.antt`. The instance and
+    /// the world are those of the first call. After want of memory the body is spent, and nothing
+    /// is claimed of the journal; the calls of the tools then begin with those of before.
     pub fn advance<T: CountedTools>(
         &mut self,
         alloc: Global,
@@ -110,11 +122,15 @@ impl Body {
         journal: &mut Journal,
         results: &List<RequestResult>,
     ) -> Result<BodyAsk, NoMemory>
-        requires target { IsSome (target_named (seen_instance instance.now).targets self.old.run.target) }
-        requires fits { IfSome (target_named (seen_instance instance.now).targets self.old.run.target) (λ target.
+        requires target { IsSome
+            (target_named (seen_instance instance.now).targets self.old.run.target) }
+        requires fits { IfSome
+            (target_named (seen_instance instance.now).targets self.old.run.target) (λ target.
             Fits (standing_in world.now self.old.run target self.old) results.now) }
         ensures run { self.new.run ≡ self.old.run }
-        ensures goes { IfOk result (λ ask. IfSome (target_named (seen_instance instance.now).targets self.old.run.target) (λ target.
+        ensures goes { IfOk result
+            (λ ask. IfSome (target_named (seen_instance instance.now).targets self.old.run.target)
+            (λ target.
             Goes T.answer self.old.run (body_in world.now self.old.run target)
             (standing_in world.now self.old.run target self.old) results.now
             journal.old journal.new (T.calls tools.old) (T.calls tools.new) ask
@@ -227,7 +243,8 @@ fn tell(alloc: Global, state: State, step: Step<AtRun>) -> Result<(BodyAsk, Stan
 
 // A run that has stopped returns nothing.
 fn recorded(alloc: Global, state: State, ending: Ending) -> Record
-    ensures { (journal : Files) → result ≡ recorded (outcome_of (ended ending (seen_state state journal))) state.segments }
+    ensures { (journal : Files)
+        → result ≡ recorded (outcome_of (ended ending (seen_state state journal))) state.segments }
 {
     let (decisions, items, changes, notes, segments) = state.parts();
     match ending {

@@ -1,6 +1,18 @@
 //! A task that is called in a bucket of its element. (Task element; MSBuild tasks; MSBuild task.)
 
-ghost use Rattle.std.specs.Prelude.{◌≡◌, ◌<◌, ◌≤◌, ℕ, List, false, length, Some, Ok as TheOk, IfOk, OnOk};
+ghost use Rattle.std.specs.Prelude.{
+  ◌≡◌,
+  ◌<◌,
+  ◌≤◌,
+  ℕ,
+  List,
+  false,
+  length,
+  Some,
+  Ok as TheOk,
+  IfOk,
+  OnOk,
+};
 ghost use Rattle.build_world.specs.Answers.{GivesFault};
 ghost use Rattle.build_world.specs.Elements.{seen_element};
 ghost use Rattle.msb_expand.specs.Reserved.{folder_of};
@@ -18,7 +30,15 @@ ghost use Rattle.target_body.specs.Left.{call_frames, call_left, made_from, wait
 ghost use Rattle.target_body.specs.Moments.{EndsAs, Plays, moment, player};
 ghost use Rattle.target_body.specs.Seen.{ended, seen_run, seen_state};
 ghost use Rattle.target_body.specs.States.{State as Now, taken};
-ghost use Rattle.target_body.specs.Tasks.{answered_to, call as call_in, called_place, called_with, ended_by, outputs_if, readied};
+ghost use Rattle.target_body.specs.Tasks.{
+  answered_to,
+  call as call_in,
+  called_place,
+  called_with,
+  ended_by,
+  outputs_if,
+  readied,
+};
 ghost use Rattle.target_body.specs.Work.{done, followed_by};
 
 use crate::frames::AtCall;
@@ -56,8 +76,13 @@ impl State {
         tools: &mut T,
         journal: &mut Journal,
     ) -> Result<Step<AtCall>, NoMemory>
-        ensures plays { IfOk result (λ step. let run = seen_run call.now.context in let e = seen_element call.now.element in
-            Plays (call_frames run e call.now.gives call.now.bucket.now) (player call.now.context.id.now T.answer) (call_in run e call.now.gives call.now.bucket.now) (moment self.old journal.old (T.calls tools.old)) step (moment self.new journal.new (T.calls tools.new))) }
+        ensures plays { IfOk result
+            (λ step. let run = seen_run call.now.context in let e = seen_element call.now.element in
+            Plays (call_frames run e call.now.gives call.now.bucket.now)
+            (player call.now.context.id.now T.answer)
+            (call_in run e call.now.gives call.now.bucket.now)
+            (moment self.old journal.old (T.calls tools.old)) step
+            (moment self.new journal.new (T.calls tools.new))) }
         ensures begun { BeginsWith (T.calls tools.old) (T.calls tools.new) }
     {
         match self.ready(alloc, &*call, &*journal) {
@@ -79,7 +104,11 @@ impl State {
         call: &'x TaskCall<'x>,
         journal: &'x Journal,
     ) -> Result<Option<(OnError, List<Param>)>, EvalFault>
-        ensures { GivesFault (λ ready. ready) result (readied (called_place (seen_run call.entry.now.context) (seen_state self.entry.now journal.entry.now) call.entry.now.bucket.now) (seen_element call.entry.now.element)) }
+        ensures { GivesFault (λ ready. ready) result
+            (readied
+            (called_place (seen_run call.entry.now.context)
+            (seen_state self.entry.now journal.entry.now) call.entry.now.bucket.now)
+            (seen_element call.entry.now.element)) }
     {
         let Ok(own) = scope_of_part(&self.scope, &self.part) else {
             return Err(EvalFault::memory(alloc));
@@ -103,8 +132,13 @@ impl State {
         tools: &mut T,
         journal: &mut Journal,
     ) -> Result<Step<AtCall>, NoMemory>
-        ensures plays { IfOk result (λ step. let run = seen_run call.now.context in let e = seen_element call.now.element in
-            Plays (call_frames run e call.now.gives call.now.bucket.now) (player call.now.context.id.now T.answer) (λ s. called_with run e call.now.gives call.now.bucket.now s (Some (on_error, params))) (moment self.old journal.old (T.calls tools.old)) step (moment self.new journal.new (T.calls tools.new))) }
+        ensures plays { IfOk result
+            (λ step. let run = seen_run call.now.context in let e = seen_element call.now.element in
+            Plays (call_frames run e call.now.gives call.now.bucket.now)
+            (player call.now.context.id.now T.answer)
+            (λ s. called_with run e call.now.gives call.now.bucket.now s (Some (on_error, params)))
+            (moment self.old journal.old (T.calls tools.old)) step
+            (moment self.new journal.new (T.calls tools.new))) }
         ensures begun { BeginsWith (T.calls tools.old) (T.calls tools.new) }
     {
         match Name::written(alloc, call.element.element.name())? {
@@ -128,8 +162,14 @@ impl State {
         tools: &mut T,
         journal: &mut Journal,
     ) -> Result<Step<AtCall>, NoMemory>
-        ensures plays { IfOk result (λ step. let run = seen_run call.now.context in let e = seen_element call.now.element in
-            Plays (call_frames run e call.now.gives call.now.bucket.now) (player call.now.context.id.now T.answer) (λ s. followed_by (answered run s task.now params) (λ x. done (answered_to run e call.now.gives call.now.bucket.now on_error x))) (moment self.old journal.old (T.calls tools.old)) step (moment self.new journal.new (T.calls tools.new))) }
+        ensures plays { IfOk result
+            (λ step. let run = seen_run call.now.context in let e = seen_element call.now.element in
+            Plays (call_frames run e call.now.gives call.now.bucket.now)
+            (player call.now.context.id.now T.answer)
+            (λ s. followed_by (answered run s task.now params)
+            (λ x. done (answered_to run e call.now.gives call.now.bucket.now on_error x)))
+            (moment self.old journal.old (T.calls tools.old)) step
+            (moment self.new journal.new (T.calls tools.new))) }
         ensures begun { BeginsWith (T.calls tools.old) (T.calls tools.new) }
     {
         let input = ToolInput {
@@ -160,8 +200,14 @@ impl State {
         tools: &mut T,
         journal: &mut Journal,
     ) -> Result<Step<AtCall>, NoMemory>
-        ensures plays { IfOk result (λ step. let run = seen_run call.now.context in let e = seen_element call.now.element in
-            Plays (call_frames run e call.now.gives call.now.bucket.now) (player call.now.context.id.now T.answer) (λ s. followed_by (not_built_in false run s task.now params) (λ x. done (answered_to run e call.now.gives call.now.bucket.now on_error x))) (moment self.old journal.old (T.calls tools.old)) step (moment self.new journal.new (T.calls tools.new))) }
+        ensures plays { IfOk result
+            (λ step. let run = seen_run call.now.context in let e = seen_element call.now.element in
+            Plays (call_frames run e call.now.gives call.now.bucket.now)
+            (player call.now.context.id.now T.answer)
+            (λ s. followed_by (not_built_in false run s task.now params)
+            (λ x. done (answered_to run e call.now.gives call.now.bucket.now on_error x)))
+            (moment self.old journal.old (T.calls tools.old)) step
+            (moment self.new journal.new (T.calls tools.new))) }
         ensures begun { BeginsWith (T.calls tools.old) (T.calls tools.new) }
     {
         let view = FileView::of(&call.context.world.tree, journal);
@@ -185,8 +231,14 @@ impl State {
         tools: &mut T,
         journal: &mut Journal,
     ) -> Result<Step<AtCall>, NoMemory>
-        ensures plays { IfOk result (λ step. let run = seen_run call.now.context in let e = seen_element call.now.element in
-            Plays (call_frames run e call.now.gives call.now.bucket.now) (player call.now.context.id.now T.answer) (λ s. followed_by (tool task.now s (TheOk input.now)) (λ x. done (answered_to run e call.now.gives call.now.bucket.now on_error x))) (moment self.old journal.old (T.calls tools.old)) step (moment self.new journal.new (T.calls tools.new))) }
+        ensures plays { IfOk result
+            (λ step. let run = seen_run call.now.context in let e = seen_element call.now.element in
+            Plays (call_frames run e call.now.gives call.now.bucket.now)
+            (player call.now.context.id.now T.answer)
+            (λ s. followed_by (tool task.now s (TheOk input.now))
+            (λ x. done (answered_to run e call.now.gives call.now.bucket.now on_error x)))
+            (moment self.old journal.old (T.calls tools.old)) step
+            (moment self.new journal.new (T.calls tools.new))) }
         ensures begun { BeginsWith (T.calls tools.old) (T.calls tools.new) }
     {
         let answer = tools.call(alloc, task, input)?;
@@ -203,8 +255,14 @@ impl State {
         input: &ToolInput,
         journal: &mut Journal,
     ) -> Result<Step<AtCall>, NoMemory>
-        ensures { (answer : List ℕ → ToolInput → ToolAnswer) (tools : List (List ℕ × ToolInput)) → IfOk result (λ step. let run = seen_run call.now.context in let e = seen_element call.now.element in
-            Plays (call_frames run e call.now.gives call.now.bucket.now) (player call.now.context.id.now answer) (λ s. followed_by (msbuild run s input.now.params) (λ x. done (answered_to run e call.now.gives call.now.bucket.now on_error x))) (moment self.old journal.old tools) step (moment self.new journal.new tools)) }
+        ensures { (answer : List ℕ → ToolInput → ToolAnswer) (tools : List (List ℕ × ToolInput))
+            → IfOk result
+            (λ step. let run = seen_run call.now.context in let e = seen_element call.now.element in
+            Plays (call_frames run e call.now.gives call.now.bucket.now)
+            (player call.now.context.id.now answer)
+            (λ s. followed_by (msbuild run s input.now.params)
+            (λ x. done (answered_to run e call.now.gives call.now.bucket.now on_error x)))
+            (moment self.old journal.old tools) step (moment self.new journal.new tools)) }
     {
         let context = &call.context;
         let tree = &context.world.tree;
@@ -226,8 +284,17 @@ impl State {
         journal: &mut Journal,
     ) -> Result<Step<AtCall>, NoMemory>
         requires { length at.results ≤ length at.plan.calls }
-        ensures { (answer : List ℕ → ToolInput → ToolAnswer) (tools : List (List ℕ × ToolInput)) → IfOk result (λ step. let run = seen_run call.now.context in let e = seen_element call.now.element in
-            Plays (call_frames run e call.now.gives call.now.bucket.now) (player call.now.context.id.now answer) (λ s. followed_by (made_from at.plan at.results s) (λ x. done (answered_to run e call.now.gives call.now.bucket.now at.on_error (x.0, gathered at.plan x.1)))) (moment self.old journal.old tools) step (moment self.new journal.new tools)) }
+        ensures { (answer : List ℕ → ToolInput → ToolAnswer) (tools : List (List ℕ × ToolInput))
+            → IfOk result
+            (λ step. let run = seen_run call.now.context in let e = seen_element call.now.element in
+            Plays (call_frames run e call.now.gives call.now.bucket.now)
+            (player call.now.context.id.now answer)
+            (λ s. followed_by (made_from at.plan at.results s)
+            (λ x.
+            done
+            (answered_to run e call.now.gives call.now.bucket.now at.on_error
+            (x.0, gathered at.plan x.1)))) (moment self.old journal.old tools) step
+            (moment self.new journal.new tools)) }
     {
         if at.plan.next(&at.results).is_empty() {
             let output = gather(alloc, &at.plan, &at.results)?;
@@ -247,8 +314,13 @@ impl State {
     ) -> Result<Step<AtCall>, NoMemory>
         requires waits { 0 < length (waiting at) }
         requires fits { length results ≡ length (waiting at) }
-        ensures { (answer : List ℕ → ToolInput → ToolAnswer) (tools : List (List ℕ × ToolInput)) → IfOk result (λ step. let run = seen_run call.now.context in let e = seen_element call.now.element in
-            Plays (call_frames run e call.now.gives call.now.bucket.now) (player call.now.context.id.now answer) (λ s. call_left run e call.now.gives call.now.bucket.now at s results journal.old) (moment self.old journal.old tools) step (moment self.new journal.new tools)) }
+        ensures { (answer : List ℕ → ToolInput → ToolAnswer) (tools : List (List ℕ × ToolInput))
+            → IfOk result
+            (λ step. let run = seen_run call.now.context in let e = seen_element call.now.element in
+            Plays (call_frames run e call.now.gives call.now.bucket.now)
+            (player call.now.context.id.now answer)
+            (λ s. call_left run e call.now.gives call.now.bucket.now at s results journal.old)
+            (moment self.old journal.old tools) step (moment self.new journal.new tools)) }
     {
         let mut at = at;
         at.results.append(results)?;
@@ -264,8 +336,13 @@ impl State {
         output: TaskOutput,
         journal: &mut Journal,
     ) -> Result<Ending, NoMemory>
-        ensures { (answer : List ℕ → ToolInput → ToolAnswer) (tools : List (List ℕ × ToolInput)) → IfOk result (λ ending. let run = seen_run call.now.context in let e = seen_element call.now.element in
-            EndsAs (player call.now.context.id.now answer) (λ s. followed_by (given s output) (λ x. done (answered_to run e call.now.gives call.now.bucket.now on_error x))) (moment self.old journal.old tools) ending (moment self.new journal.new tools)) }
+        ensures { (answer : List ℕ → ToolInput → ToolAnswer) (tools : List (List ℕ × ToolInput))
+            → IfOk result
+            (λ ending. let run = seen_run call.now.context in let e = seen_element call.now.element in
+            EndsAs (player call.now.context.id.now answer)
+            (λ s. followed_by (given s output)
+            (λ x. done (answered_to run e call.now.gives call.now.bucket.now on_error x)))
+            (moment self.old journal.old tools) ending (moment self.new journal.new tools)) }
     {
         let TaskOutput {
             ok,
@@ -290,7 +367,11 @@ impl State {
         journal: &Journal,
     ) -> Result<Ending, NoMemory>
         ensures taken { IfOk result (λ ending. let run = seen_run call.now.context in
-            ended ending (seen_state self.new journal.now) ≡ taken (outputs_if call.now.gives (called_place run (seen_state self.old journal.now) call.now.bucket.now) outputs.now (seen_element call.now.element)) (seen_state self.old journal.now)) }
+            ended ending (seen_state self.new journal.now)
+            ≡ taken
+            (outputs_if call.now.gives
+            (called_place run (seen_state self.old journal.now) call.now.bucket.now) outputs.now
+            (seen_element call.now.element)) (seen_state self.old journal.now)) }
         ensures kept { OnOk result (self.new.segments ≡ self.old.segments) }
     {
         let mut made = List::new(alloc);
@@ -307,7 +388,11 @@ impl State {
         journal: &'x Journal,
         made: &mut List<Change>,
     ) -> Result<(), EvalFault>
-        ensures { Pushes result made.old made.new (outputs_if call.entry.now.gives (called_place (seen_run call.entry.now.context) (seen_state self.entry.now journal.entry.now) call.entry.now.bucket.now) outputs.now (seen_element call.entry.now.element)) }
+        ensures { Pushes result made.old made.new
+            (outputs_if call.entry.now.gives
+            (called_place (seen_run call.entry.now.context)
+            (seen_state self.entry.now journal.entry.now) call.entry.now.bucket.now) outputs.now
+            (seen_element call.entry.now.element)) }
     {
         if !call.gives {
             return Ok(());
@@ -344,7 +429,10 @@ fn built_in(
     written: u64,
     journal: &Journal,
 ) -> Result<ToolAnswer, NoMemory>
-    ensures { IfOk result (λ made. made ≡ answer task.now (folder_of context.now.id.now.instance.path) (record { files = context.now.world.now.tree.files; journal = journal.now }) input.now.params written) }
+    ensures { IfOk result
+        (λ made. made ≡ answer task.now (folder_of context.now.id.now.instance.path)
+        (record { files = context.now.world.now.tree.files; journal = journal.now })
+        input.now.params written) }
 {
     let view = FileView::of(&context.world.tree, journal);
     task_kit::call(alloc, task, context.folder(), &view, input, written)
@@ -356,7 +444,8 @@ fn read_call(
     place: &Place<'_>,
     element: &PlacedElement<'_>,
 ) -> Result<Option<(OnError, List<Param>)>, EvalFault>
-    ensures { GivesFault (λ ready. ready) result (readied (seen_place place.now) (seen_element element.now)) }
+    ensures { GivesFault (λ ready. ready) result
+        (readied (seen_place place.now) (seen_element element.now)) }
 {
     if place.holds(alloc, element)? {
         let on_error = OnError::at(alloc, place, element)?;
@@ -371,7 +460,9 @@ fn params_of(
     place: &Place<'_>,
     element: &PlacedElement<'_>,
 ) -> Result<List<Param>, EvalFault>
-    ensures { GivesFault (λ params. params) result (params_at (seen_place place.now) (seen_element element.now) (task_of (seen_element element.now))) }
+    ensures { GivesFault (λ params. params) result
+        (params_at (seen_place place.now) (seen_element element.now)
+        (task_of (seen_element element.now))) }
 {
     let Ok(task) = task_of(alloc, element) else {
         return Err(EvalFault::memory(alloc));

@@ -1,10 +1,17 @@
-//! The children of a target. (Target element; PropertyGroup element; ItemGroup element; Task element.)
+//! The children of a target. (Target element; PropertyGroup element; ItemGroup element; Task
+//! element.)
 
 ghost use Rattle.std.specs.Prelude.{◌≡◌, ◌<◌, suc, drop, length, IfOk, OnOk};
 ghost use Rattle.build_world.specs.Elements.{children_of, seen_element};
 ghost use Rattle.task_trait.specs.Tools.{BeginsWith};
 ghost use Rattle.target_body.specs.Children.{child, group, kind_of};
-ghost use Rattle.target_body.specs.Left.{IsOfChild, child_frames, children_frames, children_left, waiting};
+ghost use Rattle.target_body.specs.Left.{
+  IsOfChild,
+  child_frames,
+  children_frames,
+  children_left,
+  waiting,
+};
 ghost use Rattle.target_body.specs.Moments.{GoesOn, Plays, moment, player};
 ghost use Rattle.target_body.specs.Seen.{child_at, ended, seen_kind, seen_run, seen_state};
 ghost use Rattle.target_body.specs.Work.{each_in_turn, unless_stopped};
@@ -45,7 +52,8 @@ impl Kind {
 }
 
 impl State {
-    /// Takes the children from this place on, in order, by what is decided of the bucket. (Target element.)
+    /// Takes the children from this place on, in order, by what is decided of the bucket. (Target
+    /// element.)
     pub(crate) fn children<T: CountedTools>(
         &mut self,
         alloc: Global,
@@ -56,7 +64,10 @@ impl State {
         journal: &mut Journal,
     ) -> Result<Step<AtTask>, NoMemory>
         ensures plays { IfOk result (λ step. let run = seen_run context.now in
-            Plays (children_frames run choice.now) (player context.now.id.now T.answer) (λ s. each_in_turn (child run choice.now) (drop from (children_of run.target.element)) s) (moment self.old journal.old (T.calls tools.old)) step (moment self.new journal.new (T.calls tools.new))) }
+            Plays (children_frames run choice.now) (player context.now.id.now T.answer)
+            (λ s. each_in_turn (child run choice.now) (drop from (children_of run.target.element))
+            s) (moment self.old journal.old (T.calls tools.old)) step
+            (moment self.new journal.new (T.calls tools.new))) }
         ensures begun { BeginsWith (T.calls tools.old) (T.calls tools.new) }
     {
         for place in from..context.target.at.element.count() {
@@ -80,7 +91,10 @@ impl State {
         journal: &mut Journal,
     ) -> Result<Step<AtTask>, NoMemory>
         ensures plays { IfOk result (λ step. let run = seen_run context.now in
-            Plays (child_frames run) (player context.now.id.now T.answer) (child run choice.now (child_at run place)) (moment self.old journal.old (T.calls tools.old)) step (moment self.new journal.new (T.calls tools.new))) }
+            Plays (child_frames run) (player context.now.id.now T.answer)
+            (child run choice.now (child_at run place))
+            (moment self.old journal.old (T.calls tools.old)) step
+            (moment self.new journal.new (T.calls tools.new))) }
         ensures child { IfOk result (λ step. IsOfChild place step) }
         ensures begun { BeginsWith (T.calls tools.old) (T.calls tools.new) }
     {
@@ -95,7 +109,8 @@ impl State {
         }
     }
 
-    // A PropertyGroup or an ItemGroup: the scope has all its changes at once, or one of its texts has a fault.
+    // A PropertyGroup or an ItemGroup: the scope has all its changes at once, or one of its texts
+    // has a fault.
     fn group(
         &mut self,
         alloc: Global,
@@ -103,7 +118,9 @@ impl State {
         element: &PlacedElement<'_>,
         journal: &Journal,
     ) -> Result<Ending, NoMemory>
-        ensures ended { IfOk result (λ ending. ended ending (seen_state self.new journal.now) ≡ group (seen_run context.now) (seen_element element.now) (seen_state self.old journal.now)) }
+        ensures ended { IfOk result (λ ending. ended ending (seen_state self.new journal.now)
+            ≡ group (seen_run context.now) (seen_element element.now)
+            (seen_state self.old journal.now)) }
         ensures kept { OnOk result (self.new.segments ≡ self.old.segments) }
     {
         let view = FileView::of(&context.world.tree, journal);
@@ -115,7 +132,8 @@ impl State {
                 Ok(Ending::Fine)
             }
             Err(fault) => {
-                // Some of the group's changes may be made, and nothing looks at the scope behind a fault.
+                // Some of the group's changes may be made, and nothing looks at the scope behind a
+                // fault.
                 self.scope = no_scope(alloc);
                 self.note_fault(alloc, &fault)?;
                 Ok(Ending::Faulted)
@@ -135,7 +153,14 @@ impl State {
     ) -> Result<Step<AtTask>, NoMemory>
         requires { IsOfChild place step }
         ensures goes { IfOk result (λ step_then. let run = seen_run context.now in
-            GoesOn (child_frames run) (children_frames run choice.now) (player context.now.id.now T.answer) (λ end. unless_stopped end (each_in_turn (child run choice.now) (drop (suc place) (children_of run.target.element)))) step (moment self.old journal.old (T.calls tools.old)) step_then (moment self.new journal.new (T.calls tools.new))) }
+            GoesOn (child_frames run) (children_frames run choice.now)
+            (player context.now.id.now T.answer)
+            (λ end.
+            unless_stopped end
+            (each_in_turn (child run choice.now)
+            (drop (suc place) (children_of run.target.element)))) step
+            (moment self.old journal.old (T.calls tools.old)) step_then
+            (moment self.new journal.new (T.calls tools.new))) }
         ensures begun { BeginsWith (T.calls tools.old) (T.calls tools.new) }
     {
         match step {
@@ -166,7 +191,10 @@ impl State {
         requires waits { 0 < length (waiting task.call) }
         requires fits { length results ≡ length (waiting task.call) }
         ensures plays { IfOk result (λ step. let run = seen_run context.now in
-            Plays (children_frames run choice.now) (player context.now.id.now T.answer) (λ s. children_left run choice.now task s results journal.old) (moment self.old journal.old (T.calls tools.old)) step (moment self.new journal.new (T.calls tools.new))) }
+            Plays (children_frames run choice.now) (player context.now.id.now T.answer)
+            (λ s. children_left run choice.now task s results journal.old)
+            (moment self.old journal.old (T.calls tools.old)) step
+            (moment self.new journal.new (T.calls tools.new))) }
         ensures begun { BeginsWith (T.calls tools.old) (T.calls tools.new) }
     {
         let place = task.child;

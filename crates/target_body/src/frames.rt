@@ -1,8 +1,20 @@
-//! What is left of the parts of a run where it waits for the results of calls, and how they go on with them.
+//! What is left of the parts of a run where it waits for the results of calls, and how they go on
+//! with them.
 
 ghost use Rattle.std.specs.Prelude.{◌≡◌, ◌<◌, length, IfOk};
 ghost use Rattle.task_trait.specs.Tools.{BeginsWith};
-ghost use Rattle.target_body.specs.Left.{IsOfChild, bucket_frames, bucket_left, buckets_frames, buckets_left, child_frames, child_left, waiting, waiting_bucket, waiting_run};
+ghost use Rattle.target_body.specs.Left.{
+  IsOfChild,
+  bucket_frames,
+  bucket_left,
+  buckets_frames,
+  buckets_left,
+  child_frames,
+  child_left,
+  waiting,
+  waiting_bucket,
+  waiting_run,
+};
 ghost use Rattle.target_body.specs.Moments.{Plays, moment, player};
 ghost use Rattle.target_body.specs.Seen.{seen_chooser, seen_run};
 
@@ -40,8 +52,8 @@ impl Drop for AtCall {
     }
 }
 
-/// Of a task element: its place among the children of the target, whether its Outputs are what the task gives, its bucket at hand,
-/// and those that come later. (Task element.)
+/// Of a task element: its place among the children of the target, whether its Outputs are what the
+/// task gives, its bucket at hand, and those that come later. (Task element.)
 pub(crate) struct AtTask {
     pub(crate) child: usize,
     pub(crate) gives: bool,
@@ -63,8 +75,8 @@ impl Drop for AtTask {
     }
 }
 
-/// Of a bucket of a target: what is decided of it, and of a target that takes its items one by one, their type and the bucket's items.
-/// (How to build incrementally.)
+/// Of a bucket of a target: what is decided of it, and of a target that takes its items one by one,
+/// their type and the bucket's items. (How to build incrementally.)
 pub(crate) struct AtBucket {
     pub(crate) bucket: Bucket,
     pub(crate) choice: Choice,
@@ -126,7 +138,10 @@ impl AtTask {
         requires waits { 0 < length (waiting self.call) }
         requires fits { length results ≡ length (waiting self.call) }
         ensures plays { IfOk result (λ step. let run = seen_run context.now in
-            Plays (child_frames run) (player context.now.id.now T.answer) (λ s. child_left run self s results journal.old) (moment state.old journal.old (T.calls tools.old)) step (moment state.new journal.new (T.calls tools.new))) }
+            Plays (child_frames run) (player context.now.id.now T.answer)
+            (λ s. child_left run self s results journal.old)
+            (moment state.old journal.old (T.calls tools.old)) step
+            (moment state.new journal.new (T.calls tools.new))) }
         ensures child { IfOk result (λ step. IsOfChild self.child step) }
         ensures begun { BeginsWith (T.calls tools.old) (T.calls tools.new) }
     {
@@ -164,7 +179,10 @@ impl AtBucket {
         requires waits { 0 < length (waiting_bucket self) }
         requires fits { length results ≡ length (waiting_bucket self) }
         ensures plays { IfOk result (λ step. let run = seen_run context.now in
-            Plays (bucket_frames run) (player context.now.id.now T.answer) (λ s. bucket_left run self s results journal.old) (moment state.old journal.old (T.calls tools.old)) step (moment state.new journal.new (T.calls tools.new))) }
+            Plays (bucket_frames run) (player context.now.id.now T.answer)
+            (λ s. bucket_left run self s results journal.old)
+            (moment state.old journal.old (T.calls tools.old)) step
+            (moment state.new journal.new (T.calls tools.new))) }
         ensures begun { BeginsWith (T.calls tools.old) (T.calls tools.new) }
     {
         let AtBucket {

@@ -1,4 +1,5 @@
-//! What the tasks of a bucket see of a list, where they run on a part of it. (How to build incrementally.)
+//! What the tasks of a bucket see of a list, where they run on a part of it. (How to build
+//! incrementally.)
 
 ghost use Rattle.std.specs.Prelude.{◌≡◌, IfOk, OnOk, unwrap_or};
 ghost use Rattle.msb_values.specs.Changes.{applied};
@@ -46,7 +47,9 @@ fn items_after(
     items: SharedItems,
     change: &Change,
 ) -> Result<SharedItems, NoMemory>
-    ensures { IfOk result (λ after. after ≡ list_of (applied change.now (with_list no_scope kind.now items)) kind.now) }
+    ensures { IfOk result
+        (λ after. after ≡ list_of (applied change.now (with_list no_scope kind.now items))
+        kind.now) }
 {
     let mut alone = no_scope(alloc);
     alone.items.insert(kind.copy()?, items)?;

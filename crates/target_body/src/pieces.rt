@@ -1,4 +1,5 @@
-//! A bucket of a target: what is decided of it, its children, and what it returns. (Target element; How to build incrementally.)
+//! A bucket of a target: what is decided of it, its children, and what it returns. (Target element;
+//! How to build incrementally.)
 
 ghost use Rattle.std.specs.Prelude.{◌≡◌, ℕ, List, IfOk, OnOk, option_copied, option_map};
 ghost use Rattle.build_world.specs.Answers.{GivesFault};
@@ -12,7 +13,17 @@ ghost use Rattle.target_texts.specs.Returned.{returns_of};
 ghost use Rattle.target_texts.specs.Seen.{seen_lists};
 ghost use Rattle.target_body.specs.Left.{bucket_frames, children_frames};
 ghost use Rattle.target_body.specs.Moments.{GoesOn, Plays, moment, player};
-ghost use Rattle.target_body.specs.Pieces.{bucket_by, chosen_or_run, decided, lists_at, number_of, on_old, or_failed, treated, word_of};
+ghost use Rattle.target_body.specs.Pieces.{
+  bucket_by,
+  chosen_or_run,
+  decided,
+  lists_at,
+  number_of,
+  on_old,
+  or_failed,
+  treated,
+  word_of,
+};
 ghost use Rattle.target_body.specs.Returned.{items_if, returned};
 ghost use Rattle.target_body.specs.Seen.{ended, seen_chooser, seen_run, seen_state};
 ghost use Rattle.target_body.specs.States.{with_decision};
@@ -33,7 +44,8 @@ use target_texts::{Lists, returned_items, returns_of};
 use task_trait::CountedTools;
 
 impl State {
-    /// Takes a bucket of the target, which sees the scope as the target found it. (MSBuild batching.)
+    /// Takes a bucket of the target, which sees the scope as the target found it. (MSBuild
+    /// batching.)
     pub(crate) fn bucket<T: CountedTools>(
         &mut self,
         alloc: Global,
@@ -69,7 +81,9 @@ impl State {
         bucket: &'x Bucket,
         journal: &'x Journal,
     ) -> Result<Option<Lists>, EvalFault>
-        ensures { GivesFault (option_map seen_lists) result (lists_at (seen_run context.entry.now) bucket.entry.now (seen_state self.entry.now journal.entry.now)) }
+        ensures { GivesFault (option_map seen_lists) result
+            (lists_at (seen_run context.entry.now) bucket.entry.now
+            (seen_state self.entry.now journal.entry.now)) }
     {
         let view = FileView::of(&context.world.tree, journal);
         let place = place_of(&view, context.project(), &self.scope);
@@ -115,7 +129,10 @@ impl State {
         journal: &mut Journal,
     ) -> Result<Step<AtBucket>, NoMemory>
         ensures plays { IfOk result (λ step. let run = seen_run context.now in
-            Plays (bucket_frames run) (player context.now.id.now T.answer) (λ s. followed_by (decided run bucket choice items s) (λ end. done (or_failed end))) (moment self.old journal.old (T.calls tools.old)) step (moment self.new journal.new (T.calls tools.new))) }
+            Plays (bucket_frames run) (player context.now.id.now T.answer)
+            (λ s. followed_by (decided run bucket choice items s) (λ end. done (or_failed end)))
+            (moment self.old journal.old (T.calls tools.old)) step
+            (moment self.new journal.new (T.calls tools.new))) }
         ensures begun { BeginsWith (T.calls tools.old) (T.calls tools.new) }
     {
         let step = self.treat(alloc, context, &choice, &items, tools, journal)?;
@@ -133,7 +150,9 @@ impl State {
         journal: &mut Journal,
     ) -> Result<Step<AtTask>, NoMemory>
         ensures plays { IfOk result (λ step. let run = seen_run context.now in
-            Plays (children_frames run choice.now) (player context.now.id.now T.answer) (treated run choice.now items.now) (moment self.old journal.old (T.calls tools.old)) step (moment self.new journal.new (T.calls tools.new))) }
+            Plays (children_frames run choice.now) (player context.now.id.now T.answer)
+            (treated run choice.now items.now) (moment self.old journal.old (T.calls tools.old))
+            step (moment self.new journal.new (T.calls tools.new))) }
         ensures begun { BeginsWith (T.calls tools.old) (T.calls tools.new) }
     {
         match choice {
@@ -153,7 +172,9 @@ impl State {
         items: &Option<(Name, List<Item>)>,
         old: &List<Item>,
     ) -> Result<(), NoMemory>
-        ensures narrowed { OnOk result ((journal : Files) → seen_state self.new journal ≡ on_old items.now old.now (seen_state self.old journal)) }
+        ensures narrowed { OnOk result ((journal : Files)
+            → seen_state self.new journal ≡ on_old items.now old.now
+            (seen_state self.old journal)) }
         ensures kept { OnOk result (self.new.segments ≡ self.old.segments) }
     {
         if let Some((kind, _)) = items {
@@ -174,8 +195,16 @@ impl State {
         step: Step<AtTask>,
         journal: &Journal,
     ) -> Result<Step<AtBucket>, NoMemory>
-        ensures { (answer : List ℕ → ToolInput → ToolAnswer) (tools : List (List ℕ × ToolInput)) → IfOk result (λ step_then. let run = seen_run context.now in
-            GoesOn (children_frames run choice) (bucket_frames run) (player context.now.id.now answer) (λ end. followed_by (unless_stopped end (λ s. done (map_ok (with_decision (word_of choice items)) (returned run bucket s)))) (λ end. done (or_failed end))) step (moment self.old journal.now tools) step_then (moment self.new journal.now tools)) }
+        ensures { (answer : List ℕ → ToolInput → ToolAnswer) (tools : List (List ℕ × ToolInput))
+            → IfOk result (λ step_then. let run = seen_run context.now in
+            GoesOn (children_frames run choice) (bucket_frames run)
+            (player context.now.id.now answer)
+            (λ end.
+            followed_by
+            (unless_stopped end
+            (λ s. done (map_ok (with_decision (word_of choice items)) (returned run bucket s))))
+            (λ end. done (or_failed end))) step (moment self.old journal.now tools) step_then
+            (moment self.new journal.now tools)) }
     {
         match step {
             Step::Over(ending) => {
@@ -201,7 +230,11 @@ impl State {
         ending: Ending,
         journal: &Journal,
     ) -> Result<Ending, NoMemory>
-        ensures ended { IfOk result (λ ending_then. ended ending_then (seen_state self.new journal.now) ≡ or_failed (and_then (ended ending (seen_state self.old journal.now)) (λ s. map_ok (with_decision word) (returned (seen_run context.now) bucket.now s)))) }
+        ensures ended { IfOk result
+            (λ ending_then. ended ending_then (seen_state self.new journal.now)
+            ≡ or_failed
+            (and_then (ended ending (seen_state self.old journal.now))
+            (λ s. map_ok (with_decision word) (returned (seen_run context.now) bucket.now s)))) }
         ensures kept { OnOk result (self.new.segments ≡ self.old.segments) }
     {
         match ending {
@@ -221,7 +254,10 @@ impl State {
         word: Decision,
         journal: &Journal,
     ) -> Result<Ending, NoMemory>
-        ensures ended { IfOk result (λ ending. ended ending (seen_state self.new journal.now) ≡ or_failed (map_ok (with_decision word) (returned (seen_run context.now) bucket.now (seen_state self.old journal.now)))) }
+        ensures ended { IfOk result (λ ending. ended ending (seen_state self.new journal.now)
+            ≡ or_failed
+            (map_ok (with_decision word)
+            (returned (seen_run context.now) bucket.now (seen_state self.old journal.now)))) }
         ensures kept { OnOk result (self.new.segments ≡ self.old.segments) }
     {
         match self.returned(alloc, &*context, &*bucket, &*journal) {
@@ -245,7 +281,10 @@ impl State {
         bucket: &'x Bucket,
         journal: &'x Journal,
     ) -> Result<List<Item>, EvalFault>
-        ensures { GivesFault (λ items. items) result (items_if (seen_run context.entry.now) bucket.entry.now (seen_state self.entry.now journal.entry.now) (returns_of (seen_run context.entry.now).target)) }
+        ensures { GivesFault (λ items. items) result
+            (items_if (seen_run context.entry.now) bucket.entry.now
+            (seen_state self.entry.now journal.entry.now)
+            (returns_of (seen_run context.entry.now).target)) }
     {
         let Some(written) = returns_of(context.target) else {
             return Ok(List::new(alloc));
@@ -263,7 +302,11 @@ fn choice_of(
     lists: &Lists,
     journal: &Journal,
 ) -> Result<Choice, NoMemory>
-    ensures { IfOk result (λ choice. choice ≡ decision (record { files = context.now.world.now.tree.files; journal = journal.now }) lists.now.inputs lists.now.outputs (option_map (λ typed. typed.1) lists.now.items) context.now.world.now.mode) }
+    ensures { IfOk result
+        (λ choice. choice
+        ≡ decision (record { files = context.now.world.now.tree.files; journal = journal.now })
+        lists.now.inputs lists.now.outputs (option_map (λ typed. typed.1) lists.now.items)
+        context.now.world.now.mode) }
 {
     let view = FileView::of(&context.world.tree, journal);
     let mode = context.world.mode;

@@ -13,7 +13,8 @@ use msb_values::{Pairs, Scope};
 use result_cache::RunRef;
 use target_texts::Place;
 
-/// The run at hand: the world that it is part of, its name, and the element that is used of its target.
+/// The run at hand: the world that it is part of, its name, and the element that is used of its
+/// target.
 #[derive(Clone, Copy)]
 pub(crate) struct RunContext<'a> {
     pub(crate) world: &'a World,
@@ -57,7 +58,8 @@ impl<'a> RunContext<'a> {
 
 /// What a text of a project sees that stands in no bucket.
 pub(crate) fn place_of<'x>(files: &'x FileView<'x>, project: &'x str, scope: &'x Scope) -> Place<'x>
-    ensures { seen_place result ≡ item_place (paths files.entry.now) project.entry.now scope.entry.now }
+    ensures { seen_place result ≡ item_place (paths files.entry.now) project.entry.now
+        scope.entry.now }
 {
     Place {
         files,

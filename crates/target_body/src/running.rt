@@ -62,7 +62,10 @@ impl State {
         context: &'x RunContext<'x>,
         journal: &'x Journal,
     ) -> Result<List<Bucket>, EvalFault>
-        ensures { GivesFault (λ buckets. buckets) result (target_buckets (place_in (seen_run context.entry.now) (seen_state self.entry.now journal.entry.now) self.entry.now.scope) (seen_run context.entry.now).target.element) }
+        ensures { GivesFault (λ buckets. buckets) result
+            (target_buckets
+            (place_in (seen_run context.entry.now) (seen_state self.entry.now journal.entry.now)
+            self.entry.now.scope) (seen_run context.entry.now).target.element) }
     {
         let view = FileView::of(&context.world.tree, journal);
         let place = place_of(&view, context.project(), &self.scope);

@@ -78,15 +78,22 @@ impl State {
         }
     }
 
-    /// A bucket begins: it sees of the batched lists only its own items, in the scope as the target found it.
-    /// (MSBuild batching.)
+    /// A bucket begins: it sees of the batched lists only its own items, in the scope as the target
+    /// found it. (MSBuild batching.)
     pub(crate) fn enter(
         &mut self,
         alloc: Global,
         found: &Scope,
         bucket: &Bucket,
     ) -> Result<(), NoMemory>
-        ensures { OnOk result (self.new ≡ record self.old { scope = record found.now { items = all_put found.now.items bucket.now.lists }; part = None; unseen = [] }) }
+        ensures { OnOk result
+            (self.new
+            ≡ record self.old {
+              scope = record found.now { items = all_put found.now.items bucket.now.lists };
+              part =
+                  None;
+              unseen = [];
+            }) }
     {
         let mut scope = found.copy()?;
         put_lists(&mut scope.items, &bucket.lists)?;
@@ -98,7 +105,10 @@ impl State {
 
     /// Changes of the task element at hand, which stay out of the scope until it is over.
     pub(crate) fn add_changes(&mut self, made: List<Change>) -> Result<(), NoMemory>
-        ensures { OnOk result (self.new ≡ record self.old { unseen = self.old.unseen ++ made; changes = self.old.changes ++ made }) }
+        ensures { OnOk result
+            (self.new
+            ≡ record self.old
+            { unseen = self.old.unseen ++ made; changes = self.old.changes ++ made }) }
     {
         self.unseen.append(made.copy()?)?;
         self.changes.append(made)
@@ -111,7 +121,8 @@ impl State {
     }
 
     pub(crate) fn add_decision(&mut self, decision: Decision) -> Result<(), NoMemory>
-        ensures { OnOk result (self.new ≡ record self.old { decisions = self.old.decisions ++ decision ∷ [] }) }
+        ensures { OnOk result
+            (self.new ≡ record self.old { decisions = self.old.decisions ++ decision ∷ [] }) }
     {
         self.decisions.push(decision)
     }
@@ -122,14 +133,17 @@ impl State {
         keys: &[RequestKey],
         results: &[RequestResult],
     ) -> Result<(), NoMemory>
-        ensures { OnOk result (self.new ≡ record self.old { segments = self.old.segments ++ called keys.now results.now }) }
+        ensures { OnOk result
+            (self.new
+            ≡ record self.old { segments = self.old.segments ++ called keys.now results.now }) }
     {
         push_calls(&mut self.segments, keys, results)
     }
 
     /// A fault is noted as an error; one that is want of memory is no fault.
     pub(crate) fn note_fault(&mut self, alloc: Global, fault: &EvalFault) -> Result<(), NoMemory>
-        ensures noted { OnOk result (self.new ≡ record self.old { notes = self.old.notes ++ Fail (fault_text fault.now) ∷ [] }) }
+        ensures noted { OnOk result (self.new
+            ≡ record self.old { notes = self.old.notes ++ Fail (fault_text fault.now) ∷ [] }) }
         ensures told { OnOk result (fault.now.cause ≡ Memory → ⊥) }
     {
         match &fault.cause {
@@ -145,7 +159,9 @@ impl State {
         made: List<Change>,
         end: Result<(), EvalFault>,
     ) -> Result<Ending, NoMemory>
-        ensures taken { IfOk result (λ ending. (journal : Journal) (all : Made) → Pushes end [] made all → ended ending (seen_state self.new journal) ≡ taken all (seen_state self.old journal)) }
+        ensures taken { IfOk result (λ ending. (journal : Journal) (all : Made)
+            → Pushes end [] made all → ended ending (seen_state self.new journal)
+            ≡ taken all (seen_state self.old journal)) }
         ensures kept { OnOk result (self.new.segments ≡ self.old.segments) }
     {
         self.add_changes(made)?;
@@ -160,7 +176,8 @@ impl State {
 
     /// The child at hand is over: the scope gets its changes.
     pub(crate) fn settle(&mut self, alloc: Global) -> Result<(), NoMemory>
-        ensures settled { OnOk result ((journal : Journal) → seen_state self.new journal ≡ settled (seen_state self.old journal)) }
+        ensures settled { OnOk result ((journal : Journal)
+            → seen_state self.new journal ≡ settled (seen_state self.old journal)) }
         ensures kept { OnOk result (self.new.segments ≡ self.old.segments) }
     {
         let unseen = mem::replace(&mut self.unseen, List::new(alloc));
@@ -168,7 +185,9 @@ impl State {
     }
 
     fn see_all(&mut self, alloc: Global, changes: &[Change]) -> Result<(), NoMemory>
-        ensures seen { OnOk result ((journal : Journal) → seen_state self.new journal ≡ fold with_change (seen_state self.old journal) changes.now) }
+        ensures seen { OnOk result ((journal : Journal)
+            → seen_state self.new journal ≡ fold with_change (seen_state self.old journal)
+            changes.now) }
         ensures kept { OnOk result (self.new.segments ≡ self.old.segments) }
     {
         for change in changes {
@@ -179,7 +198,12 @@ impl State {
 
     // A change is made in the scope, and in what tasks see of a list.
     fn see(&mut self, alloc: Global, change: &Change) -> Result<(), NoMemory>
-        ensures { OnOk result (self.new ≡ record self.old { scope = applied change.now self.old.scope; part = part_after change.now self.old.part }) }
+        ensures { OnOk result
+            (self.new
+            ≡ record self.old {
+              scope = applied change.now self.old.scope;
+              part = part_after change.now self.old.part;
+            }) }
     {
         part_after(alloc, &mut self.part, change)?;
         self.scope.apply(alloc, change)

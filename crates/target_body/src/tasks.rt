@@ -1,5 +1,5 @@
-//! A task element: it is called bucket by bucket, or its Outputs are inferred. (Task element; MSBuild batching; How to build
-//! incrementally.)
+//! A task element: it is called bucket by bucket, or its Outputs are inferred. (Task element;
+//! MSBuild batching; How to build incrementally.)
 
 ghost use Rattle.std.specs.Prelude.{◌≡◌, ℕ, List, IfOk, OnOk};
 ghost use Rattle.build_world.specs.Answers.{GivesFault};
@@ -15,7 +15,14 @@ ghost use Rattle.target_texts.specs.Answered.{Pushes};
 ghost use Rattle.target_texts.specs.Inferred.{inferred_at};
 ghost use Rattle.target_texts.specs.Parameters.{task_buckets};
 ghost use Rattle.target_texts.specs.Seen.{seen_place};
-ghost use Rattle.target_body.specs.Left.{IsOfChild, IsOfTask, calls_frames, call_frames, child_frames, inferred_unless};
+ghost use Rattle.target_body.specs.Left.{
+  IsOfChild,
+  IsOfTask,
+  calls_frames,
+  call_frames,
+  child_frames,
+  inferred_unless,
+};
 ghost use Rattle.target_body.specs.Moments.{GoesOn, Plays, moment, player};
 ghost use Rattle.target_body.specs.Seen.{child_at, ended, seen_run, seen_state};
 ghost use Rattle.target_body.specs.States.{State as Now, place_in, settled, task_scope};
@@ -66,7 +73,8 @@ impl<'a> TaskChild<'a> {
 }
 
 impl State {
-    /// Takes a task element by what is decided of the target's bucket. (How to build incrementally.)
+    /// Takes a task element by what is decided of the target's bucket. (How to build
+    /// incrementally.)
     pub(crate) fn task<T: CountedTools>(
         &mut self,
         alloc: Global,
@@ -77,7 +85,10 @@ impl State {
         journal: &mut Journal,
     ) -> Result<Step<AtTask>, NoMemory>
         ensures plays { IfOk result (λ step. let run = seen_run context.now in
-            Plays (child_frames run) (player context.now.id.now T.answer) (λ s. followed_by (task run choice.now (child_at run child) s) (λ end. done (map_ok settled end))) (moment self.old journal.old (T.calls tools.old)) step (moment self.new journal.new (T.calls tools.new))) }
+            Plays (child_frames run) (player context.now.id.now T.answer)
+            (λ s. followed_by (task run choice.now (child_at run child) s)
+            (λ end. done (map_ok settled end))) (moment self.old journal.old (T.calls tools.old))
+            step (moment self.new journal.new (T.calls tools.new))) }
         ensures child { IfOk result (λ step. IsOfChild child step) }
         ensures begun { BeginsWith (T.calls tools.old) (T.calls tools.new) }
     {
@@ -102,8 +113,13 @@ impl State {
         journal: &mut Journal,
     ) -> Result<Step<AtTask>, NoMemory>
         requires { seen_element at.now.element ≡ child_at (seen_run at.now.context) at.now.child }
-        ensures plays { IfOk result (λ step. let run = seen_run at.now.context in let e = seen_element at.now.element in
-            Plays (child_frames run) (player at.now.context.id.now T.answer) (λ s. followed_by (called run e at.now.gives s) (λ end. done (map_ok settled (inferred_unless at.now.gives run e end)))) (moment self.old journal.old (T.calls tools.old)) step (moment self.new journal.new (T.calls tools.new))) }
+        ensures plays { IfOk result
+            (λ step. let run = seen_run at.now.context in let e = seen_element at.now.element in
+            Plays (child_frames run) (player at.now.context.id.now T.answer)
+            (λ s. followed_by (called run e at.now.gives s)
+            (λ end. done (map_ok settled (inferred_unless at.now.gives run e end))))
+            (moment self.old journal.old (T.calls tools.old)) step
+            (moment self.new journal.new (T.calls tools.new))) }
         ensures child { IfOk result (λ step. IsOfChild at.now.child step) }
         ensures begun { BeginsWith (T.calls tools.old) (T.calls tools.new) }
     {
@@ -127,7 +143,11 @@ impl State {
         at: &'x TaskChild<'x>,
         journal: &'x Journal,
     ) -> Result<List<Bucket>, EvalFault>
-        ensures { GivesFault (λ buckets. buckets) result (task_buckets (place_in (seen_run at.entry.now.context) (seen_state self.entry.now journal.entry.now) (task_scope (seen_state self.entry.now journal.entry.now))) (seen_element at.entry.now.element)) }
+        ensures { GivesFault (λ buckets. buckets) result
+            (task_buckets
+            (place_in (seen_run at.entry.now.context) (seen_state self.entry.now journal.entry.now)
+            (task_scope (seen_state self.entry.now journal.entry.now)))
+            (seen_element at.entry.now.element)) }
     {
         let Ok(own) = scope_of_part(&self.scope, &self.part) else {
             return Err(EvalFault::memory(alloc));
@@ -147,8 +167,12 @@ impl State {
         journal: &mut Journal,
     ) -> Result<Step<AtTask>, NoMemory>
         requires { seen_element at.now.element ≡ child_at (seen_run at.now.context) at.now.child }
-        ensures plays { IfOk result (λ step. let run = seen_run at.now.context in let e = seen_element at.now.element in
-            Plays (calls_frames run) (player at.now.context.id.now T.answer) (λ s. each_in_turn (call run e at.now.gives) later s) (moment self.old journal.old (T.calls tools.old)) step (moment self.new journal.new (T.calls tools.new))) }
+        ensures plays { IfOk result
+            (λ step. let run = seen_run at.now.context in let e = seen_element at.now.element in
+            Plays (calls_frames run) (player at.now.context.id.now T.answer)
+            (λ s. each_in_turn (call run e at.now.gives) later s)
+            (moment self.old journal.old (T.calls tools.old)) step
+            (moment self.new journal.new (T.calls tools.new))) }
         ensures task { IfOk result (λ step. IsOfTask at.now.child at.now.gives step) }
         ensures begun { BeginsWith (T.calls tools.old) (T.calls tools.new) }
     {
@@ -190,8 +214,13 @@ impl State {
         journal: &mut Journal,
     ) -> Result<Step<AtTask>, NoMemory>
         requires { seen_element at.now.element ≡ child_at (seen_run at.now.context) at.now.child }
-        ensures goes { IfOk result (λ step_then. let run = seen_run at.now.context in let e = seen_element at.now.element in
-            GoesOn (call_frames run e at.now.gives bucket) (calls_frames run) (player at.now.context.id.now T.answer) (λ end. unless_stopped end (each_in_turn (call run e at.now.gives) later)) step (moment self.old journal.old (T.calls tools.old)) step_then (moment self.new journal.new (T.calls tools.new))) }
+        ensures goes { IfOk result
+            (λ step_then. let run = seen_run at.now.context in let e = seen_element at.now.element in
+            GoesOn (call_frames run e at.now.gives bucket) (calls_frames run)
+            (player at.now.context.id.now T.answer)
+            (λ end. unless_stopped end (each_in_turn (call run e at.now.gives) later)) step
+            (moment self.old journal.old (T.calls tools.old)) step_then
+            (moment self.new journal.new (T.calls tools.new))) }
         ensures task { IfOk result (λ step. IsOfTask at.now.child at.now.gives step) }
         ensures begun { BeginsWith (T.calls tools.old) (T.calls tools.new) }
     {
@@ -218,10 +247,18 @@ impl State {
         step: Step<AtTask>,
         journal: &Journal,
     ) -> Result<Step<AtTask>, NoMemory>
-        requires element { seen_element at.now.element ≡ child_at (seen_run at.now.context) at.now.child }
+        requires element { seen_element at.now.element
+            ≡ child_at (seen_run at.now.context) at.now.child }
         requires task { IsOfTask at.now.child at.now.gives step }
-        ensures goes { (answer : List ℕ → ToolInput → ToolAnswer) (tools : List (List ℕ × ToolInput)) → IfOk result (λ step_then. let run = seen_run at.now.context in
-            GoesOn (calls_frames run) (child_frames run) (player at.now.context.id.now answer) (λ end. done (map_ok settled (inferred_unless at.now.gives run (seen_element at.now.element) end))) step (moment self.old journal.now tools) step_then (moment self.new journal.now tools)) }
+        ensures goes { (answer : List ℕ → ToolInput → ToolAnswer)
+            (tools : List (List ℕ × ToolInput))
+            → IfOk result (λ step_then. let run = seen_run at.now.context in
+            GoesOn (calls_frames run) (child_frames run) (player at.now.context.id.now answer)
+            (λ end.
+            done
+            (map_ok settled (inferred_unless at.now.gives run (seen_element at.now.element) end)))
+            step (moment self.old journal.now tools) step_then
+            (moment self.new journal.now tools)) }
         ensures child { IfOk result (λ step. IsOfChild at.now.child step) }
     {
         match step {
@@ -233,7 +270,8 @@ impl State {
         }
     }
 
-    // Where the Outputs of an element are not its own, they are inferred after its calls, also after one that stops the body.
+    // Where the Outputs of an element are not its own, they are inferred after its calls, also
+    // after one that stops the body.
     fn infer_unless(
         &mut self,
         alloc: Global,
@@ -241,7 +279,10 @@ impl State {
         ending: Ending,
         journal: &Journal,
     ) -> Result<Ending, NoMemory>
-        ensures ended { IfOk result (λ ending_then. ended ending_then (seen_state self.new journal.now) ≡ inferred_unless at.now.gives (seen_run at.now.context) (seen_element at.now.element) (ended ending (seen_state self.old journal.now))) }
+        ensures ended { IfOk result
+            (λ ending_then. ended ending_then (seen_state self.new journal.now)
+            ≡ inferred_unless at.now.gives (seen_run at.now.context) (seen_element at.now.element)
+            (ended ending (seen_state self.old journal.now))) }
         ensures kept { OnOk result (self.new.segments ≡ self.old.segments) }
     {
         match ending {
@@ -260,7 +301,9 @@ impl State {
         at: &TaskChild<'_>,
         journal: &Journal,
     ) -> Result<Ending, NoMemory>
-        ensures ended { IfOk result (λ ending. ended ending (seen_state self.new journal.now) ≡ inferred (seen_run at.now.context) (seen_element at.now.element) (seen_state self.old journal.now)) }
+        ensures ended { IfOk result (λ ending. ended ending (seen_state self.new journal.now)
+            ≡ inferred (seen_run at.now.context) (seen_element at.now.element)
+            (seen_state self.old journal.now)) }
         ensures kept { OnOk result (self.new.segments ≡ self.old.segments) }
     {
         let mut made = List::new(alloc);
@@ -270,7 +313,9 @@ impl State {
 
     /// A child is over, and unless it stops the run, the scope gets its changes.
     pub(crate) fn settle_after(&mut self, alloc: Global, ending: Ending) -> Result<Ending, NoMemory>
-        ensures ended { IfOk result (λ ending_then. (journal : Files) → ended ending_then (seen_state self.new journal) ≡ map_ok settled (ended ending (seen_state self.old journal))) }
+        ensures ended { IfOk result (λ ending_then. (journal : Files)
+            → ended ending_then (seen_state self.new journal)
+            ≡ map_ok settled (ended ending (seen_state self.old journal))) }
         ensures kept { OnOk result (self.new.segments ≡ self.old.segments) }
     {
         match ending {
@@ -288,7 +333,8 @@ fn buckets_of(
     place: &Place<'_>,
     element: &PlacedElement<'_>,
 ) -> Result<List<Bucket>, EvalFault>
-    ensures { GivesFault (λ buckets. buckets) result (task_buckets (seen_place place.now) (seen_element element.now)) }
+    ensures { GivesFault (λ buckets. buckets) result
+        (task_buckets (seen_place place.now) (seen_element element.now)) }
 {
     let Ok(task) = task_of(alloc, element) else {
         return Err(EvalFault::memory(alloc));
@@ -309,7 +355,13 @@ fn push_inferred_in<'x>(
     journal: &'x Journal,
     made: &mut List<Change>,
 ) -> Result<(), EvalFault>
-    ensures { Pushes result made.old made.new (inferred_at (item_place (paths (record { files = at.entry.now.context.world.now.tree.files; journal = journal.entry.now })) at.entry.now.context.id.now.instance.path scope.entry.now) (seen_element at.entry.now.element)) }
+    ensures { Pushes result made.old made.new
+        (inferred_at
+        (item_place
+        (paths
+        (record { files = at.entry.now.context.world.now.tree.files; journal = journal.entry.now }))
+        at.entry.now.context.id.now.instance.path scope.entry.now)
+        (seen_element at.entry.now.element)) }
 {
     let view = FileView::of(&at.context.world.tree, journal);
     let place = place_of(&view, at.context.project(), scope);

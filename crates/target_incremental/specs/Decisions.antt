@@ -1,5 +1,20 @@
 -- What is done with a bucket of a target that has Inputs and Outputs. (Incremental builds)
-use Rattle.std.specs.Prelude.{ℕ, ◌==◌, ◌&&◌, List, [], ◌∷◌, length, Bool, true, false, Option, Some, None, if◌then◌else◌}
+use Rattle.std.specs.Prelude.{
+  ℕ,
+  ◌==◌,
+  ◌&&◌,
+  List,
+  [],
+  ◌∷◌,
+  length,
+  Bool,
+  true,
+  false,
+  Option,
+  Some,
+  None,
+  if◌then◌else◌,
+}
 use Rattle.msb_values.specs.declared.item.Item.{Item}
 use Rattle.msb_values.specs.declared.mode.Mode.{Mode}
 use Rattle.msb_values.specs.declared.mode.Mode.TheVariants.{Incremental, Clean}
@@ -18,7 +33,8 @@ item_if true item items = item ∷ items
 item_if false item items = items
 
 abbrev pub old_items : View → (inputs outputs : List (List ℕ)) → List Item → List Item
-old_items view (input ∷ inputs) (output ∷ outputs) (item ∷ items) = item_if (pair_is_old view input output) item (old_items view inputs outputs items)
+old_items view (input ∷ inputs) (output ∷ outputs) (item ∷ items) = item_if
+    (pair_is_old view input output) item (old_items view inputs outputs items)
 old_items view inputs outputs items = []
 
 -- none of them is Skip, all are Run, and some are Part
@@ -29,7 +45,8 @@ of_items (item ∷ items) all = if length (item ∷ items) == all then Run else 
 -- item by item, where inputs and outputs are as many as the items
 abbrev pub by_items : View → (inputs outputs : List (List ℕ)) → List Item → Choice
 by_items view inputs outputs items =
-    if length inputs == length items && length outputs == length items then of_items (old_items view inputs outputs items) (length items)
+    if length inputs == length items && length outputs == length items then of_items
+    (old_items view inputs outputs items) (length items)
     else by_pairs view inputs outputs
 
 -- by the items of a target that takes them one by one, or else by every pair
@@ -46,4 +63,5 @@ in_mode Incremental view inputs outputs items = by_shape view inputs outputs ite
 abbrev pub decision : View → (inputs outputs : List (List ℕ)) → Option (List Item) → Mode → Choice
 decision view [] outputs items mode = Nothing
 decision view (input ∷ inputs) [] items mode = Nothing
-decision view (input ∷ inputs) (output ∷ outputs) items mode = in_mode mode view (input ∷ inputs) (output ∷ outputs) items
+decision view (input ∷ inputs) (output ∷ outputs) items mode = in_mode mode view (input ∷ inputs)
+    (output ∷ outputs) items

@@ -1,4 +1,5 @@
--- What an Output of a task is taken to be where the task is not called. (Incremental builds: output inference)
+-- What an Output of a task is taken to be where the task is not called. (Incremental builds: output
+-- inference)
 use Rattle.std.specs.Prelude.{ℕ, List, Option, option_map}
 use Rattle.msb_values.specs.declared.item.Item.{Item}
 use Rattle.task_trait.specs.Params.{param_at}

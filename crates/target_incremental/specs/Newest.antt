@@ -15,11 +15,13 @@ settled_stamp view path = unless_written (written view path) (stamp view path)
 -- the greatest stamp of some files and of a number, if each file has one
 abbrev pub newest_from : View → ℕ → List (List ℕ) → Option ℕ
 newest_from view newest [] = Some newest
-newest_from view newest (path ∷ paths) = elim (settled_stamp view path) [ None ↦ None | Some stamp ↦ newest_from view (max newest stamp) paths ]
+newest_from view newest (path ∷ paths) = elim (settled_stamp view path)
+    [ None ↦ None | Some stamp ↦ newest_from view (max newest stamp) paths ]
 
 abbrev pub newest_of : View → List (List ℕ) → Option ℕ
 newest_of view paths = newest_from view 0 paths
 
 -- an output is out of date against it
 abbrev pub any_older : View → Option ℕ → (outputs : List (List ℕ)) → Bool
-any_older view newest outputs = list_any (λ output. is_missing_or_older newest (settled_stamp view output)) outputs
+any_older view newest outputs = list_any
+    (λ output. is_missing_or_older newest (settled_stamp view output)) outputs

@@ -5,16 +5,17 @@ ghost use Rattle.target_incremental.specs.Newest.{settled_stamp, newest_of, any_
 use msb_files::FileView;
 use msb_values::Text;
 
-/// Whether an output is out of date against an input: the request's journal has written or removed one of them, one
-/// of them is missing, or the input's stamp is greater. Equal stamps are up to date. It takes no memory. (How to build incrementally.)
+/// Whether an output is out of date against an input: the request's journal has written or removed
+/// one of them, one of them is missing, or the input's stamp is greater. Equal stamps are up to
+/// date. It takes no memory. (How to build incrementally.)
 pub fn pair_is_old(view: &FileView<'_>, input: &str, output: &str) -> bool
     ensures { result ≡ pair_is_old view.now input.now output.now }
 {
     is_missing_or_older(settled_stamp(view, input), settled_stamp(view, output))
 }
 
-/// Whether any output is out of date against any input, in a time that grows with the number of both: each output is
-/// compared with the newest input.
+/// Whether any output is out of date against any input, in a time that grows with the number of
+/// both: each output is compared with the newest input.
 pub(crate) fn any_is_old(view: &FileView<'_>, inputs: &[Text], outputs: &[Text]) -> bool
     requires { 0 < length inputs.now }
     ensures { result ≡ any_is_old view.now inputs.now outputs.now }

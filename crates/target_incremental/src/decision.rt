@@ -1,5 +1,12 @@
 ghost use Rattle.std.specs.Prelude.{◌≡◌, ◌<◌, length, IfOk, option_copied};
-ghost use Rattle.target_incremental.specs.Decisions.{by_items, by_pairs, by_shape, decision, of_items, old_items};
+ghost use Rattle.target_incremental.specs.Decisions.{
+  by_items,
+  by_pairs,
+  by_shape,
+  decision,
+  of_items,
+  old_items,
+};
 
 use crate::ages::{any_is_old, pair_is_old};
 use msb_files::FileView;
@@ -19,13 +26,13 @@ pub enum Choice {
     Part(List<Item>),
 }
 
-/// What is done with a bucket of a target that has these inputs and outputs, which are normal paths. `shape` has the
-/// items of the bucket where the target takes them one by one.
+/// What is done with a bucket of a target that has these inputs and outputs, which are normal
+/// paths. `shape` has the items of the bucket where the target takes them one by one.
 ///
-/// Where either list is empty there is nothing to do, and a clean build runs all else. Item by item, if inputs and outputs
-/// are as many as the items, those run of which the own output is out of date. Otherwise one output that is out of date
-/// against any input is enough to run. It takes a time that grows with the number of inputs and outputs together. (How to
-/// build incrementally.)
+/// Where either list is empty there is nothing to do, and a clean build runs all else. Item by
+/// item, if inputs and outputs are as many as the items, those run of which the own output is out
+/// of date. Otherwise one output that is out of date against any input is enough to run. It takes a
+/// time that grows with the number of inputs and outputs together. (How to build incrementally.)
 pub fn decide(
     alloc: Global,
     view: &FileView<'_>,
@@ -34,7 +41,9 @@ pub fn decide(
     shape: Option<&List<Item>>,
     mode: Mode,
 ) -> Result<Choice, NoMemory>
-    ensures { IfOk result (λ choice. choice ≡ decision view.now inputs.now outputs.now (option_copied shape.entry) mode) }
+    ensures { IfOk result
+        (λ choice. choice ≡ decision view.now inputs.now outputs.now (option_copied shape.entry)
+        mode) }
 {
     if inputs.is_empty() || outputs.is_empty() {
         return Ok(Choice::Nothing);
@@ -53,7 +62,8 @@ fn by_shape(
     shape: Option<&List<Item>>,
 ) -> Result<Choice, NoMemory>
     requires { 0 < length inputs.now }
-    ensures { IfOk result (λ choice. choice ≡ by_shape view.now inputs.now outputs.now (option_copied shape.entry)) }
+    ensures { IfOk result
+        (λ choice. choice ≡ by_shape view.now inputs.now outputs.now (option_copied shape.entry)) }
 {
     match shape {
         Some(items) if inputs.len() == items.len() && outputs.len() == items.len() => {

@@ -1,8 +1,8 @@
-//! Whether a bucket of a target is up to date, runs whole or runs in part, and what its tasks' outputs are where it is
-//! not run. (How to build incrementally.)
+//! Whether a bucket of a target is up to date, runs whole or runs in part, and what its tasks'
+//! outputs are where it is not run. (How to build incrementally.)
 //!
-//! What is decided stands in `specs/Decisions.antt`, above when a pair of files is out of date, in `specs/Ages.antt`. Which
-//! targets take their items one by one stands in `specs/Shapes.antt`.
+//! What is decided stands in `specs/Decisions.antt`, above when a pair of files is out of date, in
+//! `specs/Ages.antt`. Which targets take their items one by one stands in `specs/Shapes.antt`.
 #![tactic(auto)]
 
 mod ages;

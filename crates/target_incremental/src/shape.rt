@@ -1,12 +1,17 @@
 ghost use Rattle.std.specs.Prelude.{◌≡◌, IfOk};
-ghost use Rattle.target_incremental.specs.Shapes.{item_type, same_type, whole_list, whole_transform};
+ghost use Rattle.target_incremental.specs.Shapes.{
+  item_type,
+  same_type,
+  whole_list,
+  whole_transform,
+};
 
 use msb_expression::{Expr, Part, Step};
 use msb_values::{Name, NoMemory};
 use std::alloc::Global;
 
-/// The item type X of a target that takes its items one by one: its Inputs is just `@(X)` and its Outputs just
-/// `@(X->'s')`, as they are read. (How to build incrementally.)
+/// The item type X of a target that takes its items one by one: its Inputs is just `@(X)` and its
+/// Outputs just `@(X->'s')`, as they are read. (How to build incrementally.)
 pub fn item_type(alloc: Global, inputs: &Expr, outputs: &Expr) -> Result<Option<Name>, NoMemory>
     ensures { IfOk result (λ kind. kind ≡ item_type inputs.now.parts outputs.now.parts) }
 {

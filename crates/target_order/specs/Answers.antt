@@ -2,12 +2,41 @@
 use Rattle.std.specs.Prelude.{◌≡◌, Bool, true, false}
 use Rattle.msb_laws.specs.Asking.{Asking, gives, asks}
 use Rattle.target_order.specs.declared.asks.OrderAsk.{OrderAsk}
-use Rattle.target_order.specs.declared.asks.OrderAsk.TheVariants.{Condition, Depends, Body, Done, Circle, Unknown}
+use Rattle.target_order.specs.declared.asks.OrderAsk.TheVariants.{
+  Condition,
+  Depends,
+  Body,
+  Done,
+  Circle,
+  Unknown,
+}
 use Rattle.target_order.specs.declared.asks.OrderAnswer.{OrderAnswer}
-use Rattle.target_order.specs.declared.asks.OrderAnswer.TheVariants.{First, Truth, Names, Ok as Ran, Failed}
+use Rattle.target_order.specs.declared.asks.OrderAnswer.TheVariants.{
+  First,
+  Truth,
+  Names,
+  Ok as Ran,
+  Failed,
+}
 use Rattle.target_order.specs.declared.visits.Asked.{Asked}
-use Rattle.target_order.specs.declared.visits.Asked.TheVariants.{Nothing, Condition as ForCondition, Depends as ForDepends, Body as ForBody, End as ForNothing}
-use Rattle.target_order.specs.Visit.{Question, condition, depends, body, End, finished, stopped, circle, unknown}
+use Rattle.target_order.specs.declared.visits.Asked.TheVariants.{
+  Nothing,
+  Condition as ForCondition,
+  Depends as ForDepends,
+  Body as ForBody,
+  End as ForNothing,
+}
+use Rattle.target_order.specs.Visit.{
+  Question,
+  condition,
+  depends,
+  body,
+  End,
+  finished,
+  stopped,
+  circle,
+  unknown,
+}
 use Rattle.target_order.specs.Progress.{Progress}
 use Rattle.target_order.specs.Left.{left}
 

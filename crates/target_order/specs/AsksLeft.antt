@@ -1,14 +1,41 @@
--- A number that each ask of a walk lowers: a bound on its further asks, where no list has 2 ^ 64 entries.
-use Rattle.std.specs.Prelude.{ℕ, zero, suc, ◌+◌, ◌-◌, ◌*◌, ◌^◌, List, [], ◌∷◌, length, drop, reverse}
+-- A number that each ask of a walk lowers: a bound on its further asks, where no list has 2 ^ 64
+-- entries.
+use Rattle.std.specs.Prelude.{
+  ℕ,
+  zero,
+  suc,
+  ◌+◌,
+  ◌-◌,
+  ◌*◌,
+  ◌^◌,
+  List,
+  [],
+  ◌∷◌,
+  length,
+  drop,
+  reverse,
+}
 use Rattle.target_order.specs.declared.visits.Asked.{Asked}
-use Rattle.target_order.specs.declared.visits.Asked.TheVariants.{Nothing, Condition, Depends as DependsOn, Body}
+use Rattle.target_order.specs.declared.visits.Asked.TheVariants.{
+  Nothing,
+  Condition,
+  Depends as DependsOn,
+  Body,
+}
 use Rattle.target_order.specs.declared.visits.Step.{Step}
-use Rattle.target_order.specs.declared.visits.Step.TheVariants.{Request, Depends, BeforeBody, BeforeSkip, After, Errors}
+use Rattle.target_order.specs.declared.visits.Step.TheVariants.{
+  Request,
+  Depends,
+  BeforeBody,
+  BeforeSkip,
+  After,
+  Errors,
+}
 use Rattle.target_order.specs.declared.visits.OpenVisit.{OpenVisit}
 use Rattle.target_order.specs.Progress.{Table, Progress, rest_of}
 
--- the asks of a visit with this room: its Condition, its DependsOnTargets and its body, and twice a list of names and
--- one of targets that hook on it
+-- the asks of a visit with this room: its Condition, its DependsOnTargets and its body, and twice a
+-- list of names and one of targets that hook on it
 unfoldable pub visit_asks : ℕ → ℕ → ℕ
 visit_asks targets zero = 0
 visit_asks targets (suc room) = 3 + 2 * ((2 ^ 64 + targets) * visit_asks targets room)
@@ -33,13 +60,17 @@ after_asks table depth Errors = 0
 abbrev pub resume_asks : Table → ℕ → List OpenVisit → ℕ
 resume_asks table base [] = base
 resume_asks table base (v ∷ visits) =
-    length (rest_of table v) * asks_in table (suc (length visits)) + (after_asks table (suc (length visits)) v.step + resume_asks table base visits)
+    length (rest_of table v) * asks_in table (suc (length visits))
+    + (after_asks table (suc (length visits)) v.step + resume_asks table base visits)
 
 abbrev pub answered_asks : Table → ℕ → Asked → List OpenVisit → ℕ
 answered_asks table base Nothing visits = suc base
-answered_asks table base Condition (v ∷ visits) = suc (2 + (2 * both table (suc (length visits)) + resume_asks table base visits))
-answered_asks table base DependsOn (v ∷ visits) = suc (1 + (2 * both table (suc (length visits)) + resume_asks table base visits))
-answered_asks table base Body (v ∷ visits) = suc (both table (suc (length visits)) + resume_asks table base visits)
+answered_asks table base Condition (v ∷ visits) = suc
+    (2 + (2 * both table (suc (length visits)) + resume_asks table base visits))
+answered_asks table base DependsOn (v ∷ visits) = suc
+    (1 + (2 * both table (suc (length visits)) + resume_asks table base visits))
+answered_asks table base Body (v ∷ visits) = suc
+    (both table (suc (length visits)) + resume_asks table base visits)
 answered_asks table base asked visits = 0
 
 abbrev pub base_asks : Progress → ℕ

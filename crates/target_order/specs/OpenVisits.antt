@@ -8,7 +8,8 @@ abbrev pub width : ℕ
 width = 32
 
 -- the chunks have one length, and the innermost visit stands behind them
-pub record AreOpen (outer : List (List OpenVisit)) (inner : List OpenVisit) (count : ℕ) : Type 0 where
-  pub full : AreOf width outer
-  pub counted : count ≡ length (joined outer ++ inner)
-  pub some : 0 < count → 0 < length inner
+pub record AreOpen (outer : List (List OpenVisit)) (inner : List OpenVisit) (count : ℕ) : Type 0
+  where
+    pub full : AreOf width outer
+    pub counted : count ≡ length (joined outer ++ inner)
+    pub some : 0 < count → 0 < length inner

@@ -1,9 +1,32 @@
 -- Where a walk stands.
-use Rattle.std.specs.Prelude.{ℕ, suc, Bool, true, false, List, [], ◌∷◌, Option, None, Some, option_map, slice_index_or, drop, if◌then◌else◌}
+use Rattle.std.specs.Prelude.{
+  ℕ,
+  suc,
+  Bool,
+  true,
+  false,
+  List,
+  [],
+  ◌∷◌,
+  Option,
+  None,
+  Some,
+  option_map,
+  slice_index_or,
+  drop,
+  if◌then◌else◌,
+}
 use Rattle.std.specs.Str.{bytes_eq}
 use Rattle.target_order.specs.declared.visits.Asked.{Asked}
 use Rattle.target_order.specs.declared.visits.Step.{Step}
-use Rattle.target_order.specs.declared.visits.Step.TheVariants.{Request, Depends, BeforeBody, BeforeSkip, After, Errors}
+use Rattle.target_order.specs.declared.visits.Step.TheVariants.{
+  Request,
+  Depends,
+  BeforeBody,
+  BeforeSkip,
+  After,
+  Errors,
+}
 use Rattle.target_order.specs.declared.visits.OpenVisit.{OpenVisit}
 use Rattle.target_order.specs.Visit.{Name, Hooks, Opened}
 
@@ -28,7 +51,8 @@ number_of [] t = None
 number_of (n ∷ names) t = if bytes_eq n t then Some 0 else option_map suc (number_of names t)
 
 abbrev pub hooks_at : Table → ℕ → Hooks
-hooks_at table k = record { before = slice_index_or table.before k []; after = slice_index_or table.after k [] }
+hooks_at table k = record
+    { before = slice_index_or table.before k []; after = slice_index_or table.after k [] }
 
 abbrev pub project_of : Table → Name → Option Hooks
 project_of table t = option_map (hooks_at table) (number_of table.names t)

@@ -1,17 +1,66 @@
 -- The changes of a walk from an answer to the next ask.
-use Rattle.std.specs.Prelude.{◌≡◌, ◌≢◌, ℕ, zero, suc, ◌+◌, ◌-◌, ◌^◌, ◌<◌, ◌≤◌, Bool, true, false, ◌||◌, List, [], ◌∷◌, ◌++◌, length, take, reverse, slice_index_or, slice_set, if◌then◌else◌}
+use Rattle.std.specs.Prelude.{
+  ◌≡◌,
+  ◌≢◌,
+  ℕ,
+  zero,
+  suc,
+  ◌+◌,
+  ◌-◌,
+  ◌^◌,
+  ◌<◌,
+  ◌≤◌,
+  Bool,
+  true,
+  false,
+  ◌||◌,
+  List,
+  [],
+  ◌∷◌,
+  ◌++◌,
+  length,
+  take,
+  reverse,
+  slice_index_or,
+  slice_set,
+  if◌then◌else◌,
+}
 use Rattle.msb_laws.specs.Asking.{Asking}
 use Rattle.target_order.specs.declared.asks.OrderAsk.{OrderAsk}
-use Rattle.target_order.specs.declared.asks.OrderAsk.TheVariants.{Condition, Body, Done, Circle, Unknown}
+use Rattle.target_order.specs.declared.asks.OrderAsk.TheVariants.{
+  Condition,
+  Body,
+  Done,
+  Circle,
+  Unknown,
+}
 use Rattle.target_order.specs.declared.asks.OrderAnswer.{OrderAnswer}
-use Rattle.target_order.specs.declared.asks.OrderAnswer.TheVariants.{First, Truth, Names, Ok as Ran, Failed}
-use Rattle.target_order.specs.declared.visits.Asked.TheVariants.{Condition as ForCondition, Body as ForBody, Answered, End as TheEnd}
+use Rattle.target_order.specs.declared.asks.OrderAnswer.TheVariants.{
+  First,
+  Truth,
+  Names,
+  Ok as Ran,
+  Failed,
+}
+use Rattle.target_order.specs.declared.visits.Asked.TheVariants.{
+  Condition as ForCondition,
+  Body as ForBody,
+  Answered,
+  End as TheEnd,
+}
 use Rattle.target_order.specs.declared.visits.Step.{Step}
 use Rattle.target_order.specs.declared.visits.Step.TheVariants.{Depends, BeforeSkip, After, Errors}
 use Rattle.target_order.specs.declared.visits.OpenVisit.{OpenVisit}
 use Rattle.target_order.specs.declared.cursor.Cursor.{Cursor}
 use Rattle.target_order.specs.declared.cursor.Stop.{Stop}
-use Rattle.target_order.specs.declared.cursor.Stop.TheVariants.{Visit as AtVisit, Body as AtBody, Finished, Stopped, Circle as AtCircle, Unknown as AtUnknown}
+use Rattle.target_order.specs.declared.cursor.Stop.TheVariants.{
+  Visit as AtVisit,
+  Body as AtBody,
+  Finished,
+  Stopped,
+  Circle as AtCircle,
+  Unknown as AtUnknown,
+}
 use Rattle.target_order.specs.declared.steps.Undo.{Undo}
 use Rattle.target_order.specs.Visit.{Question, Name, End}
 use Rattle.target_order.specs.Progress.{Progress, name_at, ran_of, is_past, is_errors}
@@ -32,11 +81,13 @@ ask_of p c (AtVisit k) = Condition (name_at p.table k)
 ask_of p c AtBody = Body (name_at p.table (visit_at p.visits (c.depth - 1)).target)
 ask_of p c Finished = Done
 ask_of p c Stopped = Done
-ask_of p c (AtCircle place) = Circle (circle_at p c.depth place (slice_index_or c.list.now c.passed []))
+ask_of p c (AtCircle place) = Circle
+    (circle_at p c.depth place (slice_index_or c.list.now c.passed []))
 ask_of p c AtUnknown = Unknown (slice_index_or c.list.now c.passed [])
 
 abbrev pub noted_visit : OpenVisit → Step → ℕ → OpenVisit
-noted_visit v step passed = record { target = v.target; step = step; passed = passed; names = v.names }
+noted_visit v step passed = record
+    { target = v.target; step = step; passed = passed; names = v.names }
 
 -- the visits through this depth, the innermost at this place of its list
 abbrev pub marked_visits : List OpenVisit → ℕ → Step → ℕ → List OpenVisit
@@ -67,7 +118,8 @@ visiting p depth step passed k = record p {
 
 -- the walk has come to a body
 abbrev pub at_body : Progress → ℕ → Step → ℕ → Progress
-at_body p depth step passed = record p { visits = marked_visits p.visits depth step passed; asked = ForBody }
+at_body p depth step passed = record p
+    { visits = marked_visits p.visits depth step passed; asked = ForBody }
 
 abbrev pub ended : Progress → Bool → Progress
 ended p failed = record p { asked = TheEnd; failed = p.failed || failed }
@@ -83,7 +135,8 @@ came p depth step passed AtUnknown = ended p true
 
 -- what a new visit or a body asks of that place
 abbrev pub CanCome : Progress → ℕ → Step → ℕ → Stop → Type 0
-CanCome p depth step passed (AtVisit k) = (passed + 1 < 2 ^ 64) × (k < length p.table.names) × ((d : ℕ) → d < depth → (visit_at p.visits d).target ≢ k)
+CanCome p depth step passed (AtVisit k) = (passed + 1 < 2 ^ 64) × (k < length p.table.names)
+    × ((d : ℕ) → d < depth → (visit_at p.visits d).target ≢ k)
 CanCome p depth step passed AtBody = (0 < depth) × (is_errors step ≡ false)
 CanCome p depth step passed Finished = Unit {0}
 CanCome p depth step passed Stopped = Unit {0}
@@ -117,7 +170,8 @@ top_target p = (visit_at p.visits (length p.visits - 1)).target
 -- the innermost visit goes through the list of this step
 abbrev pub taken : Progress → Step → List Name → Progress
 taken p step names = record p {
-  visits = slice_set p.visits (length p.visits - 1) (record { target = top_target p; step = step; passed = 0; names = names });
+  visits = slice_set p.visits (length p.visits - 1)
+      (record { target = top_target p; step = step; passed = 0; names = names });
   has_run = if is_past step then slice_set p.has_run (top_target p) true else p.has_run;
   asked = Answered;
   failed = p.failed || is_errors step;
@@ -125,7 +179,13 @@ taken p step names = record p {
 
 -- what it was before
 abbrev pub undo_of : Progress → Undo
-undo_of p = record { visit = visit_at p.visits (length p.visits - 1); has_run = p.has_run; asked = p.asked; failed = p.failed }
+undo_of p = record {
+  visit = visit_at p.visits (length p.visits - 1);
+  has_run = p.has_run;
+  asked = p.asked;
+  failed
+      = p.failed;
+}
 
 -- and is put back where it was
 abbrev pub restored : Progress → Undo → Progress

@@ -1,5 +1,22 @@
 -- The table of a project's targets, from its rows.
-use Rattle.std.specs.Prelude.{◌≡◌, ◌↔◌, ℕ, ◌<◌, ◌≤◌, ◌++◌, Bool, true, List, [], ◌∷◌, length, map, slice_index_or, Some, if◌then◌else◌}
+use Rattle.std.specs.Prelude.{
+  ◌≡◌,
+  ◌↔◌,
+  ℕ,
+  ◌<◌,
+  ◌≤◌,
+  ◌++◌,
+  Bool,
+  true,
+  List,
+  [],
+  ◌∷◌,
+  length,
+  map,
+  slice_index_or,
+  Some,
+  if◌then◌else◌,
+}
 use Rattle.std.specs.List.{list_any}
 use Rattle.std.specs.Str.{bytes_eq}
 use Rattle.target_order.specs.declared.row.TargetRow.{TargetRow}
@@ -17,20 +34,28 @@ names_in rows = map (λ (r : TargetRow). r.name) rows
 
 -- names that are all different
 abbrev pub AreDistinct : List Name → Type 0
-AreDistinct names = (k : ℕ) → k < length names → number_of names (slice_index_or names k []) ≡ Some k
+AreDistinct names = (k : ℕ) → k < length names
+    → number_of names (slice_index_or names k []) ≡ Some k
 
 abbrev pub is_among : List Name → Name → Bool
 is_among names t = list_any (λ n. bytes_eq n t) names
 
 -- of each of these names, the rows that name it on this side
-pub record AreHooks (side : Side) (rows : List TargetRow) (names : List Name) (lists : List (List Name)) : Type 0 where
+pub record AreHooks (side : Side) (rows : List TargetRow) (names : List Name)
+    (lists : List (List Name)) : Type 0 where
   pub len : length lists ≡ length names
-  pub each : (k : ℕ) → k < length names → slice_index_or lists k [] ≡ naming (side_of side) rows (slice_index_or names k [])
+  pub each : (k : ℕ) → k < length names → slice_index_or lists k []
+      ≡ naming (side_of side) rows (slice_index_or names k [])
 
--- where this row's names have been looked through: it stands in the list of each of them, and its turn is noted there
-pub record AreHooked (turn : ℕ) (row : Name) (seen names : List Name) (before lists : List (List Name)) (turns : List ℕ) : Type 0 where
+-- where this row's names have been looked through: it stands in the list of each of them, and its
+-- turn is noted there
+pub record AreHooked (turn : ℕ) (row : Name) (seen names : List Name)
+    (before lists : List (List Name)) (turns : List ℕ) : Type 0 where
   pub len : length lists ≡ length names
   pub turns_len : length turns ≡ length names
-  pub each : (k : ℕ) → k < length names → slice_index_or lists k [] ≡ slice_index_or before k [] ++ (if is_among seen (slice_index_or names k []) then row ∷ [] else [])
-  pub noted : (k : ℕ) → k < length names → (slice_index_or turns k 0 ≡ turn) ↔ (is_among seen (slice_index_or names k []) ≡ true)
+  pub each : (k : ℕ) → k < length names → slice_index_or lists k []
+      ≡ slice_index_or before k []
+      ++ (if is_among seen (slice_index_or names k []) then row ∷ [] else [])
+  pub noted : (k : ℕ) → k < length names → (slice_index_or turns k 0 ≡ turn)
+      ↔ (is_among seen (slice_index_or names k []) ≡ true)
   pub past : (k : ℕ) → k < length names → slice_index_or turns k 0 ≤ turn

@@ -1,5 +1,23 @@
 -- The order in which one request visits its targets. (MSBuild documentation: "Target build order".)
-use Rattle.std.specs.Prelude.{ℕ, zero, suc, Bool, true, false, ◌||◌, List, [], ◌∷◌, ◌++◌, length, map, Option, None, Some, if◌then◌else◌}
+use Rattle.std.specs.Prelude.{
+  ℕ,
+  zero,
+  suc,
+  Bool,
+  true,
+  false,
+  ◌||◌,
+  List,
+  [],
+  ◌∷◌,
+  ◌++◌,
+  length,
+  map,
+  Option,
+  None,
+  Some,
+  if◌then◌else◌,
+}
 use Rattle.std.specs.List.{filter, list_any}
 use Rattle.std.specs.Str.{bytes_eq}
 use Rattle.msb_laws.specs.Asking.{Asking, gives, asks}
@@ -11,13 +29,15 @@ use Rattle.target_order.specs.declared.asks.OrderAnswer.TheVariants.{Truth, Name
 abbrev pub Name : Type 0
 Name = List ℕ
 
--- what is asked of a target: whether its Condition holds, what its DependsOnTargets names, and that its body be run
+-- what is asked of a target: whether its Condition holds, what its DependsOnTargets names, and that
+-- its body be run
 pub data Question : Type 0 where
   condition : List ℕ → Question
   depends : List ℕ → Question
   body : List ℕ → Question
 
--- how the asks end: every target was visited; the OnError targets of a failed body were; a circle; a name without a target
+-- how the asks end: every target was visited; the OnError targets of a failed body were; a circle;
+-- a name without a target
 pub data End : Type 0 where
   finished : End
   stopped : End
@@ -40,20 +60,24 @@ abbrev pub first_rows : List TargetRow → List TargetRow → List TargetRow
 first_rows kept [] = kept
 first_rows kept (r ∷ rows) = first_rows (keep kept r) rows
 
--- the targets that hook on a target: those that name it in BeforeTargets, and those that name it in AfterTargets
+-- the targets that hook on a target: those that name it in BeforeTargets, and those that name it in
+-- AfterTargets
 pub record Hooks : Type 0 where
   pub before : List (List ℕ)
   pub after : List (List ℕ)
 
 -- the names of the rows with t in such a list, in the order of the rows
 abbrev pub naming : (TargetRow → List Name) → List TargetRow → Name → List Name
-naming listed rows t = map (λ r. r.name) (filter (λ r. list_any (λ n. bytes_eq n t) (listed r)) rows)
+naming listed rows t = map (λ r. r.name)
+    (filter (λ r. list_any (λ n. bytes_eq n t) (listed r)) rows)
 
--- what hooks on t, if t is a target; a name in BeforeTargets or AfterTargets that is none hooks on nothing
+-- what hooks on t, if t is a target; a name in BeforeTargets or AfterTargets that is none hooks on
+-- nothing
 abbrev pub hooks_in : List TargetRow → Name → Option Hooks
 hooks_in rows t =
     if is_target rows t
-    then Some (record { before = naming (λ r. r.before) rows t; after = naming (λ r. r.after) rows t })
+    then Some
+    (record { before = naming (λ r. r.before) rows t; after = naming (λ r. r.after) rows t })
     else None
 
 -- a visit that is open, and whether it has passed its fifth step
@@ -61,14 +85,16 @@ pub record Opened : Type 0 where
   pub name : List ℕ
   pub past : Bool
 
--- how a wanted target stands: it is none; nothing is to be done; its open visit makes a circle; it is to be visited
+-- how a wanted target stands: it is none; nothing is to be done; its open visit makes a circle; it
+-- is to be visited
 pub data Standing : Type 0 where
   strange : Standing
   settled : Standing
   circular : List (List ℕ) → Standing
   fresh : Hooks → Standing
 
--- the open visits, innermost first, are searched for t; the circle goes from its open visit inwards and back to t
+-- the open visits, innermost first, are searched for t; the circle goes from its open visit inwards
+-- and back to t
 abbrev pub among_open : Name → List Opened → List Name → Hooks → Standing
 among_open t [] back hooks = fresh hooks
 among_open t (v ∷ open_visits) back hooks =
@@ -79,7 +105,8 @@ among_open t (v ∷ open_visits) back hooks =
 -- step 1: a target that has run, or whose open visit is past its body, is settled
 abbrev pub standing : Option Hooks → (Name → Bool) → List Opened → Name → Standing
 standing None ran open_visits t = strange
-standing (Some hooks) ran open_visits t = if ran t then settled else among_open t open_visits (t ∷ []) hooks
+standing (Some hooks) ran open_visits t = if ran t then settled else among_open t open_visits
+    (t ∷ []) hooks
 
 -- what has run, with t
 abbrev pub with : Name → (Name → Bool) → Name → Bool
@@ -90,7 +117,8 @@ abbrev pub in_order : (Name → Rest → Rest) → List Name → Rest → Rest
 in_order visit [] on = on
 in_order visit (t ∷ targets) on = visit t (in_order visit targets on)
 
--- the steps of the visit of t, and then on; inside it targets are visited ahead of its body (false) and past it (true)
+-- the steps of the visit of t, and then on; inside it targets are visited ahead of its body (false)
+-- and past it (true)
 module _ (inside : Bool → Name → Rest → Rest) (t : Name) (hooks : Hooks) (on : Rest) where
   -- step 6: the targets with t in AfterTargets
   abbrev pub step_6 : Rest
@@ -131,8 +159,9 @@ visit_by settled inside t on ran = on ran
 visit_by (circular names) inside t on ran = gives (circle names)
 visit_by (fresh hooks) inside t on ran = step_2 inside t hooks on ran
 
--- a visit of t inside these open visits, and then on. Each visit inside another has room for one less, and as open visits
--- have distinct names, one that begins with room for all targets and one more never lacks room.
+-- a visit of t inside these open visits, and then on. Each visit inside another has room for one
+-- less, and as open visits have distinct names, one that begins with room for all targets and one
+-- more never lacks room.
 unfoldable pub visit : (Name → Option Hooks) → ℕ → List Opened → Name → Rest → Rest
 visit project zero open_visits t on ran = on ran
 visit project (suc room) open_visits t on ran =
@@ -143,4 +172,5 @@ visit project (suc room) open_visits t on ran =
 unfoldable pub order : List TargetRow → List Name → Asking Question OrderAnswer End
 order rows targets =
     let targets_of = first_rows [] rows in
-    in_order (visit (hooks_in targets_of) (suc (length targets_of)) []) targets (λ ran. gives finished) (λ n. false)
+    in_order (visit (hooks_in targets_of) (suc (length targets_of)) []) targets
+    (λ ran. gives finished) (λ n. false)

@@ -1,4 +1,15 @@
-ghost use Rattle.std.specs.Prelude.{◌≡◌, ◌<◌, ◌≤◌, ℕ, List, length, replicate, slice_index_or, slice_set, IfOk};
+ghost use Rattle.std.specs.Prelude.{
+  ◌≡◌,
+  ◌<◌,
+  ◌≤◌,
+  ℕ,
+  List,
+  length,
+  replicate,
+  slice_index_or,
+  slice_set,
+  IfOk,
+};
 ghost use Rattle.target_order.specs.Chunks.{width};
 
 use msb_values::{Copied, List, NoMemory};
@@ -9,8 +20,8 @@ use std::sync::Arc;
 /// How many entries stand in a chunk.
 const WIDTH: usize = 256;
 
-/// An array whose copies share its entries: a copy takes one handle, and a write copies one chunk and the list of the
-/// chunks.
+/// An array whose copies share its entries: a copy takes one handle, and a write copies one chunk
+/// and the list of the chunks.
 pub struct SharedArray<T> {
     chunks: Arc<List<Chunk<T>>>,
 }

@@ -10,8 +10,8 @@ pub enum OrderAsk {
     Body(Name),
     /// Nothing more: the walk is at its end, as failed or not.
     Done,
-    /// Nothing more: a target is wanted inside its own visit, ahead of its body. The names go from its open visit
-    /// to the innermost one, and back to it.
+    /// Nothing more: a target is wanted inside its own visit, ahead of its body. The names go from
+    /// its open visit to the innermost one, and back to it.
     Circle(List<Name>),
     /// Nothing more: no target has this name.
     Unknown(Name),

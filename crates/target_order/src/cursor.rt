@@ -1,7 +1,8 @@
 use crate::visits::Step;
 use msb_values::Name;
 
-/// A place in the list of the innermost of so many open visits, or at depth 0 in the request's list.
+/// A place in the list of the innermost of so many open visits, or at depth 0 in the request's
+/// list.
 #[derive(Clone, Copy)]
 pub struct Cursor<'a> {
     pub depth: usize,

@@ -1,4 +1,21 @@
-ghost use Rattle.std.specs.Prelude.{◌≡◌, ◌<◌, ◌≤◌, ◌+◌, ◌++◌, ◌∷◌, [], ℕ, length, map, IfOk, OnOk, ◌==◌, slice_index_or, slice_set, if◌then◌else◌};
+ghost use Rattle.std.specs.Prelude.{
+  ◌≡◌,
+  ◌<◌,
+  ◌≤◌,
+  ◌+◌,
+  ◌++◌,
+  ◌∷◌,
+  [],
+  ℕ,
+  length,
+  map,
+  IfOk,
+  OnOk,
+  ◌==◌,
+  slice_index_or,
+  slice_set,
+  if◌then◌else◌,
+};
 ghost use Rattle.target_order.specs.Visit.{first_rows, keep as keep_row};
 ghost use Rattle.target_order.specs.Table.{side_of, names_in, AreDistinct, AreHooks, AreHooked};
 
@@ -50,7 +67,8 @@ fn keep<'a>(
 ) -> Result<(), NoMemory>
     requires names { numbers.old ≡ names_in (map (λ x. x.now) firsts.old.items) }
     requires distinct { AreDistinct numbers.old }
-    ensures firsts { OnOk result (map (λ x. x.now) firsts.new.items ≡ keep_row (map (λ x. x.now) firsts.old.items) row.now) }
+    ensures firsts { OnOk result (map (λ x. x.now) firsts.new.items
+        ≡ keep_row (map (λ x. x.now) firsts.old.items) row.now) }
     ensures names { OnOk result (numbers.new ≡ names_in (map (λ x. x.now) firsts.new.items)) }
     ensures distinct { OnOk result (AreDistinct numbers.new) }
 {
@@ -70,7 +88,8 @@ pub fn hooks(
     side: Side,
 ) -> Result<Vec<List<Name>>, NoMemory>
     requires { AreDistinct numbers.now }
-    ensures { IfOk result (λ lists. AreHooks side (map (λ x. x.now) rows.now) numbers.now lists.items) }
+    ensures { IfOk result
+        (λ lists. AreHooks side (map (λ x. x.now) rows.now) numbers.now lists.items) }
 {
     let mut lists = empty_lists(alloc, numbers.len())?;
     let mut turns = vec![in alloc; 0usize; numbers.len()]?;
@@ -90,7 +109,8 @@ pub fn hooks(
 
 fn empty_lists(alloc: Global, count: usize) -> Result<Vec<List<Name>>, NoMemory>
     ensures len { IfOk result (λ lists. length lists.items ≡ count) }
-    ensures each { IfOk result (λ lists. (k : ℕ) → k < count → slice_index_or lists.items k [] ≡ []) }
+    ensures each { IfOk result (λ lists. (k : ℕ) → k < count
+        → slice_index_or lists.items k [] ≡ []) }
 {
     let mut lists = Vec::with_capacity(alloc, count)?;
     for _k in 0..count {
@@ -99,8 +119,8 @@ fn empty_lists(alloc: Global, count: usize) -> Result<Vec<List<Name>>, NoMemory>
     Ok(lists)
 }
 
-/// Adds the row's name, once, to the list of each target that it names. In `turns` each target has the last turn in
-/// which it was named.
+/// Adds the row's name, once, to the list of each target that it names. In `turns` each target has
+/// the last turn in which it was named.
 fn hook(
     lists: &mut Vec<List<Name>>,
     turns: &mut Vec<usize>,
@@ -113,7 +133,9 @@ fn hook(
     requires len { length lists.old.items ≡ length numbers.now }
     requires turns { length turns.old.items ≡ length numbers.now }
     requires past { (k : ℕ) → k < length numbers.now → slice_index_or turns.old.items k 0 < turn }
-    ensures { OnOk result (AreHooked turn row.now named.now numbers.now lists.old.items lists.new.items turns.new.items) }
+    ensures { OnOk result
+        (AreHooked turn row.now named.now numbers.now lists.old.items lists.new.items
+        turns.new.items) }
 {
     for name in named {
         match numbers.find(name) {
@@ -134,8 +156,10 @@ fn hook_one(
 ) -> Result<(), NoMemory>
     requires list { target < length lists.old.items }
     requires turn { target < length turns.old.items }
-    ensures lists { OnOk result (lists.new.items ≡ (if slice_index_or turns.old.items target 0 == turn
-        then lists.old.items else slice_set lists.old.items target (slice_index_or lists.old.items target [] ++ row.now ∷ []))) }
+    ensures lists { OnOk result (lists.new.items
+        ≡ (if slice_index_or turns.old.items target 0 == turn
+        then lists.old.items else slice_set lists.old.items target
+        (slice_index_or lists.old.items target [] ++ row.now ∷ []))) }
     ensures turns { OnOk result (turns.new.items ≡ slice_set turns.old.items target turn) }
 {
     if turns[target] == turn {

@@ -1,7 +1,8 @@
-//! The order in which one request visits the targets of a project. (MSBuild documentation: "Target build order".)
+//! The order in which one request visits the targets of a project. (MSBuild documentation: "Target
+//! build order".)
 //!
-//! [`OrderWalk`] asks for conditions, lists and bodies one by one, is answered, and goes on. Its asks are those of
-//! the definition `order` in `specs/Visit.antt`, along every list of answers.
+//! [`OrderWalk`] asks for conditions, lists and bodies one by one, is answered, and goes on. Its
+//! asks are those of the definition `order` in `specs/Visit.antt`, along every list of answers.
 #![tactic(auto)]
 
 mod array;

@@ -1,4 +1,19 @@
-ghost use Rattle.std.specs.Prelude.{◌≡◌, ◌<◌, ◌+◌, [], ◌∷◌, ◌++◌, None, Some, length, IfOk, OnErr, OnOk, IfSome, slice_index_or};
+ghost use Rattle.std.specs.Prelude.{
+  ◌≡◌,
+  ◌<◌,
+  ◌+◌,
+  [],
+  ◌∷◌,
+  ◌++◌,
+  None,
+  Some,
+  length,
+  IfOk,
+  OnErr,
+  OnOk,
+  IfSome,
+  slice_index_or,
+};
 ghost use Rattle.target_order.specs.Progress.{number_of};
 
 use msb_values::{Copied, Name, NoMemory};

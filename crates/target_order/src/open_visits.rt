@@ -1,4 +1,18 @@
-ghost use Rattle.std.specs.Prelude.{◌≡◌, ◌<◌, ◌≤◌, ◌-◌, [], ◌∷◌, ◌++◌, length, take, slice_set, IfOk, OnOk, OnErr};
+ghost use Rattle.std.specs.Prelude.{
+  ◌≡◌,
+  ◌<◌,
+  ◌≤◌,
+  ◌-◌,
+  [],
+  ◌∷◌,
+  ◌++◌,
+  length,
+  take,
+  slice_set,
+  IfOk,
+  OnOk,
+  OnErr,
+};
 ghost use Rattle.target_order.specs.Chunks.{joined, AreOf};
 ghost use Rattle.target_order.specs.OpenVisits.{width};
 ghost use Rattle.target_order.specs.Search.{visit_at};

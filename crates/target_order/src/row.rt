@@ -1,6 +1,7 @@
 use msb_values::{List, Name};
 
-/// A target of a project, with the targets that it hooks on. (MSBuild documentation: "Target element".)
+/// A target of a project, with the targets that it hooks on. (MSBuild documentation: "Target
+/// element".)
 pub struct TargetRow {
     pub name: Name,
     /// The names of its BeforeTargets: it is visited ahead of their bodies.

@@ -1,6 +1,33 @@
-ghost use Rattle.std.specs.Prelude.{◌≡◌, ◌≢◌, ◌≤◌, ◌<◌, ◌+◌, ◌-◌, ◌^◌, ℕ, length, slice_index_or, [], false, IfSome, IfNone};
+ghost use Rattle.std.specs.Prelude.{
+  ◌≡◌,
+  ◌≢◌,
+  ◌≤◌,
+  ◌<◌,
+  ◌+◌,
+  ◌-◌,
+  ◌^◌,
+  ℕ,
+  length,
+  slice_index_or,
+  [],
+  false,
+  IfSome,
+  IfNone,
+};
 ghost use Rattle.target_order.specs.Progress.{list_at};
-ghost use Rattle.target_order.specs.Search.{inner, visit_at, is_request, IsBelow, IsCursor, GoesOn, Stands, Turns, HasStopped, IsHookStep, rest_list};
+ghost use Rattle.target_order.specs.Search.{
+  inner,
+  visit_at,
+  is_request,
+  IsBelow,
+  IsCursor,
+  GoesOn,
+  Stands,
+  Turns,
+  HasStopped,
+  IsHookStep,
+  rest_list,
+};
 
 use crate::OrderWalk;
 use crate::cursor::{Cursor, Stand, Stop, Turn};
@@ -122,8 +149,10 @@ impl OrderWalk {
     fn open_place(&self, depth: usize, target: usize) -> Option<usize>
         requires deep { depth ≤ length self.now.visits }
         requires known { target < length self.now.table.names }
-        ensures found { IfSome result (λ place. (place < depth) × ((visit_at self.now.visits place).target ≡ target)) }
-        ensures absent { IfNone result ((d : ℕ) → d < depth → (visit_at self.now.visits d).target ≢ target) }
+        ensures found { IfSome result (λ place. (place < depth)
+            × ((visit_at self.now.visits place).target ≡ target)) }
+        ensures absent { IfNone result ((d : ℕ) → d < depth
+            → (visit_at self.now.visits d).target ≢ target) }
     {
         let place = self.places.get(target);
         if place < depth && self.visits.get(place).target == target {
@@ -138,7 +167,8 @@ impl OrderWalk {
         requires cursor { cursor.depth ≤ length self.now.visits }
         requires within { place < cursor.depth }
         ensures top { place + 1 ≡ cursor.entry.depth → result ≡ cursor.entry.step }
-        ensures below { place + 1 < cursor.entry.depth → result ≡ (visit_at self.now.visits place).step }
+        ensures below { place + 1 < cursor.entry.depth
+            → result ≡ (visit_at self.now.visits place).step }
     {
         if place + 1 == cursor.depth {
             cursor.step

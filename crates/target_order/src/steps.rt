@@ -1,9 +1,56 @@
-ghost use Rattle.std.specs.Prelude.{◌≡◌, ◌≢◌, ◌<◌, ◌≤◌, ◌-◌, ◌^◌, ◌||◌, ◌∷◌, ◌++◌, [], ℕ, true, false, map, length, IfOk, OnOk, OnErr, slice_index_or, slice_set, if◌then◌else◌};
+ghost use Rattle.std.specs.Prelude.{
+  ◌≡◌,
+  ◌≢◌,
+  ◌<◌,
+  ◌≤◌,
+  ◌-◌,
+  ◌^◌,
+  ◌||◌,
+  ◌∷◌,
+  ◌++◌,
+  [],
+  ℕ,
+  true,
+  false,
+  map,
+  length,
+  IfOk,
+  OnOk,
+  OnErr,
+  slice_index_or,
+  slice_set,
+  if◌then◌else◌,
+};
 ghost use Rattle.target_order.specs.Progress.{name_at, is_errors, is_past};
 ghost use Rattle.target_order.specs.AsksLeft.{asks_left};
 ghost use Rattle.target_order.specs.Answers.{Asks, asked_by, is_refused};
-ghost use Rattle.target_order.specs.Search.{visit_at, is_request, is_going, asks_visit, IsCursor, IsProgress, HasStopped, circle_at};
-ghost use Rattle.target_order.specs.Steps.{going, going_asks, ask_of, visiting, at_body, ended, taken, undo_of, restored, top_target, marked_visits, marked_passed, came, CanCome, IsPlace};
+ghost use Rattle.target_order.specs.Search.{
+  visit_at,
+  is_request,
+  is_going,
+  asks_visit,
+  IsCursor,
+  IsProgress,
+  HasStopped,
+  circle_at,
+};
+ghost use Rattle.target_order.specs.Steps.{
+  going,
+  going_asks,
+  ask_of,
+  visiting,
+  at_body,
+  ended,
+  taken,
+  undo_of,
+  restored,
+  top_target,
+  marked_visits,
+  marked_passed,
+  came,
+  CanCome,
+  IsPlace,
+};
 
 use crate::array::SharedArray;
 use crate::cursor::{Cursor, Stop};
@@ -15,7 +62,8 @@ use msb_values::{Copied, List, Name, NoMemory};
 use std::alloc::Global;
 use std::mem;
 
-/// What an answer has changed, so that it can be put back where no memory is found for the next ask.
+/// What an answer has changed, so that it can be put back where no memory is found for the next
+/// ask.
 #[derive(Drop)]
 pub struct Undo {
     pub visit: OpenVisit,
@@ -25,7 +73,8 @@ pub struct Undo {
 }
 
 impl OrderWalk {
-    /// Sends the innermost visit through the list of this step; where there is no memory, the walk stays.
+    /// Sends the innermost visit through the list of this step; where there is no memory, the walk
+    /// stays.
     pub(crate) fn take(
         &mut self,
         alloc: Global,
@@ -58,7 +107,8 @@ impl OrderWalk {
         Ok(undo)
     }
 
-    /// Goes on through the list of this step to the next ask; where there is no memory, the walk stays.
+    /// Goes on through the list of this step to the next ask; where there is no memory, the walk
+    /// stays.
     pub(crate) fn go_through(
         &mut self,
         alloc: Global,
@@ -113,7 +163,8 @@ impl OrderWalk {
         ensures asks { IfOk result (λ ask. Asks (going self.old) ask self.new) }
         ensures asked { IfOk result (λ ask. self.new.asked ≡ asked_by ask) }
         ensures fewer { OnOk result (asks_left self.new ≤ going_asks self.old) }
-        ensures failed { IfOk result (λ ask. self.new.failed ≡ (self.old.failed || is_refused ask)) }
+        ensures failed { IfOk result (λ ask. self.new.failed
+            ≡ (self.old.failed || is_refused ask)) }
         ensures kept { OnErr result (self.new ≡ self.old) }
     {
         let depth = self.visits.len();
@@ -129,7 +180,8 @@ impl OrderWalk {
         Ok(ask)
     }
 
-    /// Makes the place where a search has stopped the walk's own; where there is no memory, the walk stays.
+    /// Makes the place where a search has stopped the walk's own; where there is no memory, the
+    /// walk stays.
     fn come_to(
         &mut self,
         alloc: Global,
@@ -225,7 +277,8 @@ impl OrderWalk {
         Ok(())
     }
 
-    /// Stays in the innermost of so many visits, for its body; where there is no memory, the walk stays.
+    /// Stays in the innermost of so many visits, for its body; where there is no memory, the walk
+    /// stays.
     fn wait_for_body(
         &mut self,
         alloc: Global,
@@ -263,7 +316,8 @@ fn with_visit(
     visit: OpenVisit,
 ) -> Result<OpenVisits, NoMemory>
     requires { depth ≤ length visits.now }
-    ensures { IfOk result (λ opened. opened ≡ marked_visits visits.now depth step passed ++ visit ∷ []) }
+    ensures { IfOk result
+        (λ opened. opened ≡ marked_visits visits.now depth step passed ++ visit ∷ []) }
 {
     let mut opened = marked(alloc, visits, depth, step, passed)?;
     opened.push(alloc, visit)?;
@@ -286,7 +340,8 @@ fn marked(
     Ok(marked)
 }
 
-/// What has run, where the visit of this target goes on at this step: past its body the target has run.
+/// What has run, where the visit of this target goes on at this step: past its body the target has
+/// run.
 fn with_run(
     alloc: Global,
     has_run: &SharedArray<bool>,
@@ -294,7 +349,8 @@ fn with_run(
     step: Step,
 ) -> Result<SharedArray<bool>, NoMemory>
     requires { target < length has_run.now }
-    ensures { IfOk result (λ run. run ≡ (if is_past step then slice_set has_run.now target true else has_run.now)) }
+    ensures { IfOk result
+        (λ run. run ≡ (if is_past step then slice_set has_run.now target true else has_run.now)) }
 {
     if step.is_past() {
         has_run.with(alloc, target, true)

@@ -57,8 +57,10 @@ impl SharedTable {
     pub fn of(alloc: Global, rows: &[TargetRow]) -> Result<SharedTable, NoMemory>
         ensures names { IfOk result (λ table. table.names ≡ names_in (first_rows [] rows.now)) }
         ensures distinct { IfOk result (λ table. AreDistinct table.names) }
-        ensures before { IfOk result (λ table. AreHooks Before (first_rows [] rows.now) table.names table.before) }
-        ensures after { IfOk result (λ table. AreHooks After (first_rows [] rows.now) table.names table.after) }
+        ensures before { IfOk result
+            (λ table. AreHooks Before (first_rows [] rows.now) table.names table.before) }
+        ensures after { IfOk result
+            (λ table. AreHooks After (first_rows [] rows.now) table.names table.after) }
     {
         let (firsts, numbers) = firsts_of(alloc, rows)?;
         let before = hooks(alloc, &firsts, &numbers, Side::Before)?;
@@ -72,7 +74,8 @@ impl SharedTable {
         before: Vec<List<Name>>,
         after: Vec<List<Name>>,
     ) -> Result<SharedTable, NoMemory>
-        ensures { IfOk result (λ table. table ≡ record { names = names; before = before.items; after = after.items }) }
+        ensures { IfOk result (λ table. table
+            ≡ record { names = names; before = before.items; after = after.items }) }
     {
         let targets = Targets {
             names,

@@ -7,7 +7,10 @@ ghost use Rattle.target_order.specs.Progress.{name_at};
 ghost use Rattle.target_order.specs.Steps.{top_target};
 ghost use Rattle.target_order.specs.declared.asks.OrderAnswer.TheVariants.{First};
 ghost use Rattle.target_order.specs.declared.asks.OrderAsk.TheVariants.{Depends};
-ghost use Rattle.target_order.specs.declared.visits.Asked.TheVariants.{Condition, Depends as DependsOn};
+ghost use Rattle.target_order.specs.declared.visits.Asked.TheVariants.{
+  Condition,
+  Depends as DependsOn,
+};
 
 use crate::array::SharedArray;
 use crate::open_visits::OpenVisits;
@@ -89,8 +92,8 @@ impl OrderWalk {
         })
     }
 
-    /// Goes on with the answer to the last ask, and asks the next thing. After want of memory the walk stands as
-    /// before.
+    /// Goes on with the answer to the last ask, and asks the next thing. After want of memory the
+    /// walk stands as before.
     pub fn advance(&mut self, alloc: Global, answer: &OrderAnswer) -> Result<OrderAsk, NoMemory>
         requires { Fits self.old answer.now }
         ensures asks { IfOk result (λ ask. Asks (left self.old answer.now) ask self.new) }
@@ -126,7 +129,8 @@ impl OrderWalk {
     /// Asks for the DependsOnTargets of the innermost visit's target.
     fn ask_depends(&mut self) -> Result<OrderAsk, NoMemory>
         requires { self.old.asked ≡ Condition }
-        ensures ask { IfOk result (λ ask. ask ≡ Depends (name_at self.old.table (top_target self.old))) }
+        ensures ask { IfOk result (λ ask. ask
+            ≡ Depends (name_at self.old.table (top_target self.old))) }
         ensures ok { OnOk result (self.new ≡ record self.old { asked = DependsOn }) }
         ensures kept { OnErr result (self.new ≡ self.old) }
     {
@@ -146,8 +150,9 @@ impl OrderWalk {
 }
 
 impl Copied for OrderWalk {
-    /// The same walk, which goes on apart from this one. The copies share the project's table, all lists of names, what
-    /// is noted of each target and the outer open visits, so that a copy costs no more where these are many.
+    /// The same walk, which goes on apart from this one. The copies share the project's table, all
+    /// lists of names, what is noted of each target and the outer open visits, so that a copy costs
+    /// no more where these are many.
     fn copy(&self) -> Result<OrderWalk, NoMemory> {
         Ok(OrderWalk {
             table: self.table.copy()?,

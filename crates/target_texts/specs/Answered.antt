@@ -8,4 +8,5 @@ use Rattle.target_texts.specs.Made.{Made}
 -- all changes are behind those that were there, or those ahead of this fault
 abbrev pub Pushes : {X : Type 0} → Result X EvalFault → List Change → List Change → Made → Type 0
 Pushes (Ok x) before now made = (now ≡ before ++ made.changes) × (made.fault ≡ None)
-Pushes (Err fault) before now made = UnlessMemory fault.cause ((now ≡ before ++ made.changes) × (made.fault ≡ Some fault))
+Pushes (Err fault) before now made = UnlessMemory fault.cause
+    ((now ≡ before ++ made.changes) × (made.fault ≡ Some fault))

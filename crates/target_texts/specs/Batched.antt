@@ -10,8 +10,10 @@ use Rattle.msb_items.specs.Places.{Place, scene_in}
 -- the attributes of a target by which it is not batched
 abbrev pub target_attributes : List (List ℕ)
 target_attributes =
-    codes "AfterTargets" ∷ codes "BeforeTargets" ∷ codes "Condition" ∷ codes "DependsOnTargets" ∷ codes "KeepDuplicateOutputs" ∷ codes "Label" ∷ codes "Name" ∷ []
+    codes "AfterTargets" ∷ codes "BeforeTargets" ∷ codes "Condition" ∷ codes "DependsOnTargets"
+    ∷ codes "KeepDuplicateOutputs" ∷ codes "Label" ∷ codes "Name" ∷ []
 
 -- by its Inputs, Outputs and Returns
 abbrev pub target_buckets : Place → At → Result (List Bucket) EvalFault
-target_buckets p e = element_buckets (scene_in p e.file) target_attributes (at e.file (without_children e.node)) None
+target_buckets p e = element_buckets (scene_in p e.file) target_attributes
+    (at e.file (without_children e.node)) None

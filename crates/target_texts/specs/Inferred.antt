@@ -13,10 +13,12 @@ use Rattle.target_texts.specs.Parameters.{task_buckets, params_at}
 abbrev pub task_of : At → List ℕ
 task_of e = str_to_ascii_lowercase (name_of e.node)
 
--- where it is not called its texts are expanded all the same, and an Output is the parameter of the same name
+-- where it is not called its texts are expanded all the same, and an Output is the parameter of the
+-- same name
 abbrev pub inference_if : Bool → Place → At → (task : List ℕ) → Made
 inference_if true p e task =
-    or_fault_made (on_error_at p e) (λ on_error. or_fault_made (params_at p e task) (λ params. outputs p params e))
+    or_fault_made (on_error_at p e)
+    (λ on_error. or_fault_made (params_at p e task) (λ params. outputs p params e))
 inference_if false p e task = all_made []
 
 -- in a bucket
@@ -25,4 +27,5 @@ inference p e task = or_fault_made (element_holds p e) (λ holds. inference_if h
 
 -- over the whole list, bucket by bucket
 abbrev pub inferred_at : Place → At → Made
-inferred_at p e = or_fault_made (task_buckets p e) (up_to_fault (λ bucket. inference (in_bucket p bucket) e (task_of e)))
+inferred_at p e = or_fault_made (task_buckets p e)
+    (up_to_fault (λ bucket. inference (in_bucket p bucket) e (task_of e)))

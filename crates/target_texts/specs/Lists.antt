@@ -1,4 +1,5 @@
--- The Inputs and Outputs of a target in a bucket. (Target element: Inputs, Outputs; Incremental builds)
+-- The Inputs and Outputs of a target in a bucket. (Target element: Inputs, Outputs; Incremental
+-- builds)
 use Rattle.std.specs.Prelude.{ℕ, List, Option, Some, None, option_map, Result, Ok, Err}
 use Rattle.msb_laws.specs.Results.{and_then, map_ok, all_ok}
 use Rattle.msb_paths.specs.Refused.{normal_path}
@@ -19,7 +20,8 @@ use Rattle.msb_items.specs.Places.{Place}
 use Rattle.target_incremental.specs.Shapes.{item_type}
 use Rattle.target_texts.specs.Parameters.{list_at}
 
--- The paths of Inputs and of Outputs in a bucket. Of a target that takes its items one by one, the type, and the items that the bucket has of it.
+-- The paths of Inputs and of Outputs in a bucket. Of a target that takes its items one by one, the
+-- type, and the items that the bucket has of it.
 pub record Lists : Type 0 where
   pub inputs : List (List ℕ)
   pub outputs : List (List ℕ)
@@ -31,10 +33,12 @@ path_or_cause text (Ok path) = Ok path
 path_or_cause text (Err fault) = Err (BadPath text)
 
 abbrev pub path_of : List ℕ → Item → Result (List ℕ) Cause
-path_of project item = path_or_cause (unescaped item.ident) (normal_path (folder_of project) (unescaped item.ident))
+path_of project item = path_or_cause (unescaped item.ident)
+    (normal_path (folder_of project) (unescaped item.ident))
 
 abbrev pub paths_at : Place → At → List ℕ → Result (List (List ℕ)) EvalFault
-paths_at p e written = and_then (list_at p e written) (λ items. or_fault e (all_ok (path_of p.project) items))
+paths_at p e written = and_then (list_at p e written)
+    (λ items. or_fault e (all_ok (path_of p.project) items))
 
 -- the type of a target that takes its items one by one
 abbrev pub type_read : Result (List Part) ExprFault → Result (List Part) ExprFault → Option (List ℕ)
@@ -43,10 +47,17 @@ type_read (Ok inputs) (Err fault) = None
 type_read (Err fault) outputs = None
 
 abbrev pub typed_items : Scope → (inputs outputs : List ℕ) → Option (List ℕ × List Item)
-typed_items scope inputs outputs = option_map (λ kind. (kind, list_of scope kind)) (type_read (reading inputs) (reading outputs))
+typed_items scope inputs outputs = option_map (λ kind. (kind, list_of scope kind))
+    (type_read (reading inputs) (reading outputs))
 
-abbrev pub lists_by : Place → At → Option (List ℕ) → Option (List ℕ) → Result (Option Lists) EvalFault
+abbrev pub lists_by : Place → At → Option (List ℕ) → Option (List ℕ)
+    → Result (Option Lists) EvalFault
 lists_by p e (Some inputs) (Some outputs) =
-    and_then (paths_at p e inputs) (λ ins. map_ok (λ outs. Some (record { inputs = ins; outputs = outs; items = typed_items p.scope inputs outputs })) (paths_at p e outputs))
+    and_then (paths_at p e inputs)
+    (λ ins.
+    map_ok
+    (λ outs.
+    Some (record { inputs = ins; outputs = outs; items = typed_items p.scope inputs outputs }))
+    (paths_at p e outputs))
 lists_by p e (Some inputs) None = Ok None
 lists_by p e None outputs = Ok None

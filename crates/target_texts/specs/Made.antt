@@ -1,4 +1,5 @@
--- Changes that a part of a target makes, up to the first fault of a text. (Task element; Output element)
+-- Changes that a part of a target makes, up to the first fault of a text. (Task element; Output
+-- element)
 use Rattle.std.specs.Prelude.{List, [], ◌∷◌, ◌++◌, Option, Some, None, Result, Ok, Err}
 use Rattle.msb_values.specs.declared.change.Change.{Change}
 use Rattle.build_world.specs.declared.fault.EvalFault.{EvalFault}
@@ -23,4 +24,5 @@ made_before changes (Some fault) later = record { changes = changes; fault = Som
 
 abbrev pub up_to_fault : {X : Type 0} → (X → Made) → List X → Made
 up_to_fault of [] = all_made []
-up_to_fault of (x ∷ xs) = let first = of x in made_before first.changes first.fault (up_to_fault of xs)
+up_to_fault of (x ∷ xs) = let first = of x in made_before first.changes first.fault
+    (up_to_fault of xs)

@@ -1,5 +1,20 @@
 -- What comes of a task that fails. (Task element: ContinueOnError)
-use Rattle.std.specs.Prelude.{ℕ, List, [], ◌∷◌, map, true, false, Option, Some, None, Result, Ok, Err, codes}
+use Rattle.std.specs.Prelude.{
+  ℕ,
+  List,
+  [],
+  ◌∷◌,
+  map,
+  true,
+  false,
+  Option,
+  Some,
+  None,
+  Result,
+  Ok,
+  Err,
+  codes,
+}
 use Rattle.msb_laws.specs.Results as results
 use Rattle.msb_values.specs.Escapes.{unescaped}
 use Rattle.msb_values.specs.Same.{is_same_text}
@@ -23,11 +38,13 @@ on_error_words =
 -- compared without case
 abbrev pub on_error_in : List (List ℕ × OnError) → List ℕ → Result OnError Cause
 on_error_in [] text = Err (NotBoolean text)
-on_error_in (word ∷ words) text = elim (is_same_text text word.0) [ true ↦ Ok word.1 | false ↦ on_error_in words text ]
+on_error_in (word ∷ words) text = elim (is_same_text text word.0)
+    [ true ↦ Ok word.1 | false ↦ on_error_in words text ]
 
 abbrev pub on_error_if : Place → At → Option (List ℕ) → Result OnError EvalFault
 on_error_if p e None = Ok Stop
-on_error_if p e (Some written) = results.and_then (text_at p e written) (λ text. or_fault e (on_error_in on_error_words (unescaped text)))
+on_error_if p e (Some written) = results.and_then (text_at p e written)
+    (λ text. or_fault e (on_error_in on_error_words (unescaped text)))
 
 -- of a task element
 abbrev pub on_error_at : Place → At → Result OnError EvalFault

@@ -1,5 +1,23 @@
 -- What a task's Outputs change. (Output element)
-use Rattle.std.specs.Prelude.{ℕ, List, [], ◌∷◌, map, Bool, true, false, Option, Some, None, option_map, option_and_then, Result, Ok, Err, codes}
+use Rattle.std.specs.Prelude.{
+  ℕ,
+  List,
+  [],
+  ◌∷◌,
+  map,
+  Bool,
+  true,
+  false,
+  Option,
+  Some,
+  None,
+  option_map,
+  option_and_then,
+  Result,
+  Ok,
+  Err,
+  codes,
+}
 use Rattle.msb_values.specs.Keys.{key_of}
 use Rattle.msb_values.specs.declared.cause.Cause.TheVariants.{Reserved}
 use Rattle.msb_values.specs.declared.change.Change.{Change}
@@ -29,13 +47,15 @@ abbrev pub property_named : At → Option (List ℕ) → Result (Option Destinat
 property_named o None = Ok None
 property_named o (Some name) = property_unless (is_reserved name) o name
 
-abbrev pub destination_by : At → (item property : Option (List ℕ)) → Result (Option Destination) EvalFault
+abbrev pub destination_by : At → (item property : Option (List ℕ))
+    → Result (Option Destination) EvalFault
 destination_by o (Some item) property = Ok (option_map to_items (key_of item))
 destination_by o None (Some property) = property_named o (key_of property)
 destination_by o None None = Ok None
 
 abbrev pub destination_of : At → Result (Option Destination) EvalFault
-destination_of o = destination_by o (attribute_of (codes "ItemName") o) (attribute_of (codes "PropertyName") o)
+destination_of o = destination_by o (attribute_of (codes "ItemName") o)
+    (attribute_of (codes "PropertyName") o)
 
 -- items are added to their type, and a property gets the identities joined by `;`
 abbrev pub change_to : Destination → List Item → Change
@@ -50,10 +70,12 @@ changes_to None items = []
 
 -- the items of the parameter that an Output names
 abbrev pub output_items : List Param → At → Option (List Item)
-output_items given o = option_and_then (λ name. inferred given name) (option_and_then (λ written. key_of written) (attribute_of (codes "TaskParameter") o))
+output_items given o = option_and_then (λ name. inferred given name)
+    (option_and_then (λ written. key_of written) (attribute_of (codes "TaskParameter") o))
 
 abbrev pub output_if : Bool → List Param → At → Made
-output_if true given o = or_fault_made (destination_of o) (λ destination. all_made (changes_to destination (output_items given o)))
+output_if true given o = or_fault_made (destination_of o)
+    (λ destination. all_made (changes_to destination (output_items given o)))
 output_if false given o = all_made []
 
 -- an Output whose Condition holds

@@ -1,5 +1,20 @@
 -- The parameters of a task, as it is handed them. (Task element; MSBuild items, item metadata)
-use Rattle.std.specs.Prelude.{ℕ, List, [], ◌∷◌, map, Bool, true, false, Option, Some, None, Result, Ok, codes}
+use Rattle.std.specs.Prelude.{
+  ℕ,
+  List,
+  [],
+  ◌∷◌,
+  map,
+  Bool,
+  true,
+  false,
+  Option,
+  Some,
+  None,
+  Result,
+  Ok,
+  codes,
+}
 use Rattle.msb_laws.specs.Results.{map_ok}
 use Rattle.msb_values.specs.Escapes.{unescaped}
 use Rattle.msb_values.specs.Keys.{key_of}
@@ -28,7 +43,8 @@ task_attributes = codes "Condition" ∷ codes "ContinueOnError" ∷ ignored_attr
 abbrev pub task_buckets : Place → At → Result (List Bucket) EvalFault
 task_buckets p e = element_buckets (scene_in p e.file) ignored_attributes e None
 
--- the parameters of the built-in tasks that are lists of items; all others of these tasks are texts (MSBuild task reference)
+-- the parameters of the built-in tasks that are lists of items; all others of these tasks are texts
+-- (MSBuild task reference)
 abbrev pub list_parameters : List (List ℕ × List (List ℕ))
 list_parameters =
     (codes "copy", codes "destinationfiles" ∷ codes "sourcefiles" ∷ []) ∷
@@ -36,8 +52,11 @@ list_parameters =
     (codes "createproperty", codes "value" ∷ []) ∷
     (codes "delete", codes "files" ∷ []) ∷
     (codes "error", []) ∷
-    (codes "message", []) ∷
-    (codes "msbuild", codes "projects" ∷ codes "properties" ∷ codes "removeproperties" ∷ codes "targets" ∷ []) ∷
+    (codes "message", []) ∷ (
+      codes "msbuild",
+      codes "projects" ∷ codes "properties" ∷ codes "removeproperties"
+          ∷ codes "targets" ∷ [],
+    ) ∷
     (codes "readlinesfromfile", []) ∷
     (codes "warning", []) ∷
     (codes "writelinestofile", codes "lines" ∷ []) ∷ []
@@ -67,11 +86,14 @@ items_of false p e written = map_ok (λ text. text_items (unescaped text)) (text
 abbrev pub param : List ℕ → List Item → Param
 param name items = record { name = name; items = items }
 
-abbrev pub param_named : Option (List ℕ) → Place → At → (task written : List ℕ) → Result (List Param) EvalFault
+abbrev pub param_named : Option (List ℕ) → Place → At → (task written : List ℕ)
+    → Result (List Param) EvalFault
 param_named None p e task written = Ok []
-param_named (Some name) p e task written = map_ok (λ items. param name items ∷ []) (items_of (takes_list task name) p e written)
+param_named (Some name) p e task written = map_ok (λ items. param name items ∷ [])
+    (items_of (takes_list task name) p e written)
 
-abbrev pub param_if : Bool → Place → At → (task : List ℕ) → List ℕ × List ℕ → Result (List Param) EvalFault
+abbrev pub param_if : Bool → Place → At → (task : List ℕ) → List ℕ × List ℕ
+    → Result (List Param) EvalFault
 param_if true p e task pair = Ok []
 param_if false p e task pair = param_named (key_of pair.0) p e task pair.1
 

@@ -19,12 +19,14 @@ returns_by true None outputs = None
 returns_by false None outputs = outputs
 
 abbrev pub returns_of : UsedTarget → Option (List ℕ)
-returns_of target = returns_by target.file_has_returns (attribute_of (codes "Returns") target.element) (attribute_of (codes "Outputs") target.element)
+returns_of target = returns_by target.file_has_returns
+    (attribute_of (codes "Returns") target.element) (attribute_of (codes "Outputs") target.element)
 
 -- whether an item is returned again
 abbrev pub keeps_if : Place → At → Option (List ℕ) → Result Bool EvalFault
 keeps_if p e None = Ok false
-keeps_if p e (Some written) = and_then (text_at p e written) (λ text. or_fault e (truth_or false (unescaped text)))
+keeps_if p e (Some written) = and_then (text_at p e written)
+    (λ text. or_fault e (truth_or false (unescaped text)))
 
 abbrev pub keeps_repeats : Place → At → Result Bool EvalFault
 keeps_repeats p e = keeps_if p e (attribute_of (codes "KeepDuplicateOutputs") e)
@@ -41,8 +43,11 @@ without_lists bucket = record bucket { lists = [] }
 abbrev pub in_target : Place → Bucket → Place
 in_target p bucket = in_bucket p (without_lists bucket)
 
-abbrev pub listed_items : Place → At → (keeps : Bool) → (there : List Item) → List ℕ → Result (List Item) EvalFault
+abbrev pub listed_items : Place → At → (keeps : Bool) → (there : List Item) → List ℕ
+    → Result (List Item) EvalFault
 listed_items p e keeps there written = map_ok (less_repeats keeps there) (list_at p e written)
 
-abbrev pub returned_items : Place → Bucket → At → (there : List Item) → List ℕ → Result (List Item) EvalFault
-returned_items p bucket e there written = and_then (keeps_repeats p e) (λ keeps. listed_items (in_target p bucket) e keeps there written)
+abbrev pub returned_items : Place → Bucket → At → (there : List Item) → List ℕ
+    → Result (List Item) EvalFault
+returned_items p bucket e there written = and_then (keeps_repeats p e)
+    (λ keeps. listed_items (in_target p bucket) e keeps there written)

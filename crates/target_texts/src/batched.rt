@@ -8,7 +8,13 @@ ghost use Rattle.msb_batching.specs.Buckets.{buckets_value};
 ghost use Rattle.build_world.specs.Answers.{GivesFault};
 ghost use Rattle.build_world.specs.Elements.{or_fault, seen_element};
 ghost use Rattle.msb_items.specs.Answers.{GivesCauseAs};
-ghost use Rattle.msb_items.specs.Batched.{attribute_read, joined_ok, or_batch_cause, own_read, text_read};
+ghost use Rattle.msb_items.specs.Batched.{
+  attribute_read,
+  joined_ok,
+  or_batch_cause,
+  own_read,
+  text_read,
+};
 ghost use Rattle.msb_items.specs.Metadata.{is_one_of};
 ghost use Rattle.target_texts.specs.Batched.{target_attributes, target_buckets};
 ghost use Rattle.target_texts.specs.Seen.{seen_place};
@@ -21,14 +27,15 @@ use msb_expression::{Expr, parse};
 use msb_values::{Cause, List, NoMemory, Text};
 use std::alloc::Global;
 
-/// The buckets of a target, by its Inputs, Outputs and Returns, which are read first, in byte order of their names. The place is
-/// one without a bucket. (MSBuild batching.)
+/// The buckets of a target, by its Inputs, Outputs and Returns, which are read first, in byte order
+/// of their names. The place is one without a bucket. (MSBuild batching.)
 pub fn target_buckets(
     alloc: Global,
     place: &Place<'_>,
     target: &PlacedElement<'_>,
 ) -> Result<List<Bucket>, EvalFault>
-    ensures { GivesFault (λ buckets. buckets) result (target_buckets (seen_place place.now) (seen_element target.now)) }
+    ensures { GivesFault (λ buckets. buckets) result
+        (target_buckets (seen_place place.now) (seen_element target.now)) }
 {
     let lens = place.lens(target.file);
     own_buckets(alloc, &lens, target)
@@ -39,7 +46,10 @@ fn own_buckets(
     lens: &Lens<'_>,
     target: &PlacedElement<'_>,
 ) -> Result<List<Bucket>, EvalFault>
-    ensures { GivesFault (λ buckets. buckets) result (or_fault (seen_element target.now) (and_then (own_read target_attributes (seen_element target.now)) (λ texts. or_batch_cause (buckets_value (scene_of lens.now) texts None)))) }
+    ensures { GivesFault (λ buckets. buckets) result
+        (or_fault (seen_element target.now)
+        (and_then (own_read target_attributes (seen_element target.now))
+        (λ texts. or_batch_cause (buckets_value (scene_of lens.now) texts None)))) }
 {
     match read_buckets(alloc, lens, target) {
         Ok(buckets) => Ok(buckets),
@@ -52,7 +62,9 @@ fn read_buckets(
     lens: &Lens<'_>,
     target: &PlacedElement<'_>,
 ) -> Result<List<Bucket>, Cause>
-    ensures { GivesCause result (and_then (own_read target_attributes (seen_element target.now)) (λ texts. or_batch_cause (buckets_value (scene_of lens.now) texts None))) }
+    ensures { GivesCause result
+        (and_then (own_read target_attributes (seen_element target.now))
+        (λ texts. or_batch_cause (buckets_value (scene_of lens.now) texts None))) }
 {
     let read = read_own(alloc, target)?;
     buckets_by(alloc, lens, &read)
@@ -83,7 +95,8 @@ fn by_reference(alloc: Global, read: &[Expr]) -> Result<Vec<&Expr>, NoMemory>
 
 // Reads the attributes and the text of a target.
 fn read_own(alloc: Global, target: &PlacedElement<'_>) -> Result<Vec<Expr>, Cause>
-    ensures { GivesCauseAs (λ read. read.items) result (own_read target_attributes (seen_element target.now)) }
+    ensures { GivesCauseAs (λ read. read.items) result
+        (own_read target_attributes (seen_element target.now)) }
 {
     let mut read = Vec::new(alloc);
     push_attributes(alloc, &mut read, target.element.attributes())?;
@@ -96,7 +109,9 @@ fn push_attributes(
     read: &mut Vec<Expr>,
     attributes: &[(Text, Text)],
 ) -> Result<(), Cause>
-    ensures { GivesCauseAs (λ _. read.new.items) result (map_ok (λ more. read.old.items ++ more) (joined_ok (attribute_read target_attributes) attributes.now)) }
+    ensures { GivesCauseAs (λ _. read.new.items) result
+        (map_ok (λ more. read.old.items ++ more)
+        (joined_ok (attribute_read target_attributes) attributes.now)) }
 {
     for attribute in attributes {
         push_attribute(alloc, read, attribute)?;
@@ -109,7 +124,8 @@ fn push_attribute(
     read: &mut Vec<Expr>,
     attribute: &(Text, Text),
 ) -> Result<(), Cause>
-    ensures { GivesCauseAs (λ _. read.new.items) result (map_ok (λ more. read.old.items ++ more) (attribute_read target_attributes attribute.now)) }
+    ensures { GivesCauseAs (λ _. read.new.items) result
+        (map_ok (λ more. read.old.items ++ more) (attribute_read target_attributes attribute.now)) }
 {
     let (name, text) = attribute;
     if is_target_attribute(name.as_str()) {
@@ -134,7 +150,8 @@ fn is_target_attribute(name: &str) -> bool
 }
 
 fn push_text(alloc: Global, read: &mut Vec<Expr>, written: &str) -> Result<(), Cause>
-    ensures { GivesCauseAs (λ _. read.new.items) result (map_ok (λ more. read.old.items ++ more) (text_read written.now)) }
+    ensures { GivesCauseAs (λ _. read.new.items) result
+        (map_ok (λ more. read.old.items ++ more) (text_read written.now)) }
 {
     match parse(alloc, written) {
         Ok(expr) => match read.push(expr) {

@@ -5,7 +5,8 @@ use msb_expand::Bucket;
 use msb_values::{Copied, List, Name, Named, NoMemory};
 use std::alloc::Global;
 
-/// A bucket of a target without its lists: the scope has what the children have left of these. (MSBuild batching.)
+/// A bucket of a target without its lists: the scope has what the children have left of these.
+/// (MSBuild batching.)
 pub fn without_lists(alloc: Global, bucket: &Bucket) -> Result<Bucket, NoMemory>
     ensures { IfOk result (λ alone. alone ≡ without_lists bucket.now) }
 {

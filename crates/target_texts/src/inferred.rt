@@ -22,17 +22,18 @@ pub fn task_of(alloc: Global, element: &PlacedElement<'_>) -> Result<Text, NoMem
     Ok(Text::from(element.element.name().to_ascii_lowercase(alloc)?))
 }
 
-/// What the Outputs of a task element change where the task is not called, bucket by bucket, is put behind the changes: all
-/// of it, or what stands ahead of the first fault. An Output is then the task's parameter of the same name; the task's
-/// other texts are expanded all the same. The place is one without a bucket.
-/// (How to build incrementally, output inference.)
+/// What the Outputs of a task element change where the task is not called, bucket by bucket, is put
+/// behind the changes: all of it, or what stands ahead of the first fault. An Output is then the
+/// task's parameter of the same name; the task's other texts are expanded all the same. The place
+/// is one without a bucket. (How to build incrementally, output inference.)
 pub fn push_inferred(
     alloc: Global,
     place: &Place<'_>,
     element: &PlacedElement<'_>,
     changes: &mut List<Change>,
 ) -> Result<(), EvalFault>
-    ensures { Pushes result changes.old changes.new (inferred_at (seen_place place.now) (seen_element element.now)) }
+    ensures { Pushes result changes.old changes.new
+        (inferred_at (seen_place place.now) (seen_element element.now)) }
 {
     let Ok(task) = task_of(alloc, element) else {
         return Err(EvalFault::memory(alloc));
@@ -53,7 +54,10 @@ fn push_each<'b>(
     buckets: &'b [Bucket],
     changes: &mut List<Change>,
 ) -> Result<(), EvalFault>
-    ensures { Pushes result changes.old changes.new (up_to_fault (λ bucket. inference (in_bucket (seen_place task.now.place) bucket) (seen_element task.now.element) task.now.task.now) buckets.now) }
+    ensures { Pushes result changes.old changes.new
+        (up_to_fault
+        (λ bucket. inference (in_bucket (seen_place task.now.place) bucket)
+        (seen_element task.now.element) task.now.task.now) buckets.now) }
 {
     for bucket in buckets {
         push_in_bucket(alloc, &task.in_bucket(bucket), changes)?;
@@ -66,7 +70,8 @@ fn push_in_bucket(
     task: &TaskElement<'_>,
     changes: &mut List<Change>,
 ) -> Result<(), EvalFault>
-    ensures { Pushes result changes.old changes.new (inference (seen_place task.now.place) (seen_element task.now.element) task.now.task.now) }
+    ensures { Pushes result changes.old changes.new
+        (inference (seen_place task.now.place) (seen_element task.now.element) task.now.task.now) }
 {
     if task.place.holds(alloc, &task.element)? {
         return push_held(alloc, task, changes);
@@ -80,7 +85,9 @@ fn push_held(
     task: &TaskElement<'_>,
     changes: &mut List<Change>,
 ) -> Result<(), EvalFault>
-    ensures { Pushes result changes.old changes.new (inference_if true (seen_place task.now.place) (seen_element task.now.element) task.now.task.now) }
+    ensures { Pushes result changes.old changes.new
+        (inference_if true (seen_place task.now.place) (seen_element task.now.element)
+        task.now.task.now) }
 {
     OnError::at(alloc, &task.place, &task.element)?;
     let params = task.params(alloc)?;

@@ -1,7 +1,7 @@
-//! What the texts of a target and of its task elements denote: the buckets and the parameters of a task, what comes of one that
-//! fails, what its Outputs change, also where it is not called, the lists of Inputs and Outputs, and the items that the
-//! target returns. Nothing here knows how a run goes on.
-//! (Target element; Task element; Output element; How to build incrementally.)
+//! What the texts of a target and of its task elements denote: the buckets and the parameters of a
+//! task, what comes of one that fails, what its Outputs change, also where it is not called, the
+//! lists of Inputs and Outputs, and the items that the target returns. Nothing here knows how a run
+//! goes on. (Target element; Task element; Output element; How to build incrementally.)
 #![tactic(auto)]
 
 mod batched;

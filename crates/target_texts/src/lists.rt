@@ -20,8 +20,8 @@ use msb_values::{Cause, Copied, Item, List, Name, NoMemory, Scope, Text, unescap
 use std::alloc::Global;
 use target_incremental::item_type;
 
-/// The paths of Inputs and Outputs of a target in a bucket, and, where the target takes its items one by one, their type and
-/// those that the bucket has. (How to build incrementally.)
+/// The paths of Inputs and Outputs of a target in a bucket, and, where the target takes its items
+/// one by one, their type and those that the bucket has. (How to build incrementally.)
 #[derive(Drop)]
 pub struct Lists {
     pub inputs: List<Text>,
@@ -30,16 +30,19 @@ pub struct Lists {
 }
 
 impl Lists {
-    /// The lists of a target that has both Inputs and Outputs, in a bucket of the target of whose lists the scope has what the
-    /// children have left. An entry that can't be made a normal path is a fault of the element: Inputs' entries come first, then
-    /// Outputs'.
+    /// The lists of a target that has both Inputs and Outputs, in a bucket of the target of whose
+    /// lists the scope has what the children have left. An entry that can't be made a normal path
+    /// is a fault of the element: Inputs' entries come first, then Outputs'.
     pub fn of(
         alloc: Global,
         place: &Place<'_>,
         bucket: &Bucket,
         element: &PlacedElement<'_>,
     ) -> Result<Option<Lists>, EvalFault>
-        ensures { GivesFault (option_map seen_lists) result (lists_by (in_target (seen_place place.now) bucket.now) (seen_element element.now) (attribute_of (codes "Inputs") (seen_element element.now)) (attribute_of (codes "Outputs") (seen_element element.now))) }
+        ensures { GivesFault (option_map seen_lists) result
+            (lists_by (in_target (seen_place place.now) bucket.now) (seen_element element.now)
+            (attribute_of (codes "Inputs") (seen_element element.now))
+            (attribute_of (codes "Outputs") (seen_element element.now))) }
     {
         let inputs = element.element.attribute("Inputs");
         let outputs = element.element.attribute("Outputs");
@@ -59,7 +62,9 @@ impl Lists {
         inputs: &str,
         outputs: &str,
     ) -> Result<Option<Lists>, EvalFault>
-        ensures { GivesFault (option_map seen_lists) result (lists_by (in_target (seen_place place.now) bucket.now) (seen_element element.now) (Some inputs.now) (Some outputs.now)) }
+        ensures { GivesFault (option_map seen_lists) result
+            (lists_by (in_target (seen_place place.now) bucket.now) (seen_element element.now)
+            (Some inputs.now) (Some outputs.now)) }
     {
         let Ok(bucket) = without_lists(alloc, bucket) else {
             return Err(EvalFault::memory(alloc));
@@ -75,7 +80,9 @@ impl Lists {
         inputs: &str,
         outputs: &str,
     ) -> Result<Lists, EvalFault>
-        ensures { GivesFault (λ lists. Some (seen_lists lists)) result (lists_by (seen_place place.now) (seen_element element.now) (Some inputs.now) (Some outputs.now)) }
+        ensures { GivesFault (λ lists. Some (seen_lists lists)) result
+            (lists_by (seen_place place.now) (seen_element element.now) (Some inputs.now)
+            (Some outputs.now)) }
     {
         let input_paths = paths(alloc, place, element, inputs)?;
         let output_paths = paths(alloc, place, element, outputs)?;
@@ -97,7 +104,8 @@ fn paths(
     element: &PlacedElement<'_>,
     written: &str,
 ) -> Result<List<Text>, EvalFault>
-    ensures { GivesFault (λ paths. paths) result (paths_at (seen_place place.now) (seen_element element.now) written.now) }
+    ensures { GivesFault (λ paths. paths) result
+        (paths_at (seen_place place.now) (seen_element element.now) written.now) }
 {
     let items = place.list(alloc, element, written)?;
     match paths_of(alloc, place.project, items.as_slice()) {
@@ -164,7 +172,8 @@ fn read_type(alloc: Global, inputs: &str, outputs: &str) -> Result<Option<Name>,
 }
 
 fn read(alloc: Global, text: &str) -> Result<Option<Expr>, NoMemory>
-    ensures { IfOk result (λ read. option_map (λ expr. expr.parts) read ≡ result_ok (reading text.now)) }
+    ensures { IfOk result (λ read. option_map (λ expr. expr.parts) read
+        ≡ result_ok (reading text.now)) }
 {
     match parse(alloc, text) {
         Ok(expr) => Ok(Some(expr)),

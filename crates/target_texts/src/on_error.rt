@@ -2,7 +2,14 @@ ghost use Rattle.std.specs.Prelude.{◌≡◌, map, IfOk, Some};
 ghost use Rattle.msb_values.specs.Caused.{GivesCause};
 ghost use Rattle.build_world.specs.Answers.{GivesFault};
 ghost use Rattle.build_world.specs.Elements.{seen_element};
-ghost use Rattle.target_texts.specs.OnErrors.{as_warning, notes_by, on_error_at, on_error_if, on_error_in, on_error_words};
+ghost use Rattle.target_texts.specs.OnErrors.{
+  as_warning,
+  notes_by,
+  on_error_at,
+  on_error_if,
+  on_error_in,
+  on_error_words,
+};
 ghost use Rattle.target_texts.specs.Seen.{seen_place};
 
 use crate::place::Place;
@@ -22,14 +29,15 @@ pub enum OnError {
 }
 
 impl OnError {
-    /// What the ContinueOnError of a task element says, which by default is to stop. A text that is none of the words, which
-    /// are compared without case, is a fault of the element.
+    /// What the ContinueOnError of a task element says, which by default is to stop. A text that is
+    /// none of the words, which are compared without case, is a fault of the element.
     pub fn at(
         alloc: Global,
         place: &Place<'_>,
         element: &PlacedElement<'_>,
     ) -> Result<OnError, EvalFault>
-        ensures { GivesFault (λ on_error. on_error) result (on_error_at (seen_place place.now) (seen_element element.now)) }
+        ensures { GivesFault (λ on_error. on_error) result
+            (on_error_at (seen_place place.now) (seen_element element.now)) }
     {
         match element.element.attribute("ContinueOnError") {
             Some(written) => OnError::written(alloc, place, element, written),
@@ -43,7 +51,8 @@ impl OnError {
         element: &PlacedElement<'_>,
         written: &str,
     ) -> Result<OnError, EvalFault>
-        ensures { GivesFault (λ on_error. on_error) result (on_error_if (seen_place place.now) (seen_element element.now) (Some written.now)) }
+        ensures { GivesFault (λ on_error. on_error) result
+            (on_error_if (seen_place place.now) (seen_element element.now) (Some written.now)) }
     {
         let text = place.text(alloc, element, written)?;
         let Ok(text) = unescape(alloc, text.as_str()) else {
@@ -74,7 +83,8 @@ impl OnError {
         }
     }
 
-    /// The notes of a task as they are kept: where the body goes on with a warning, its errors become warnings.
+    /// The notes of a task as they are kept: where the body goes on with a warning, its errors
+    /// become warnings.
     pub fn notes(self, alloc: Global, notes: List<Note>) -> Result<List<Note>, NoMemory>
         ensures { IfOk result (λ told. told ≡ notes_by self notes) }
     {

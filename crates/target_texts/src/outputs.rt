@@ -1,4 +1,14 @@
-ghost use Rattle.std.specs.Prelude.{◌≡◌, ◌++◌, IfOk, OnOk, true, map, codes, option_copied, option_map};
+ghost use Rattle.std.specs.Prelude.{
+  ◌≡◌,
+  ◌++◌,
+  IfOk,
+  OnOk,
+  true,
+  map,
+  codes,
+  option_copied,
+  option_map,
+};
 ghost use Rattle.msb_values.specs.Keys.{key_of};
 ghost use Rattle.msb_expand.specs.Joins.{each_behind};
 ghost use Rattle.msb_expand.specs.Values.{joined};
@@ -7,7 +17,16 @@ ghost use Rattle.target_incremental.specs.Inferred.{inferred};
 ghost use Rattle.build_world.specs.Answers.{GivesFault};
 ghost use Rattle.build_world.specs.Elements.{seen_element};
 ghost use Rattle.target_texts.specs.Answered.{Pushes};
-ghost use Rattle.target_texts.specs.Outputs.{change_to, changes_to, destination_of, output, output_if, output_items, outputs, property_named};
+ghost use Rattle.target_texts.specs.Outputs.{
+  change_to,
+  changes_to,
+  destination_of,
+  output,
+  output_if,
+  output_items,
+  outputs,
+  property_named,
+};
 ghost use Rattle.target_texts.specs.Seen.{seen_destination, seen_place};
 
 use crate::place::Place;
@@ -35,8 +54,8 @@ impl Drop for Destination {
     }
 }
 
-/// What the Outputs of a task element change, of what is given to them, is put behind the changes: all of it, or what
-/// stands ahead of the first fault. (Output element.)
+/// What the Outputs of a task element change, of what is given to them, is put behind the changes:
+/// all of it, or what stands ahead of the first fault. (Output element.)
 pub fn push_outputs(
     alloc: Global,
     place: &Place<'_>,
@@ -44,7 +63,8 @@ pub fn push_outputs(
     element: &PlacedElement<'_>,
     changes: &mut List<Change>,
 ) -> Result<(), EvalFault>
-    ensures { Pushes result changes.old changes.new (outputs (seen_place place.now) given.now (seen_element element.now)) }
+    ensures { Pushes result changes.old changes.new
+        (outputs (seen_place place.now) given.now (seen_element element.now)) }
 {
     for child in element.element.children() {
         push_output(alloc, place, given, &element.child(child), changes)?;
@@ -59,7 +79,8 @@ fn push_output(
     element: &PlacedElement<'_>,
     changes: &mut List<Change>,
 ) -> Result<(), EvalFault>
-    ensures { Pushes result changes.old changes.new (output (seen_place place.now) given.now (seen_element element.now)) }
+    ensures { Pushes result changes.old changes.new
+        (output (seen_place place.now) given.now (seen_element element.now)) }
 {
     if place.holds(alloc, element)? {
         return push_held(alloc, given, element, changes);
@@ -74,7 +95,8 @@ fn push_held(
     output: &PlacedElement<'_>,
     changes: &mut List<Change>,
 ) -> Result<(), EvalFault>
-    ensures { Pushes result changes.old changes.new (output_if true given.now (seen_element output.now)) }
+    ensures { Pushes result changes.old changes.new
+        (output_if true given.now (seen_element output.now)) }
 {
     let destination = Destination::of(alloc, output)?;
     match push_given(alloc, destination, given, output, changes) {
@@ -91,7 +113,9 @@ fn push_given(
     output: &PlacedElement<'_>,
     changes: &mut List<Change>,
 ) -> Result<(), NoMemory>
-    ensures { OnOk result (changes.new ≡ changes.old ++ changes_to (option_map seen_destination destination) (output_items given.now (seen_element output.now))) }
+    ensures { OnOk result
+        (changes.new ≡ changes.old ++ changes_to (option_map seen_destination destination)
+        (output_items given.now (seen_element output.now))) }
 {
     let Some(destination) = destination else {
         return Ok(());
@@ -108,7 +132,8 @@ fn output_items<'g>(
     given: &'g List<Param>,
     output: &PlacedElement<'_>,
 ) -> Result<Option<&'g [Item]>, NoMemory>
-    ensures { IfOk result (λ items. option_copied items ≡ output_items given.entry.now (seen_element output.now)) }
+    ensures { IfOk result (λ items. option_copied items
+        ≡ output_items given.entry.now (seen_element output.now)) }
 {
     let Some(written) = output.element.attribute("TaskParameter") else {
         return Ok(None);
@@ -131,7 +156,8 @@ fn items_of<'g>(given: &'g List<Param>, name: &Name) -> Option<&'g [Item]>
 impl Destination {
     // Where an Output goes; a property that the engine sets is refused.
     fn of(alloc: Global, output: &PlacedElement<'_>) -> Result<Option<Destination>, EvalFault>
-        ensures { GivesFault (option_map seen_destination) result (destination_of (seen_element output.now)) }
+        ensures { GivesFault (option_map seen_destination) result
+            (destination_of (seen_element output.now)) }
     {
         if let Some(kind) = output.element.attribute("ItemName") {
             return match Name::written(alloc, kind) {
@@ -151,7 +177,8 @@ impl Destination {
         output: &PlacedElement<'_>,
         name: &str,
     ) -> Result<Option<Destination>, EvalFault>
-        ensures { GivesFault (option_map seen_destination) result (property_named (seen_element output.now) (key_of name.now)) }
+        ensures { GivesFault (option_map seen_destination) result
+            (property_named (seen_element output.now) (key_of name.now)) }
     {
         match Name::written(alloc, name) {
             Ok(Some(name)) if is_reserved(&name) => Err(output.fault(
@@ -164,9 +191,11 @@ impl Destination {
         }
     }
 
-    // Items are added to their type, and a property gets the identities joined by `;`. They are escaped.
+    // Items are added to their type, and a property gets the identities joined by `;`. They are
+    // escaped.
     fn change(self, alloc: Global, items: &[Item]) -> Result<Change, NoMemory>
-        ensures { IfOk result (λ change. change ≡ change_to (seen_destination self) (map taken_item items.now)) }
+        ensures { IfOk result (λ change. change
+            ≡ change_to (seen_destination self) (map taken_item items.now)) }
     {
         let items = taken_items(alloc, items)?;
         match self {

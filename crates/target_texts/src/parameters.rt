@@ -7,7 +7,17 @@ ghost use Rattle.build_world.specs.Elements.{seen_element};
 ghost use Rattle.msb_items.specs.Batched.{joined_ok};
 ghost use Rattle.msb_items.specs.Metadata.{is_one_of};
 ghost use Rattle.msb_items.specs.Places.{in_bucket};
-ghost use Rattle.target_texts.specs.Parameters.{items_of, param_if, param_named, param_of, params_at, takes_list, task_attributes, task_buckets, text_items};
+ghost use Rattle.target_texts.specs.Parameters.{
+  items_of,
+  param_if,
+  param_named,
+  param_of,
+  params_at,
+  takes_list,
+  task_attributes,
+  task_buckets,
+  text_items,
+};
 ghost use Rattle.target_texts.specs.Seen.{seen_place};
 
 use crate::place::Place;
@@ -42,23 +52,28 @@ impl<'a> TaskElement<'a> {
 
     /// The buckets of the element, by its texts and those of its Outputs. (MSBuild batching.)
     pub fn buckets(&self, alloc: Global) -> Result<List<Bucket>, EvalFault>
-        ensures { GivesFault (λ buckets. buckets) result (task_buckets (seen_place self.now.place) (seen_element self.now.element)) }
+        ensures { GivesFault (λ buckets. buckets) result
+            (task_buckets (seen_place self.now.place) (seen_element self.now.element)) }
     {
         let ignored = ["Label", "MSBuildArchitecture", "MSBuildRuntime"];
         self.place.buckets(alloc, &ignored, &self.element)
     }
 
-    /// The parameters in byte order of their names as written, as the task is handed them: each is a list of items or one
-    /// text, by the task. (Task element.)
+    /// The parameters in byte order of their names as written, as the task is handed them: each is
+    /// a list of items or one text, by the task. (Task element.)
     pub fn params(&self, alloc: Global) -> Result<List<Param>, EvalFault>
-        ensures { GivesFault (λ params. params) result (params_at (seen_place self.now.place) (seen_element self.now.element) self.now.task.now) }
+        ensures { GivesFault (λ params. params) result
+            (params_at (seen_place self.now.place) (seen_element self.now.element)
+            self.now.task.now) }
     {
         params_of(alloc, self, self.element.element.attributes())
     }
 
     // The parameter that an attribute is, unless it has a meaning of its own or none.
     fn param(&self, alloc: Global, attribute: &(Text, Text)) -> Result<Option<Param>, EvalFault>
-        ensures { GivesFault option_to_list result (param_of (seen_place self.now.place) (seen_element self.now.element) self.now.task.now attribute.now) }
+        ensures { GivesFault option_to_list result
+            (param_of (seen_place self.now.place) (seen_element self.now.element) self.now.task.now
+            attribute.now) }
     {
         let (name, text) = attribute;
         if is_task_attribute(name.as_str()) {
@@ -76,7 +91,9 @@ impl<'a> TaskElement<'a> {
         name: Option<Name>,
         text: &str,
     ) -> Result<Option<Param>, EvalFault>
-        ensures { GivesFault option_to_list result (param_named name (seen_place self.now.place) (seen_element self.now.element) self.now.task.now text.now) }
+        ensures { GivesFault option_to_list result
+            (param_named name (seen_place self.now.place) (seen_element self.now.element)
+            self.now.task.now text.now) }
     {
         let Some(name) = name else {
             return Ok(None);
@@ -87,7 +104,9 @@ impl<'a> TaskElement<'a> {
 
     // The value of a parameter of this name, which is in lower case.
     fn items(&self, alloc: Global, name: &str, text: &str) -> Result<List<Item>, EvalFault>
-        ensures { GivesFault (λ items. items) result (items_of (takes_list self.now.task.now name.now) (seen_place self.now.place) (seen_element self.now.element) text.now) }
+        ensures { GivesFault (λ items. items) result
+            (items_of (takes_list self.now.task.now name.now) (seen_place self.now.place)
+            (seen_element self.now.element) text.now) }
     {
         if takes_list(self.task, name) {
             self.list(alloc, text)
@@ -98,7 +117,8 @@ impl<'a> TaskElement<'a> {
 
     // The value of a parameter that is a list.
     fn list(&self, alloc: Global, text: &str) -> Result<List<Item>, EvalFault>
-        ensures { GivesFault (λ items. items) result (items_of true (seen_place self.now.place) (seen_element self.now.element) text.now) }
+        ensures { GivesFault (λ items. items) result
+            (items_of true (seen_place self.now.place) (seen_element self.now.element) text.now) }
     {
         let items = self.place.list(alloc, &self.element, text)?;
         match handed_items(alloc, items.as_slice()) {
@@ -109,7 +129,8 @@ impl<'a> TaskElement<'a> {
 
     // The value of a parameter that is a text.
     fn text(&self, alloc: Global, text: &str) -> Result<List<Item>, EvalFault>
-        ensures { GivesFault (λ items. items) result (items_of false (seen_place self.now.place) (seen_element self.now.element) text.now) }
+        ensures { GivesFault (λ items. items) result
+            (items_of false (seen_place self.now.place) (seen_element self.now.element) text.now) }
     {
         let text = self.place.text(alloc, &self.element, text)?;
         match text_items(alloc, text.as_str()) {
@@ -125,7 +146,10 @@ fn params_of(
     task: &TaskElement<'_>,
     attributes: &[(Text, Text)],
 ) -> Result<List<Param>, EvalFault>
-    ensures { GivesFault (λ params. params) result (joined_ok (param_of (seen_place task.now.place) (seen_element task.now.element) task.now.task.now) attributes.now) }
+    ensures { GivesFault (λ params. params) result
+        (joined_ok
+        (param_of (seen_place task.now.place) (seen_element task.now.element) task.now.task.now)
+        attributes.now) }
 {
     let mut params = List::new(alloc);
     for attribute in attributes {
@@ -140,7 +164,10 @@ fn push_param(
     attribute: &(Text, Text),
     params: &mut List<Param>,
 ) -> Result<(), EvalFault>
-    ensures { GivesFault (λ _. params.new) result (map_ok (λ more. params.old ++ more) (param_of (seen_place task.now.place) (seen_element task.now.element) task.now.task.now attribute.now)) }
+    ensures { GivesFault (λ _. params.new) result
+        (map_ok (λ more. params.old ++ more)
+        (param_of (seen_place task.now.place) (seen_element task.now.element) task.now.task.now
+        attribute.now)) }
 {
     let param = task.param(alloc, attribute)?;
     match push_if(params, param) {

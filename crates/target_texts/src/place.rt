@@ -16,8 +16,8 @@ use msb_items::element_buckets;
 use msb_values::{Item, List, Scope, Text};
 use std::alloc::Global;
 
-/// What the texts of an element in a target see: the files, the path of the project's root file, the scope, and the
-/// bucket, if the text is batched.
+/// What the texts of an element in a target see: the files, the path of the project's root file,
+/// the scope, and the bucket, if the text is batched.
 #[derive(Clone, Copy)]
 pub struct Place<'a> {
     pub files: &'a FileView<'a>,
@@ -42,7 +42,8 @@ impl<'a> Place<'a> {
 
     /// What a text sees that stands in a file.
     pub(crate) fn lens<'s>(&'s self, file: &'s str) -> Lens<'s>
-        ensures { view_of result (paths self.now.files.now) ≡ view_in (seen_place self.now) file.now }
+        ensures { view_of result (paths self.now.files.now)
+            ≡ view_in (seen_place self.now) file.now }
     {
         Lens {
             scope: self.scope,
@@ -66,7 +67,8 @@ impl<'a> Place<'a> {
 
     /// Whether the Condition of an element holds; an absent one does. (MSBuild conditions.)
     pub fn holds(&self, alloc: Global, element: &PlacedElement<'_>) -> Result<bool, EvalFault>
-        ensures { GivesFault (λ holds. holds) result (element_holds (seen_place self.now) (seen_element element.now)) }
+        ensures { GivesFault (λ holds. holds) result
+            (element_holds (seen_place self.now) (seen_element element.now)) }
     {
         let lens = self.lens(element.file);
         let condition = element.element.attribute("Condition");
@@ -83,7 +85,8 @@ impl<'a> Place<'a> {
         element: &PlacedElement<'_>,
         written: &str,
     ) -> Result<Text, EvalFault>
-        ensures { GivesFault (λ text. text) result (text_at (seen_place self.now) (seen_element element.now) written.now) }
+        ensures { GivesFault (λ text. text) result
+            (text_at (seen_place self.now) (seen_element element.now) written.now) }
     {
         let lens = self.lens(element.file);
         match expand_text(alloc, &lens, written) {
@@ -99,7 +102,8 @@ impl<'a> Place<'a> {
         element: &PlacedElement<'_>,
         written: &str,
     ) -> Result<List<Item>, EvalFault>
-        ensures { GivesFault (λ items. items) result (list_at (seen_place self.now) (seen_element element.now) written.now) }
+        ensures { GivesFault (λ items. items) result
+            (list_at (seen_place self.now) (seen_element element.now) written.now) }
     {
         let lens = self.lens(element.file);
         match expand_list(alloc, &lens, written) {
@@ -108,14 +112,17 @@ impl<'a> Place<'a> {
         }
     }
 
-    /// The buckets of an element by its texts and its children's, but for the attributes that are ignored. (MSBuild batching.)
+    /// The buckets of an element by its texts and its children's, but for the attributes that are
+    /// ignored. (MSBuild batching.)
     pub fn buckets(
         &self,
         alloc: Global,
         ignored: &[&str],
         element: &PlacedElement<'_>,
     ) -> Result<List<Bucket>, EvalFault>
-        ensures { GivesFault (λ buckets. buckets) result (buckets_of (scene_in (seen_place self.now) element.now.file.now) (map (λ name. name.now) ignored.now) (seen_element element.now) None) }
+        ensures { GivesFault (λ buckets. buckets) result
+            (buckets_of (scene_in (seen_place self.now) element.now.file.now)
+            (map (λ name. name.now) ignored.now) (seen_element element.now) None) }
     {
         let lens = self.lens(element.file);
         element_buckets(alloc, &lens, ignored, element, None)

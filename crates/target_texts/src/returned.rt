@@ -3,7 +3,14 @@ ghost use Rattle.build_world.specs.Answers.{GivesFault};
 ghost use Rattle.build_world.specs.Elements.{seen_element};
 ghost use Rattle.build_world.specs.Instances.{seen_target};
 ghost use Rattle.target_texts.specs.Parameters.{list_at};
-ghost use Rattle.target_texts.specs.Returned.{keeps_if, keeps_repeats, less_repeats, listed_items, returned_items, returns_of};
+ghost use Rattle.target_texts.specs.Returned.{
+  keeps_if,
+  keeps_repeats,
+  less_repeats,
+  listed_items,
+  returned_items,
+  returns_of,
+};
 ghost use Rattle.target_texts.specs.Seen.{seen_place};
 
 use crate::bucket::without_lists;
@@ -14,8 +21,8 @@ use msb_items::{KeyedItems, truth_or};
 use msb_values::{Item, List, NoMemory, unescape};
 use std::alloc::Global;
 
-/// The text of the items that a target returns: Returns, or where no Target element of its file has one, Outputs.
-/// (Target element, Returns.)
+/// The text of the items that a target returns: Returns, or where no Target element of its file has
+/// one, Outputs. (Target element, Returns.)
 pub fn returns_of(target: &UsedTarget) -> Option<&str>
     ensures { option_copied result ≡ returns_of (seen_target target.now) }
 {
@@ -27,13 +34,15 @@ pub fn returns_of(target: &UsedTarget) -> Option<&str>
     }
 }
 
-/// Whether a target returns items again that are returned before. (Target element, KeepDuplicateOutputs.)
+/// Whether a target returns items again that are returned before. (Target element,
+/// KeepDuplicateOutputs.)
 pub fn keeps_repeats(
     alloc: Global,
     place: &Place<'_>,
     element: &PlacedElement<'_>,
 ) -> Result<bool, EvalFault>
-    ensures { GivesFault (λ keeps. keeps) result (keeps_repeats (seen_place place.now) (seen_element element.now)) }
+    ensures { GivesFault (λ keeps. keeps) result
+        (keeps_repeats (seen_place place.now) (seen_element element.now)) }
 {
     match element.element.attribute("KeepDuplicateOutputs") {
         Some(written) => keeps_written(alloc, place, element, written),
@@ -47,7 +56,8 @@ fn keeps_written(
     element: &PlacedElement<'_>,
     written: &str,
 ) -> Result<bool, EvalFault>
-    ensures { GivesFault (λ keeps. keeps) result (keeps_if (seen_place place.now) (seen_element element.now) (Some written.now)) }
+    ensures { GivesFault (λ keeps. keeps) result
+        (keeps_if (seen_place place.now) (seen_element element.now) (Some written.now)) }
 {
     let text = place.text(alloc, element, written)?;
     let Ok(text) = unescape(alloc, text.as_str()) else {
@@ -59,8 +69,9 @@ fn keeps_written(
     }
 }
 
-/// The items that a bucket of a target returns beside those that are there, after its children: KeepDuplicateOutputs is
-/// read first, which sees no bucket, and then the text, which is that of Returns or Outputs. (Target element, Returns.)
+/// The items that a bucket of a target returns beside those that are there, after its children:
+/// KeepDuplicateOutputs is read first, which sees no bucket, and then the text, which is that of
+/// Returns or Outputs. (Target element, Returns.)
 pub fn returned_items(
     alloc: Global,
     place: &Place<'_>,
@@ -69,7 +80,9 @@ pub fn returned_items(
     there: &KeyedItems,
     written: &str,
 ) -> Result<List<Item>, EvalFault>
-    ensures { GivesFault (λ items. items) result (returned_items (seen_place place.now) bucket.now (seen_element element.now) there.now written.now) }
+    ensures { GivesFault (λ items. items) result
+        (returned_items (seen_place place.now) bucket.now (seen_element element.now) there.now
+        written.now) }
 {
     let keeps = keeps_repeats(alloc, place, element)?;
     let Ok(bucket) = without_lists(alloc, bucket) else {
@@ -85,8 +98,8 @@ pub fn returned_items(
     )
 }
 
-/// The items of a text of a target in its place, less the repeats of those that are there and of each other unless the target keeps
-/// them.
+/// The items of a text of a target in its place, less the repeats of those that are there and of
+/// each other unless the target keeps them.
 pub fn listed_items(
     alloc: Global,
     place: &Place<'_>,
@@ -95,7 +108,9 @@ pub fn listed_items(
     there: &KeyedItems,
     written: &str,
 ) -> Result<List<Item>, EvalFault>
-    ensures { GivesFault (λ items. items) result (listed_items (seen_place place.now) (seen_element element.now) keeps there.now written.now) }
+    ensures { GivesFault (λ items. items) result
+        (listed_items (seen_place place.now) (seen_element element.now) keeps there.now
+        written.now) }
 {
     let items = place.list(alloc, element, written)?;
     match less_repeats(alloc, keeps, there, items) {

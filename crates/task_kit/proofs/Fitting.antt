@@ -5,9 +5,12 @@ use Rattle.msb_paths.specs.declared.errors.NormalFault.{NormalFault}
 use Rattle.msb_glob.specs.Parsed.{Reading}
 use Rattle.task_kit.specs.Included.{fits}
 
-none : (fault : NormalFault) (patterns : List Reading) → false ≡ list_any (fits (Err fault)) patterns
+none : (fault : NormalFault) (patterns : List Reading)
+    → false ≡ list_any (fits (Err fault)) patterns
 none fault [] = refl
 none fault (pattern ∷ patterns) = none fault patterns
 
-pub none_fits : (path : Result (List ℕ) NormalFault) (fault : NormalFault) (patterns : List Reading) → path ≡ Err fault → false ≡ list_any (fits path) patterns
-none_fits path fault patterns is = none fault patterns ∙ ap (λ p. list_any (fits p) patterns) (sym is)
+pub none_fits : (path : Result (List ℕ) NormalFault) (fault : NormalFault) (patterns : List Reading)
+    → path ≡ Err fault → false ≡ list_any (fits path) patterns
+none_fits path fault patterns is = none fault patterns
+    ∙ ap (λ p. list_any (fits p) patterns) (sym is)

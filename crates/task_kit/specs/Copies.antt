@@ -1,5 +1,26 @@
 -- Copy: each source's content to its destination. (Copy task)
-use Rattle.std.specs.Prelude.{ℕ, Bool, true, false, ◌&&◌, not, ◌==◌, List, [], ◌∷◌, ◌++◌, length, Option, Some, None, Result, Ok, Err, codes, if◌then◌else◌}
+use Rattle.std.specs.Prelude.{
+  ℕ,
+  Bool,
+  true,
+  false,
+  ◌&&◌,
+  not,
+  ◌==◌,
+  List,
+  [],
+  ◌∷◌,
+  ◌++◌,
+  length,
+  Option,
+  Some,
+  None,
+  Result,
+  Ok,
+  Err,
+  codes,
+  if◌then◌else◌,
+}
 use Rattle.std.specs.List.{zip}
 use Rattle.std.specs.Str.{bytes_eq}
 use Rattle.msb_laws.specs.Results.{and_then, map_ok, all_ok}
@@ -9,7 +30,11 @@ use Rattle.msb_values.specs.declared.item.Item.{Item}
 use Rattle.msb_files.specs.Views.{View, content}
 use Rattle.task_trait.specs.Params.{items_of, text_of, check_known, unless, truth_at}
 use Rattle.task_trait.specs.declared.failures.Failure.{Failure}
-use Rattle.task_trait.specs.declared.failures.Failure.TheVariants.{MissingSource, Counts, Destinations}
+use Rattle.task_trait.specs.declared.failures.Failure.TheVariants.{
+  MissingSource,
+  Counts,
+  Destinations,
+}
 use Rattle.task_trait.specs.declared.tools.Param.{Param}
 use Rattle.task_trait.specs.declared.tools.TaskOutput.{TaskOutput}
 use Rattle.task_kit.specs.Made.{started, with_file, made_by, made_in, succeeded, output_with}
@@ -20,10 +45,12 @@ use Rattle.task_kit.specs.declared.made.Made.{Made}
 
 -- a source and a destination with their normal paths
 abbrev pub source_at : List ℕ → Item → Result Source Failure
-source_at dir item = map_ok (λ path. record { item = item; path = path }) (path_in dir (codes "sourcefiles") item.ident)
+source_at dir item = map_ok (λ path. record { item = item; path = path })
+    (path_in dir (codes "sourcefiles") item.ident)
 
 abbrev pub destination_at : List ℕ → List ℕ → List ℕ → Result Destination Failure
-destination_at dir name text = map_ok (λ path. record { text = text; path = path }) (path_in dir name text)
+destination_at dir name text = map_ok (λ path. record { text = text; path = path })
+    (path_in dir name text)
 
 -- a destination of its own for a source
 abbrev pub named_at : List ℕ → Item → Result Destination Failure
@@ -34,10 +61,12 @@ abbrev pub text_below : List ℕ → List ℕ → List ℕ
 text_below folder source = joined folder (filename source ++ extension source)
 
 abbrev pub below_at : List ℕ → List ℕ → Item → Result Destination Failure
-below_at dir folder source = destination_at dir (codes "destinationfolder") (text_below folder source.ident)
+below_at dir folder source = destination_at dir (codes "destinationfolder")
+    (text_below folder source.ident)
 
 abbrev pub all_below : List ℕ → List ℕ → List Item → Result (List Destination) Failure
-all_below dir folder sources = if length folder == 0 then Ok [] else all_ok (below_at dir folder) sources
+all_below dir folder sources = if length folder == 0 then Ok [] else all_ok (below_at dir folder)
+    sources
 
 -- just one of DestinationFiles and DestinationFolder is given
 abbrev pub chosen : List Destination → Bool → List Destination → Result (List Destination) Failure
@@ -48,14 +77,17 @@ chosen (named ∷ more) false below = Ok (named ∷ more)
 
 -- as many as there are sources
 abbrev pub counted : ℕ → List Destination → Result (List Destination) Failure
-counted sources destinations = if length destinations == sources then Ok destinations else Err (Counts sources (length destinations))
+counted sources destinations = if length destinations == sources then Ok destinations else Err
+    (Counts sources (length destinations))
 
 -- the source's item at its destination, which is given as copied
 abbrev pub item_copied : Source → Destination → Item
-item_copied source destination = record { ident = destination.text; recursive = source.item.recursive; meta = source.item.meta }
+item_copied source destination = record
+    { ident = destination.text; recursive = source.item.recursive; meta = source.item.meta }
 
 abbrev pub with_item : Item → Made → Made
-with_item item made = record { written = made.written; acts = made.acts; items = made.items ++ item ∷ [] }
+with_item item made = record
+    { written = made.written; acts = made.acts; items = made.items ++ item ∷ [] }
 
 -- a destination that has these bytes already
 abbrev pub is_unchanged : Option (List ℕ) → List ℕ → Bool
@@ -65,33 +97,41 @@ is_unchanged None bytes = false
 -- bytes at their destination, unless it is left as it is
 abbrev pub written_at : View → Bool → List ℕ → Destination → Made → Result Made Failure
 written_at view skip bytes to made =
-    if skip && is_unchanged (content view to.path) bytes then Ok made else with_file to.text (record { path = to.path; bytes = bytes }) made
+    if skip && is_unchanged (content view to.path) bytes then Ok made else with_file to.text
+    (record { path = to.path; bytes = bytes }) made
 
 -- a file is copied from the view as it was before the task
-abbrev pub copied_from : Option (List ℕ) → View → Bool → Made → Source × Destination → Result Made Failure
+abbrev pub copied_from : Option (List ℕ) → View → Bool → Made → Source × Destination
+    → Result Made Failure
 copied_from None view skip made c = Err (MissingSource c.0.item.ident)
-copied_from (Some bytes) view skip made c = map_ok (with_item (item_copied c.0 c.1)) (written_at view skip bytes c.1 made)
+copied_from (Some bytes) view skip made c = map_ok (with_item (item_copied c.0 c.1))
+    (written_at view skip bytes c.1 made)
 
 abbrev pub copied : View → Bool → Made → Source × Destination → Result Made Failure
 copied view skip made c = copied_from (content view c.0.path) view skip made c
 
 abbrev pub copy_outputs : List Item → List Param
-copy_outputs items = record { name = codes "destinationfiles"; items = items } ∷ record { name = codes "copiedfiles"; items = items } ∷ []
+copy_outputs items = record { name = codes "destinationfiles"; items = items }
+    ∷ record { name = codes "copiedfiles"; items = items } ∷ []
 
 abbrev pub output_copied : Result Made (Made × Failure) → TaskOutput
 output_copied made = output_with (codes "copy") (succeeded (copy_outputs (made_in made).items)) made
 
 abbrev pub all_copied : View → Bool → ℕ → List Source → List Destination → TaskOutput
-all_copied view skip written sources destinations = output_copied (made_by (copied view skip) (started written) (zip sources destinations))
+all_copied view skip written sources destinations = output_copied
+    (made_by (copied view skip) (started written) (zip sources destinations))
 
 -- without sources nothing is copied, wherever to
-abbrev pub copied_to : View → Bool → ℕ → List Source → Result (List Destination) Failure → Result TaskOutput Failure
+abbrev pub copied_to : View → Bool → ℕ → List Source → Result (List Destination) Failure
+    → Result TaskOutput Failure
 copied_to view skip written [] destinations = Ok (all_copied view skip written [] [])
 copied_to view skip written (source ∷ sources) destinations =
-    map_ok (all_copied view skip written (source ∷ sources)) (and_then destinations (counted (length (source ∷ sources))))
+    map_ok (all_copied view skip written (source ∷ sources))
+    (and_then destinations (counted (length (source ∷ sources))))
 
 abbrev pub copy_parameters : List (List ℕ)
-copy_parameters = codes "destinationfiles" ∷ codes "destinationfolder" ∷ codes "skipunchangedfiles" ∷ codes "sourcefiles" ∷ []
+copy_parameters = codes "destinationfiles" ∷ codes "destinationfolder" ∷ codes "skipunchangedfiles"
+    ∷ codes "sourcefiles" ∷ []
 
 abbrev pub copy : List ℕ → View → List Param → ℕ → Result TaskOutput Failure
 copy dir view params written =

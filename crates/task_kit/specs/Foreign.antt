@@ -1,4 +1,5 @@
--- Tasks that are not built in: what a tool is handed, and what is taken from it. (UsingTask element; MSBuild tasks)
+-- Tasks that are not built in: what a tool is handed, and what is taken from it. (UsingTask
+-- element; MSBuild tasks)
 use Rattle.std.specs.Prelude.{ℕ, List, Result, Err, codes, if◌then◌else◌}
 use Rattle.msb_laws.specs.Results.{map_ok, all_ok}
 use Rattle.msb_paths.specs.Normal.{is_normal}
@@ -22,11 +23,13 @@ use Rattle.task_kit.specs.declared.made.Made.{Made}
 
 -- a file of the parameter Sources: its normal path, and its content in the view
 abbrev pub file_at : List ℕ → View → Item → Result FileIn Failure
-file_at dir view item = map_ok (λ path. record { path = path; content = content view path }) (path_in dir (codes "sources") item.ident)
+file_at dir view item = map_ok (λ path. record { path = path; content = content view path })
+    (path_in dir (codes "sources") item.ident)
 
 -- a tool is handed the parameters, and the files of its Sources
 abbrev pub foreign_input : List ℕ → View → List Param → Result ToolInput Failure
-foreign_input dir view params = map_ok (λ files. record { params = params; files = files }) (all_ok (file_at dir view) (items_of (codes "sources") params))
+foreign_input dir view params = map_ok (λ files. record { params = params; files = files })
+    (all_ok (file_at dir view) (items_of (codes "sources") params))
 
 -- a tool writes and removes files at normal paths alone
 abbrev pub acted_by_tool : Made → Act → Result Made Failure

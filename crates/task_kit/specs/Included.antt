@@ -1,5 +1,27 @@
--- CreateItem: items of entries and of the files that patterns match, with metadata. (CreateItem task)
-use Rattle.std.specs.Prelude.{ℕ, Bool, false, not, ◌||◌, ◌==◌, List, [], ◌∷◌, map, filter, Option, Some, None, option_and_then, Result, Ok, Err, codes, if◌then◌else◌}
+-- CreateItem: items of entries and of the files that patterns match, with metadata. (CreateItem
+-- task)
+use Rattle.std.specs.Prelude.{
+  ℕ,
+  Bool,
+  false,
+  not,
+  ◌||◌,
+  ◌==◌,
+  List,
+  [],
+  ◌∷◌,
+  map,
+  filter,
+  Option,
+  Some,
+  None,
+  option_and_then,
+  Result,
+  Ok,
+  Err,
+  codes,
+  if◌then◌else◌,
+}
 use Rattle.std.specs.List.{list_any, flat_map}
 use Rattle.msb_laws.specs.Results.{and_then, map_ok, all_ok}
 use Rattle.msb_paths.specs.Refused.{normal_path}
@@ -42,18 +64,22 @@ pattern_in dir name entry = pattern_or_bad name (parsed dir (pattern_text entry.
 
 -- what a match makes of its entry, without escapes
 abbrev pub item_matched : Item → Match → Item
-item_matched entry match = record { ident = unescaped match.ident; recursive = match.recursive; meta = entry.meta }
+item_matched entry match = record
+    { ident = unescaped match.ident; recursive = match.recursive; meta = entry.meta }
 
 abbrev pub items_matched : List (List ℕ) → Item → Reading → List Item
-items_matched files entry pattern = map (item_matched entry) (map (match_of pattern) (filter (is_match pattern) files))
+items_matched files entry pattern = map (item_matched entry)
+    (map (match_of pattern) (filter (is_match pattern) files))
 
 -- the files that an entry matches as a pattern, or the entry itself, be there a file or not
 abbrev pub items_of_entry : List ℕ → List (List ℕ) → Item → Result (List Item) Failure
 items_of_entry dir files entry =
-    if is_pattern_entry entry then map_ok (items_matched files entry) (pattern_in dir (codes "include") entry) else Ok (entry ∷ [])
+    if is_pattern_entry entry then map_ok (items_matched files entry)
+    (pattern_in dir (codes "include") entry) else Ok (entry ∷ [])
 
 -- the lists that entries give, one after another
-abbrev pub all_of : {X : Type 0} → (Item → Result (List X) Failure) → List Item → Result (List X) Failure
+abbrev pub all_of : {X : Type 0} → (Item → Result (List X) Failure) → List Item
+    → Result (List X) Failure
 all_of each entries = map_ok (flat_map (λ list. list)) (all_ok each entries)
 
 abbrev pub items_included : List ℕ → List (List ℕ) → List Item → Result (List Item) Failure
@@ -62,7 +88,8 @@ items_included dir files entries = all_of (items_of_entry dir files) entries
 -- the pattern that an entry of Exclude is, if it is one
 abbrev pub patterns_of_entry : List ℕ → Item → Result (List Reading) Failure
 patterns_of_entry dir entry =
-    if is_pattern_entry entry then map_ok (λ pattern. pattern ∷ []) (pattern_in dir (codes "exclude") entry) else Ok []
+    if is_pattern_entry entry then map_ok (λ pattern. pattern ∷ [])
+    (pattern_in dir (codes "exclude") entry) else Ok []
 
 -- identities with `/` for each `\`
 abbrev pub slashed : List Item → List (List ℕ)
@@ -72,32 +99,39 @@ abbrev pub fits : Result (List ℕ) NormalFault → Reading → Bool
 fits (Ok path) pattern = fits_path pattern.parts path
 fits (Err fault) pattern = false
 
--- Exclude names an item of an entry's identity, without case and with `\` as `/`, and one whose path a pattern among the
--- entries matches
+-- Exclude names an item of an entry's identity, without case and with `\` as `/`, and one whose
+-- path a pattern among the entries matches
 abbrev pub is_excluded : List ℕ → List (List ℕ) → List Reading → Item → Bool
-is_excluded dir idents patterns item = list_any (is_same_text (with_slashes item.ident)) idents || list_any (fits (normal_path dir item.ident)) patterns
+is_excluded dir idents patterns item = list_any (is_same_text (with_slashes item.ident)) idents
+    || list_any (fits (normal_path dir item.ident)) patterns
 
 abbrev pub less_excluded : List ℕ → List (List ℕ) → List Reading → List Item → List Item
-less_excluded dir idents patterns items = filter (λ item. not (is_excluded dir idents patterns item)) items
+less_excluded dir idents patterns items = filter
+    (λ item. not (is_excluded dir idents patterns item)) items
 
 -- the items of the entries, less those that Exclude names; its patterns are read first
-abbrev pub items_created : List ℕ → List (List ℕ) → List Item → List Item → Result (List Item) Failure
+abbrev pub items_created : List ℕ → List (List ℕ) → List Item → List Item
+    → Result (List Item) Failure
 items_created dir files entries excluded =
-    and_then (all_of (patterns_of_entry dir) excluded) (λ patterns. map_ok (less_excluded dir (slashed excluded) patterns) (items_included dir files entries))
+    and_then (all_of (patterns_of_entry dir) excluded)
+    (λ patterns. map_ok (less_excluded dir (slashed excluded) patterns)
+    (items_included dir files entries))
 
 -- an entry of AdditionalMetadata: a name that is not computed, and its value
 abbrev pub unless_computed : List ℕ × List ℕ → Option (List ℕ × List ℕ)
 unless_computed pair = if is_computed pair.0 then None else Some pair
 
 abbrev pub metadata_in : Item → Result (List ℕ × List ℕ) Failure
-metadata_in entry = or_bad (codes "additionalmetadata") (option_and_then unless_computed (pair_of entry.ident))
+metadata_in entry = or_bad (codes "additionalmetadata")
+    (option_and_then unless_computed (pair_of entry.ident))
 
 abbrev pub include_output : List Item → Param
 include_output items = record { name = codes "include"; items = items }
 
 abbrev pub create_item : List ℕ → View → List Param → Result TaskOutput Failure
 create_item dir view params =
-    unless (check_known (codes "additionalmetadata" ∷ codes "exclude" ∷ codes "include" ∷ []) params)
+    unless
+    (check_known (codes "additionalmetadata" ∷ codes "exclude" ∷ codes "include" ∷ []) params)
     (and_then (needed_items (codes "include") params) (λ entries.
     and_then (all_ok metadata_in (items_of (codes "additionalmetadata") params)) (λ metadata.
     map_ok (λ items. succeeded (include_output (map (with_metadata metadata) items) ∷ []))

@@ -1,5 +1,24 @@
 -- WriteLinesToFile: lines behind what a file has, or instead of it. (WriteLinesToFile task)
-use Rattle.std.specs.Prelude.{ℕ, Bool, true, false, ◌&&◌, not, ◌==◌, List, [], ◌∷◌, ◌++◌, length, Option, Result, Ok, codes, unwrap_or, if◌then◌else◌}
+use Rattle.std.specs.Prelude.{
+  ℕ,
+  Bool,
+  true,
+  false,
+  ◌&&◌,
+  not,
+  ◌==◌,
+  List,
+  [],
+  ◌∷◌,
+  ◌++◌,
+  length,
+  Option,
+  Result,
+  Ok,
+  codes,
+  unwrap_or,
+  if◌then◌else◌,
+}
 use Rattle.std.specs.List.{flat_map}
 use Rattle.msb_laws.specs.Results.{and_then, map_ok}
 use Rattle.msb_values.specs.declared.item.Item.{Item}
@@ -28,16 +47,20 @@ text_after overwrite present lines = kept_text overwrite present ++ lines_of lin
 abbrev pub written_lines : View → List ℕ → List ℕ → Bool → List Item → Made → Result Made Failure
 written_lines view file path overwrite lines made =
     if not overwrite && length lines == 0 then Ok made
-    else with_file file (record { path = path; bytes = text_after overwrite (content view path) lines }) made
+    else with_file file
+    (record { path = path; bytes = text_after overwrite (content view path) lines }) made
 
 abbrev pub output_written : View → List ℕ → List ℕ → Bool → List Item → ℕ → TaskOutput
 output_written view file path overwrite lines written =
-    output_with (codes "writelinestofile") (succeeded []) (kept_by (started written) (written_lines view file path overwrite lines (started written)))
+    output_with (codes "writelinestofile") (succeeded [])
+    (kept_by (started written) (written_lines view file path overwrite lines (started written)))
 
 abbrev pub write_lines : List ℕ → View → List Param → ℕ → Result TaskOutput Failure
 write_lines dir view params written =
     unless (check_known (codes "file" ∷ codes "lines" ∷ codes "overwrite" ∷ []) params)
     (and_then (needed_text (codes "file") params) (λ file.
     and_then (path_in dir (codes "file") file) (λ path.
-    map_ok (λ overwrite. output_written view file path overwrite (items_of (codes "lines") params) written)
+    map_ok
+    (λ overwrite. output_written view file path overwrite (items_of (codes "lines") params)
+    written)
     (truth_at (codes "overwrite") params))))

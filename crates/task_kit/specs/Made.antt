@@ -1,5 +1,23 @@
 -- What a task has done, act by act, and the limits of what it may write. (MSBuild tasks)
-use Rattle.std.specs.Prelude.{◌≡◌, ℕ, ◌+◌, Bool, true, false, ◌&&◌, nat_le, List, [], ◌∷◌, ◌++◌, length, Result, Ok, Err, if◌then◌else◌}
+use Rattle.std.specs.Prelude.{
+  ◌≡◌,
+  ℕ,
+  ◌+◌,
+  Bool,
+  true,
+  false,
+  ◌&&◌,
+  nat_le,
+  List,
+  [],
+  ◌∷◌,
+  ◌++◌,
+  length,
+  Result,
+  Ok,
+  Err,
+  if◌then◌else◌,
+}
 use Rattle.msb_laws.specs.Results.{fold_ok}
 use Rattle.msb_values.specs.declared.act.Act.{Act}
 use Rattle.msb_values.specs.declared.act.Act.TheVariants.{Write, Remove}
@@ -49,7 +67,8 @@ kept_by made (Ok next) = Ok next
 kept_by made (Err failure) = Err (made, failure)
 
 -- acts in turn, up to the first that fails
-abbrev pub made_by : {X : Type 0} → (Made → X → Result Made Failure) → Made → List X → Result Made (Made × Failure)
+abbrev pub made_by : {X : Type 0} → (Made → X → Result Made Failure) → Made → List X
+    → Result Made (Made × Failure)
 made_by act made xs = fold_ok (λ so_far x. kept_by so_far (act so_far x)) made xs
 
 -- what was made, all of it or up to a failure
@@ -61,7 +80,8 @@ made_in (Err stop) = stop.0
 abbrev pub succeeded : List Param → TaskOutput
 succeeded outputs = record { ok = true; outputs = outputs; acts = []; notes = [] }
 
--- an output with what was done to files; a failure makes the task fail, with its note behind the others
+-- an output with what was done to files; a failure makes the task fail, with its note behind the
+-- others
 abbrev pub output_with : List ℕ → TaskOutput → Result Made (Made × Failure) → TaskOutput
 output_with task output (Ok made) =
     record { ok = output.ok; outputs = output.outputs; acts = made.acts; notes = output.notes }
@@ -73,10 +93,12 @@ output_with task output (Err stop) =
       notes = output.notes ++ Fail (failure_text task stop.1) ∷ [];
     }
 
--- one act of the code, and acts in turn: what is made then is what the answer says, but for want of memory
+-- one act of the code, and acts in turn: what is made then is what the answer says, but for want of
+-- memory
 abbrev pub Acts : {T : Type 0} → Result T Failure → Made → Made → Result Made Failure → Type 0
 Acts (Ok value) before now answer = answer ≡ Ok now
-Acts (Err failure) before now answer = UnlessMemory failure ((answer ≡ Err failure) × (now ≡ before))
+Acts (Err failure) before now answer = UnlessMemory failure
+    ((answer ≡ Err failure) × (now ≡ before))
 
 abbrev pub Makes : {T : Type 0} → Result T Failure → Made → Result Made (Made × Failure) → Type 0
 Makes (Ok value) now answer = answer ≡ Ok now

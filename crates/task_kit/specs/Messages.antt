@@ -1,6 +1,25 @@
--- Tasks that say something: Message, Warning and Error; and CreateProperty, which gives what it is handed.
--- (Message, Warning, Error and CreateProperty task)
-use Rattle.std.specs.Prelude.{ℕ, Bool, true, false, ◌||◌, ◌==◌, List, [], ◌∷◌, length, Option, Some, None, Result, Ok, Err, codes, if◌then◌else◌}
+-- Tasks that say something: Message, Warning and Error; and CreateProperty, which gives what it is
+-- handed. (Message, Warning, Error and CreateProperty task)
+use Rattle.std.specs.Prelude.{
+  ℕ,
+  Bool,
+  true,
+  false,
+  ◌||◌,
+  ◌==◌,
+  List,
+  [],
+  ◌∷◌,
+  length,
+  Option,
+  Some,
+  None,
+  Result,
+  Ok,
+  Err,
+  codes,
+  if◌then◌else◌,
+}
 use Rattle.msb_laws.specs.Results.{map_ok}
 use Rattle.msb_values.specs.Same.{is_same_text}
 use Rattle.msb_values.specs.declared.note.Note.{Note}
@@ -20,7 +39,8 @@ said note = record { ok = true; outputs = []; acts = []; notes = note ∷ [] }
 abbrev pub is_low : List ℕ → Option Bool
 is_low text =
     if is_same_text text (codes "low") then Some true else
-    if length text == 0 || is_same_text text (codes "normal") || is_same_text text (codes "high") then Some false else None
+    if length text == 0 || is_same_text text (codes "normal")
+    || is_same_text text (codes "high") then Some false else None
 
 abbrev pub message_note : List ℕ → Bool → Note
 message_note text true = Low text
@@ -30,17 +50,22 @@ message_note text false = Message text
 abbrev pub message : List Param → Result TaskOutput Failure
 message params =
     unless (check_known (codes "importance" ∷ codes "text" ∷ []) params)
-    (map_ok (λ low. said (message_note (text_of (codes "text") params) low)) (or_bad (codes "importance") (is_low (text_of (codes "importance") params))))
+    (map_ok (λ low. said (message_note (text_of (codes "text") params) low))
+    (or_bad (codes "importance") (is_low (text_of (codes "importance") params))))
 
 -- Warning: a warning of its Text
 abbrev pub warning : List Param → Result TaskOutput Failure
-warning params = unless (check_known (codes "text" ∷ []) params) (Ok (said (Warning (text_of (codes "text") params))))
+warning params = unless (check_known (codes "text" ∷ []) params)
+    (Ok (said (Warning (text_of (codes "text") params))))
 
 -- Error: it fails, with its Text
 abbrev pub error : List Param → Result TaskOutput Failure
-error params = unless (check_known (codes "text" ∷ []) params) (Err (Raised (text_of (codes "text") params)))
+error params = unless (check_known (codes "text" ∷ []) params)
+    (Err (Raised (text_of (codes "text") params)))
 
 -- CreateProperty: its Value
 abbrev pub create_property : List Param → Result TaskOutput Failure
 create_property params =
-    unless (check_known (codes "value" ∷ []) params) (Ok (succeeded (record { name = codes "value"; items = items_of (codes "value") params } ∷ [])))
+    unless (check_known (codes "value" ∷ []) params)
+    (Ok
+    (succeeded (record { name = codes "value"; items = items_of (codes "value") params } ∷ [])))

@@ -1,5 +1,20 @@
 -- ReadLinesFromFile: the lines of a file. (ReadLinesFromFile task)
-use Rattle.std.specs.Prelude.{ℕ, ◌==◌, List, [], ◌∷◌, map, Option, Some, None, Result, Ok, Err, codes, if◌then◌else◌}
+use Rattle.std.specs.Prelude.{
+  ℕ,
+  ◌==◌,
+  List,
+  [],
+  ◌∷◌,
+  map,
+  Option,
+  Some,
+  None,
+  Result,
+  Ok,
+  Err,
+  codes,
+  if◌then◌else◌,
+}
 use Rattle.std.specs.List.{slice_split}
 use Rattle.std.specs.Str.{is_utf8}
 use Rattle.msb_laws.specs.Results.{and_then}
@@ -22,8 +37,8 @@ lines_in text = map plain_item (entries_of (slice_split (λ byte. byte == 10) te
 abbrev pub lines_output : List Item → TaskOutput
 lines_output items = succeeded (record { name = codes "lines"; items = items } ∷ [])
 
--- a file that is missing has no lines, and one that is not UTF-8 fails; the path is told as the task
--- was handed it
+-- a file that is missing has no lines, and one that is not UTF-8 fails; the path is told as the
+-- task was handed it
 abbrev pub lines_read : List ℕ → Option (List ℕ) → Result TaskOutput Failure
 lines_read file None = Ok (lines_output [])
 lines_read file (Some bytes) =

@@ -1,5 +1,22 @@
--- Delete: each file that is there is removed, and a path without a file is passed over. (Delete task)
-use Rattle.std.specs.Prelude.{◌≡◌, ℕ, Bool, not, ◌&&◌, List, [], ◌∷◌, ◌++◌, true, fold, is_some, Result, codes, if◌then◌else◌}
+-- Delete: each file that is there is removed, and a path without a file is passed over. (Delete
+-- task)
+use Rattle.std.specs.Prelude.{
+  ◌≡◌,
+  ℕ,
+  Bool,
+  not,
+  ◌&&◌,
+  List,
+  [],
+  ◌∷◌,
+  ◌++◌,
+  true,
+  fold,
+  is_some,
+  Result,
+  codes,
+  if◌then◌else◌,
+}
 use Rattle.std.specs.HashSet.{HashSet, contains}
 use Rattle.std.specs.List.{list_any}
 use Rattle.std.specs.Str.{bytes_eq}

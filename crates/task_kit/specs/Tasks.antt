@@ -1,5 +1,5 @@
--- Task: what a built-in task does, over its name, the folder of its project, its view of files, its parameters, and the bytes
--- that its run has written before. (MSBuild tasks; Task element)
+-- Task: what a built-in task does, over its name, the folder of its project, its view of files, its
+-- parameters, and the bytes that its run has written before. (MSBuild tasks; Task element)
 use Rattle.std.specs.Prelude.{ℕ, List, [], ◌∷◌, Option, Some, None, Result, Ok, Err, codes}
 use Rattle.msb_values.specs.Pairs.{value_at}
 use Rattle.msb_files.specs.Views.{View}
@@ -60,7 +60,9 @@ output_of name (Err failure) = failed name failure
 
 abbrev pub answer_of : Option BuiltIn → List ℕ → List ℕ → View → List Param → ℕ → ToolAnswer
 answer_of None name dir view params written = Unknown
-answer_of (Some task) name dir view params written = Made (output_of name (done task dir view params written))
+answer_of (Some task) name dir view params written = Made
+    (output_of name (done task dir view params written))
 
 abbrev pub answer : List ℕ → List ℕ → View → List Param → ℕ → ToolAnswer
-answer name dir view params written = answer_of (value_at name built_in) name dir view params written
+answer name dir view params written = answer_of (value_at name built_in) name dir view params
+    written

@@ -1,4 +1,14 @@
-ghost use Rattle.std.specs.Prelude.{◌≡◌, ◌++◌, List, Result, Some, codes, length, IfOk, option_copied};
+ghost use Rattle.std.specs.Prelude.{
+  ◌≡◌,
+  ◌++◌,
+  List,
+  Result,
+  Some,
+  codes,
+  length,
+  IfOk,
+  option_copied,
+};
 ghost use Rattle.std.specs.List.{zip};
 ghost use Rattle.msb_laws.specs.Results.{all_ok};
 ghost use Rattle.msb_paths.specs.Parts.{filename, extension};
@@ -6,7 +16,25 @@ ghost use Rattle.task_trait.specs.Answers.{Gives, UnlessMemory};
 ghost use Rattle.task_trait.specs.declared.failures.Failure.TheVariants.{MissingSource};
 ghost use Rattle.task_trait.specs.declared.failures.Failure.{Failure};
 ghost use Rattle.task_kit.specs.declared.copies.Destination.{Destination};
-ghost use Rattle.task_kit.specs.Copies.{all_below, all_copied, below_at, chosen, copied, copied_from, copied_to, copy, copy_outputs, counted, destination_at, is_unchanged, item_copied, named_at, source_at, text_below, written_at};
+ghost use Rattle.task_kit.specs.Copies.{
+  all_below,
+  all_copied,
+  below_at,
+  chosen,
+  copied,
+  copied_from,
+  copied_to,
+  copy,
+  copy_outputs,
+  counted,
+  destination_at,
+  is_unchanged,
+  item_copied,
+  named_at,
+  source_at,
+  text_below,
+  written_at,
+};
 ghost use Rattle.task_kit.specs.Made.{Acts, Makes, made_by};
 
 use crate::made::{Made, output, output_with, succeeded};
@@ -210,7 +238,8 @@ fn copied_to(
     sources: &[Source],
     to: Result<List<Destination>, Failure>,
 ) -> Result<TaskOutput, Failure>
-    ensures { (all : Result (List Destination) Failure) → Gives to all → Gives result (copied_to view.now skip written sources.now all) }
+    ensures { (all : Result (List Destination) Failure) → Gives to all
+        → Gives result (copied_to view.now skip written sources.now all) }
 {
     if sources.is_empty() {
         return Ok(all_copied(alloc, view, skip, written, sources, &[])?);
@@ -231,7 +260,8 @@ fn all_copied(
     destinations: &[Destination],
 ) -> Result<TaskOutput, NoMemory>
     requires { length destinations.now ≡ length sources.now }
-    ensures { IfOk result (λ output. output ≡ all_copied view.now skip written sources.now destinations.now) }
+    ensures { IfOk result
+        (λ output. output ≡ all_copied view.now skip written sources.now destinations.now) }
 {
     let mut made = Made::new(alloc, written);
     let work = copy_each(alloc, view, skip, &mut made, sources, destinations);
@@ -258,7 +288,8 @@ fn copy_each(
     destinations: &[Destination],
 ) -> Result<(), Failure>
     requires { length destinations.now ≡ length sources.now }
-    ensures { Makes result made.new (made_by (copied view.now skip) made.old (zip sources.now destinations.now)) }
+    ensures { Makes result made.new
+        (made_by (copied view.now skip) made.old (zip sources.now destinations.now)) }
 {
     for (at, source) in sources.iter().enumerate() {
         copy_one(alloc, view, skip, made, source, &destinations[at])?;
@@ -274,7 +305,8 @@ fn copy_one(
     source: &Source,
     destination: &Destination,
 ) -> Result<(), Failure>
-    ensures { Acts result made.old made.new (copied view.now skip made.old (source.now, destination.now)) }
+    ensures { Acts result made.old made.new
+        (copied view.now skip made.old (source.now, destination.now)) }
 {
     match view.content(source.path.as_str()) {
         Some(bytes) => copy_bytes(alloc, view, skip, made, bytes, source, destination),
@@ -300,7 +332,8 @@ fn copy_bytes(
     source: &Source,
     destination: &Destination,
 ) -> Result<(), Failure>
-    ensures { Acts result made.old made.new (copied_from (Some bytes.now) view.now skip made.old (source.now, destination.now)) }
+    ensures { Acts result made.old made.new
+        (copied_from (Some bytes.now) view.now skip made.old (source.now, destination.now)) }
 {
     write_at(alloc, view, skip, made, bytes, destination)?;
     made.items.push(item_copied(source, destination)?)?;
@@ -316,7 +349,8 @@ fn write_at(
     bytes: &[u8],
     destination: &Destination,
 ) -> Result<(), Failure>
-    ensures { Acts result made.old made.new (written_at view.now skip bytes.now destination.now made.old) }
+    ensures { Acts result made.old made.new
+        (written_at view.now skip bytes.now destination.now made.old) }
 {
     if skip && is_unchanged(view.content(destination.path.as_str()), bytes) {
         return Ok(());

@@ -22,8 +22,8 @@ pub(crate) fn slashed(alloc: Global, entries: &[Item]) -> Result<List<Text>, NoM
     Ok(idents)
 }
 
-/// The items that no entry of Exclude names: none is of these identities, and no pattern matches it. (CreateItem task;
-/// MSBuild items, wildcards to specify items.)
+/// The items that no entry of Exclude names: none is of these identities, and no pattern matches
+/// it. (CreateItem task; MSBuild items, wildcards to specify items.)
 pub(crate) fn less_excluded(
     alloc: Global,
     dir: &str,
@@ -31,7 +31,8 @@ pub(crate) fn less_excluded(
     patterns: &[Pattern],
     items: Vec<Item>,
 ) -> Result<Vec<Item>, NoMemory>
-    ensures { IfOk result (λ kept. kept.items ≡ less_excluded dir.now idents.now patterns.now items.items) }
+    ensures { IfOk result (λ kept. kept.items
+        ≡ less_excluded dir.now idents.now patterns.now items.items) }
 {
     let mut kept = Vec::new(alloc);
     for item in items {
@@ -42,7 +43,8 @@ pub(crate) fn less_excluded(
 }
 
 fn keep_unless(kept: &mut Vec<Item>, excluded: bool, item: Item) -> Result<(), NoMemory>
-    ensures { OnOk result (kept.new.items ≡ kept.old.items ++ (if excluded then [] else item ∷ [])) }
+    ensures { OnOk result
+        (kept.new.items ≡ kept.old.items ++ (if excluded then [] else item ∷ [])) }
 {
     if excluded {
         return Ok(());
@@ -67,7 +69,8 @@ fn is_excluded(
 
 /// Whether an identity is one of these, without case and with `/` for each `\`.
 fn has_ident(alloc: Global, idents: &[Text], ident: &str) -> Result<bool, NoMemory>
-    ensures { IfOk result (λ has. has ≡ list_any (is_same_text (with_slashes ident.now)) idents.now) }
+    ensures { IfOk result
+        (λ has. has ≡ list_any (is_same_text (with_slashes ident.now)) idents.now) }
 {
     let ident = with_slashes(alloc, ident)?;
     Ok(has_text(idents, ident.as_str()))
@@ -81,7 +84,8 @@ fn has_text(texts: &[Text], text: &str) -> bool
 
 /// Whether any of these patterns matches an identity; none matches one that can't be made normal.
 fn fits_any(alloc: Global, dir: &str, patterns: &[Pattern], ident: &str) -> Result<bool, NoMemory>
-    ensures { IfOk result (λ is. is ≡ list_any (fits (normal_path dir.now ident.now)) patterns.now) }
+    ensures { IfOk result
+        (λ is. is ≡ list_any (fits (normal_path dir.now ident.now)) patterns.now) }
 {
     if patterns.is_empty() {
         return Ok(false);

@@ -12,8 +12,9 @@ use msb_values::{Act, Item, List, Name, NoMemory, Text, Text8};
 use std::alloc::Global;
 use task_trait::{Failure, FileIn, Param, TaskOutput, ToolAnswer, ToolInput, items_of};
 
-/// What a tool is handed: its parameters, which are without escapes already, and each file of its parameter Sources with
-/// its content in the view. A path of Sources that can't be made normal is a failure.
+/// What a tool is handed: its parameters, which are without escapes already, and each file of its
+/// parameter Sources with its content in the view. A path of Sources that can't be made normal is a
+/// failure.
 pub fn foreign_input(
     alloc: Global,
     dir: &str,
@@ -59,8 +60,9 @@ fn copied(alloc: Global, bytes: Option<&[u8]>) -> Result<Option<Text8>, NoMemory
     }
 }
 
-/// What is taken from a tool, in a run that has written this much before: an unknown task is a failure, and so are a
-/// path that is not normal and a file that is too large, before which what was done is kept.
+/// What is taken from a tool, in a run that has written this much before: an unknown task is a
+/// failure, and so are a path that is not normal and a file that is too large, before which what
+/// was done is kept.
 pub fn foreign_output(
     alloc: Global,
     name: &Name,
@@ -81,7 +83,9 @@ fn checked(
     output: TaskOutput,
     written: u64,
 ) -> Result<TaskOutput, NoMemory>
-    ensures { IfOk result (λ whole. whole ≡ output_with name.now output (made_by acted_by_tool (started written) output.acts)) }
+    ensures { IfOk result
+        (λ whole. whole ≡ output_with name.now output
+        (made_by acted_by_tool (started written) output.acts)) }
 {
     let TaskOutput {
         ok,

@@ -8,7 +8,17 @@ ghost use Rattle.msb_files.specs.Views.{paths};
 ghost use Rattle.task_trait.specs.Answers.{Gives, GivesAs};
 ghost use Rattle.task_kit.specs.Made.{succeeded};
 ghost use Rattle.task_kit.specs.Computed.{is_computed, left_out};
-ghost use Rattle.task_kit.specs.Included.{create_item, include_output, item_matched, items_created, items_included, items_matched, items_of_entry, metadata_in, pattern_in};
+ghost use Rattle.task_kit.specs.Included.{
+  create_item,
+  include_output,
+  item_matched,
+  items_created,
+  items_included,
+  items_matched,
+  items_of_entry,
+  metadata_in,
+  pattern_in,
+};
 
 use crate::excluded::{less_excluded, slashed};
 use crate::made::{output, succeeded};
@@ -20,7 +30,8 @@ use msb_values::{Copied, Item, List, Name, NoMemory, Pairs, Text, unescape};
 use std::alloc::Global;
 use task_trait::{Failure, Param, TaskOutput, bad, check_known, items_of, needed_items, pair_of};
 
-/// The items of the entries, less those that Exclude names, with the metadata that are given. (CreateItem task.)
+/// The items of the entries, less those that Exclude names, with the metadata that are given.
+/// (CreateItem task.)
 pub(crate) fn create_item(
     alloc: Global,
     dir: &str,
@@ -44,7 +55,8 @@ fn items_created(
     entries: &[Item],
     excluded: &[Item],
 ) -> Result<Vec<Item>, Failure>
-    ensures { GivesAs (λ items. items.items) result (items_created dir.now (paths view.now) entries.now excluded.now) }
+    ensures { GivesAs (λ items. items.items) result
+        (items_created dir.now (paths view.now) entries.now excluded.now) }
 {
     let patterns = patterns_excluded(alloc, dir, excluded)?;
     let items = items_included(alloc, dir, view, entries)?;
@@ -64,7 +76,9 @@ fn included(
     metadata: &[(Name, Text)],
     items: Vec<Item>,
 ) -> Result<TaskOutput, NoMemory>
-    ensures { IfOk result (λ output. output ≡ succeeded (include_output (map (with_metadata metadata.now) items.items) ∷ [])) }
+    ensures { IfOk result
+        (λ output. output
+        ≡ succeeded (include_output (map (with_metadata metadata.now) items.items) ∷ [])) }
 {
     let items = with_all_metadata(alloc, metadata, items)?;
     let mut outputs = List::new(alloc);
@@ -143,7 +157,8 @@ fn push_items(
     paths: &SortedPaths<'_, Text>,
     entries: &[Item],
 ) -> Result<(), Failure>
-    ensures { GivesAs (λ _. items.new) result (map_ok (λ more. items.old ++ more) (items_included dir.now paths.now entries.now)) }
+    ensures { GivesAs (λ _. items.new) result
+        (map_ok (λ more. items.old ++ more) (items_included dir.now paths.now entries.now)) }
 {
     for entry in entries {
         push_items_of(alloc, items, dir, paths, entry)?;
@@ -159,7 +174,8 @@ fn push_items_of(
     paths: &SortedPaths<'_, Text>,
     entry: &Item,
 ) -> Result<(), Failure>
-    ensures { GivesAs (λ _. items.new) result (map_ok (λ more. items.old ++ more) (items_of_entry dir.now paths.now entry.now)) }
+    ensures { GivesAs (λ _. items.new) result
+        (map_ok (λ more. items.old ++ more) (items_of_entry dir.now paths.now entry.now)) }
 {
     if is_pattern_entry(entry) {
         return push_pattern(alloc, items, dir, paths, entry);
@@ -175,7 +191,10 @@ fn push_pattern(
     paths: &SortedPaths<'_, Text>,
     entry: &Item,
 ) -> Result<(), Failure>
-    ensures { GivesAs (λ _. items.new) result (map_ok (λ more. items.old ++ more) (map_ok (items_matched paths.now entry.now) (pattern_in dir.now (codes "include") entry.now))) }
+    ensures { GivesAs (λ _. items.new) result
+        (map_ok (λ more. items.old ++ more)
+        (map_ok (items_matched paths.now entry.now)
+        (pattern_in dir.now (codes "include") entry.now))) }
 {
     let pattern = pattern_in(alloc, dir, "include", entry)?;
     push_matches(alloc, items, paths, entry, &pattern)?;

@@ -1,7 +1,13 @@
 ghost use Rattle.std.specs.Prelude.{◌≡◌, [], ◌∷◌, ◌++◌, IfOk, OnOk};
 ghost use Rattle.msb_files.specs.Views.{content};
 ghost use Rattle.task_trait.specs.Answers.{Gives};
-ghost use Rattle.task_kit.specs.Lines.{kept_text, lines_of, output_written, write_lines, written_lines};
+ghost use Rattle.task_kit.specs.Lines.{
+  kept_text,
+  lines_of,
+  output_written,
+  write_lines,
+  written_lines,
+};
 ghost use Rattle.task_kit.specs.Made.{Acts};
 
 use crate::made::{Made, output_with, succeeded};
@@ -48,7 +54,9 @@ fn output_written(
     path: Text,
     written: u64,
 ) -> Result<TaskOutput, NoMemory>
-    ensures { IfOk result (λ output. output ≡ output_written view.now writing.now.file.now path writing.now.overwrite writing.now.lines.now written) }
+    ensures { IfOk result
+        (λ output. output ≡ output_written view.now writing.now.file.now path writing.now.overwrite
+        writing.now.lines.now written) }
 {
     let mut made = Made::new(alloc, written);
     let work = write_file(alloc, view, writing, path, &mut made);
@@ -63,7 +71,9 @@ fn write_file(
     path: Text,
     made: &mut Made,
 ) -> Result<(), Failure>
-    ensures { Acts result made.old made.new (written_lines view.now writing.now.file.now path writing.now.overwrite writing.now.lines.now made.old) }
+    ensures { Acts result made.old made.new
+        (written_lines view.now writing.now.file.now path writing.now.overwrite
+        writing.now.lines.now made.old) }
 {
     if !writing.overwrite && writing.lines.is_empty() {
         return Ok(());

@@ -5,7 +5,18 @@ ghost use Rattle.task_trait.specs.Tools.{act_size};
 ghost use Rattle.task_trait.specs.declared.failures.Failure.TheVariants.{TooLarge, Memory};
 ghost use Rattle.task_trait.specs.declared.failures.Failure.{Failure};
 ghost use Rattle.task_kit.specs.declared.made.Made.{Made};
-ghost use Rattle.task_kit.specs.Made.{Acts, Makes, fits, has_room, made_in, output_with, started, succeeded, with_act, with_file};
+ghost use Rattle.task_kit.specs.Made.{
+  Acts,
+  Makes,
+  fits,
+  has_room,
+  made_in,
+  output_with,
+  started,
+  succeeded,
+  with_act,
+  with_file,
+};
 
 use msb_values::{Act, Item, List, Name, NoMemory, Put, Text};
 use std::alloc::Global;
@@ -68,7 +79,8 @@ impl Made {
         self.act(alloc, told, Act::Write(put))
     }
 
-    /// Writes a file, unless it is too large, or removes one; `told` is its path as the task was handed it.
+    /// Writes a file, unless it is too large, or removes one; `told` is its path as the task was
+    /// handed it.
     pub(crate) fn act(&mut self, alloc: Global, told: &str, act: Act) -> Result<(), Failure>
         ensures { Acts result self.old self.new (with_act told.now act self.old) }
     {
@@ -146,7 +158,8 @@ pub(crate) fn succeeded(alloc: Global, outputs: List<Param>) -> TaskOutput
     }
 }
 
-/// An output with what was done to files; where the work has failed the task fails, with its note behind the others.
+/// An output with what was done to files; where the work has failed the task fails, with its note
+/// behind the others.
 pub(crate) fn output_with(
     alloc: Global,
     task: &str,
@@ -154,8 +167,10 @@ pub(crate) fn output_with(
     made: Made,
     work: Result<(), Failure>,
 ) -> Result<TaskOutput, NoMemory>
-    ensures output { IfOk result (λ whole. (answer : Result Made (Made × Failure)) → Makes work made answer → whole ≡ output_with task.now output answer) }
-    ensures made { IfOk result (λ _. (answer : Result Made (Made × Failure)) → Makes work made answer → made_in answer ≡ made) }
+    ensures output { IfOk result (λ whole. (answer : Result Made (Made × Failure))
+        → Makes work made answer → whole ≡ output_with task.now output answer) }
+    ensures made { IfOk result (λ _. (answer : Result Made (Made × Failure))
+        → Makes work made answer → made_in answer ≡ made) }
 {
     match work {
         Ok(()) => Ok(TaskOutput {
@@ -176,7 +191,8 @@ fn failed_with(
     failure: &Failure,
 ) -> Result<TaskOutput, NoMemory>
     ensures told { IfOk result (λ _. failure.now ≡ Memory → ⊥) }
-    ensures output { IfOk result (λ whole. whole ≡ output_with task.now output (Err (made, failure.now))) }
+    ensures output { IfOk result (λ whole. whole
+        ≡ output_with task.now output (Err (made, failure.now))) }
 {
     let mut notes = output.notes;
     notes.push(failure.note(alloc, task)?)?;

@@ -1,6 +1,14 @@
 ghost use Rattle.std.specs.Prelude.{◌≡◌, IfOk};
 ghost use Rattle.task_trait.specs.Answers.{Gives};
-ghost use Rattle.task_kit.specs.Messages.{create_property, error, is_low, message, message_note, said, warning};
+ghost use Rattle.task_kit.specs.Messages.{
+  create_property,
+  error,
+  is_low,
+  message,
+  message_note,
+  said,
+  warning,
+};
 
 use crate::made::{output, succeeded};
 use msb_values::{List, NoMemory, Note, Text, same_text};

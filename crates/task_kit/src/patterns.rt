@@ -1,7 +1,13 @@
 ghost use Rattle.std.specs.Prelude.{◌≡◌, ◌<◌, ◌++◌, codes, length, IfOk, IfSome, MatchOption};
 ghost use Rattle.msb_laws.specs.Results.{map_ok};
 ghost use Rattle.task_trait.specs.Answers.{Gives, GivesAs};
-ghost use Rattle.task_kit.specs.Included.{all_of, is_pattern_entry, pattern_in, pattern_text, patterns_of_entry};
+ghost use Rattle.task_kit.specs.Included.{
+  all_of,
+  is_pattern_entry,
+  pattern_in,
+  pattern_text,
+  patterns_of_entry,
+};
 
 use msb_glob::{GlobFault, Pattern, is_pattern};
 use msb_values::{Item, List, NoMemory, Text};
@@ -76,7 +82,8 @@ fn push_patterns(
     dir: &str,
     entries: &[Item],
 ) -> Result<(), Failure>
-    ensures { GivesAs (λ _. patterns.new) result (map_ok (λ more. patterns.old ++ more) (all_of (patterns_of_entry dir.now) entries.now)) }
+    ensures { GivesAs (λ _. patterns.new) result
+        (map_ok (λ more. patterns.old ++ more) (all_of (patterns_of_entry dir.now) entries.now)) }
 {
     for entry in entries {
         push_pattern(alloc, patterns, dir, entry)?;
@@ -90,7 +97,8 @@ fn push_pattern(
     dir: &str,
     entry: &Item,
 ) -> Result<(), Failure>
-    ensures { GivesAs (λ _. patterns.new) result (map_ok (λ more. patterns.old ++ more) (patterns_of_entry dir.now entry.now)) }
+    ensures { GivesAs (λ _. patterns.new) result
+        (map_ok (λ more. patterns.old ++ more) (patterns_of_entry dir.now entry.now)) }
 {
     if !is_pattern_entry(entry) {
         return Ok(());

@@ -1,7 +1,14 @@
 ghost use Rattle.std.specs.Prelude.{◌≡◌, IfOk, OnOk};
 ghost use Rattle.msb_laws.specs.Results.{all_ok};
 ghost use Rattle.task_trait.specs.Answers.{Gives};
-ghost use Rattle.task_kit.specs.Removed.{HasPaths, delete, output_removed, path_at, removed, with_removed};
+ghost use Rattle.task_kit.specs.Removed.{
+  HasPaths,
+  delete,
+  output_removed,
+  path_at,
+  removed,
+  with_removed,
+};
 
 use crate::made::output;
 use crate::paths::path_in;

@@ -30,11 +30,12 @@ pub(crate) enum BuiltIn {
     CreateProperty,
 }
 
-/// What a built-in task does, or that it is none: the name MSBuild, and each name of a tool, is unknown.
+/// What a built-in task does, or that it is none: the name MSBuild, and each name of a tool, is
+/// unknown.
 ///
-/// `dir` is the folder of the project, from which paths start, and `written` the bytes that the run has written before. The
-/// parameters come without escapes, and so do the outputs go. A task that fails answers so, with a note; what it did
-/// before it failed is among its acts. (MSBuild tasks.)
+/// `dir` is the folder of the project, from which paths start, and `written` the bytes that the run
+/// has written before. The parameters come without escapes, and so do the outputs go. A task that
+/// fails answers so, with a note; what it did before it failed is among its acts. (MSBuild tasks.)
 pub fn call(
     alloc: Global,
     name: &Name,
@@ -43,7 +44,8 @@ pub fn call(
     input: &ToolInput,
     written: u64,
 ) -> Result<ToolAnswer, NoMemory>
-    ensures { IfOk result (λ made. made ≡ answer name.now dir.now view.now input.now.params written) }
+    ensures { IfOk result
+        (λ made. made ≡ answer name.now dir.now view.now input.now.params written) }
 {
     match BuiltIn::named(name.key()) {
         Some(task) => {
@@ -103,7 +105,8 @@ fn output_of(
     name: &str,
     done: Result<TaskOutput, Failure>,
 ) -> Result<TaskOutput, NoMemory>
-    ensures { IfOk result (λ output. (expected : Result TaskOutput Failure) → Gives done expected → output ≡ output_of name.now expected) }
+    ensures { IfOk result (λ output. (expected : Result TaskOutput Failure) → Gives done expected
+        → output ≡ output_of name.now expected) }
 {
     match done {
         Ok(output) => Ok(output),

@@ -1,5 +1,26 @@
--- The requests that the task calls: of each project that is there, with all targets or with each by itself. (MSBuild task)
-use Rattle.std.specs.Prelude.{ℕ, List, [], ◌∷◌, Bool, true, false, not, ◌&&◌, ◌==◌, ◌+◌, length, map, take, Option, Some, None, is_some, if◌then◌else◌}
+-- The requests that the task calls: of each project that is there, with all targets or with each by
+-- itself. (MSBuild task)
+use Rattle.std.specs.Prelude.{
+  ℕ,
+  List,
+  [],
+  ◌∷◌,
+  Bool,
+  true,
+  false,
+  not,
+  ◌&&◌,
+  ◌==◌,
+  ◌+◌,
+  length,
+  map,
+  take,
+  Option,
+  Some,
+  None,
+  is_some,
+  if◌then◌else◌,
+}
 use Rattle.std.specs.List.{flat_map, position}
 use Rattle.file_store.specs.Files.{file_at}
 use Rattle.file_store.specs.declared.tree.File.{File}
@@ -12,7 +33,8 @@ use Rattle.task_msbuild.specs.GlobalProperties.{shared_globals, child_globals}
 abbrev pub is_there : List File → Project → Bool
 is_there files project = is_some (file_at project.path files)
 
--- a missing project ends the list where calls are made one after the other, stop at the first failure, and none is passed over
+-- a missing project ends the list where calls are made one after the other, stop at the first
+-- failure, and none is passed over
 abbrev pub ends_at_missing : Parameters → Bool
 ends_at_missing p = p.stop_first && not p.parallel && not p.skip_missing
 
@@ -23,29 +45,37 @@ through None projects = projects
 
 -- the projects through the first that is missing
 abbrev pub through_missing : List File → List Project → List Project
-through_missing files projects = through (position (λ project. not (is_there files project)) projects) projects
+through_missing files projects = through
+    (position (λ project. not (is_there files project)) projects) projects
 
 -- the projects that are looked up
 abbrev pub looked_up : List File → Parameters → List Project
 looked_up files p = if ends_at_missing p then through_missing files p.projects else p.projects
 
--- the targets of each call of a project: all at once, or each by itself; without any the default targets are meant
+-- the targets of each call of a project: all at once, or each by itself; without any the default
+-- targets are meant
 abbrev pub target_lists : Bool → List (List ℕ) → List (List (List ℕ))
 target_lists separately [] = [] ∷ []
 target_lists true targets = map (λ target. target ∷ []) targets
 target_lists false targets = targets ∷ []
 
 abbrev pub request_of : InstanceKey → List (List ℕ) → RequestKey
-request_of instance targets = record { instance = instance; targets = targets; named = not (length targets == 0) }
+request_of instance targets = record
+    { instance = instance; targets = targets; named = not (length targets == 0) }
 
 -- a project with its global properties, by those that all projects get
 abbrev pub instance_of : List (List ℕ × List ℕ) → Project → InstanceKey
-instance_of shared project = record { path = project.path; globals = child_globals shared project.item.additional }
+instance_of shared project = record
+    { path = project.path; globals = child_globals shared project.item.additional }
 
 -- the calls of a project
-abbrev pub calls_of : List File → List (List ℕ × List ℕ) → List (List (List ℕ)) → Project → List RequestKey
-calls_of files shared lists project = if is_there files project then map (request_of (instance_of shared project)) lists else []
+abbrev pub calls_of : List File → List (List ℕ × List ℕ) → List (List (List ℕ)) → Project
+    → List RequestKey
+calls_of files shared lists project = if is_there files project then map
+    (request_of (instance_of shared project)) lists else []
 
 -- the calls of all projects, in order
 abbrev pub all_calls : List File → List (List ℕ × List ℕ) → Parameters → List RequestKey
-all_calls files globals p = flat_map (calls_of files (shared_globals p.removed p.properties globals) (target_lists p.separately p.targets)) (looked_up files p)
+all_calls files globals p = flat_map
+    (calls_of files (shared_globals p.removed p.properties globals)
+    (target_lists p.separately p.targets)) (looked_up files p)

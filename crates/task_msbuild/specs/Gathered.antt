@@ -1,5 +1,20 @@
--- What the MSBuild task gives, when the results of its calls have come. (MSBuild task: TargetOutputs)
-use Rattle.std.specs.Prelude.{ℕ, List, [], ◌∷◌, ◌++◌, Bool, ◌&&◌, map, Option, Some, None, codes, if◌then◌else◌}
+-- What the MSBuild task gives, when the results of its calls have come. (MSBuild task:
+-- TargetOutputs)
+use Rattle.std.specs.Prelude.{
+  ℕ,
+  List,
+  [],
+  ◌∷◌,
+  ◌++◌,
+  Bool,
+  ◌&&◌,
+  map,
+  Option,
+  Some,
+  None,
+  codes,
+  if◌then◌else◌,
+}
 use Rattle.std.specs.List.{flat_map, list_all, zip}
 use Rattle.msb_expand.specs.Reserved.{from_root}
 use Rattle.msb_values.specs.Changes.{with_metadata}
@@ -17,11 +32,13 @@ use Rattle.task_msbuild.specs.declared.plans.Plan.{Plan}
 
 -- where an item comes from, which a target of a project has returned
 abbrev pub source_of : RequestKey → List ℕ → List (List ℕ × List ℕ)
-source_of key target = (codes "msbuildsourceprojectfile", from_root key.instance.path) ∷ (codes "msbuildsourcetargetname", target) ∷ []
+source_of key target = (codes "msbuildsourceprojectfile", from_root key.instance.path)
+    ∷ (codes "msbuildsourcetargetname", target) ∷ []
 
 -- the items that a target has returned, as a task is handed items, with this as metadata
 abbrev pub output_items : RequestKey → Returned → List Item
-output_items key returned = map (with_metadata (source_of key returned.target)) (map handed_item returned.items)
+output_items key returned = map (with_metadata (source_of key returned.target))
+    (map handed_item returned.items)
 
 -- the items of a call; a failed call gives none
 abbrev pub call_items : RequestKey × RequestResult → List Item
@@ -31,13 +48,15 @@ call_items (key, result) = if result.ok then flat_map (output_items key) result.
 abbrev pub said_of : RequestKey → List ℕ → List ℕ
 said_of key text = key_text key.instance ++ codes ": " ++ text
 
--- why a call has failed: the error of the request, or the fault of a project that did not evaluate, or nothing more than that it failed
+-- why a call has failed: the error of the request, or the fault of a project that did not evaluate,
+-- or nothing more than that it failed
 abbrev pub failure_text : RequestKey → Bool → Option (List ℕ) → List ℕ
 failure_text key evaluated (Some text) = if evaluated then said_of key text else text
 failure_text key evaluated None = said_of key (codes "request failed")
 
 abbrev pub call_notes : RequestKey × RequestResult → List Note
-call_notes (key, result) = if result.ok then [] else Fail (failure_text key result.evaluated result.error) ∷ []
+call_notes (key, result) = if result.ok then [] else Fail
+    (failure_text key result.evaluated result.error) ∷ []
 
 abbrev pub target_outputs : List Item → List Param
 target_outputs items = record { name = codes "targetoutputs"; items = items } ∷ []

@@ -1,5 +1,18 @@
--- The global properties that a project is called with. (MSBuild task; MSBuild properties, global properties)
-use Rattle.std.specs.Prelude.{ℕ, List, [], ◌∷◌, Option, Some, None, option_and_then, unwrap_or, codes, if◌then◌else◌}
+-- The global properties that a project is called with. (MSBuild task; MSBuild properties, global
+-- properties)
+use Rattle.std.specs.Prelude.{
+  ℕ,
+  List,
+  [],
+  ◌∷◌,
+  Option,
+  Some,
+  None,
+  option_and_then,
+  unwrap_or,
+  codes,
+  if◌then◌else◌,
+}
 use Rattle.msb_laws.specs.Traverse.{traverse}
 use Rattle.msb_values.specs.Escapes.{escaped}
 use Rattle.msb_values.specs.Keys.{key_of}
@@ -9,7 +22,8 @@ use Rattle.msb_values.specs.declared.item.Item.{Item}
 use Rattle.msb_expand.specs.Reserved.{is_reserved}
 use Rattle.task_trait.specs.Params.{pair_of}
 
--- a property that the engine does not set itself, whose value is escaped as it enters (MSBuild reserved and well-known properties)
+-- a property that the engine does not set itself, whose value is escaped as it enters (MSBuild
+-- reserved and well-known properties)
 abbrev pub if_free : List ℕ × List ℕ → Option (List ℕ × List ℕ)
 if_free pair = if is_reserved pair.0 then None else Some (pair.0, escaped pair.1)
 
@@ -23,7 +37,8 @@ properties_of entries = traverse property_of entries
 
 -- those of the metadata AdditionalProperties of a project item, which is cut as a list
 abbrev pub additional_of : Item → Option (List (List ℕ × List ℕ))
-additional_of item = properties_of (list_of (unwrap_or (value_at (codes "additionalproperties") item.meta) []))
+additional_of item = properties_of
+    (list_of (unwrap_or (value_at (codes "additionalproperties") item.meta) []))
 
 -- the properties that are to be removed
 abbrev pub removed_of : List (List ℕ) → Option (List (List ℕ))
@@ -34,7 +49,8 @@ without_names [] globals = globals
 without_names (name ∷ names) globals = without_names names (without_name name globals)
 
 -- what all projects get: the caller's, less those that are removed, then Properties
-abbrev pub shared_globals : List (List ℕ) → List (List ℕ × List ℕ) → List (List ℕ × List ℕ) → List (List ℕ × List ℕ)
+abbrev pub shared_globals : List (List ℕ) → List (List ℕ × List ℕ) → List (List ℕ × List ℕ)
+    → List (List ℕ × List ℕ)
 shared_globals removed properties globals = all_put (without_names removed globals) properties
 
 -- what a project gets: these, then its AdditionalProperties

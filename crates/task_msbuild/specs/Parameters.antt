@@ -7,7 +7,15 @@ use Rattle.msb_paths.specs.Refused.{normal_path}
 use Rattle.msb_values.specs.Keys.{key_if}
 use Rattle.msb_values.specs.Names.{bad_place, is_target_byte}
 use Rattle.msb_values.specs.declared.item.Item.{Item}
-use Rattle.task_trait.specs.Params.{idents, items_of, check_known, unless, needed_items, or_bad, truth_at}
+use Rattle.task_trait.specs.Params.{
+  idents,
+  items_of,
+  check_known,
+  unless,
+  needed_items,
+  or_bad,
+  truth_at,
+}
 use Rattle.task_trait.specs.declared.failures.Failure.{Failure}
 use Rattle.task_trait.specs.declared.tools.Param.{Param}
 use Rattle.task_msbuild.specs.declared.project.ProjectItem.{ProjectItem}
@@ -17,16 +25,19 @@ use Rattle.task_msbuild.specs.GlobalProperties.{additional_of, properties_of, re
 
 abbrev pub known : List (List ℕ)
 known =
-    codes "buildinparallel" ∷ codes "projects" ∷ codes "properties" ∷ codes "removeproperties" ∷ codes "runeachtargetseparately" ∷
+    codes "buildinparallel" ∷ codes "projects" ∷ codes "properties" ∷ codes "removeproperties"
+    ∷ codes "runeachtargetseparately" ∷
     codes "skipnonexistentprojects" ∷ codes "stoponfirstfailure" ∷ codes "targets" ∷ []
 
 -- a project item, with the properties of its metadata AdditionalProperties
 abbrev pub project_item : Item → Option ProjectItem
-project_item item = option_map (λ additional. record { text = item.ident; additional = additional }) (additional_of item)
+project_item item = option_map (λ additional. record { text = item.ident; additional = additional })
+    (additional_of item)
 
 -- the project that it names, whose path is on the folder of the caller
 abbrev pub project_of : List ℕ → ProjectItem → Option Project
-project_of dir item = option_map (λ path. record { item = item; path = path }) (result_ok (normal_path dir item.text))
+project_of dir item = option_map (λ path. record { item = item; path = path })
+    (result_ok (normal_path dir item.text))
 
 -- the name of a target, if the text is one (MSBuild targets)
 abbrev pub target_name : List ℕ → Option (List ℕ)
@@ -40,15 +51,19 @@ abbrev pub projects_of : List ℕ → List ProjectItem → Result (List Project)
 projects_of dir items = or_bad (codes "projects") (traverse (project_of dir) items)
 
 abbrev pub given_properties : List Param → Result (List (List ℕ × List ℕ)) Failure
-given_properties params = or_bad (codes "properties") (properties_of (idents (items_of (codes "properties") params)))
+given_properties params = or_bad (codes "properties")
+    (properties_of (idents (items_of (codes "properties") params)))
 
 abbrev pub removed_properties : List Param → Result (List (List ℕ)) Failure
-removed_properties params = or_bad (codes "removeproperties") (removed_of (idents (items_of (codes "removeproperties") params)))
+removed_properties params = or_bad (codes "removeproperties")
+    (removed_of (idents (items_of (codes "removeproperties") params)))
 
 abbrev pub given_targets : List Param → Result (List (List ℕ)) Failure
-given_targets params = or_bad (codes "targets") (traverse target_name (idents (items_of (codes "targets") params)))
+given_targets params = or_bad (codes "targets")
+    (traverse target_name (idents (items_of (codes "targets") params)))
 
--- the values of the parameters, each of which must be one that can be used, in byte order of their names
+-- the values of the parameters, each of which must be one that can be used, in byte order of their
+-- names
 abbrev pub values_of : List ℕ → List Param → List Item → Result Parameters Failure
 values_of dir params items =
     and_then (asked_of items) (λ asked.
@@ -73,4 +88,5 @@ values_of dir params items =
 -- a parameter that the task does not have comes first, and then Projects, which must be given
 abbrev pub parameters_of : List ℕ → List Param → Result Parameters Failure
 parameters_of dir params =
-    unless (check_known known params) (and_then (needed_items (codes "projects") params) (values_of dir params))
+    unless (check_known known params)
+    (and_then (needed_items (codes "projects") params) (values_of dir params))

@@ -1,5 +1,24 @@
 -- What the MSBuild task is to do. (MSBuild task)
-use Rattle.std.specs.Prelude.{ℕ, List, [], ◌∷◌, Bool, false, not, ◌&&◌, ◌||◌, ◌==◌, length, take, drop, Result, Ok, Err, codes, if◌then◌else◌}
+use Rattle.std.specs.Prelude.{
+  ℕ,
+  List,
+  [],
+  ◌∷◌,
+  Bool,
+  false,
+  not,
+  ◌&&◌,
+  ◌||◌,
+  ◌==◌,
+  length,
+  take,
+  drop,
+  Result,
+  Ok,
+  Err,
+  codes,
+  if◌then◌else◌,
+}
 use Rattle.std.specs.List.{flat_map, list_any}
 use Rattle.file_store.specs.declared.tree.File.{File}
 use Rattle.msb_values.specs.declared.note.Note.{Note}
@@ -21,12 +40,14 @@ note_of failure = Fail (failure_text (codes "msbuild") failure)
 
 -- no call, and a note
 abbrev pub refused : Failure → Plan
-refused failure = record { calls = []; parallel = false; stop_first = false; notes = note_of failure ∷ []; ok = false }
+refused failure = record
+    { calls = []; parallel = false; stop_first = false; notes = note_of failure ∷ []; ok = false }
 
 -- the note of a project that is missing and isn't passed over
 abbrev pub missing_notes : List File → Bool → Project → List Note
 missing_notes files skip_missing project =
-    if is_there files project || skip_missing then [] else note_of (NoProject project.item.text) ∷ []
+    if is_there files project || skip_missing then [] else note_of (NoProject project.item.text)
+    ∷ []
 
 abbrev pub all_missing_notes : List File → Parameters → List Note
 all_missing_notes files p = flat_map (missing_notes files p.skip_missing) (looked_up files p)
@@ -41,11 +62,13 @@ planned files globals p = record {
   ok = length (all_missing_notes files p) == 0;
 }
 
-abbrev pub planned_or_refused : List File → List (List ℕ × List ℕ) → Result Parameters Failure → Plan
+abbrev pub planned_or_refused : List File → List (List ℕ × List ℕ) → Result Parameters Failure
+    → Plan
 planned_or_refused files globals (Ok p) = planned files globals p
 planned_or_refused files globals (Err failure) = refused failure
 
--- by the files of the tree, the folder of the caller, its global properties, and the parameters that are given
+-- by the files of the tree, the folder of the caller, its global properties, and the parameters
+-- that are given
 abbrev pub plan_of : List File → List ℕ → List (List ℕ × List ℕ) → List Param → Plan
 plan_of files dir globals params = planned_or_refused files globals (parameters_of dir params)
 
@@ -53,7 +76,8 @@ plan_of files dir globals params = planned_or_refused files globals (parameters_
 abbrev pub has_stopped : Plan → List RequestResult → Bool
 has_stopped plan results = plan.stop_first && list_any (λ result. not result.ok) results
 
--- the calls that are made next, when these are the results of the first calls: all at once, or one after the other
+-- the calls that are made next, when these are the results of the first calls: all at once, or one
+-- after the other
 abbrev pub next_calls : Plan → List RequestResult → List RequestKey
 next_calls plan results =
     let waiting = drop (length results) plan.calls in

@@ -1,6 +1,15 @@
 ghost use Rattle.std.specs.Prelude.{◌≡◌, ◌<◌, [], ◌∷◌, ◌++◌, not, length, map, IfOk, IfSome, OnOk};
 ghost use Rattle.std.specs.List.{flat_map, position};
-ghost use Rattle.task_msbuild.specs.Calls.{is_there, through_missing, looked_up, target_lists, request_of, instance_of, calls_of, all_calls};
+ghost use Rattle.task_msbuild.specs.Calls.{
+  is_there,
+  through_missing,
+  looked_up,
+  target_lists,
+  request_of,
+  instance_of,
+  calls_of,
+  all_calls,
+};
 ghost use Rattle.task_msbuild.specs.GlobalProperties.{shared_globals};
 
 use crate::parameters::Parameters;
@@ -18,7 +27,8 @@ pub(crate) fn is_there(tree: &Tree, project: &Project) -> bool
     tree.find(project.path.as_str()).is_some()
 }
 
-/// The projects that are looked up: where the first that is missing ends the list, those through it.
+/// The projects that are looked up: where the first that is missing ends the list, those through
+/// it.
 pub(crate) fn looked_up<'a>(tree: &Tree, parameters: &'a Parameters) -> &'a [Project]
     ensures { result.now ≡ looked_up tree.now.files parameters.now }
 {
@@ -40,13 +50,15 @@ fn through_missing<'a>(tree: &Tree, projects: &'a [Project]) -> &'a [Project]
 }
 
 fn first_missing(tree: &Tree, projects: &[Project]) -> Option<usize>
-    ensures value { result ≡ position (λ project. not (is_there tree.now.files project)) projects.now }
+    ensures value { result ≡ position (λ project. not (is_there tree.now.files project))
+        projects.now }
     ensures within { IfSome result (λ at. at < length projects.now) }
 {
     projects.iter().position(|project| !is_there(tree, project))
 }
 
-/// The requests that the task calls: those of each project that is looked up and is there. (MSBuild task.)
+/// The requests that the task calls: those of each project that is looked up and is there. (MSBuild
+/// task.)
 pub(crate) fn all_calls(
     alloc: Global,
     tree: &Tree,
@@ -61,7 +73,8 @@ pub(crate) fn all_calls(
     calls_of(alloc, tree, &shared, lists.as_slice(), projects)
 }
 
-/// The requests of these projects, in order, with these global properties of all and these targets of each.
+/// The requests of these projects, in order, with these global properties of all and these targets
+/// of each.
 fn calls_of(
     alloc: Global,
     tree: &Tree,
@@ -69,7 +82,8 @@ fn calls_of(
     lists: &[List<Name>],
     projects: &[Project],
 ) -> Result<List<RequestKey>, NoMemory>
-    ensures { IfOk result (λ calls. calls ≡ flat_map (calls_of tree.now.files shared.now lists.now) projects.now) }
+    ensures { IfOk result
+        (λ calls. calls ≡ flat_map (calls_of tree.now.files shared.now lists.now) projects.now) }
 {
     let mut calls = List::new(alloc);
     for project in projects {
@@ -86,7 +100,8 @@ fn push_project(
     lists: &[List<Name>],
     project: &Project,
 ) -> Result<(), NoMemory>
-    ensures { OnOk result (calls.new ≡ calls.old ++ calls_of tree.now.files shared.now lists.now project.now) }
+    ensures { OnOk result
+        (calls.new ≡ calls.old ++ calls_of tree.now.files shared.now lists.now project.now) }
 {
     if !is_there(tree, project) {
         return Ok(());
@@ -125,7 +140,9 @@ fn instance(shared: &Pairs, project: &Project) -> Result<InstanceKey, NoMemory>
 
 /// The global properties that all projects get.
 fn shared_globals(globals: &Pairs, parameters: &Parameters) -> Result<Pairs, NoMemory>
-    ensures { IfOk result (λ shared. shared ≡ shared_globals parameters.now.removed parameters.now.properties globals.now) }
+    ensures { IfOk result
+        (λ shared. shared ≡ shared_globals parameters.now.removed parameters.now.properties
+        globals.now) }
 {
     let mut shared = globals.copy()?;
     remove_all(&mut shared, parameters.removed.as_slice());
@@ -135,7 +152,8 @@ fn shared_globals(globals: &Pairs, parameters: &Parameters) -> Result<Pairs, NoM
 
 /// The targets of each call of a project.
 fn target_lists(alloc: Global, parameters: &Parameters) -> Result<List<List<Name>>, NoMemory>
-    ensures { IfOk result (λ lists. lists ≡ target_lists parameters.now.separately parameters.now.targets) }
+    ensures { IfOk result
+        (λ lists. lists ≡ target_lists parameters.now.separately parameters.now.targets) }
 {
     let targets = &parameters.targets;
     if parameters.separately && !targets.is_empty() {

@@ -1,6 +1,13 @@
 ghost use Rattle.std.specs.Prelude.{◌≡◌, ◌≤◌, ◌++◌, IfOk, OnOk, length};
 ghost use Rattle.std.specs.List.{flat_map, list_all, zip};
-ghost use Rattle.task_msbuild.specs.Gathered.{gathered, target_outputs, call_items, call_notes, failure_text, said_of};
+ghost use Rattle.task_msbuild.specs.Gathered.{
+  gathered,
+  target_outputs,
+  call_items,
+  call_notes,
+  failure_text,
+  said_of,
+};
 
 use crate::Plan;
 use crate::name::literal_name;
@@ -12,10 +19,11 @@ use task_trait::{Param, TaskOutput};
 
 /// What the MSBuild task gives by its plan and the results of its first calls, in order.
 ///
-/// TargetOutputs holds the items that the calls which succeeded have returned, in call order, without escapes; each item
-/// has the metadata MSBuildSourceProjectFile, the full path of its project, and MSBuildSourceTargetName. Behind the plan's
-/// notes stands an error note for each call that failed, and the task succeeds where the plan is fine and no call failed.
-/// (MSBuild task: TargetOutputs.)
+/// TargetOutputs holds the items that the calls which succeeded have returned, in call order,
+/// without escapes; each item has the metadata MSBuildSourceProjectFile, the full path of its
+/// project, and MSBuildSourceTargetName. Behind the plan's notes stands an error note for each call
+/// that failed, and the task succeeds where the plan is fine and no call failed. (MSBuild task:
+/// TargetOutputs.)
 pub fn gather(
     alloc: Global,
     plan: &Plan,
@@ -106,7 +114,8 @@ fn push_failure(
 }
 
 fn failure(alloc: Global, key: &RequestKey, given: &RequestResult) -> Result<Text, NoMemory>
-    ensures { IfOk result (λ text. text ≡ failure_text key.now given.now.evaluated given.now.error) }
+    ensures { IfOk result
+        (λ text. text ≡ failure_text key.now given.now.evaluated given.now.error) }
 {
     match &given.error {
         Some(text) if given.evaluated => said(alloc, key, text.as_str()),

@@ -2,7 +2,14 @@ ghost use Rattle.std.specs.Prelude.{◌≡◌, IfOk};
 ghost use Rattle.msb_laws.specs.Traverse.{traverse};
 ghost use Rattle.task_trait.specs.Answers.{Gives};
 ghost use Rattle.task_trait.specs.Params.{idents, items_of, or_bad};
-ghost use Rattle.task_msbuild.specs.Parameters.{asked_of, projects_of, given_properties, removed_properties, given_targets, target_name};
+ghost use Rattle.task_msbuild.specs.Parameters.{
+  asked_of,
+  projects_of,
+  given_properties,
+  removed_properties,
+  given_targets,
+  target_name,
+};
 
 use crate::project::{Project, ProjectItem};
 use crate::properties::{names, properties};
@@ -42,8 +49,9 @@ impl Drop for Parameters {
 impl Parameters {
     ghost use Rattle.task_msbuild.specs.Parameters.{parameters_of, values_of};
 
-    /// Reads the parameters that are given: refused is the first in byte order of names that the task does not have, or
-    /// else Projects where it is missing, or else the first whose value can't be used.
+    /// Reads the parameters that are given: refused is the first in byte order of names that the
+    /// task does not have, or else Projects where it is missing, or else the first whose value
+    /// can't be used.
     pub(crate) fn read(alloc: Global, dir: &str, params: &[Param]) -> Result<Parameters, Failure>
         ensures { Gives result (parameters_of dir.now params.now) }
     {

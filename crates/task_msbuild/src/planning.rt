@@ -1,5 +1,11 @@
 ghost use Rattle.std.specs.Prelude.{◌≡◌, ◌++◌, IfOk, OnOk};
-ghost use Rattle.task_msbuild.specs.Plans.{refused, missing_notes, all_missing_notes, planned, plan_of};
+ghost use Rattle.task_msbuild.specs.Plans.{
+  refused,
+  missing_notes,
+  all_missing_notes,
+  planned,
+  plan_of,
+};
 
 use crate::Plan;
 use crate::calls::{all_calls, is_there, looked_up};
@@ -13,13 +19,14 @@ use task_trait::{Failure, ToolInput};
 /// The task's name, as its notes have it.
 const TASK: &str = "msbuild";
 
-/// What the MSBuild task is to do in a project of this folder and with these global properties: the requests that it
-/// calls, in order, and what it says before the first call.
+/// What the MSBuild task is to do in a project of this folder and with these global properties: the
+/// requests that it calls, in order, and what it says before the first call.
 ///
-/// The texts of the input stand without escapes. A request has the caller's global properties, less those of
-/// RemoveProperties, then those of Properties, then those of the metadata AdditionalProperties of its project, with values
-/// escaped. The task makes no call and fails with a note where it does not have a parameter, Projects is missing, or a
-/// value can't be used. A project whose file is not in the tree fails the task with a note, or is passed over where
+/// The texts of the input stand without escapes. A request has the caller's global properties, less
+/// those of RemoveProperties, then those of Properties, then those of the metadata
+/// AdditionalProperties of its project, with values escaped. The task makes no call and fails with
+/// a note where it does not have a parameter, Projects is missing, or a value can't be used. A
+/// project whose file is not in the tree fails the task with a note, or is passed over where
 /// SkipNonexistentProjects is true. (MSBuild task.)
 pub fn plan(
     alloc: Global,
@@ -28,7 +35,8 @@ pub fn plan(
     globals: &Pairs,
     input: &ToolInput,
 ) -> Result<Plan, NoMemory>
-    ensures { IfOk result (λ plan. plan ≡ plan_of tree.now.files dir.now globals.now input.now.params) }
+    ensures { IfOk result
+        (λ plan. plan ≡ plan_of tree.now.files dir.now globals.now input.now.params) }
 {
     match Parameters::read(alloc, dir, input.params.as_slice()) {
         Ok(parameters) => planned(alloc, tree, globals, &parameters),
@@ -92,7 +100,8 @@ fn push_missing(
     skip_missing: bool,
     project: &Project,
 ) -> Result<(), NoMemory>
-    ensures { OnOk result (notes.new ≡ notes.old ++ missing_notes tree.now.files skip_missing project.now) }
+    ensures { OnOk result
+        (notes.new ≡ notes.old ++ missing_notes tree.now.files skip_missing project.now) }
 {
     if is_there(tree, project) || skip_missing {
         return Ok(());

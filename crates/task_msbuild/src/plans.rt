@@ -34,8 +34,9 @@ impl Drop for Plan {
 impl Plan {
     ghost use Rattle.task_msbuild.specs.Plans.{has_stopped, next_calls};
 
-    /// The calls that are made next, when these are the results of the first ones: all at once, or one after the other.
-    /// Where there is none, the results are to be [gathered](crate::gather). It takes no memory.
+    /// The calls that are made next, when these are the results of the first ones: all at once, or
+    /// one after the other. Where there is none, the results are to be [gathered](crate::gather).
+    /// It takes no memory.
     pub fn next(&self, results: &List<RequestResult>) -> &[RequestKey]
         ensures { result.now ≡ next_calls self.now results.now }
     {

@@ -6,7 +6,8 @@ use msb_paths::{NormalFault, normal_path};
 use msb_values::{Copied, Item, List, Name, NoMemory, Text};
 use std::alloc::Global;
 
-/// A project item, with the properties that its metadata AdditionalProperties gives. (MSBuild task.)
+/// A project item, with the properties that its metadata AdditionalProperties gives. (MSBuild
+/// task.)
 pub(crate) struct ProjectItem {
     /// The identity, as it is given.
     pub(crate) text: Text,

@@ -1,5 +1,11 @@
 ghost use Rattle.std.specs.Prelude.{◌≡◌, [], IfOk, OnOk, unwrap_or};
-ghost use Rattle.task_msbuild.specs.GlobalProperties.{property_of, properties_of, additional_of, removed_of, without_names};
+ghost use Rattle.task_msbuild.specs.GlobalProperties.{
+  property_of,
+  properties_of,
+  additional_of,
+  removed_of,
+  without_names,
+};
 ghost use Rattle.msb_values.specs.Pairs.{value_at, all_put};
 
 use crate::name::literal_name;
@@ -8,8 +14,8 @@ use msb_values::{Copied, Item, List, Name, NoMemory, Pairs, Text, escape, split_
 use std::alloc::Global;
 use task_trait::pair_of;
 
-/// The properties that the metadata AdditionalProperties of an item gives, if each of its entries can be used.
-/// (MSBuild task.)
+/// The properties that the metadata AdditionalProperties of an item gives, if each of its entries
+/// can be used. (MSBuild task.)
 pub(crate) fn additional(alloc: Global, item: &Item) -> Result<Option<List<(Name, Text)>>, NoMemory>
     ensures { IfOk result (λ properties. properties ≡ additional_of item.now) }
 {
@@ -44,8 +50,8 @@ pub(crate) fn properties(
     Ok(Some(properties))
 }
 
-/// The property of an entry `N=V`, whose value is escaped as it enters; of a property that the engine sets itself there
-/// is none. (MSBuild reserved and well-known properties.)
+/// The property of an entry `N=V`, whose value is escaped as it enters; of a property that the
+/// engine sets itself there is none. (MSBuild reserved and well-known properties.)
 fn property(alloc: Global, entry: &str) -> Result<Option<(Name, Text)>, NoMemory>
     ensures { IfOk result (λ property. property ≡ property_of entry.now) }
 {

@@ -2,9 +2,24 @@
 use Rattle.std.proofs.Common.{◌≡◌, refl}
 use Rattle.task_trait.specs.Answers.{UnlessMemory}
 use Rattle.task_trait.specs.declared.failures.Failure.{Failure}
-use Rattle.task_trait.specs.declared.failures.Failure.TheVariants.{MissingSource, Counts, Destinations, MissingParameter, Raised, TooLarge, UnknownParameter, BadParameter, UnknownTask, BadPath, NotText, NoProject, Memory}
+use Rattle.task_trait.specs.declared.failures.Failure.TheVariants.{
+  MissingSource,
+  Counts,
+  Destinations,
+  MissingParameter,
+  Raised,
+  TooLarge,
+  UnknownParameter,
+  BadParameter,
+  UnknownTask,
+  BadPath,
+  NotText,
+  NoProject,
+  Memory,
+}
 
-pub unless : {P Q : Type 0} (failure : Failure) → (P → Q) → UnlessMemory failure P → UnlessMemory failure Q
+pub unless : {P Q : Type 0} (failure : Failure) → (P → Q) → UnlessMemory failure P
+    → UnlessMemory failure Q
 unless (MissingSource path) f p = f p
 unless (Counts sources destinations) f p = f p
 unless Destinations f p = f p

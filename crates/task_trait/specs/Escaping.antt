@@ -1,11 +1,13 @@
--- Items as a task is handed them, and as they are taken from it. (MSBuild special characters; Task element)
+-- Items as a task is handed them, and as they are taken from it. (MSBuild special characters; Task
+-- element)
 use Rattle.std.specs.Prelude.{ℕ, List, [], map}
 use Rattle.msb_values.specs.Escapes.{escaped, unescaped}
 use Rattle.msb_values.specs.Pairs.{all_put}
 use Rattle.msb_values.specs.declared.item.Item.{Item}
 use Rattle.task_trait.specs.declared.tools.Param.{Param}
 
--- a change of an item's texts: its identity and the values of its metadata, and not its RecursiveDir, which no task sees
+-- a change of an item's texts: its identity and the values of its metadata, and not its
+-- RecursiveDir, which no task sees
 abbrev pub with_texts : (List ℕ → List ℕ) → Item → Item
 with_texts change item = record {
   ident = change item.ident;

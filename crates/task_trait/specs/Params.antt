@@ -1,5 +1,26 @@
 -- What a task finds under the names of its parameters. (Task element; MSBuild tasks)
-use Rattle.std.specs.Prelude.{ℕ, List, [], ◌∷◌, Bool, false, ◌==◌, map, find, fold, length, Option, Some, None, option_map, option_and_then, Result, Ok, Err, if◌then◌else◌}
+use Rattle.std.specs.Prelude.{
+  ℕ,
+  List,
+  [],
+  ◌∷◌,
+  Bool,
+  false,
+  ◌==◌,
+  map,
+  find,
+  fold,
+  length,
+  Option,
+  Some,
+  None,
+  option_map,
+  option_and_then,
+  Result,
+  Ok,
+  Err,
+  if◌then◌else◌,
+}
 use Rattle.std.specs.List.{list_any, before_first, after_first}
 use Rattle.std.specs.Ordering.{nat_cmp, is_lt}
 use Rattle.std.specs.Cmp.Lexicographic.{slice_cmp}
@@ -8,7 +29,11 @@ use Rattle.msb_values.specs.Keys.{key_of}
 use Rattle.msb_values.specs.Truths.{truth_of}
 use Rattle.msb_values.specs.declared.item.Item.{Item}
 use Rattle.task_trait.specs.declared.failures.Failure.{Failure}
-use Rattle.task_trait.specs.declared.failures.Failure.TheVariants.{MissingParameter, UnknownParameter, BadParameter}
+use Rattle.task_trait.specs.declared.failures.Failure.TheVariants.{
+  MissingParameter,
+  UnknownParameter,
+  BadParameter,
+}
 use Rattle.task_trait.specs.declared.tools.Param.{Param}
 
 -- the parameter of a name
@@ -41,7 +66,8 @@ lesser (Some other) name = if is_lt (slice_cmp nat_cmp name other) then name els
 
 -- the least name so far that a task does not have
 abbrev pub least_unknown : List (List ℕ) → Option (List ℕ) → List ℕ → Option (List ℕ)
-least_unknown known least name = if list_any (bytes_eq name) known then least else Some (lesser least name)
+least_unknown known least name = if list_any (bytes_eq name) known then least else Some
+    (lesser least name)
 
 -- of the parameters that a task does not have, the first in byte order of names
 abbrev pub first_unknown : List (List ℕ) → List Param → Option (List ℕ)
@@ -64,7 +90,8 @@ abbrev pub needed_items : List ℕ → List Param → Result (List Item) Failure
 needed_items name params = items_or_missing name (param_at name params)
 
 abbrev pub needed_text : List ℕ → List Param → Result (List ℕ) Failure
-needed_text name params = let text = text_of name params in if length text == 0 then Err (MissingParameter name) else Ok text
+needed_text name params = let text = text_of name params in if length text == 0 then Err
+    (MissingParameter name) else Ok text
 
 -- a value that a parameter's text is, or the parameter is bad
 abbrev pub or_bad : {T : Type 0} → List ℕ → Option T → Result T Failure
@@ -73,14 +100,16 @@ or_bad name None = Err (BadParameter name)
 
 -- a truth value, false by default
 abbrev pub truth_at : List ℕ → List Param → Result Bool Failure
-truth_at name params = let text = text_of name params in if length text == 0 then Ok false else or_bad name (truth_of text)
+truth_at name params = let text = text_of name params in if length text == 0 then Ok false else
+    or_bad name (truth_of text)
 
 -- what stands before the first `=`, and what stands after it
 abbrev pub is_equals : ℕ → Bool
 is_equals byte = byte == 61
 
 abbrev pub cut_at_equals : List ℕ → Option (List ℕ × List ℕ)
-cut_at_equals text = if list_any is_equals text then Some (before_first is_equals text, after_first is_equals text) else None
+cut_at_equals text = if list_any is_equals text then Some
+    (before_first is_equals text, after_first is_equals text) else None
 
 -- an entry `N=V`: N is a name, and V may be any text
 abbrev pub with_key : List ℕ × List ℕ → Option (List ℕ × List ℕ)

@@ -7,7 +7,8 @@ use crate::Param;
 use msb_values::{Copied, Item, List, NoMemory, Pairs, escape, unescape};
 use std::alloc::Global;
 
-/// The parameters as a task is handed them: every text without its escapes. (MSBuild special characters.)
+/// The parameters as a task is handed them: every text without its escapes. (MSBuild special
+/// characters.)
 pub fn handed(alloc: Global, params: &[Param]) -> Result<List<Param>, NoMemory>
     ensures { IfOk result (λ handed. handed ≡ map handed_param params.now) }
 {
@@ -64,7 +65,8 @@ fn taken_item(alloc: Global, item: &Item) -> Result<Item, NoMemory>
 }
 
 fn unescaped_values(alloc: Global, pairs: &Pairs) -> Result<Pairs, NoMemory>
-    ensures { IfOk result (λ values. values ≡ all_put [] (map (λ pair. (pair.0, unescaped pair.1)) pairs.now)) }
+    ensures { IfOk result
+        (λ values. values ≡ all_put [] (map (λ pair. (pair.0, unescaped pair.1)) pairs.now)) }
 {
     let mut values = Vec::new(alloc);
     for (name, value) in pairs.iter() {
@@ -74,7 +76,8 @@ fn unescaped_values(alloc: Global, pairs: &Pairs) -> Result<Pairs, NoMemory>
 }
 
 fn escaped_values(alloc: Global, pairs: &Pairs) -> Result<Pairs, NoMemory>
-    ensures { IfOk result (λ values. values ≡ all_put [] (map (λ pair. (pair.0, escaped pair.1)) pairs.now)) }
+    ensures { IfOk result
+        (λ values. values ≡ all_put [] (map (λ pair. (pair.0, escaped pair.1)) pairs.now)) }
 {
     let mut values = Vec::new(alloc);
     for (name, value) in pairs.iter() {

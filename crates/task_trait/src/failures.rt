@@ -7,7 +7,8 @@ use crate::TaskOutput;
 use msb_values::{List, NoMemory, Note, Text};
 use std::alloc::Global;
 
-/// Why a task fails. Paths are as the task's parameter gives them, names in lower case. (MSBuild tasks.)
+/// Why a task fails. Paths are as the task's parameter gives them, names in lower case. (MSBuild
+/// tasks.)
 #[derive(Drop)]
 pub enum Failure {
     /// This source of a copy is not there.
@@ -41,7 +42,8 @@ pub enum Failure {
 impl Failure {
     ghost use Rattle.task_trait.specs.Failures.{failed, failure_text, told_of};
 
-    /// The output of the task of this name, where it fails a check: nothing but the failure's note. Want of memory has none.
+    /// The output of the task of this name, where it fails a check: nothing but the failure's note.
+    /// Want of memory has none.
     pub fn output(&self, alloc: Global, task: &str) -> Result<TaskOutput, NoMemory>
         ensures output { IfOk result (λ output. output ≡ failed task.now self.now) }
         ensures told { IfOk result (λ _. self.now ≡ Memory → ⊥) }
@@ -57,7 +59,8 @@ impl Failure {
         })
     }
 
-    /// The note of the failure, of the task of this name, which is in lower case. Want of memory has none.
+    /// The note of the failure, of the task of this name, which is in lower case. Want of memory
+    /// has none.
     pub fn note(&self, alloc: Global, task: &str) -> Result<Note, NoMemory>
         ensures note { IfOk result (λ note. note ≡ Fail (failure_text task.now self.now)) }
         ensures told { IfOk result (λ _. self.now ≡ Memory → ⊥) }
@@ -116,7 +119,8 @@ fn words(alloc: Global, words: &str, text: &str) -> Result<String, NoMemory>
 }
 
 fn counts(alloc: Global, sources: usize, destinations: usize) -> Result<String, NoMemory>
-    ensures { IfOk result (λ told. string_bytes told ≡ decimal sources ++ codes " sources, " ++ decimal destinations ++ codes " destinations") }
+    ensures { IfOk result (λ told. string_bytes told
+        ≡ decimal sources ++ codes " sources, " ++ decimal destinations ++ codes " destinations") }
 {
     Ok(format!(in alloc; "{sources} sources, {destinations} destinations")?)
 }

@@ -3,13 +3,28 @@ ghost use Rattle.std.specs.List.{list_any};
 ghost use Rattle.std.specs.Str.{bytes_eq};
 ghost use Rattle.task_trait.specs.Answers.{Checks, Gives, GivesAs, UnlessMemory};
 ghost use Rattle.task_trait.specs.declared.failures.Failure.TheVariants.{BadParameter};
-ghost use Rattle.task_trait.specs.Params.{check_known, cut_at_equals, first_unknown, items_of, least_unknown, lesser, needed_items, needed_text, pair_of, param_at, text_of, truth_at, with_key};
+ghost use Rattle.task_trait.specs.Params.{
+  check_known,
+  cut_at_equals,
+  first_unknown,
+  items_of,
+  least_unknown,
+  lesser,
+  needed_items,
+  needed_text,
+  pair_of,
+  param_at,
+  text_of,
+  truth_at,
+  with_key,
+};
 
 use crate::{Failure, Param};
 use msb_values::{Item, Name, NoMemory, Text, truth_of};
 use std::alloc::Global;
 
-/// The items of a parameter, whose name is in lower case; none where it is not given. (Task element.)
+/// The items of a parameter, whose name is in lower case; none where it is not given. (Task
+/// element.)
 pub fn items_of<'a>(params: &'a [Param], name: &str) -> &'a [Item]
     ensures { result.now ≡ items_of name.now params.now }
 {
@@ -58,7 +73,8 @@ fn first_unknown<'a>(params: &'a [Param], known: &[&str]) -> Option<&'a str>
 /// The least name so far that is not known.
 #[tactic(auto, using(crate::proofs::Finding::any_of_map))]
 fn least_unknown<'a>(known: &[&str], least: Option<&'a str>, name: &'a str) -> Option<&'a str>
-    ensures { option_copied result ≡ least_unknown (map (λ name. name.now) known.now) (option_copied least.entry) name.now }
+    ensures { option_copied result ≡ least_unknown (map (λ name. name.now) known.now)
+        (option_copied least.entry) name.now }
 {
     if has(known, name) {
         least
@@ -138,7 +154,8 @@ pub fn bad(alloc: Global, name: &str) -> Failure
     }
 }
 
-/// An entry `N=V`, cut at the first `=`: N is a name, and V may be any text. Another text gives nothing.
+/// An entry `N=V`, cut at the first `=`: N is a name, and V may be any text. Another text gives
+/// nothing.
 pub fn pair_of(alloc: Global, text: &str) -> Result<Option<(Name, Text)>, NoMemory>
     ensures { IfOk result (λ pair. pair ≡ pair_of text.now) }
 {

@@ -43,7 +43,8 @@ pub struct ToolInput {
     pub files: List<FileIn>,
 }
 
-/// What a task gives: whether it succeeded, its outputs, the files that it writes and removes, in order, and its notes.
+/// What a task gives: whether it succeeded, its outputs, the files that it writes and removes, in
+/// order, and its notes.
 #[derive(Drop)]
 pub struct TaskOutput {
     pub ok: bool,
@@ -62,7 +63,8 @@ pub enum ToolAnswer {
 
 /// Tasks that are not built in, as one function of a task's name and input.
 ///
-/// The function belongs to the type: whoever implements the trait owes that a call has no other input.
+/// The function belongs to the type: whoever implements the trait owes that a call has no other
+/// input.
 pub trait Tools {
     ghost answer: { List ℕ → Input → Answer };
 
@@ -78,8 +80,8 @@ pub trait CountedTools {
     /// The calls so far, oldest first.
     ghost calls: { Self → List (List ℕ × Input) };
 
-    /// The answer of the function to a task's name and input, which is added to the calls. After want of memory the
-    /// calls begin with those of before, and no more is said of them.
+    /// The answer of the function to a task's name and input, which is added to the calls. After
+    /// want of memory the calls begin with those of before, and no more is said of them.
     fn call(
         &mut self,
         alloc: Global,
@@ -87,7 +89,8 @@ pub trait CountedTools {
         input: &ToolInput,
     ) -> Result<ToolAnswer, NoMemory>
         ensures value { IfOk result (λ a. a ≡ answer name.now input.now) }
-        ensures counted { OnOk result (calls self.new ≡ calls self.old ++ (name.now, input.now) ∷ []) }
+        ensures counted { OnOk result (calls self.new
+            ≡ calls self.old ++ (name.now, input.now) ∷ []) }
         ensures begun { OnErr result (BeginsWith (calls self.old) (calls self.new)) };
 }
 

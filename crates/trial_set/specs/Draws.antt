@@ -1,5 +1,22 @@
--- The numbers that are drawn one after the other, and the projects that they choose. (This engine's own generator)
-use Rattle.std.specs.Prelude.{ℕ, zero, suc, ◌+◌, ◌*◌, ◌-◌, ◌/◌, ◌%◌, ◌^◌, ◌==◌, List, [], ◌∷◌, fold, if◌then◌else◌}
+-- The numbers that are drawn one after the other, and the projects that they choose. (This engine's
+-- own generator)
+use Rattle.std.specs.Prelude.{
+  ℕ,
+  zero,
+  suc,
+  ◌+◌,
+  ◌*◌,
+  ◌-◌,
+  ◌/◌,
+  ◌%◌,
+  ◌^◌,
+  ◌==◌,
+  List,
+  [],
+  ◌∷◌,
+  fold,
+  if◌then◌else◌,
+}
 use Rattle.std.specs.BTreeSet.{insert_key}
 use Rattle.std.specs.Ordering.{nat_cmp}
 

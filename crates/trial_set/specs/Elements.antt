@@ -1,4 +1,5 @@
--- Elements as compact JSON, with the keys of each object in byte order and without those that would be empty. (MSBuild project file schema reference)
+-- Elements as compact JSON, with the keys of each object in byte order and without those that would
+-- be empty. (MSBuild project file schema reference)
 use Rattle.std.specs.Prelude.{ℕ, List, [], ◌∷◌, ◌++◌, codes}
 use Rattle.std.specs.List.{flat_map}
 
@@ -23,4 +24,6 @@ children_text (x ∷ xs) = codes "\"c\":[" ++ x ++ flat_map next_child xs ++ cod
 -- an element with attributes, in byte order of their names, and children, as texts
 abbrev pub element_text : List ℕ → List (List ℕ × List ℕ) → List (List ℕ) → List ℕ
 element_text name attributes children =
-    codes "{" ++ attributes_text attributes ++ children_text children ++ pair_text (codes "e", name) ++ codes "}"
+    codes
+    "{" ++ attributes_text attributes ++ children_text children ++ pair_text (codes "e", name)
+    ++ codes "}"

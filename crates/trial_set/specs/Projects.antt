@@ -26,11 +26,13 @@ file_list (i ∷ is) = file_of i ++ flat_map next_file is
 
 -- a task that calls projects at once, with perhaps an Output
 abbrev pub call_text : List ℕ → List (List ℕ) → List ℕ
-call_text calls outputs = element_text (codes "MSBuild") ((codes "BuildInParallel", codes "true") ∷ (codes "Projects", file_list calls) ∷ []) outputs
+call_text calls outputs = element_text (codes "MSBuild")
+    ((codes "BuildInParallel", codes "true") ∷ (codes "Projects", file_list calls) ∷ []) outputs
 
 -- what the projects return goes to the item O
 abbrev pub output_text : List ℕ
-output_text = element_text (codes "Output") ((codes "ItemName", codes "O") ∷ (codes "TaskParameter", codes "TargetOutputs") ∷ []) []
+output_text = element_text (codes "Output")
+    ((codes "ItemName", codes "O") ∷ (codes "TaskParameter", codes "TargetOutputs") ∷ []) []
 
 -- the call of the projects that a project calls, if there are any
 abbrev pub calls_text : List ℕ → List (List ℕ)
@@ -40,18 +42,21 @@ calls_text (i ∷ is) = call_text (i ∷ is) (output_text ∷ []) ∷ []
 -- a task that writes lines to a file
 abbrev pub lines_text : List ℕ → List ℕ → List ℕ
 lines_text file lines =
-    element_text (codes "WriteLinesToFile") ((codes "File", file) ∷ (codes "Lines", lines) ∷ (codes "Overwrite", codes "true") ∷ []) []
+    element_text (codes "WriteLinesToFile")
+    ((codes "File", file) ∷ (codes "Lines", lines) ∷ (codes "Overwrite", codes "true") ∷ []) []
 
 -- the project's name and what was returned are written to its file
 abbrev pub write_text : ℕ → List ℕ
 write_text i = lines_text (output_of i) (name_of i ++ codes ";@(O)")
 
 abbrev pub target_text : List (List ℕ × List ℕ) → List (List ℕ) → List ℕ
-target_text attributes tasks = element_text (codes "Project") [] (element_text (codes "Target") attributes tasks ∷ [])
+target_text attributes tasks = element_text (codes "Project") []
+    (element_text (codes "Target") attributes tasks ∷ [])
 
 -- the target Build, which writes this file
 abbrev pub build_text : List ℕ → List (List ℕ) → List ℕ
-build_text file tasks = target_text ((codes "Name", codes "Build") ∷ (codes "Outputs", file) ∷ []) tasks
+build_text file tasks = target_text ((codes "Name", codes "Build") ∷ (codes "Outputs", file) ∷ [])
+    tasks
 
 -- project i, which calls these
 abbrev pub project_text : ℕ → List ℕ → List ℕ

@@ -1,5 +1,12 @@
 ghost use Rattle.std.specs.Prelude.{◌≡◌, ◌≤◌, ◌<◌, ◌-◌, ◌+◌, ◌%◌, OnOk, IfOk};
-ghost use Rattle.trial_set.specs.Draws.{next_state, answer_of, drawn, distinct, calls_drawn, calls_of};
+ghost use Rattle.trial_set.specs.Draws.{
+  next_state,
+  answer_of,
+  drawn,
+  distinct,
+  calls_drawn,
+  calls_of,
+};
 
 use msb_values::NoMemory;
 use std::alloc::Global;
@@ -27,7 +34,8 @@ impl Draws {
     /// The numbers of the projects that a project calls, which are before its own.
     pub(crate) fn calls(&mut self, alloc: Global, number: u64) -> Result<BTreeSet<u64>, NoMemory>
         requires { 1 ≤ number }
-        ensures numbers { IfOk result (λ calls. calls.keys ≡ (calls_of number self.old.state).numbers) }
+        ensures numbers { IfOk result (λ calls. calls.keys
+            ≡ (calls_of number self.old.state).numbers) }
         ensures state { OnOk result (self.new.state ≡ (calls_of number self.old.state).state) }
     {
         if number == 1 {
@@ -40,8 +48,10 @@ impl Draws {
     /// So many numbers from 1 to the last one, each once.
     fn numbers(&mut self, alloc: Global, last: u64, count: u64) -> Result<BTreeSet<u64>, NoMemory>
         requires { 1 ≤ last }
-        ensures numbers { IfOk result (λ numbers. numbers.keys ≡ distinct (drawn (last + 1) count self.old.state).numbers) }
-        ensures state { OnOk result (self.new.state ≡ (drawn (last + 1) count self.old.state).state) }
+        ensures numbers { IfOk result (λ numbers. numbers.keys
+            ≡ distinct (drawn (last + 1) count self.old.state).numbers) }
+        ensures state { OnOk result (self.new.state
+            ≡ (drawn (last + 1) count self.old.state).state) }
     {
         let mut numbers = BTreeSet::new(alloc);
         let mut left = count;

@@ -1,6 +1,21 @@
 ghost use Rattle.std.specs.Prelude.{◌≡◌, [], ◌∷◌, ◌++◌, map, IfOk, OnOk, string_bytes, codes};
 ghost use Rattle.std.specs.List.{flat_map};
-ghost use Rattle.trial_set.specs.Projects.{name_of, file_of, output_of, next_file, file_list, call_text, output_text, calls_text, lines_text, write_text, target_text, build_text, project_text, root_text};
+ghost use Rattle.trial_set.specs.Projects.{
+  name_of,
+  file_of,
+  output_of,
+  next_file,
+  file_list,
+  call_text,
+  output_text,
+  calls_text,
+  lines_text,
+  write_text,
+  target_text,
+  build_text,
+  project_text,
+  root_text,
+};
 
 use crate::elements::element;
 use msb_values::NoMemory;
@@ -33,7 +48,8 @@ pub(crate) fn root(alloc: Global, all: &[u64]) -> Result<String, NoMemory>
 
 /// The tasks of a project's target.
 fn tasks(alloc: Global, number: u64, calls: &[u64]) -> Result<Vec<String>, NoMemory>
-    ensures { IfOk result (λ tasks. map string_bytes tasks.items ≡ calls_text calls.now ++ write_text number ∷ []) }
+    ensures { IfOk result (λ tasks. map string_bytes tasks.items
+        ≡ calls_text calls.now ++ write_text number ∷ []) }
 {
     let mut tasks = called(alloc, calls)?;
     tasks.push(write(alloc, number)?)?;
@@ -42,13 +58,15 @@ fn tasks(alloc: Global, number: u64, calls: &[u64]) -> Result<Vec<String>, NoMem
 
 /// The target Build, which writes this file.
 fn build(alloc: Global, file: &str, tasks: &[String]) -> Result<String, NoMemory>
-    ensures { IfOk result (λ text. string_bytes text ≡ build_text file.now (map string_bytes tasks.now)) }
+    ensures { IfOk result (λ text. string_bytes text
+        ≡ build_text file.now (map string_bytes tasks.now)) }
 {
     target(alloc, &[("Name", "Build"), ("Outputs", file)], tasks)
 }
 
 fn target(alloc: Global, attributes: &[(&str, &str)], tasks: &[String]) -> Result<String, NoMemory>
-    ensures { IfOk result (λ text. string_bytes text ≡ target_text (map (λ p. (p.0.now, p.1.now)) attributes.now) (map string_bytes tasks.now)) }
+    ensures { IfOk result (λ text. string_bytes text
+        ≡ target_text (map (λ p. (p.0.now, p.1.now)) attributes.now) (map string_bytes tasks.now)) }
 {
     let targets = one(alloc, element(alloc, "Target", attributes, tasks)?)?;
     element(alloc, "Project", &[], &targets)
@@ -76,7 +94,8 @@ fn called(alloc: Global, calls: &[u64]) -> Result<Vec<String>, NoMemory>
 
 /// A task that calls projects at once.
 fn call(alloc: Global, calls: &[u64], outputs: &[String]) -> Result<String, NoMemory>
-    ensures { IfOk result (λ text. string_bytes text ≡ call_text calls.now (map string_bytes outputs.now)) }
+    ensures { IfOk result (λ text. string_bytes text
+        ≡ call_text calls.now (map string_bytes outputs.now)) }
 {
     let files = file_list(alloc, calls)?;
     element(
@@ -144,7 +163,8 @@ fn file_list(alloc: Global, numbers: &[u64]) -> Result<String, NoMemory>
 }
 
 fn push_more(list: &mut String, numbers: &[u64]) -> Result<(), NoMemory>
-    ensures { OnOk result (string_bytes list.new ≡ string_bytes list.old ++ flat_map next_file numbers.now) }
+    ensures { OnOk result (string_bytes list.new
+        ≡ string_bytes list.old ++ flat_map next_file numbers.now) }
 {
     for number in numbers {
         write!(list, ";p{number}.proj")?;

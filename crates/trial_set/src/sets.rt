@@ -1,8 +1,26 @@
-ghost use Rattle.std.specs.Prelude.{◌≡◌, ◌<◌, ◌≤◌, ◌^◌, [], ◌∷◌, IfOk, OnOk, map, string_bytes, codes};
+ghost use Rattle.std.specs.Prelude.{
+  ◌≡◌,
+  ◌<◌,
+  ◌≤◌,
+  ◌^◌,
+  [],
+  ◌∷◌,
+  IfOk,
+  OnOk,
+  map,
+  string_bytes,
+  codes,
+};
 ghost use Rattle.msb_values.specs.Pairs.{all_put};
 ghost use Rattle.trial_set.specs.Draws.{calls_of};
 ghost use Rattle.trial_set.specs.Projects.{project_text, root_text};
-ghost use Rattle.trial_set.specs.Sets.{file_at_stamp, projects_from, numbers_from, set_of, files_of};
+ghost use Rattle.trial_set.specs.Sets.{
+  file_at_stamp,
+  projects_from,
+  numbers_from,
+  set_of,
+  files_of,
+};
 
 use crate::draws::Draws;
 use crate::projects::{file_of, project, root};
@@ -11,8 +29,9 @@ use msb_values::{List, NoMemory, Text, Text8};
 use std::alloc::Global;
 use std::collections::{BTreeMap, BTreeSet};
 
-/// The set of this size that a seed gives: projects `p1.proj` and so on, each of which calls some of those before it and
-/// writes a file, and `all.proj`, which calls all. (This engine's own generator.)
+/// The set of this size that a seed gives: projects `p1.proj` and so on, each of which calls some
+/// of those before it and writes a file, and `all.proj`, which calls all. (This engine's own
+/// generator.)
 pub fn make(alloc: Global, seed: u64, size: u32) -> Result<Tree, NoMemory>
     ensures { IfOk result (λ tree. tree.files ≡ files_of seed size) }
 {
@@ -32,7 +51,8 @@ fn set_of(alloc: Global, seed: u64, size: u64) -> Result<BTreeMap<Text, Text8>, 
 
 fn with_root(alloc: Global, size: u64) -> Result<BTreeMap<Text, Text8>, NoMemory>
     requires { size < 2 ^ 32 }
-    ensures { IfOk result (λ set. set.entries ≡ (codes "all.proj", root_text (numbers_from size 1)) ∷ []) }
+    ensures { IfOk result (λ set. set.entries
+        ≡ (codes "all.proj", root_text (numbers_from size 1)) ∷ []) }
 {
     let all = numbers(alloc, size)?;
     let path = Text::of(alloc, "all.proj")?;
@@ -74,7 +94,8 @@ fn put_projects(
 /// The text of a project, which calls those that are drawn.
 fn draw_text(alloc: Global, draws: &mut Draws, number: u64) -> Result<Text8, NoMemory>
     requires { 1 ≤ number }
-    ensures text { IfOk result (λ text. text ≡ project_text number (calls_of number draws.old.state).numbers) }
+    ensures text { IfOk result
+        (λ text. text ≡ project_text number (calls_of number draws.old.state).numbers) }
     ensures state { OnOk result (draws.new.state ≡ (calls_of number draws.old.state).state) }
 {
     let calls = draws.calls(alloc, number)?;

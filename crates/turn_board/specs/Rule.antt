@@ -21,7 +21,8 @@ pub record ViewIsTrue {W E : Type 0} (world : W) (now : List E) (v : View W E) :
   pub out_sees_all : v.has_state ≡ true → v.seen ≡ now
 
 abbrev pub AllViewsAreTrue : {W E : Type 0} → W → List E → List (View W E) → Type 0
-AllViewsAreTrue {W} {E} world now views = (at : ℕ) (v : View W E) → get_elem? views at ≡ some v → (v ≡ spent_view) ⊎ ViewIsTrue world now v
+AllViewsAreTrue {W} {E} world now views = (at : ℕ) (v : View W E) → get_elem? views at ≡ some v
+    → (v ≡ spent_view) ⊎ ViewIsTrue world now v
 
 -- some view that is not spent has seen the whole history
 pub record OneSeesAll {W E : Type 0} (now : List E) (views : List (View W E)) : Type 0 where
@@ -32,14 +33,16 @@ pub record OneSeesAll {W E : Type 0} (now : List E) (views : List (View W E)) : 
   pub whole : view.seen ≡ now
 
 -- the word is one more than twice the number of events, and one view has the state out
-pub record StateIsOut {S W E : Type 0} (now : List E) (words : List ℕ) (homes : List (Maybe (Option S))) (views : List (View W E)) : Type 0 where
+pub record StateIsOut {S W E : Type 0} (now : List E) (words : List ℕ)
+    (homes : List (Maybe (Option S))) (views : List (View W E)) : Type 0 where
   pub word : words ≡ (2 * length now + 1) ∷ []
   pub slot : homes ≡ none ∷ []
   pub one_out : total out_count views ≡ 1
 
 module _ {S W E : Type 0} (world_of : S → W) (history_of : S → List E) where
   -- the word is twice the number of events, the state is at home with them, and no view has it out
-  pub record StateIsHome (world : W) (now : List E) (words : List ℕ) (homes : List (Maybe (Option S))) (views : List (View W E)) : Type 0 where
+  pub record StateIsHome (world : W) (now : List E) (words : List ℕ)
+      (homes : List (Maybe (Option S))) (views : List (View W E)) : Type 0 where
     pub state : S
     pub word : words ≡ (2 * length now) ∷ []
     pub slot : homes ≡ some (Some state) ∷ []
@@ -53,4 +56,5 @@ module _ {S W E : Type 0} (world_of : S → W) (history_of : S → List E) where
     pub now : List E
     pub all_true : AllViewsAreTrue world now s.views
     pub shares : total (λ v. v.share) s.views ≡ 128
-    pub place : StateIsHome world now s.words s.homes s.views ⊎ StateIsOut now s.words s.homes s.views
+    pub place : StateIsHome world now s.words s.homes s.views
+        ⊎ StateIsOut now s.words s.homes s.views

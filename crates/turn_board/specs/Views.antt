@@ -1,9 +1,31 @@
 -- What a seat knows, as plain data.
-use Rattle.std.specs.Prelude.{ℕ, ◌+◌, ◌-◌, Bool, true, false, cond, List, [], length, nat_lt, Option, Some, None}
+use Rattle.std.specs.Prelude.{
+  ℕ,
+  ◌+◌,
+  ◌-◌,
+  Bool,
+  true,
+  false,
+  cond,
+  List,
+  [],
+  length,
+  nat_lt,
+  Option,
+  Some,
+  None,
+}
 use Rattle.turn_board.specs.declared.view.View.{View}
 
 abbrev pub view : {W E : Type 0} → Option W → List E → List E → ℕ → Bool → ℕ → View W E
-view world seen shorter_seen share has_state misses = record { world = world; seen = seen; shorter_seen = shorter_seen; share = share; has_state = has_state; misses = misses }
+view world seen shorter_seen share has_state misses = record {
+  world = world;
+  seen = seen;
+  shorter_seen = shorter_seen;
+  share = share;
+  has_state = has_state;
+  misses = misses;
+}
 
 -- the view of the opening seat
 abbrev pub opening_view : {W E : Type 0} → W → List E → View W E
@@ -43,7 +65,8 @@ shorter xs ys = cond (nat_lt (length xs) (length ys)) xs ys
 
 -- both shares, and the longer of both histories
 abbrev pub after_join : {W E : Type 0} → View W E → View W E → View W E
-after_join v w = view v.world (longer v.seen w.seen) (shorter v.seen w.seen) (v.share + w.share) v.has_state v.misses
+after_join v w = view v.world (longer v.seen w.seen) (shorter v.seen w.seen) (v.share + w.share)
+    v.has_state v.misses
 
 -- 1 where the seat has the state out
 abbrev pub out_count : {W E : Type 0} → View W E → ℕ

@@ -1,4 +1,18 @@
-ghost use Rattle.std.specs.Prelude.{◌≡◌, ◌≢◌, ◌+◌, ◌-◌, ◌^◌, ◌<◌, ◌≤◌, true, false, length, Some, IfOk, IfErr};
+ghost use Rattle.std.specs.Prelude.{
+  ◌≡◌,
+  ◌≢◌,
+  ◌+◌,
+  ◌-◌,
+  ◌^◌,
+  ◌<◌,
+  ◌≤◌,
+  true,
+  false,
+  length,
+  Some,
+  IfOk,
+  IfErr,
+};
 ghost use mathlib.Core.List.{IsPrefix};
 ghost use Rattle.turn_board.specs.Taken.{IfTaken, IfHeld};
 ghost use Rattle.turn_board.specs.Views.{longer};
@@ -51,7 +65,8 @@ impl<S: Histories> Model for Board<S> {
 
     ghost view = { λ b. b.table.shared.table_id };
 
-    ghost invariant = { λ b. (b.table.shared.table_id.words ≡ 1) × (b.table.shared.table_id.slots ≡ 1) };
+    ghost invariant = { λ b. (b.table.shared.table_id.words ≡ 1)
+        × (b.table.shared.table_id.slots ≡ 1) };
 }
 
 impl<S: Histories> Board<S> {
@@ -73,7 +88,8 @@ impl<S: Histories> Board<S> {
 }
 
 impl<S: Histories + Send> Board<S> {
-    /// A board with this state at home, and its one seat, which has all 128 shares. Want of memory hands the state back.
+    /// A board with this state at home, and its one seat, which has all 128 shares. Want of memory
+    /// hands the state back.
     pub fn open(alloc: Global, state: S) -> Result<(Board<S>, Seat<S>), Refused<S>>
         requires { length (S.history state) < 2 ^ 63 }
         ensures seat { IfOk result (λ b. b.1 ≡ opening_seat b.0 (S.world state) (S.history state)) }
@@ -102,8 +118,8 @@ impl<S: Histories + Send> Board<S> {
         }
     }
 
-    /// The length of the history that was given last. It is no less than what the seat saw, and just that for a seat
-    /// that has the state out or all shares.
+    /// The length of the history that was given last. It is no less than what the seat saw, and
+    /// just that for a seat that has the state out or all shares.
     pub fn seen(&self, seat: &mut Seat<S>) -> u64
         requires { seat.old.board ≡ self.now }
         ensures kept { seat.new ≡ seat.old }
@@ -114,12 +130,14 @@ impl<S: Histories + Send> Board<S> {
         self.table.shared.load::<LoadStep>(&mut seat.place, 0) / 2
     }
 
-    /// Takes the state out, with a history that continues what the seat saw. Where another seat has it out, this
-    /// call doesn't wait: it says so, and the seat's misses rise. A seat with all shares never misses.
+    /// Takes the state out, with a history that continues what the seat saw. Where another seat has
+    /// it out, this call doesn't wait: it says so, and the seat's misses rise. A seat with all
+    /// shares never misses.
     pub fn take(&self, seat: &mut Seat<S>) -> Taken<S>
         requires board { seat.old.board ≡ self.now }
         requires home { seat.old.has_state ≡ false }
-        ensures state { IfTaken result (λ state. seat.new ≡ record seat.old { seen = S.history state; has_state = true }) }
+        ensures state { IfTaken result (λ state. seat.new
+            ≡ record seat.old { seen = S.history state; has_state = true }) }
         ensures world { IfTaken result (λ state. seat.old.world ≡ Some (S.world state)) }
         ensures continues { IfTaken result (λ state. IsPrefix seat.old.seen (S.history state)) }
         ensures held { IfHeld result (seat.new ≡ record seat.old { misses = seat.old.misses + 1 }) }
@@ -165,12 +183,15 @@ impl<S: Histories + Send> Board<S> {
         }
     }
 
-    /// Ends the other seat. This one has then both shares, and the longer of both histories, which both begin.
+    /// Ends the other seat. This one has then both shares, and the longer of both histories, which
+    /// both begin.
     pub fn join(&self, seat: &mut Seat<S>, other: Seat<S>)
         requires board { (seat.old.board ≡ self.now) × (other.board ≡ self.now) }
         requires home { (seat.old.has_state ≡ false) × (other.has_state ≡ false) }
-        ensures kept { seat.new ≡ record seat.old { seen = longer seat.old.seen other.seen; share = seat.old.share + other.share } }
-        ensures continues { IsPrefix seat.old.seen seat.new.seen × IsPrefix other.seen seat.new.seen }
+        ensures kept { seat.new ≡ record seat.old
+            { seen = longer seat.old.seen other.seen; share = seat.old.share + other.share } }
+        ensures continues { IsPrefix seat.old.seen seat.new.seen
+            × IsPrefix other.seen seat.new.seen }
     {
         let shared = &self.table.shared;
         shared.join_seat::<JoinStep>(&mut seat.place, other.place);
@@ -178,7 +199,8 @@ impl<S: Histories + Send> Board<S> {
         shared.load::<LoadStep>(&mut seat.place, 0);
     }
 
-    /// Ends the board, by the seat that has all shares. The state has just the history that this seat saw.
+    /// Ends the board, by the seat that has all shares. The state has just the history that this
+    /// seat saw.
     pub fn close(self, seat: Seat<S>) -> S
         requires board { seat.board ≡ self }
         requires whole { seat.share ≡ 128 }

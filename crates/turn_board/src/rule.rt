@@ -1,7 +1,13 @@
 //! The board's rule, and the names of its steps.
 ghost use Rattle.turn_board.specs.Rule.{BoardRule};
 ghost use Rattle.turn_board.specs.Steps.{TakeTells, GiveTells, LoadTells};
-ghost use Rattle.turn_board.specs.Views.{opening_view, spent_view, after_split, split_off, after_join};
+ghost use Rattle.turn_board.specs.Views.{
+  opening_view,
+  spent_view,
+  after_split,
+  split_off,
+  after_join,
+};
 
 use crate::{Histories, View};
 use atomic_table::{Join, Play, Split, TableRule};

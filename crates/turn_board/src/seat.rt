@@ -1,8 +1,8 @@
 use crate::{Histories, View};
 use std::marker::Model;
 
-/// The right to take turns at a board. Contracts see which board it is of, its world, the history that it last saw,
-/// its share, whether it has the state out, and its misses.
+/// The right to take turns at a board. Contracts see which board it is of, its world, the history
+/// that it last saw, its share, whether it has the state out, and its misses.
 #[derive(Drop)]
 pub struct Seat<S: Histories> {
     pub(crate) place: atomic_table::Seat<Option<S>, View<S::World, S::Event>>,

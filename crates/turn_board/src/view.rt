@@ -6,8 +6,8 @@ pub(crate) struct View<W, E> {
     pub world: Option<W>,
     /// The history that the seat last saw.
     pub seen: LinkedList<E>,
-    /// The shorter of the two histories of the seat's last join. A join itself can't show that it begins the longer
-    /// one; the load behind the join does.
+    /// The shorter of the two histories of the seat's last join. A join itself can't show that it
+    /// begins the longer one; the load behind the join does.
     pub shorter_seen: LinkedList<E>,
     /// All shares add up to 128.
     pub share: u64,

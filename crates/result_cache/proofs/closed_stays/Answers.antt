@@ -1,4 +1,10 @@
-use Rattle.result_cache.proofs.Closed.{closed-nothing, closed-acted, closed-ended, closed-merged, closed-replayed}
+use Rattle.result_cache.proofs.Closed.{
+  closed-nothing,
+  closed-acted,
+  closed-ended,
+  closed-merged,
+  closed-replayed,
+}
 use Rattle.result_cache.proofs.closed_stays.Goals as goal
 
 pub returns-clause-empty : goal.returns-clause-empty

@@ -7,6 +7,7 @@ decreases-loop-other l = vec_len l.all
 
 abbrev pub invariant-loop-other : goal.invariant-loop-other
 invariant-loop-other l =
-    (l.seat.board ≡ l.initial.seat.board) × (l.seat.world ≡ l.initial.seat.world) × (l.seat.has_state ≡ false)
+    (l.seat.board ≡ l.initial.seat.board) × (l.seat.world ≡ l.initial.seat.world)
+    × (l.seat.has_state ≡ false)
     × (l.seat.share + vec_len l.all ≡ l.initial.seat.share + vec_len l.initial.all)
     × All (IsReady l.initial.seat.board) l.all.items

@@ -4,4 +4,5 @@ use Rattle.board_tests.proofs.nodes.split_all.Given as goal
 
 abbrev pub invariant-loop : goal.invariant-loop
 invariant-loop l = (l.seat ≡ record l.initial.seat { share = l.initial.seat.share - l.counter })
-    × (vec_len l.all ≡ l.counter) × (vec_capacity l.all ≡ vec_capacity l.initial.all) × All (IsReady l.initial.seat.board) l.all.items
+    × (vec_len l.all ≡ l.counter) × (vec_capacity l.all ≡ vec_capacity l.initial.all)
+    × All (IsReady l.initial.seat.board) l.all.items

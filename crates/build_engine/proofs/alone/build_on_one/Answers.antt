@@ -11,7 +11,8 @@ use Rattle.build_engine.proofs.alone.build_on_one.Goals as goal
 pub build_alone-requires-clause-free : goal.build_alone-requires-clause-free
 build_alone-requires-clause-free g c =
     let core = c.in_ok-core.core in
-    subst (λ (events : List Event). NoneAssigned (g.W.Walker.world_of core.world) events) (sym c.in_ok-core.ensures.history) (none_at_first (g.W.Walker.world_of core.world))
+    subst (λ (events : List Event). NoneAssigned (g.W.Walker.world_of core.world) events)
+    (sym c.in_ok-core.ensures.history) (none_at_first (g.W.Walker.world_of core.world))
 
 pub build_alone-requires-clause-place : goal.build_alone-requires-clause-place
 build_alone-requires-clause-place g c =
@@ -27,7 +28,8 @@ returns-clause-outcome g c =
     let core = c.build_alone.new.core in
     subst (λ (w : World g.W.Walker.Site g.W.Walker.Input g.W.Walker.Output). IfOk c.of.result
     (λ o. ∥ IsOutcome w c.args.low o ∥₁)) (c.build_alone.ensures.world ∙ c.in_ok-core.ensures.world)
-    (outcomes_are (g.W.Walker.world_of core.world) c.args.low core.history.events core.end c.of.result c.build_alone.ensures.legal c.of.ensures.outcome)
+    (outcomes_are (g.W.Walker.world_of core.world) c.args.low core.history.events core.end
+    c.of.result c.build_alone.ensures.legal c.of.ensures.outcome)
 
 pub returns-clause-status : goal.returns-clause-status
 returns-clause-status g c = known_statuses c.of.result c.of.ensures.status
@@ -42,7 +44,8 @@ returns-clause-used g c =
     let same = c.build_alone.ensures.world in
     subst (λ (w : World m.Site m.Input m.Output). IfOk c.of.result
     (λ o. ∥ IsUsedFor w c.args.low o from to ∥₁)) c.in_ok-core.ensures.world
-    (all_used_for (m.world_of first.world) c.args.low first.history.events core.history.events core.end c.of.result from to c.in_ok-core.ensures.history
+    (all_used_for (m.world_of first.world) c.args.low first.history.events core.history.events
+    core.end c.of.result from to c.in_ok-core.ensures.history
     (subst (λ (w : World m.Site m.Input m.Output). ∥ IsLegal w core.history.events ∥₁) same
     c.build_alone.ensures.legal) c.build_alone.ensures.least c.build_alone.ensures.uses
     (subst (λ (w : World m.Site m.Input m.Output). IfOk c.of.result

@@ -11,7 +11,13 @@ use Rattle.build_nodes.proofs.core_turns.finish.Goals as goal
 
 pub result-requires-clause-asks : goal.result-requires-clause-asks
 result-requires-clause-asks g c =
-    ∥∥₁_map c.requires.own (λ o. record { position = g.W.Walker.position c.args.held.walk; stands = o.stands; asks = c.requires.asks })
+    ∥∥₁_map c.requires.own
+    (λ o.
+    record {
+      position = g.W.Walker.position c.args.held.walk;
+      stands = o.stands;
+      asks = c.requires.asks;
+    })
 
 pub hand_over-requires-clause-out : goal.hand_over-requires-clause-out
 hand_over-requires-clause-out g c =
@@ -19,7 +25,10 @@ hand_over-requires-clause-out g c =
     let next = c.result.new.self in
     let held = c.args.held in
     let seen = seen_by m.world m.position m.asked m.learnt held.walk in
-    subst (λ answer. ∥ IsOut (m.world_of next.world) next.history.events next.table.finished held.id seen answer ∥₁)
+    subst
+    (λ answer.
+    ∥ IsOut (m.world_of next.world) next.history.events next.table.finished held.id seen answer
+    ∥₁)
     (sym c.requires.answer) (c.result.ensures.out held.walk c.requires.own c.requires.asks)
 
 pub hand_over-requires-clause-here : goal.hand_over-requires-clause-here
@@ -27,19 +36,25 @@ hand_over-requires-clause-here g c =
     let m = g.W.Walker in
     let now = c.args.core.now in
     let next = c.result.new.self in
-    result-shown (seen_by m.world m.position m.asked m.learnt) (m.world_of next.world) now.history.events c.args.held.id c.args.node (m.world_of now.world) c.result.ensures.world c.requires.here next.legal c.args.run.now c.result.ensures.history
+    result-shown (seen_by m.world m.position m.asked m.learnt) (m.world_of next.world)
+    now.history.events c.args.held.id c.args.node (m.world_of now.world) c.result.ensures.world
+    c.requires.here next.legal c.args.run.now c.result.ensures.history
 
 pub returns-clause-continues : goal.returns-clause-continues
 returns-clause-continues g c =
     let now = c.args.core.now in
     let next = c.result.new.self in
-    prefix_trans _ _ _ (ahead now.history.events next.history.events _ now.end next.end c.requires.running c.result.ensures.history) c.hand_over.ensures.continues
+    prefix_trans _ _ _
+    (ahead now.history.events next.history.events _ now.end next.end c.requires.running
+    c.result.ensures.history) c.hand_over.ensures.continues
 
 pub hand_over-requires-clause-active : goal.hand_over-requires-clause-active
 hand_over-requires-clause-active g c =
     let now = c.args.core.now in
     let next = c.result.new.self in
-    active-more c.args.node now.history.events next.history.events _ now.end next.end c.requires.running (c.result.ensures.end ∙ c.requires.running) c.result.ensures.history refl c.requires.active
+    active-more c.args.node now.history.events next.history.events _ now.end next.end
+    c.requires.running (c.result.ensures.end ∙ c.requires.running) c.result.ensures.history refl
+    c.requires.active
 
 pub hand_over-requires-clause-enough : goal.hand_over-requires-clause-enough
 hand_over-requires-clause-enough g c =

@@ -14,14 +14,23 @@ use Rattle.build_nodes.proofs.core_turns.give_answer.Goals as goal
 pub learn_records-requires-clause-known : goal.learn_records-requires-clause-known
 learn_records-requires-clause-known g c =
     let m = g.W.Walker in
-    subst (λ (t : TableRuns). ArePartOf (m.learnt c.args.held.walk) t.finished) (sym c.table.ensures.table) (∥∥₁_elim c.requires.out (part-prop _ _) (λ o. o.learnt))
+    subst (λ (t : TableRuns). ArePartOf (m.learnt c.args.held.walk) t.finished)
+    (sym c.table.ensures.table) (∥∥₁_elim c.requires.out (part-prop _ _) (λ o. o.learnt))
 
 pub learn_records-requires-clause-fits : goal.learn_records-requires-clause-fits
 learn_records-requires-clause-fits g c =
     let m = g.W.Walker in
     let walk = c.args.held.walk in
-    subst (λ (t : TableRuns). IsSome (answered (m.world walk) t.finished (m.position walk) c.args.held.answer)) (sym c.table.ensures.table)
-    (∥∥₁_elim c.requires.out (some-prop _) (λ o. ap is_some (subst (λ (v : World m.Site m.Input m.Output). answered v c.args.core.now.table.finished (m.position walk) c.args.held.answer ≡ Some o.next) (sym o.world) o.goes)))
+    subst
+    (λ (t : TableRuns).
+    IsSome (answered (m.world walk) t.finished (m.position walk) c.args.held.answer))
+    (sym c.table.ensures.table)
+    (∥∥₁_elim c.requires.out (some-prop _)
+    (λ o.
+    ap is_some
+    (subst
+    (λ (v : World m.Site m.Input m.Output). answered v c.args.core.now.table.finished
+    (m.position walk) c.args.held.answer ≡ Some o.next) (sym o.world) o.goes)))
 
 pub hand_over-requires-clause-out : goal.hand_over-requires-clause-out
 hand_over-requires-clause-out g c =

@@ -10,13 +10,19 @@ retire-requires-clause-out g c =
     let m = g.W.Walker in
     let core = c.args.core.now in
     let a = c.args.answered in
-    let others = subst (λ l. AreOfOthers a.id (drop a.number l)) c.history.ensures.events (c.are_of_others.ensures c.if-are_of_others.true) in
-    ∥∥₁_map₂ core.legal c.requires.answered (λ x k. answered-still (seen_by m.world m.position m.asked m.learnt) m.earlier c.args.node (m.world_of core.world) x a k others)
+    let others = subst (λ l. AreOfOthers a.id (drop a.number l)) c.history.ensures.events
+    (c.are_of_others.ensures c.if-are_of_others.true) in
+    ∥∥₁_map₂ core.legal c.requires.answered
+    (λ x k. answered-still (seen_by m.world m.position m.asked m.learnt) m.earlier c.args.node
+    (m.world_of core.world) x a k others)
 
 pub retire-requires-clause-here : goal.retire-requires-clause-here
 retire-requires-clause-here g c =
     let m = g.W.Walker in
     let core = c.args.core.now in
     let a = c.args.answered in
-    let others = subst (λ l. AreOfOthers a.id (drop a.number l)) c.history.ensures.events (c.are_of_others.ensures c.if-are_of_others.true) in
-    ∥∥₁_map₂ core.legal c.requires.answered (λ x k. answered-here (seen_by m.world m.position m.asked m.learnt) m.earlier c.args.node (m.world_of core.world) x a k others)
+    let others = subst (λ l. AreOfOthers a.id (drop a.number l)) c.history.ensures.events
+    (c.are_of_others.ensures c.if-are_of_others.true) in
+    ∥∥₁_map₂ core.legal c.requires.answered
+    (λ x k. answered-here (seen_by m.world m.position m.asked m.learnt) m.earlier c.args.node
+    (m.world_of core.world) x a k others)

@@ -11,7 +11,8 @@ returns-in-First-clause-learns g c =
     let these = m.learnt walk in
     let those = c.args.table.now.finished in
     let p = m.position walk in
-    subst (λ answer. AreAlike w these those p answer) (sym c.in-First.is) (first-alike w these those p)
+    subst (λ answer. AreAlike w these those p answer) (sym c.in-First.is)
+    (first-alike w these those p)
 
 pub returns-in-Go-clause-learns : goal.returns-in-Go-clause-learns
 returns-in-Go-clause-learns g c =

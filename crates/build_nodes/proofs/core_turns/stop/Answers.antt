@@ -10,7 +10,9 @@ returns-clause-continues g c = none-more _ _ _ _ c.requires.running c.stop.ensur
 pub returns-clause-spent : goal.returns-clause-spent
 returns-clause-spent g c =
     let next = c.stop.new.self in
-    caused-spent next.history.nodes next.history.events c.args.end next.end c.requires.caused c.stop.ensures.end
+    caused-spent next.history.nodes next.history.events c.args.end next.end c.requires.caused
+    c.stop.ensures.end
 
 pub returns-clause-next : goal.returns-clause-next
-returns-clause-next g c = left-told c.args.node c.stop.new.self.history.events _ (ap is_some c.stop.ensures.end)
+returns-clause-next g c = left-told c.args.node c.stop.new.self.history.events _
+    (ap is_some c.stop.ensures.end)

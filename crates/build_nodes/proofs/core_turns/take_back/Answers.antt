@@ -9,7 +9,12 @@ back-requires g c =
     let m = g.W.Walker in
     let core = c.args.core.now in
     let held = c.args.held in
-    record { advanced = ∥∥₁_elim c.requires.back (some-prop _) (λ b. back-fits (seen_by m.world m.position m.asked m.learnt) m.earlier (m.world_of core.world) core.history.events core.table.finished held.id held.walk held.answer b) }
+    record {
+      advanced = ∥∥₁_elim c.requires.back (some-prop _)
+          (λ b. back-fits (seen_by m.world m.position m.asked m.learnt) m.earlier
+          (m.world_of core.world) core.history.events core.table.finished held.id held.walk
+          held.answer b);
+    }
 
 pub retire-requires-clause-out : goal.retire-requires-clause-out
 retire-requires-clause-out g c =
@@ -17,4 +22,7 @@ retire-requires-clause-out g c =
     let core = c.args.core.now in
     let held = c.args.held in
     let e = c.back.ensures in
-    ∥∥₁_map c.requires.back (λ b. back-out (seen_by m.world m.position m.asked m.learnt) m.earlier (m.world_of core.world) core.history.events core.table.finished held.id held.walk c.back.new.self held.answer b e.stands e.world e.learnt)
+    ∥∥₁_map c.requires.back
+    (λ b. back-out (seen_by m.world m.position m.asked m.learnt) m.earlier
+    (m.world_of core.world) core.history.events core.table.finished held.id held.walk
+    c.back.new.self held.answer b e.stands e.world e.learnt)

@@ -3,7 +3,13 @@ use Rattle.std.proofs.Math.Logic.{∥∥₁_elim, ∥∥₁_map}
 use Rattle.build_scheduler.specs.Own.{seen_by}
 use Rattle.build_scheduler.proofs.HistoryFacts.{some-prop}
 use Rattle.build_nodes.specs.Turns.{IsAnswered}
-use Rattle.build_nodes.proofs.Away.{answer-fits, answer-in-room, asks-next, refused-again, turn-prop}
+use Rattle.build_nodes.proofs.Away.{
+  answer-fits,
+  answer-in-room,
+  asks-next,
+  refused-again,
+  turn-prop,
+}
 use Rattle.build_nodes.proofs.Fitting.{fits-seat, fits-walk}
 use Rattle.build_nodes.proofs.Turning.{of-some, and-some}
 use Rattle.build_nodes.proofs.nodes.advance.Goals as goal
@@ -14,8 +20,12 @@ advance-requires-clause-fits g c =
     let seen = seen_by m.world m.position m.asked m.learnt in
     let seat = c.args.node.now.seat in
     let a = c.args.answered in
-    let k = of-some seat.world (λ first. ∥ IsAnswered seen m.earlier c.args.node.now.number (m.world_of first.world) seat.seen a ∥₁) c.requires.answered in
-    ∥∥₁_elim k.2 (some-prop _) (λ k. answer-fits seen m.earlier c.args.node.now.number _ seat.seen a k)
+    let k = of-some seat.world
+    (λ first.
+    ∥ IsAnswered seen m.earlier c.args.node.now.number (m.world_of first.world) seat.seen a ∥₁)
+    c.requires.answered in
+    ∥∥₁_elim k.2 (some-prop _)
+    (λ k. answer-fits seen m.earlier c.args.node.now.number _ seat.seen a k)
 
 pub advance-requires-clause-turn : goal.advance-requires-clause-turn
 advance-requires-clause-turn g c =
@@ -23,7 +33,10 @@ advance-requires-clause-turn g c =
     let seen = seen_by m.world m.position m.asked m.learnt in
     let seat = c.args.node.now.seat in
     let a = c.args.answered in
-    let k = of-some seat.world (λ first. ∥ IsAnswered seen m.earlier c.args.node.now.number (m.world_of first.world) seat.seen a ∥₁) c.requires.answered in
+    let k = of-some seat.world
+    (λ first.
+    ∥ IsAnswered seen m.earlier c.args.node.now.number (m.world_of first.world) seat.seen a ∥₁)
+    c.requires.answered in
     ∥∥₁_elim k.2 (turn-prop _ _) (λ k. k.out.turn)
 
 pub advance-requires-clause-room : goal.advance-requires-clause-room
@@ -32,8 +45,12 @@ advance-requires-clause-room g c =
     let seen = seen_by m.world m.position m.asked m.learnt in
     let seat = c.args.node.now.seat in
     let a = c.args.answered in
-    let k = of-some seat.world (λ first. ∥ IsAnswered seen m.earlier c.args.node.now.number (m.world_of first.world) seat.seen a ∥₁) c.requires.answered in
-    ∥∥₁_elim k.2 (λ p q. le_prop p q) (λ k. answer-in-room seen m.earlier c.args.node.now.number _ seat.seen a k)
+    let k = of-some seat.world
+    (λ first.
+    ∥ IsAnswered seen m.earlier c.args.node.now.number (m.world_of first.world) seat.seen a ∥₁)
+    c.requires.answered in
+    ∥∥₁_elim k.2 (λ p q. le_prop p q)
+    (λ k. answer-in-room seen m.earlier c.args.node.now.number _ seat.seen a k)
 
 pub advance-requires-clause-place : goal.advance-requires-clause-place
 advance-requires-clause-place g c =
@@ -66,8 +83,15 @@ returns-in-Ok-clause-brought g c =
     let seat = c.args.node.now.seat in
     let a = c.args.answered in
     let told = c.in-Ok.ensures in
-    and-some seat.world (λ first. ∥ IsAnswered seen m.earlier c.args.node.now.number (m.world_of first.world) seat.seen a ∥₁) _
-    (λ first k. ∥∥₁_map k (λ k. asks-next seen m.earlier c.args.node.now.number (m.world_of first.world) seat.seen a c.advance.new.self c.in-Ok.ask k told.asks told.goes_on told.asked told.world told.learnt told.earlier)) c.requires.answered
+    and-some seat.world
+    (λ first.
+    ∥ IsAnswered seen m.earlier c.args.node.now.number (m.world_of first.world) seat.seen a ∥₁)
+    _
+    (λ first k.
+    ∥∥₁_map k
+    (λ k. asks-next seen m.earlier c.args.node.now.number (m.world_of first.world) seat.seen a
+    c.advance.new.self c.in-Ok.ask k told.asks told.goes_on told.asked told.world told.learnt
+    told.earlier)) c.requires.answered
 
 pub returns-in-Err-clause-brought : goal.returns-in-Err-clause-brought
 returns-in-Err-clause-brought g c =
@@ -77,5 +101,9 @@ returns-in-Err-clause-brought g c =
     let seat = c.args.node.now.seat in
     let a = c.args.answered in
     let told = c.in-Err.ensures in
-    and-some seat.world (λ first. ∥ IsAnswered seen m.earlier number (m.world_of first.world) seat.seen a ∥₁) _
-    (λ first k. ∥∥₁_map k (λ k. refused-again seen m.earlier number (m.world_of first.world) seat.seen a c.advance.new.self k told.world told.stays told.asked_err told.learnt)) c.requires.answered
+    and-some seat.world
+    (λ first. ∥ IsAnswered seen m.earlier number (m.world_of first.world) seat.seen a ∥₁) _
+    (λ first k.
+    ∥∥₁_map k
+    (λ k. refused-again seen m.earlier number (m.world_of first.world) seat.seen a
+    c.advance.new.self k told.world told.stays told.asked_err told.learnt)) c.requires.answered

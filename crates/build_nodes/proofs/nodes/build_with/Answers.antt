@@ -25,16 +25,22 @@ split_all-requires-clause-fits g c κs within =
     (sym c.nodes.ensures.world) c.requires.fits)
 
 pub close-requires-send-S : goal.close-requires-send-S
-close-requires-send-S g c κs within = shared-crosses _ _ _ g.W.Walker c.type_bounds.send-W c.type_bounds.send-W-Origin _
+close-requires-send-S g c κs within = shared-crosses _ _ _ g.W.Walker c.type_bounds.send-W
+    c.type_bounds.send-W-Origin _
 
 pub returns-clause-continues : goal.returns-clause-continues
 returns-clause-continues g c =
     let core = c.args.core in
     let opened = c.nodes.new.self in
     let built = c.into_core.result in
-    let begun = ap (λ s. s.seen) c.split_all.ensures.seat ∙ (ap (λ s. s.seen) c.in_ok-board.ensures ∙ (ap (λ es. marked es opened.end) c.nodes.ensures.history ∙ ap (marked core.history.events) c.nodes.ensures.end)) in
-    let seen = ap (λ k. marked k.history.events k.end) c.into_core.ensures ∙ c.close.ensures.history in
-    built-continues core.history.events built.history.events core.end built.end c.split_all.new.seat.seen c.join_all.new.seat.seen begun c.join_all.ensures.continues seen
+    let begun = ap (λ s. s.seen) c.split_all.ensures.seat
+    ∙ (ap (λ s. s.seen) c.in_ok-board.ensures
+    ∙ (ap (λ es. marked es opened.end) c.nodes.ensures.history
+    ∙ ap (marked core.history.events) c.nodes.ensures.end)) in
+    let seen = ap (λ k. marked k.history.events k.end) c.into_core.ensures
+    ∙ c.close.ensures.history in
+    built-continues core.history.events built.history.events core.end built.end
+    c.split_all.new.seat.seen c.join_all.new.seat.seen begun c.join_all.ensures.continues seen
 
 pub returns-clause-legal : goal.returns-clause-legal
 returns-clause-legal g c =
@@ -44,9 +50,15 @@ returns-clause-legal g c =
     let built = c.into_core.result in
     let shared = c.close.result in
     let first : shared.first.value ≡ opened =
-    some-is _ _ (sym c.close.ensures.world ∙ (c.join_all.ensures.kept.1 ∙ (ap (λ s. s.world) c.split_all.ensures.seat ∙ ap (λ s. s.world) c.in_ok-board.ensures))) in
-    let same = ∥∥₁_map shared.same (λ e. ap (λ k. m.world_of k.world) c.into_core.ensures ∙ (e ∙ (ap (λ k. m.world_of k.world) first ∙ c.nodes.ensures.world))) in
-    built-legal (seen_by m.world m.position m.asked m.learnt) (m.world_of built.world) (m.world_of core.world) built.legal same
+    some-is _ _
+    (sym c.close.ensures.world
+    ∙ (c.join_all.ensures.kept.1
+    ∙ (ap (λ s. s.world) c.split_all.ensures.seat ∙ ap (λ s. s.world) c.in_ok-board.ensures)))
+    in
+    let same = ∥∥₁_map shared.same (λ e. ap (λ k. m.world_of k.world) c.into_core.ensures
+    ∙ (e ∙ (ap (λ k. m.world_of k.world) first ∙ c.nodes.ensures.world))) in
+    built-legal (seen_by m.world m.position m.asked m.learnt) (m.world_of built.world)
+    (m.world_of core.world) built.legal same
 
 pub returns-clause-told : goal.returns-clause-told
 returns-clause-told g c =
@@ -56,9 +68,16 @@ returns-clause-told g c =
     let built = c.into_core.result in
     let shared = c.close.result in
     let first : shared.first.value ≡ opened =
-    some-is _ _ (sym c.close.ensures.world ∙ (c.join_all.ensures.kept.1 ∙ (ap (λ s. s.world) c.split_all.ensures.seat ∙ ap (λ s. s.world) c.in_ok-board.ensures))) in
-    let same = ∥∥₁_map shared.same (λ e. ap (λ k. m.world_of k.world) c.into_core.ensures ∙ (e ∙ (ap (λ k. m.world_of k.world) first ∙ c.nodes.ensures.world))) in
-    built-told (m.world_of built.world) (m.world_of core.world) built.history.events built.end same (end-told (seen_by m.world m.position m.asked m.learnt) (m.world_of built.world) built.end built.legal built.stops)
+    some-is _ _
+    (sym c.close.ensures.world
+    ∙ (c.join_all.ensures.kept.1
+    ∙ (ap (λ s. s.world) c.split_all.ensures.seat ∙ ap (λ s. s.world) c.in_ok-board.ensures)))
+    in
+    let same = ∥∥₁_map shared.same (λ e. ap (λ k. m.world_of k.world) c.into_core.ensures
+    ∙ (e ∙ (ap (λ k. m.world_of k.world) first ∙ c.nodes.ensures.world))) in
+    built-told (m.world_of built.world) (m.world_of core.world) built.history.events built.end same
+    (end-told (seen_by m.world m.position m.asked m.learnt) (m.world_of built.world) built.end
+    built.legal built.stops)
 
 pub returns-clause-end : goal.returns-clause-end
 returns-clause-end g c =
@@ -66,22 +85,38 @@ returns-clause-end g c =
     let shared = c.close.result in
     let places = vec_len c.args.places in
     let first : shared.first.value ≡ c.nodes.new.self =
-    some-is _ _ (sym c.close.ensures.world ∙ (c.join_all.ensures.kept.1 ∙ (ap (λ s. s.world) c.split_all.ensures.seat ∙ ap (λ s. s.world) c.in_ok-board.ensures))) in
+    some-is _ _
+    (sym c.close.ensures.world
+    ∙ (c.join_all.ensures.kept.1
+    ∙ (ap (λ s. s.world) c.split_all.ensures.seat ∙ ap (λ s. s.world) c.in_ok-board.ensures)))
+    in
     let nodes : built.history.nodes ≡ places =
-    ap (λ k. k.history.nodes) c.into_core.ensures ∙ (shared.nodes ∙ (ap (λ k. k.history.nodes) first ∙ (c.nodes.ensures.nodes ∙ c.len.ensures))) in
-    let seen = ap (λ k. marked k.history.events k.end) c.into_core.ensures ∙ c.close.ensures.history in
+    ap (λ k. k.history.nodes) c.into_core.ensures
+    ∙ (shared.nodes
+    ∙ (ap (λ k. k.history.nodes) first ∙ (c.nodes.ensures.nodes ∙ c.len.ensures))) in
+    let seen = ap (λ k. marked k.history.events k.end) c.into_core.ensures
+    ∙ c.close.ensures.history in
     let numbers = c.run_all-left.ensures.numbers ∙ c.split_all.ensures.numbers in
-    let left = have-left (λ n. n.number) c.join_all.new.seat.seen c.run_all-left.result.items (numbers_below places) numbers c.join_all.ensures.left in
-    all-ended places built.history.events built.end (subst (HaveLeft (numbers_below places)) (sym seen) left) (subst (λ n. AreOfNodes n built.history.events) nodes built.active)
+    let left = have-left (λ n. n.number) c.join_all.new.seat.seen c.run_all-left.result.items
+    (numbers_below places) numbers c.join_all.ensures.left in
+    all-ended places built.history.events built.end
+    (subst (HaveLeft (numbers_below places)) (sym seen) left)
+    (subst (λ n. AreOfNodes n built.history.events) nodes built.active)
 
 pub returns-clause-few : goal.returns-clause-few
 returns-clause-few g c =
     let built = c.into_core.result in
     let shared = c.close.result in
     let first : shared.first.value ≡ c.nodes.new.self =
-    some-is _ _ (sym c.close.ensures.world ∙ (c.join_all.ensures.kept.1 ∙ (ap (λ s. s.world) c.split_all.ensures.seat ∙ ap (λ s. s.world) c.in_ok-board.ensures))) in
+    some-is _ _
+    (sym c.close.ensures.world
+    ∙ (c.join_all.ensures.kept.1
+    ∙ (ap (λ s. s.world) c.split_all.ensures.seat ∙ ap (λ s. s.world) c.in_ok-board.ensures)))
+    in
     let nodes : built.history.nodes ≡ vec_len c.args.places =
-    ap (λ k. k.history.nodes) c.into_core.ensures ∙ (shared.nodes ∙ (ap (λ k. k.history.nodes) first ∙ (c.nodes.ensures.nodes ∙ c.len.ensures))) in
+    ap (λ k. k.history.nodes) c.into_core.ensures
+    ∙ (shared.nodes
+    ∙ (ap (λ k. k.history.nodes) first ∙ (c.nodes.ensures.nodes ∙ c.len.ensures))) in
     subst (λ n. AreOfNodes n built.history.events) nodes built.active
 
 pub returns-clause-spent : goal.returns-clause-spent
@@ -89,7 +124,15 @@ returns-clause-spent g c =
     let built = c.into_core.result in
     let shared = c.close.result in
     let first : shared.first.value ≡ c.nodes.new.self =
-    some-is _ _ (sym c.close.ensures.world ∙ (c.join_all.ensures.kept.1 ∙ (ap (λ s. s.world) c.split_all.ensures.seat ∙ ap (λ s. s.world) c.in_ok-board.ensures))) in
+    some-is _ _
+    (sym c.close.ensures.world
+    ∙ (c.join_all.ensures.kept.1
+    ∙ (ap (λ s. s.world) c.split_all.ensures.seat ∙ ap (λ s. s.world) c.in_ok-board.ensures)))
+    in
     let nodes : built.history.nodes ≡ vec_len c.args.places =
-    ap (λ k. k.history.nodes) c.into_core.ensures ∙ (shared.nodes ∙ (ap (λ k. k.history.nodes) first ∙ (c.nodes.ensures.nodes ∙ c.len.ensures))) in
-    subst (λ n. IsSpent n built.history.events built.end) nodes (subst (λ k. IsSpent k.history.nodes k.history.events k.end) (sym c.into_core.ensures) shared.spent)
+    ap (λ k. k.history.nodes) c.into_core.ensures
+    ∙ (shared.nodes
+    ∙ (ap (λ k. k.history.nodes) first ∙ (c.nodes.ensures.nodes ∙ c.len.ensures))) in
+    subst (λ n. IsSpent n built.history.events built.end) nodes
+    (subst (λ k. IsSpent k.history.nodes k.history.events k.end) (sym c.into_core.ensures)
+    shared.spent)

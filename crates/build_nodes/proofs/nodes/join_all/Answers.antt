@@ -13,7 +13,8 @@ loop-node-init g c = (
   refl,
   c.requires.home,
   refl,
-  subst (λ b. All (λ n. IsSeated b n.seat) c.args.all.items) (sym c.requires.board) c.requires.seated,
+  subst (λ b. All (λ n. IsSeated b n.seat) c.args.all.items) (sym c.requires.board)
+      c.requires.seated,
   c.requires.left,
   prefix_self _,
   joined-none (λ n. has_left n.number c.args.seat.now.seen ≡ true) c.args.all.items,
@@ -22,11 +23,13 @@ loop-node-init g c = (
 pub join_one-requires-clause-seated : goal.join_one-requires-clause-seated
 join_one-requires-clause-seated g c κs within =
     subst (λ b. IsSeated b c.in-Some.node.seat) c.requires.board
-    (all-last (λ n. IsSeated c.args.seat.now.board n.seat) c.loop-node.all.items c.pop.new.self.items c.in-Some.node c.in-Some.ensures.items c.loop-node.invariant.4)
+    (all-last (λ n. IsSeated c.args.seat.now.board n.seat) c.loop-node.all.items
+    c.pop.new.self.items c.in-Some.node c.in-Some.ensures.items c.loop-node.invariant.4)
 
 pub join_one-requires-clause-left : goal.join_one-requires-clause-left
 join_one-requires-clause-left g c κs within =
-    all-last (λ n. HasLeft n.number n.seat) c.loop-node.all.items c.pop.new.self.items c.in-Some.node c.in-Some.ensures.items c.loop-node.invariant.5
+    all-last (λ n. HasLeft n.number n.seat) c.loop-node.all.items c.pop.new.self.items
+    c.in-Some.node c.in-Some.ensures.items c.loop-node.invariant.5
 
 pub loop-node-preserved : goal.loop-node-preserved
 loop-node-preserved g c =
@@ -40,13 +43,19 @@ loop-node-preserved g c =
       search rules,
       search rules,
       omega arith,
-      subst (All (λ n. IsSeated board n.seat)) (sym rest) (All-take (λ n. IsSeated board n.seat) _ _ c.loop-node.invariant.4),
-      subst (All (λ n. HasLeft n.number n.seat)) (sym rest) (All-take (λ n. HasLeft n.number n.seat) _ _ c.loop-node.invariant.5),
+      subst (All (λ n. IsSeated board n.seat)) (sym rest)
+          (All-take (λ n. IsSeated board n.seat) _ _ c.loop-node.invariant.4),
+      subst (All (λ n. HasLeft n.number n.seat)) (sym rest)
+          (All-take (λ n. HasLeft n.number n.seat) _ _ c.loop-node.invariant.5),
       prefix_trans _ _ _ c.loop-node.invariant.6 c.join_one.ensures.continues,
-      joined-more _ _ c.args.all.items c.loop-node.all.items c.pop.new.self.items c.in-Some.node (λ n h. left-stays n.number _ _ c.join_one.ensures.continues h) popped.items c.loop-node.invariant.7 c.join_one.ensures.left,
+      joined-more _ _ c.args.all.items c.loop-node.all.items c.pop.new.self.items c.in-Some.node
+          (λ n h. left-stays n.number _ _ c.join_one.ensures.continues h) popped.items
+          c.loop-node.invariant.7 c.join_one.ensures.left,
     )
 
 pub returns-clause-left : goal.returns-clause-left
 returns-clause-left g c =
-    joined-all (λ n. has_left n.number c.loop-node.seat.seen ≡ true) c.args.all.items c.loop-node.all.items c.loop-node.invariant.7
-    (nothing-in c.loop-node.all.items (vec_len c.loop-node.all) c.loop-node.all.ok.0 c.in_default.ensures.cases.0)
+    joined-all (λ n. has_left n.number c.loop-node.seat.seen ≡ true) c.args.all.items
+    c.loop-node.all.items c.loop-node.invariant.7
+    (nothing-in c.loop-node.all.items (vec_len c.loop-node.all) c.loop-node.all.ok.0
+    c.in_default.ensures.cases.0)

@@ -10,7 +10,8 @@ use Rattle.build_nodes.proofs.Turning.{and-some}
 use Rattle.build_nodes.proofs.nodes.split_all.Goals as goal
 
 pub split-requires-send-S : goal.split-requires-send-S
-split-requires-send-S g c κs within = shared-crosses _ _ _ g.W.Walker c.type_bounds.send-W c.type_bounds.send-W-Origin _
+split-requires-send-S g c κs within = shared-crosses _ _ _ g.W.Walker c.type_bounds.send-W
+    c.type_bounds.send-W-Origin _
 
 pub loop-place-preserved : goal.loop-place-preserved
 loop-place-preserved g c =
@@ -20,17 +21,23 @@ loop-place-preserved g c =
     let new = c.split.ensures.new in
     let len = c.push_reserved.ensures.len in
     let left = c.in-Some.ensures.len in
-    let less : first.share - vec_len loop.all - 1 ≡ first.share - vec_len c.push_reserved.new.self = omega arith in (
-      c.split.ensures.kept ∙ (ap {A = SeatFacts _ _} (λ s. record s { share = s.share - 1 }) was.0 ∙ ap (λ n. record first { share = n }) less),
+    let less : first.share - vec_len loop.all - 1
+    ≡ first.share - vec_len c.push_reserved.new.self = omega arith in (
+      c.split.ensures.kept
+          ∙ (ap {A = SeatFacts _ _} (λ s. record s { share = s.share - 1 }) was.0
+          ∙ ap (λ n. record first { share = n }) less),
       omega (arith, was.1),
       c.push_reserved.ensures.capacity ∙ was.2,
-      all-more (λ n. IsSeated first.board n.seat) c.push_reserved.new.self.items loop.all.items _ c.push_reserved.ensures.items was.3 (
-        ap (λ s. s.board) new ∙ ap (λ s. s.board) was.0,
-        ap (λ s. s.has_state) new ∙ (ap (λ s. s.has_state) was.0 ∙ c.requires.seat.0),
-        ap (λ s. s.share) new,
-        ap (λ s. is_some s.world) new ∙ (ap (λ s. is_some s.world) was.0 ∙ c.requires.seat.3),
-      ),
-      numbers-more (λ n. n.number) c.push_reserved.new.self.items loop.all.items _ (vec_len loop.places) (vec_len c.pop.new.self) (numbers_below (vec_len c.args.places)) c.push_reserved.ensures.items c.len.ensures (omega (arith, left)) was.4,
+      all-more (λ n. IsSeated first.board n.seat) c.push_reserved.new.self.items loop.all.items _
+          c.push_reserved.ensures.items was.3 (
+            ap (λ s. s.board) new ∙ ap (λ s. s.board) was.0,
+            ap (λ s. s.has_state) new ∙ (ap (λ s. s.has_state) was.0 ∙ c.requires.seat.0),
+            ap (λ s. s.share) new,
+            ap (λ s. is_some s.world) new ∙ (ap (λ s. is_some s.world) was.0 ∙ c.requires.seat.3),
+          ),
+      numbers-more (λ n. n.number) c.push_reserved.new.self.items loop.all.items _
+          (vec_len loop.places) (vec_len c.pop.new.self) (numbers_below (vec_len c.args.places))
+          c.push_reserved.ensures.items c.len.ensures (omega (arith, left)) was.4,
       and-some first.world _ _
           (λ known fit. subst (All (λ place. g.W.Walker.Fits place
           (g.W.Walker.world_of known.world)))
@@ -53,4 +60,6 @@ invariant_of-node g c =
     }
 
 pub returns-clause-numbers : goal.returns-clause-numbers
-returns-clause-numbers g c = numbers-all (λ n. n.number) c.loop-place.all.items (vec_len c.loop-place.places) (numbers_below (vec_len c.args.places)) c.loop-place.invariant.4 c.in_default.ensures.cases.0
+returns-clause-numbers g c = numbers-all (λ n. n.number) c.loop-place.all.items
+    (vec_len c.loop-place.places) (numbers_below (vec_len c.args.places)) c.loop-place.invariant.4
+    c.in_default.ensures.cases.0

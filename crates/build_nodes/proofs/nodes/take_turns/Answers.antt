@@ -13,5 +13,9 @@ loop-init g c =
     let s = c.requires.seated in (
       (refl, s.1, s.2, s.3),
       refl,
-      some-true node.seat.world (λ first. ∥ IsIdle seen m.earlier node.number (m.world_of first.world) node.seat.seen 0 ∥₁) (λ first. idle-first seen m.earlier node.number (m.world_of first.world) node.seat.seen) s.3,
+      some-true node.seat.world
+          (λ first. ∥ IsIdle seen m.earlier node.number (m.world_of first.world) node.seat.seen 0
+          ∥₁)
+          (λ first. idle-first seen m.earlier node.number (m.world_of first.world) node.seat.seen)
+          s.3,
     )

@@ -10,4 +10,6 @@ invariant-loop g l =
     let m = g.W.Walker in
     IsSeated l.initial.node.seat.board l.node.seat
     × (l.node.number ≡ l.initial.node.number)
-    × IsSomeAnd l.node.seat.world (λ first. IsBrought (seen_by m.world m.position m.asked m.learnt) m.earlier l.node.number (m.world_of first.world) l.node.seat.seen l.brought)
+    × IsSomeAnd l.node.seat.world
+    (λ first. IsBrought (seen_by m.world m.position m.asked m.learnt) m.earlier l.node.number
+    (m.world_of first.world) l.node.seat.seen l.brought)

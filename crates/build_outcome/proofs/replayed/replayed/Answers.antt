@@ -5,10 +5,12 @@ use Rattle.build_outcome.proofs.replayed.replayed.Goals as goal
 
 pub replay-requires : goal.replay-requires
 replay-requires c =
-    run_defined (replay c.args.table.now.finished) c.args.runs.now c.loop-run.run-index c.run-item.result c.loop-run-test.true c.run-item.is c.loop-run.journal
+    run_defined (replay c.args.table.now.finished) c.args.runs.now c.loop-run.run-index
+    c.run-item.result c.loop-run-test.true c.run-item.is c.loop-run.journal
     (subst (λ o. IsSome o) (sym c.loop-run.invariant) c.requires)
 
 pub loop-run-preserved : goal.loop-run-preserved
 loop-run-preserved c =
-    run_step (replay c.args.table.now.finished) c.args.runs.now c.loop-run.run-index c.run-item.result c.loop-run-test.true c.run-item.is c.loop-run.journal
+    run_step (replay c.args.table.now.finished) c.args.runs.now c.loop-run.run-index
+    c.run-item.result c.loop-run-test.true c.run-item.is c.loop-run.journal
     c.replay.new.self c.in_ok-replay.ensures.ok ∙ c.loop-run.invariant

@@ -4,4 +4,5 @@ use Rattle.build_outcome.proofs.replayed.replayed.Given as goal
 
 abbrev pub invariant-loop-run : goal.invariant-loop-run
 invariant-loop-run l =
-    replays (replay l.table.finished) (map replays_run (drop l.run-index l.runs)) l.journal ≡ replays (replay l.table.finished) (map replays_run l.runs) []
+    replays (replay l.table.finished) (map replays_run (drop l.run-index l.runs)) l.journal
+    ≡ replays (replay l.table.finished) (map replays_run l.runs) []

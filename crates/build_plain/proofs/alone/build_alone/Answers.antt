@@ -17,14 +17,24 @@ loop-core-preserved g c =
     let same = c.loop-core.invariant.world in
     record {
       world = c.take_turn.ensures.world ∙ same;
-      drives = drives-more (m.world_of first.world) first.history.events before.history.events after.history.events c.loop-core.invariant.drives
-          (subst (λ w. Drives w before.history.events after.history.events) same c.take_turn.ensures.drives);
+      drives = drives-more (m.world_of first.world) first.history.events before.history.events
+          after.history.events c.loop-core.invariant.drives
+          (subst (λ w. Drives w before.history.events after.history.events) same
+          c.take_turn.ensures.drives);
       free = subst (λ w. IsFree w after.history.events after.end) same c.take_turn.ensures.free;
-      uses = λ none. turns-uses (seen_by m.world m.position m.asked m.learnt) (m.world_of first.world) (m.world_of before.world) first.history.events before.history.events after.history.events
-          (m.used c.args.place.now) (m.used c.loop-core.place) (m.used c.take_turn.new.place) before.end after.end same
-          (sym c.end.ensures.end ∙ ap option_copied (none-of c.end.result (c.is_none.ensures ∙ ap not c.loop-core-test.true)))
-          (c.loop-core.invariant.uses none) (c.take_turn.ensures.uses (none-retired (m.world_of first.world) first.history.events before.history.events c.loop-core.invariant.drives none));
-      front = front-trans (m.used c.args.place.now) (m.used c.loop-core.place) (m.used c.take_turn.new.place) c.loop-core.invariant.front c.take_turn.ensures.front;
+      uses = λ none. turns-uses (seen_by m.world m.position m.asked m.learnt)
+          (m.world_of first.world) (m.world_of before.world) first.history.events
+          before.history.events after.history.events
+          (m.used c.args.place.now) (m.used c.loop-core.place) (m.used c.take_turn.new.place)
+          before.end after.end same
+          (sym c.end.ensures.end ∙ ap option_copied
+          (none-of c.end.result (c.is_none.ensures ∙ ap not c.loop-core-test.true)))
+          (c.loop-core.invariant.uses none)
+          (c.take_turn.ensures.uses
+          (none-retired (m.world_of first.world) first.history.events before.history.events
+          c.loop-core.invariant.drives none));
+      front = front-trans (m.used c.args.place.now) (m.used c.loop-core.place)
+          (m.used c.take_turn.new.place) c.loop-core.invariant.front c.take_turn.ensures.front;
       place = subst (m.Fits c.take_turn.new.place) same c.take_turn.ensures.place;
       lent = c.take_turn.ensures.lent ∙ c.loop-core.invariant.lent;
     }
@@ -37,7 +47,8 @@ loop-core-init g c =
       world = refl;
       drives = drives-none (m.world_of first.world) first.history.events first.history.events refl;
       free = free-of (m.world_of first.world) first.history.events first.end c.requires.free;
-      uses = λ none. unless-any first.end _ ∣ uses-none (m.world_of first.world) first.history.events first.history.events _ refl ∣₁;
+      uses = λ none. unless-any first.end _ ∣ uses-none (m.world_of first.world)
+          first.history.events first.history.events _ refl ∣₁;
       front = front-self (m.used c.args.place.now);
       place = c.requires.place;
       lent = refl;
@@ -53,4 +64,5 @@ pub returns-clause-least : goal.returns-clause-least
 returns-clause-least g c more e =
     let m = g.W.Walker in
     let first = c.args.core.now in
-    least-of (m.world_of first.world) first.history.events c.loop-core.core.history.events c.loop-core.invariant.drives more e
+    least-of (m.world_of first.world) first.history.events c.loop-core.core.history.events
+    c.loop-core.invariant.drives more e

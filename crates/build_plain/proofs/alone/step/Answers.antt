@@ -20,26 +20,35 @@ go_on-requires-clause-known g c =
     let m = g.W.Walker in
     let core = c.args.core.now in
     subst (λ table. ArePartOf (m.learnt c.args.walk) table.finished) (sym c.table.ensures.table)
-    (known-of (m.world_of core.world) core.history.events core.table.finished c.args.id (seen_by m.world m.position m.asked m.learnt c.args.walk) c.args.answer c.requires.out)
+    (known-of (m.world_of core.world) core.history.events core.table.finished c.args.id
+    (seen_by m.world m.position m.asked m.learnt c.args.walk) c.args.answer c.requires.out)
 
 pub go_on-requires-clause-fits : goal.go_on-requires-clause-fits
 go_on-requires-clause-fits g c =
     let m = g.W.Walker in
     let core = c.args.core.now in
-    subst (λ table. IsSome (answered (m.world c.args.walk) table.finished (m.position c.args.walk) c.args.answer)) (sym c.table.ensures.table)
-    (fits-of (m.world_of core.world) core.history.events core.table.finished c.args.id (seen_by m.world m.position m.asked m.learnt c.args.walk) c.args.answer c.requires.out)
+    subst
+    (λ table.
+    IsSome
+    (answered (m.world c.args.walk) table.finished (m.position c.args.walk) c.args.answer))
+    (sym c.table.ensures.table)
+    (fits-of (m.world_of core.world) core.history.events core.table.finished c.args.id
+    (seen_by m.world m.position m.asked m.learnt c.args.walk) c.args.answer c.requires.out)
 
 pub go_on-requires-clause-turn : goal.go_on-requires-clause-turn
 go_on-requires-clause-turn g c =
     let m = g.W.Walker in
     let core = c.args.core.now in
-    turn-of (m.world_of core.world) core.history.events core.table.finished c.args.id (seen_by m.world m.position m.asked m.learnt c.args.walk) c.args.answer c.requires.out
+    turn-of (m.world_of core.world) core.history.events core.table.finished c.args.id
+    (seen_by m.world m.position m.asked m.learnt c.args.walk) c.args.answer c.requires.out
 
 pub go_on-requires-clause-room : goal.go_on-requires-clause-room
 go_on-requires-clause-room g c =
     let m = g.W.Walker in
     let core = c.args.core.now in
-    room-of (m.world_of core.world) core.history.events core.table.finished c.args.id (seen_by m.world m.position m.asked m.learnt c.args.walk) c.args.answer c.requires.out c.few_events.ensures
+    room-of (m.world_of core.world) core.history.events core.table.finished c.args.id
+    (seen_by m.world m.position m.asked m.learnt c.args.walk) c.args.answer c.requires.out
+    c.few_events.ensures
 
 pub go_on-requires-clause-place : goal.go_on-requires-clause-place
 go_on-requires-clause-place g c =
@@ -54,10 +63,16 @@ pub answer_ask-requires-clause-own : goal.answer_ask-requires-clause-own
 answer_ask-requires-clause-own g c =
     let m = g.W.Walker in
     let core = c.args.core.now in
-    own-of (m.world_of core.world) core.history.events core.table.finished c.args.id (seen_by m.world m.position m.asked m.learnt c.args.walk) c.args.answer c.requires.out
+    own-of (m.world_of core.world) core.history.events core.table.finished c.args.id
+    (seen_by m.world m.position m.asked m.learnt c.args.walk) c.args.answer c.requires.out
     (seen_by m.world m.position m.asked m.learnt c.go_on.new.walk) c.in-Ok.ensures.world
-    (subst (λ table. answered (m.world c.args.walk) table.finished (m.position c.args.walk) c.args.answer ≡ Some (m.position c.go_on.new.walk)) c.table.ensures.table c.in-Ok.ensures.goes_on)
-    c.in-Ok.ensures.asked (subst (λ table. ArePartOf (m.learnt c.go_on.new.walk) table.finished) c.table.ensures.table c.in-Ok.ensures.known)
+    (subst
+    (λ table. answered (m.world c.args.walk) table.finished (m.position c.args.walk)
+    c.args.answer ≡ Some (m.position c.go_on.new.walk)) c.table.ensures.table
+    c.in-Ok.ensures.goes_on)
+    c.in-Ok.ensures.asked
+    (subst (λ table. ArePartOf (m.learnt c.go_on.new.walk) table.finished) c.table.ensures.table
+    c.in-Ok.ensures.known)
 
 pub returns-in-Ok-clause-place : goal.returns-in-Ok-clause-place
 returns-in-Ok-clause-place g c =
@@ -83,9 +98,14 @@ returns-in-Ok-clause-uses g c =
     let core = c.args.core.now in
     let after = c.answer_ask.new.core in
     let seen = seen_by m.world m.position m.asked m.learnt in
-    step-uses seen (m.world_of core.world) core.history.events after.history.events core.table.finished after.table.finished c.args.id c.args.walk c.go_on.new.walk c.args.answer c.answer_ask.result after.end
+    step-uses seen (m.world_of core.world) core.history.events after.history.events
+    core.table.finished after.table.finished c.args.id c.args.walk c.go_on.new.walk
+    c.args.answer c.answer_ask.result after.end
     (m.used c.args.place.now) (m.used c.go_on.new.place) c.requires.out
-    (subst (λ table. answered (m.world c.args.walk) table.finished (m.position c.args.walk) c.args.answer ≡ Some (m.position c.go_on.new.walk)) c.table.ensures.table c.in-Ok.ensures.goes_on)
+    (subst
+    (λ table. answered (m.world c.args.walk) table.finished (m.position c.args.walk)
+    c.args.answer ≡ Some (m.position c.go_on.new.walk)) c.table.ensures.table
+    c.in-Ok.ensures.goes_on)
     c.in-Ok.ensures.used c.answer_ask.ensures.uses
 
 pub returns-clause-uses : goal.returns-clause-uses

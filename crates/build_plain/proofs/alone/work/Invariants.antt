@@ -11,11 +11,17 @@ invariant-loop-turn g l =
     let m = g.W.Walker in
     record {
       world : m.world_of l.core.world ≡ m.world_of l.initial.core.world;
-      drives : Drives (m.world_of l.initial.core.world) l.initial.core.history.events l.core.history.events;
-      turn : IsTurn (seen_by m.world m.position m.asked m.learnt) (m.world_of l.initial.core.world) l.core.history.events l.core.table.finished l.core.end l.id l.turn;
-      uses : UnlessMemory l.core.end ∥ Uses (m.world_of l.initial.core.world) l.initial.core.history.events l.core.history.events
-          (m.used l.initial.place ++ due_in (seen_by m.world m.position m.asked m.learnt) (m.world_of l.initial.core.world) l.initial.core.table.finished l.initial.turn)
-          (m.used l.place ++ due_in (seen_by m.world m.position m.asked m.learnt) (m.world_of l.initial.core.world) l.core.table.finished l.turn) ∥₁;
+      drives : Drives (m.world_of l.initial.core.world) l.initial.core.history.events
+          l.core.history.events;
+      turn : IsTurn (seen_by m.world m.position m.asked m.learnt) (m.world_of l.initial.core.world)
+          l.core.history.events l.core.table.finished l.core.end l.id l.turn;
+      uses : UnlessMemory l.core.end
+          ∥ Uses (m.world_of l.initial.core.world) l.initial.core.history.events
+          l.core.history.events
+          (m.used l.initial.place ++ due_in (seen_by m.world m.position m.asked m.learnt)
+          (m.world_of l.initial.core.world) l.initial.core.table.finished l.initial.turn)
+          (m.used l.place ++ due_in (seen_by m.world m.position m.asked m.learnt)
+          (m.world_of l.initial.core.world) l.core.table.finished l.turn) ∥₁;
       front : IsPrefix (m.used l.initial.place) (m.used l.place);
       place : m.Fits l.place (m.world_of l.initial.core.world);
       lent : m.lent l.place ≡ m.lent l.initial.place;

@@ -6,4 +6,6 @@ use Rattle.build_report.proofs.eval.push_items.Given as goal
 
 abbrev pub invariant-loop-item : goal.invariant-loop-item
 invariant-loop-item l =
-    string_bytes l.shown ++ flat_map (item_lines l.kind (unwrap_or (option_copied l.defaults) [])) (drop l.item-index l.items) ≡ string_bytes l.fn.shown ++ flat_map (item_lines l.kind (unwrap_or (option_copied l.defaults) [])) l.items
+    string_bytes l.shown ++ flat_map (item_lines l.kind (unwrap_or (option_copied l.defaults) []))
+    (drop l.item-index l.items) ≡ string_bytes l.fn.shown
+    ++ flat_map (item_lines l.kind (unwrap_or (option_copied l.defaults) [])) l.items

@@ -5,4 +5,6 @@ use Rattle.build_report.proofs.run.push_others.Given as goal
 
 abbrev pub invariant-loop-decision : goal.invariant-loop-decision
 invariant-loop-decision l =
-    string_bytes l.shown ++ flat_map (λ decision. codes ", " ++ decision_words decision) (drop l.decision-index l.decisions) ≡ string_bytes l.fn.shown ++ flat_map (λ decision. codes ", " ++ decision_words decision) l.decisions
+    string_bytes l.shown ++ flat_map (λ decision. codes ", " ++ decision_words decision)
+    (drop l.decision-index l.decisions) ≡ string_bytes l.fn.shown
+    ++ flat_map (λ decision. codes ", " ++ decision_words decision) l.decisions

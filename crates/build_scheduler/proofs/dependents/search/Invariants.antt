@@ -5,7 +5,8 @@ use Rattle.build_scheduler.proofs.dependents.search.Given as goal
 
 abbrev pub invariant-loop-place : goal.invariant-loop-place
 invariant-loop-place l = record {
-  found : AreFound l.origins.items l.waiting.items l.first l.dependents.requests.keys l.dependents.needs.items;
+  found : AreFound l.origins.items l.waiting.items l.first l.dependents.requests.keys
+      l.dependents.needs.items;
   looked : AreLooked l.origins.items l.waiting.items l.dependents.requests.keys l.place;
   apart : (i : ℕ) → i < l.place → at l.dependents.requests.keys i ≡ Some l.by → ⊥;
   within : l.place ≤ length l.dependents.requests.keys;

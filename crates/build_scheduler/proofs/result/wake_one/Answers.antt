@@ -12,5 +12,7 @@ returns-clause-slots g c =
       walk = walk;
       by = c.into_waiting-walk.result.1;
       was = c.replace_slot.ensures.was ∙ ap Some c.into_waiting-walk.ensures;
-      is = c.put_ready.ensures ∙ (ap (λ xs. put xs c.args.number (Ready walk Use)) c.replace_slot.ensures.is ∙ put-put c.args.slots.now.items c.args.number Done (Ready walk Use));
+      is = c.put_ready.ensures
+          ∙ (ap (λ xs. put xs c.args.number (Ready walk Use)) c.replace_slot.ensures.is
+          ∙ put-put c.args.slots.now.items c.args.number Done (Ready walk Use));
     }

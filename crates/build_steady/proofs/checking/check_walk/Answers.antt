@@ -38,7 +38,8 @@ loop-check-preserved g c =
     let turn =
     subst (IsTurn seen w c.loop-check.check) c.in-GoesOn.is c.loop-check.invariant.turn in
     record {
-      turn = turn-own seen w c.loop-check.check c.step.new.self c.in-GoesOn.walk c.in-GoesOn.answer _
+      turn = turn-own seen w c.loop-check.check c.step.new.self c.in-GoesOn.walk c.in-GoesOn.answer
+          _
           turn c.in_ok-turn-in-GoesOn.ensures.turn;
       front = begins_then _ _ _ c.loop-check.invariant.front c.step.ensures.front;
       place = subst (m.Fits c.step.new.place) turn.2.world c.step.ensures.place;

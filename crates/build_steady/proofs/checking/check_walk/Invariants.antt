@@ -8,7 +8,8 @@ abbrev pub invariant-loop-check : goal.invariant-loop-check
 invariant-loop-check g l =
     let m = g.W.Walker in
     record {
-      turn : IsTurn (seen_by m.world m.position m.asked m.learnt) (m.world l.fn.walk) l.check l.turn;
+      turn : IsTurn (seen_by m.world m.position m.asked m.learnt) (m.world l.fn.walk) l.check
+          l.turn;
       front : IsPrefix (m.used l.initial.place) (m.used l.place);
       place : m.Fits l.place (m.world l.fn.walk);
       lent : m.lent l.place ≡ m.lent l.initial.place;

@@ -10,6 +10,8 @@ loop-place-preserved c =
     let at = c.loop-place.place in
     let before = λ (name : _). place_of name (take at c.args.targets.now) in
     λ name. c.in_ok-insert_unless_there.ensures name
-    ∙ ap (λ o. option_or o (cond (bytes_eq c.key.result.now name) (Some at) None)) (c.loop-place.invariant name)
+    ∙ ap (λ o. option_or o (cond (bytes_eq c.key.result.now name) (Some at) None))
+    (c.loop-place.invariant name)
     ∙ ap (λ key. option_or (before name) (cond (bytes_eq key name) (Some at) None)) c.key.ensures
-    ∙ one_more_place name c.args.targets.now at c.index-targets-place.result c.loop-place-test.true c.index-targets-place.is
+    ∙ one_more_place name c.args.targets.now at c.index-targets-place.result c.loop-place-test.true
+    c.index-targets-place.is

@@ -23,29 +23,37 @@ step-requires-clause-known g c =
     let core = c.args.core.now in
     let next = c.args.next in
     subst (λ table. ArePartOf (m.learnt next.walk) table.finished) (sym c.table.ensures.table)
-    (known-of (m.world_of core.world) core.history.events core.table.finished next.id (seen_by m.world m.position m.asked m.learnt next.walk) next.answer c.requires.next)
+    (known-of (m.world_of core.world) core.history.events core.table.finished next.id
+    (seen_by m.world m.position m.asked m.learnt next.walk) next.answer c.requires.next)
 
 pub step-requires-clause-fits : goal.step-requires-clause-fits
 step-requires-clause-fits g c =
     let m = g.W.Walker in
     let core = c.args.core.now in
     let next = c.args.next in
-    subst (λ table. IsSome (answered (m.world next.walk) table.finished (m.position next.walk) next.answer)) (sym c.table.ensures.table)
-    (fits-of (m.world_of core.world) core.history.events core.table.finished next.id (seen_by m.world m.position m.asked m.learnt next.walk) next.answer c.requires.next)
+    subst
+    (λ table.
+    IsSome (answered (m.world next.walk) table.finished (m.position next.walk) next.answer))
+    (sym c.table.ensures.table)
+    (fits-of (m.world_of core.world) core.history.events core.table.finished next.id
+    (seen_by m.world m.position m.asked m.learnt next.walk) next.answer c.requires.next)
 
 pub step-requires-clause-turn : goal.step-requires-clause-turn
 step-requires-clause-turn g c =
     let m = g.W.Walker in
     let core = c.args.core.now in
     let next = c.args.next in
-    turn-of (m.world_of core.world) core.history.events core.table.finished next.id (seen_by m.world m.position m.asked m.learnt next.walk) next.answer c.requires.next
+    turn-of (m.world_of core.world) core.history.events core.table.finished next.id
+    (seen_by m.world m.position m.asked m.learnt next.walk) next.answer c.requires.next
 
 pub step-requires-clause-room : goal.step-requires-clause-room
 step-requires-clause-room g c =
     let m = g.W.Walker in
     let core = c.args.core.now in
     let next = c.args.next in
-    room-of (m.world_of core.world) core.history.events core.table.finished next.id (seen_by m.world m.position m.asked m.learnt next.walk) next.answer c.requires.next c.event_count-number.ensures.few
+    room-of (m.world_of core.world) core.history.events core.table.finished next.id
+    (seen_by m.world m.position m.asked m.learnt next.walk) next.answer c.requires.next
+    c.event_count-number.ensures.few
 
 pub step-requires-clause-place : goal.step-requires-clause-place
 step-requires-clause-place g c =
@@ -94,10 +102,22 @@ returns-clause-out g c =
     let next = c.args.next in
     let walk = c.step.new.walk in
     let told = c.in_ok-ask.ensures in
-    let own = own-of (m.world_of core.world) core.history.events core.table.finished next.id (seen_by m.world m.position m.asked m.learnt next.walk) next.answer c.requires.next (seen_by m.world m.position m.asked m.learnt walk) told.world
-    (subst (λ table. answered (m.world next.walk) table.finished (m.position next.walk) next.answer ≡ Some (m.position walk)) c.table.ensures.table told.goes_on)
+    let own = own-of (m.world_of core.world) core.history.events core.table.finished next.id
+    (seen_by m.world m.position m.asked m.learnt next.walk) next.answer c.requires.next
+    (seen_by m.world m.position m.asked m.learnt walk) told.world
+    (subst (λ table. answered (m.world next.walk) table.finished (m.position next.walk) next.answer
+    ≡ Some (m.position walk)) c.table.ensures.table told.goes_on)
     told.asked
     (subst (λ table. ArePartOf (m.learnt walk) table.finished) c.table.ensures.table told.known) in
-    subst (All (λ a. IsAsking (m.world_of core.world) core.history.events a.id a.number (seen_by m.world m.position m.asked m.learnt a.walk) a.ask)) (sym c.in_ok-push.ensures.items)
-    (All-push (λ a. IsAsking (m.world_of core.world) core.history.events a.id a.number (seen_by m.world m.position m.asked m.learnt a.walk) a.ask) c.args.out.now.items _ c.requires.out
-    (asks-now (m.world_of core.world) core.legal next.id c.event_count-number.result (seen_by m.world m.position m.asked m.learnt walk) c.in_ok-ask.ask c.event_count-number.ensures.count told.asks own))
+    subst
+    (All
+    (λ a. IsAsking (m.world_of core.world) core.history.events a.id a.number
+    (seen_by m.world m.position m.asked m.learnt a.walk) a.ask))
+    (sym c.in_ok-push.ensures.items)
+    (All-push
+    (λ a. IsAsking (m.world_of core.world) core.history.events a.id a.number
+    (seen_by m.world m.position m.asked m.learnt a.walk) a.ask) c.args.out.now.items _
+    c.requires.out
+    (asks-now (m.world_of core.world) core.legal next.id c.event_count-number.result
+    (seen_by m.world m.position m.asked m.learnt walk) c.in_ok-ask.ask
+    c.event_count-number.ensures.count told.asks own))

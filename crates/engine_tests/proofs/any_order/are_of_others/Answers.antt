@@ -13,7 +13,11 @@ loop-at-preserved c =
     let next : suc c.loop-at.at ≡ c.loop-at.at + 1 = omega arith in
     let event = c.index-events-at in
     subst (λ (n : ℕ). AreOfOthers c.args.id (drop c.args.number (take n events))) next
-    (others-more events c.args.number c.loop-at.at c.args.id event.result c.loop-at.auto.at c.loop-at-test.true (λ e. c.if-request_of-id.false (c.request_of.ensures ∙ (ap whose event.is ∙ e))) c.loop-at.invariant)
+    (others-more events c.args.number c.loop-at.at c.args.id event.result c.loop-at.auto.at
+    c.loop-at-test.true
+    (λ e. c.if-request_of-id.false (c.request_of.ensures ∙ (ap whose event.is ∙ e)))
+    c.loop-at.invariant)
 
 pub returns : goal.returns
-returns c _ = subst (λ l. AreOfOthers c.args.id (drop c.args.number l)) (take-whole c.args.events.now c.loop-at.at c.loop-at-test.false) c.loop-at.invariant
+returns c _ = subst (λ l. AreOfOthers c.args.id (drop c.args.number l))
+    (take-whole c.args.events.now c.loop-at.at c.loop-at-test.false) c.loop-at.invariant

@@ -9,5 +9,8 @@ answer_ask-requires-clause-own g c =
     let m = g.W.Walker in
     let core = c.args.core.now in
     let asking = c.args.asking in
-    let others = subst (λ events. AreOfOthers asking.id (drop asking.number events)) c.history.ensures.events (c.are_of_others.ensures c.if-are_of_others.true) in
-    still-own (m.world_of core.world) core.legal asking.id asking.number (seen_by m.world m.position m.asked m.learnt asking.walk) asking.ask c.requires.asking others
+    let others = subst (λ events. AreOfOthers asking.id (drop asking.number events))
+    c.history.ensures.events (c.are_of_others.ensures c.if-are_of_others.true) in
+    still-own (m.world_of core.world) core.legal asking.id asking.number
+    (seen_by m.world m.position m.asked m.learnt asking.walk) asking.ask c.requires.asking
+    others

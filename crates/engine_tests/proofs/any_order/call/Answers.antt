@@ -6,4 +6,6 @@ stop-requires-clause-shown g c =
     let m = g.W.Walker in
     let core = c.args.core.now in
     let requested = c.in-Err.ensures.requested in
-    refused-stop (m.world_of core.world) (m.world_of c.request.new.self.world) core.history.events c.request.new.self.history.events c.request.ensures.world requested.0 c.args.id c.args.calls c.in-Err.fault c.refused.result c.refused.ensures requested.2
+    refused-stop (m.world_of core.world) (m.world_of c.request.new.self.world) core.history.events
+    c.request.new.self.history.events c.request.ensures.world requested.0 c.args.id c.args.calls
+    c.in-Err.fault c.refused.result c.refused.ensures requested.2

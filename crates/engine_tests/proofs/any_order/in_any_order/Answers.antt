@@ -14,5 +14,7 @@ built-requires-clause-place g c = (
 pub built-requires-clause-begins : goal.built-requires-clause-begins
 built-requires-clause-begins g c =
     let tools = g.T.CountedTools.answer in
-    begins_there (world_of tools c.args.world.now) (world_of tools c.in_ok-walk.walk.request.world.now) (root_of c.args.world.now) c.in_ok-key.key _
+    begins_there (world_of tools c.args.world.now)
+    (world_of tools c.in_ok-walk.walk.request.world.now) (root_of c.args.world.now)
+    c.in_ok-key.key _
     c.in_ok-walk.ensures.begins c.in_ok-walk.ensures.world c.in_ok-key.ensures

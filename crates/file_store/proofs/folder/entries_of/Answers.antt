@@ -6,5 +6,7 @@ use Rattle.file_store.proofs.folder.entries_of.Goals as goal
 
 pub returns : goal.returns
 returns c =
-    let e : map deref_pair c.loop-path.yielded ≡ c.args.found.now.entries = search (rules, iter_end) in
-    are_rising-shown c.args.found.now.entries c.loop-path.yielded _ e c.loop-path.invariant c.iter-path-items.ensures.ordered
+    let e : map deref_pair c.loop-path.yielded
+    ≡ c.args.found.now.entries = search (rules, iter_end) in
+    are_rising-shown c.args.found.now.entries c.loop-path.yielded _ e c.loop-path.invariant
+    c.iter-path-items.ensures.ordered

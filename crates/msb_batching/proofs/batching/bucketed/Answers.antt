@@ -13,6 +13,9 @@ returns c =
     ∙ ap₂ (buckets_by c.args.references.now)
     (c.deref.ensures.value
     ∙ c.in_ok-spelled.ensures
-    ∙ ap₂ or_this c.in_ok-empty_tuple.ensures (c.in_ok-lists.ensures.tuples ∙ ap (λ tuples. with_batches tuples batches) c.new-tuples.ensures.none))
-    (c.in_ok-lists.ensures.numbers ∙ ap (λ tuples. lists_from tuples batches) c.new-tuples.ensures.none)
+    ∙ ap₂ or_this c.in_ok-empty_tuple.ensures
+    (c.in_ok-lists.ensures.tuples ∙ ap (λ tuples. with_batches tuples batches)
+    c.new-tuples.ensures.none))
+    (c.in_ok-lists.ensures.numbers ∙ ap (λ tuples. lists_from tuples batches)
+    c.new-tuples.ensures.none)
     ∙ buckets_are c.args.references.now batches

@@ -5,4 +5,5 @@ use Rattle.msb_batching.proofs.filling.with_list.Given as goal
 
 abbrev pub invariant-loop-bucket : goal.invariant-loop-bucket
 invariant-loop-bucket l =
-    l.filled.items ++ put_beside l.kind (into_iter_items l.bucket-iterator) (into_iter_items l.lists) ≡ put_beside l.kind l.fn.buckets.items l.fn.lists.items
+    l.filled.items ++ put_beside l.kind (into_iter_items l.bucket-iterator)
+    (into_iter_items l.lists) ≡ put_beside l.kind l.fn.buckets.items l.fn.lists.items

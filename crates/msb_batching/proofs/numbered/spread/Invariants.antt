@@ -5,4 +5,5 @@ use Rattle.msb_batching.proofs.numbered.spread.Given as goal
 
 abbrev pub invariant-loop-numbered : goal.invariant-loop-numbered
 invariant-loop-numbered l =
-    spread_over l.lists.items (map numbered_of (into_iter_items l.numbered-iterator)) ≡ spread_over (map (λ tuple. []) l.tuples) (map numbered_of l.fn.items.items)
+    spread_over l.lists.items (map numbered_of (into_iter_items l.numbered-iterator))
+    ≡ spread_over (map (λ tuple. []) l.tuples) (map numbered_of l.fn.items.items)

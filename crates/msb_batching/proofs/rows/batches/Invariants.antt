@@ -10,4 +10,5 @@ abbrev pub invariant-loop-kind : goal.invariant-loop-kind
 invariant-loop-kind l =
     batches_of (scene_of l.lens) (spoken_of l.mentions)
     ≡ map_ok (λ more. map pairs_of l.batches.items ++ more)
-    (all_ok (λ kind. batch_of (scene_of l.lens) (spoken_of l.mentions) kind.now) (drop l.kind-index l.kind-items))
+    (all_ok (λ kind. batch_of (scene_of l.lens) (spoken_of l.mentions) kind.now)
+    (drop l.kind-index l.kind-items))

@@ -33,7 +33,9 @@ invariant-more_or-loop-next l = record {
   after : l.at ≤ l.end;
   within : l.end ≤ length l.text;
   no_and : starts_and (tokens_at l.end l.text) ≡ false;
-  runs : (frames : List Frame) (left : Tree) → HasRoom frames l.room → takes_or frames ≡ true → run_at l.text l.at frames (done left) ≡ run_at l.text l.end frames (done (fold either left (map tree_of l.others.items)));
+  runs : (frames : List Frame) (left : Tree) → HasRoom frames l.room → takes_or frames ≡ true
+      → run_at l.text l.at frames (done left)
+      ≡ run_at l.text l.end frames (done (fold either left (map tree_of l.others.items)));
 }
 
 abbrev pub decreases-more_or-loop-next : goal.decreases-more_or-loop-next
@@ -43,7 +45,9 @@ abbrev pub invariant-more_and-loop-next : goal.invariant-more_and-loop-next
 invariant-more_and-loop-next l = record {
   after : l.at ≤ l.end;
   within : l.end ≤ length l.text;
-  runs : (frames : List Frame) (left : Tree) → HasRoom frames l.room → takes_and frames ≡ true → run_at l.text l.at frames (done left) ≡ run_at l.text l.end frames (done (fold both left (map tree_of l.others.items)));
+  runs : (frames : List Frame) (left : Tree) → HasRoom frames l.room → takes_and frames ≡ true
+      → run_at l.text l.at frames (done left)
+      ≡ run_at l.text l.end frames (done (fold both left (map tree_of l.others.items)));
 }
 
 abbrev pub decreases-more_and-loop-next : goal.decreases-more_and-loop-next

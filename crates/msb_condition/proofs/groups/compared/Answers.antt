@@ -9,5 +9,9 @@ use Rattle.msb_condition.proofs.groups.compared.Goals as goal
 
 pub returns-in_default-clause-leads : goal.returns-in_default-clause-leads
 returns-in_default-clause-leads c = λ frames room w.
-    truth_at c.args.text.now c.args.at (token_in c.args.text.now c.args.token) c.args.token.end frames (operand_of c.args.left) c.requires.next w c.in_default.not-Compare c.in_default.not-Equals c.in_default.not-Bang
-    ∙ ap (λ tree. step_on c.args.text.now (end_unary frames tree) (tokens_at c.args.at c.args.text.now)) (sym (truth_tree c.args.left))
+    truth_at c.args.text.now c.args.at (token_in c.args.text.now c.args.token) c.args.token.end
+    frames (operand_of c.args.left) c.requires.next w c.in_default.not-Compare
+    c.in_default.not-Equals c.in_default.not-Bang
+    ∙ ap
+    (λ tree. step_on c.args.text.now (end_unary frames tree)
+    (tokens_at c.args.at c.args.text.now)) (sym (truth_tree c.args.left))

@@ -10,4 +10,6 @@ use Rattle.msb_condition.proofs.groups.comparison.Goals as goal
 pub returns-in-None-clause-leads : goal.returns-in-None-clause-leads
 returns-in-None-clause-leads c = λ frames room w.
     truth_at_end c.args.text.now c.args.at frames (operand_of c.args.left) c.in-None.ensures.next w
-    ∙ ap (λ tree. step_on c.args.text.now (end_unary frames tree) (tokens_at c.args.at c.args.text.now)) (sym (truth_tree c.args.left))
+    ∙ ap
+    (λ tree. step_on c.args.text.now (end_unary frames tree)
+    (tokens_at c.args.at c.args.text.now)) (sym (truth_tree c.args.left))

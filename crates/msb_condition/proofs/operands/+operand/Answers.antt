@@ -11,17 +11,27 @@ use Rattle.msb_condition.proofs.operands.+operand.Goals as goal
 
 pub operand_of-returns-in-Quoted-clause-leads : goal.operand_of-returns-in-Quoted-clause-leads
 operand_of-returns-in-Quoted-clause-leads t c = λ frames room.
-    subst (λ next. Leads c.args.text.now c.expression.result (step_at c.args.text.now next c.args.token.end) (λ left tokens. step_on c.args.text.now (end_operand frames (operand_of left)) tokens))
-    (sym (quoted_step c.args.text.now frames c.args.token.kind c.args.token.start c.args.token.end c.in-Quoted.is c.requires.1.1.1.1 c.requires.1.1.0))
+    subst
+    (λ next. Leads c.args.text.now c.expression.result
+    (step_at c.args.text.now next c.args.token.end)
+    (λ left tokens. step_on c.args.text.now (end_operand frames (operand_of left)) tokens))
+    (sym
+    (quoted_step c.args.text.now frames c.args.token.kind c.args.token.start c.args.token.end
+    c.in-Quoted.is c.requires.1.1.1.1 c.requires.1.1.0))
     (c.expression.ensures.leads frames)
 
 pub operand_of-returns-in-Unended-clause-leads : goal.operand_of-returns-in-Unended-clause-leads
 operand_of-returns-in-Unended-clause-leads t c = λ frames room.
     subst (λ next. IsRefused c.unended.result (step_at c.args.text.now next c.args.token.end))
-    (sym (unended_step c.args.text.now frames c.args.token.kind c.args.token.start c.args.token.end c.in-Unended.is c.requires.1.1.1.1))
+    (sym
+    (unended_step c.args.text.now frames c.args.token.kind c.args.token.start c.args.token.end
+    c.in-Unended.is c.requires.1.1.1.1))
     (c.unended.ensures c.args.token.end)
 
 pub named-returns-in-None-clause-leads : goal.named-returns-in-None-clause-leads
 named-returns-in-None-clause-leads t c = λ frames room.
-    plain_word c.args.text.now c.args.token.end frames c.args.function (take (c.args.token.end - c.args.token.start) (drop c.args.token.start c.args.text.now)) c.plain.result c.in-None.ensures.none
-    (subst (λ word. IfOk c.plain.result (λ found. operand_of found.0 ≡ of_parts (Plain word ∷ []))) c.range.ensures.value c.plain.ensures.word) c.plain.ensures.end c.plain.ensures.memory
+    plain_word c.args.text.now c.args.token.end frames c.args.function
+    (take (c.args.token.end - c.args.token.start) (drop c.args.token.start c.args.text.now))
+    c.plain.result c.in-None.ensures.none
+    (subst (λ word. IfOk c.plain.result (λ found. operand_of found.0 ≡ of_parts (Plain word ∷ [])))
+    c.range.ensures.value c.plain.ensures.word) c.plain.ensures.end c.plain.ensures.memory

@@ -8,10 +8,14 @@ none_left : (xs : List ℕ) → common_prefix_len eq_ignore_ascii_case xs [] ≡
 none_left [] = refl
 none_left (x ∷ xs) = refl
 
-ends : (word other : List ℕ) (i n : ℕ) → length other ≤ i → n ≡ i + common_prefix_len eq_ignore_ascii_case (drop i word) (drop i other) → i ≡ n
+ends : (word other : List ℕ) (i n : ℕ) → length other ≤ i
+    → n ≡ i + common_prefix_len eq_ignore_ascii_case (drop i word) (drop i other) → i ≡ n
 ends word other i n l e =
-    let f : common_prefix_len eq_ignore_ascii_case (drop i word) (drop i other) ≡ 0 = ap (common_prefix_len eq_ignore_ascii_case (drop i word)) (drop_all i other l) ∙ none_left (drop i word) in
+    let f : common_prefix_len eq_ignore_ascii_case (drop i word) (drop i other)
+    ≡ 0 = ap (common_prefix_len eq_ignore_ascii_case (drop i word)) (drop_all i other l)
+    ∙ none_left (drop i word) in
     omega arith
 
 pub returns-else-len-other-clause-value : goal.returns-else-len-other-clause-value
-returns-else-len-other-clause-value c = ends c.args.word.now c.args.other.now c.loop-len.len _ c.if-len-other.false c.loop-len.invariant.counted
+returns-else-len-other-clause-value c = ends c.args.word.now c.args.other.now c.loop-len.len _
+    c.if-len-other.false c.loop-len.invariant.counted

@@ -14,5 +14,6 @@ abbrev pub invariant-loop-at : goal.invariant-loop-at
 invariant-loop-at l = record {
   within : l.at ≤ length l.attributes;
   found : names_of l.found ≡ first_two (are_apart l.kind l.attributes) (drop l.at l.attributes);
-  later : (key : List ℕ) → option_copied (get (slice_cmp nat_cmp) l.later key) ≡ first_called l.kind key (drop l.at l.attributes);
+  later : (key : List ℕ) → option_copied (get (slice_cmp nat_cmp) l.later key)
+      ≡ first_called l.kind key (drop l.at l.attributes);
 }

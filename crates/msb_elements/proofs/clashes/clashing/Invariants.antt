@@ -6,4 +6,8 @@ use Rattle.msb_elements.proofs.clashes.clashing.Given as goal
 
 abbrev pub invariant-loop-other : goal.invariant-loop-other
 invariant-loop-other l =
-    first_other (λ other. list_any (is_clash l.attributes l.name other) (row_of l.kind).clashes) l.rest ≡ first_other (λ other. list_any (is_clash l.attributes l.name other) (row_of l.kind).clashes) (drop l.other-index l.rest)
+    first_other (λ other. list_any (is_clash l.attributes l.name other) (row_of l.kind).clashes)
+    l.rest
+    ≡ first_other
+    (λ other. list_any (is_clash l.attributes l.name other) (row_of l.kind).clashes)
+    (drop l.other-index l.rest)

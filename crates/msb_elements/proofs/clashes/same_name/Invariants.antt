@@ -6,5 +6,7 @@ use Rattle.msb_elements.proofs.clashes.same_name.Given as goal
 
 abbrev pub invariant-loop-other : goal.invariant-loop-other
 invariant-loop-other l =
-    first_other (λ other. is_named (role_of l.kind other) && is_same (str_to_ascii_lowercase l.name) other) l.rest
-    ≡ first_other (λ other. is_named (role_of l.kind other) && is_same (str_to_ascii_lowercase l.name) other) (drop l.other-index l.rest)
+    first_other (λ other. is_named (role_of l.kind other)
+    && is_same (str_to_ascii_lowercase l.name) other) l.rest
+    ≡ first_other (λ other. is_named (role_of l.kind other)
+    && is_same (str_to_ascii_lowercase l.name) other) (drop l.other-index l.rest)

@@ -4,4 +4,5 @@ use Rattle.msb_elements.specs.Forms.{texts_of}
 use Rattle.msb_elements.proofs.members.are_texts.Given as goal
 
 abbrev pub invariant-loop-value : goal.invariant-loop-value
-invariant-loop-value l = is_some (texts_of (members_view l.members.entries)) ≡ is_some (texts_of (members_view l.value-iterator))
+invariant-loop-value l = is_some (texts_of (members_view l.members.entries))
+    ≡ is_some (texts_of (members_view l.value-iterator))

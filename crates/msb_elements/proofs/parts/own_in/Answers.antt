@@ -5,4 +5,6 @@ use Rattle.msb_elements.proofs.parts.own_in.Goals as goal
 pub returns-in-Some : goal.returns-in-Some
 returns-in-Some c =
     let are = c.in-Some.ensures in
-    gives_same _ c.own_from.result _ _ (tree_by_values (members_view c.args.members.entries) _ _ _ _ are.only are.name are.attributes are.text are.entries) c.own_from.ensures
+    gives_same _ c.own_from.result _ _
+    (tree_by_values (members_view c.args.members.entries) _ _ _ _ are.only are.name
+    are.attributes are.text are.entries) c.own_from.ensures

@@ -8,5 +8,8 @@ pub loop-key-preserved : goal.loop-key-preserved
 loop-key-preserved c =
     let e : Entry = (c.in-Some.key, c.in-Some.value) in
     let key : c.from.result ≡ string_bytes e.0 = c.from.ensures in
-    let text : as_str (value_of e.1) ≡ Some c.from-in-loop-key.result = rw c.in-String.is (text_of_string _ ∙ ap Some (sym c.from-in-loop-key.ensures)) in
-    rw (c.in_ok-push.ensures.items, key) (texts_step c.loop-key.key-iterator e c.next.new.self c.loop-key.texts.items c.from-in-loop-key.result _ c.in-Some.ensures.steps c.loop-key.invariant text)
+    let text : as_str (value_of e.1) ≡ Some c.from-in-loop-key.result = rw c.in-String.is
+    (text_of_string _ ∙ ap Some (sym c.from-in-loop-key.ensures)) in
+    rw (c.in_ok-push.ensures.items, key)
+    (texts_step c.loop-key.key-iterator e c.next.new.self c.loop-key.texts.items
+    c.from-in-loop-key.result _ c.in-Some.ensures.steps c.loop-key.invariant text)

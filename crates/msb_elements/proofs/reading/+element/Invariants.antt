@@ -17,8 +17,11 @@ decreases-children l = 3 * heights (trees_of (items_view l.entries.items)) + 1
 
 abbrev pub invariant-children-loop-number : goal.invariant-children-loop-number
 invariant-children-loop-number l = record {
-  so_far : IsSoFar (Some l.kind) l.place l.number-iterator.iter.rest.items l.number-iterator.count l.after_on_error l.all.items (children_or_fault (Some l.kind) false l.place 0 (trees_of (items_view l.fn.entries.items)));
+  so_far : IsSoFar (Some l.kind) l.place l.number-iterator.iter.rest.items l.number-iterator.count
+      l.after_on_error l.all.items
+      (children_or_fault (Some l.kind) false l.place 0 (trees_of (items_view l.fn.entries.items)));
   counted : l.number-iterator.count + length l.number-iterator.iter.rest.items ≡ l.count;
   left : length l.number-iterator.iter.rest.items ≡ l.number-iterator.iter.rest.len;
-  less_deep : heights (trees_of (items_view l.number-iterator.iter.rest.items)) ≤ heights (trees_of (items_view l.fn.entries.items));
+  less_deep : heights (trees_of (items_view l.number-iterator.iter.rest.items))
+      ≤ heights (trees_of (items_view l.fn.entries.items));
 }

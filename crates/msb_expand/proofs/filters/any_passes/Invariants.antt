@@ -9,4 +9,5 @@ use Rattle.msb_expand.proofs.filters.any_passes.Given as goal
 abbrev pub invariant-loop-item : goal.invariant-loop-item
 invariant-loop-item l =
     (l.key ≡ key_of l.of)
-    × (any_passes l.project l.of (passes l.wanted) (map seen_item (drop l.item-index l.items)) ≡ any_passes l.project l.of (passes l.wanted) (map seen_item l.items))
+    × (any_passes l.project l.of (passes l.wanted) (map seen_item (drop l.item-index l.items))
+    ≡ any_passes l.project l.of (passes l.wanted) (map seen_item l.items))

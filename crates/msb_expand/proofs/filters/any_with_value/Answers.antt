@@ -8,5 +8,9 @@ use Rattle.msb_expand.proofs.filters.any_with_value.Goals as goal
 
 pub returns : goal.returns
 returns c =
-    let same : passes c.in_ok-wanted.wanted ≡ is_same_text c.args.value.now = λ i text. c.in_ok-wanted.ensures text i in
-    gives_same _ _ _ (ap (λ test. any_passes c.args.project.now c.args.of.now test (map seen_item c.args.items.now)) same) c.any_passes.ensures
+    let same : passes c.in_ok-wanted.wanted ≡ is_same_text c.args.value.now = λ i text.
+    c.in_ok-wanted.ensures text i in
+    gives_same _ _ _
+    (ap
+    (λ test. any_passes c.args.project.now c.args.of.now test (map seen_item c.args.items.now))
+    same) c.any_passes.ensures

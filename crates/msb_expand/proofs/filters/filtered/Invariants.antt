@@ -11,5 +11,7 @@ use Rattle.msb_expand.proofs.filters.filtered.Given as goal
 abbrev pub invariant-loop-item : goal.invariant-loop-item
 invariant-loop-item l =
     (l.key ≡ key_of l.of)
-    × (map_ok (λ rest. map seen_item l.kept.items ++ rest) (filtered l.project l.of (passes l.wanted) (map seen_item (into_iter_items l.item-iterator)))
+    × (map_ok (λ rest. map seen_item l.kept.items ++ rest)
+    (filtered l.project l.of (passes l.wanted)
+    (map seen_item (into_iter_items l.item-iterator)))
     ≡ filtered l.project l.of (passes l.wanted) (map seen_item l.fn.items.items))

@@ -6,4 +6,6 @@ use Rattle.msb_expand.proofs.kept.without_metadata.Given as goal
 
 -- what is cleared, and what is left to clear
 abbrev pub invariant-loop-item : goal.invariant-loop-item
-invariant-loop-item l = map seen_item l.cleared.items ++ map without_metadata (map seen_item (into_iter_items l.item-iterator)) ≡ map without_metadata (map seen_item l.fn.items.items)
+invariant-loop-item l = map seen_item l.cleared.items
+    ++ map without_metadata (map seen_item (into_iter_items l.item-iterator))
+    ≡ map without_metadata (map seen_item l.fn.items.items)

@@ -12,13 +12,19 @@ returns-in_err-read_part c =
     let scene = scene_of c.args.lens.now in
     let p = err_from_is_err_and c.from_residual.result c.from_residual.ensures.1 in
     rw (p.1, p.2)
-    (stops _ (λ parts r. with_tokens scene r (flat_map (part_tokens scene) parts)) (λ r part. with_tokens scene r (part_tokens scene part))
-    (part_read scene) c.args.parts.now c.loop-part.part-index c.part-item.result (reading_of c.loop-part.reading) _ (c.loop-part-test.true, c.part-item.is) c.loop-part.invariant
+    (stops _ (λ parts r. with_tokens scene r (flat_map (part_tokens scene) parts))
+    (λ r part. with_tokens scene r (part_tokens scene part))
+    (part_read scene) c.args.parts.now c.loop-part.part-index c.part-item.result
+    (reading_of c.loop-part.reading) _ (c.loop-part-test.true, c.part-item.is)
+    c.loop-part.invariant
     c.in_err-read_part.ensures)
 
 pub loop-part-preserved : goal.loop-part-preserved
 loop-part-preserved c =
     let scene = scene_of c.args.lens.now in
-    goes_on (λ parts r. with_tokens scene r (flat_map (part_tokens scene) parts)) (λ r part. with_tokens scene r (part_tokens scene part))
-    (part_read scene) c.args.parts.now c.loop-part.part-index c.part-item.result (reading_of c.loop-part.reading) _ _ (c.loop-part-test.true, c.part-item.is) c.loop-part.invariant
+    goes_on (λ parts r. with_tokens scene r (flat_map (part_tokens scene) parts))
+    (λ r part. with_tokens scene r (part_tokens scene part))
+    (part_read scene) c.args.parts.now c.loop-part.part-index c.part-item.result
+    (reading_of c.loop-part.reading) _ _ (c.loop-part-test.true, c.part-item.is)
+    c.loop-part.invariant
     c.in_ok-read_part.ensures

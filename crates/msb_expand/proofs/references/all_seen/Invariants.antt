@@ -5,4 +5,5 @@ use Rattle.msb_expand.specs.Seen.{seen_item}
 use Rattle.msb_expand.proofs.references.all_seen.Given as goal
 
 abbrev pub invariant-loop-item : goal.invariant-loop-item
-invariant-loop-item l = map seen_item l.seen.items ≡ map (with_defaults (pairs_or_none (option_copied l.defaults))) (take l.item-index l.items)
+invariant-loop-item l = map seen_item l.seen.items
+    ≡ map (with_defaults (pairs_or_none (option_copied l.defaults))) (take l.item-index l.items)

@@ -4,4 +4,5 @@ use Rattle.msb_expand.specs.Functions.{quoted_value}
 use Rattle.msb_expand.proofs.references.push_quoted.Given as goal
 
 abbrev pub invariant-loop-piece : goal.invariant-loop-piece
-invariant-loop-piece l = l.text ≡ l.initial.text ++ quoted_value (scene_of l.lens) (take l.piece-index l.pieces)
+invariant-loop-piece l = l.text ≡ l.initial.text
+    ++ quoted_value (scene_of l.lens) (take l.piece-index l.pieces)

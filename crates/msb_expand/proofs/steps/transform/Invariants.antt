@@ -9,5 +9,7 @@ use Rattle.msb_expand.proofs.steps.transform.Given as goal
 -- what is made, and what is left to make
 abbrev pub invariant-loop-item : goal.invariant-loop-item
 invariant-loop-item l =
-    map_ok (λ rest. map seen_item l.made.items ++ rest) (all_ok (transformed (scene_of l.lens) l.pieces) (map seen_item (into_iter_items l.item-iterator)))
+    map_ok (λ rest. map seen_item l.made.items ++ rest)
+    (all_ok (transformed (scene_of l.lens) l.pieces)
+    (map seen_item (into_iter_items l.item-iterator)))
     ≡ all_ok (transformed (scene_of l.lens) l.pieces) (map seen_item l.fn.items.items)

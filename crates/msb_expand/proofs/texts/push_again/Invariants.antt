@@ -7,4 +7,5 @@ use Rattle.msb_expand.proofs.texts.push_again.Given as goal
 
 abbrev pub invariant-loop-part : goal.invariant-loop-part
 invariant-loop-part l =
-    grown_by (token_text (scene_of l.lens)) l.text (map again_token (drop l.part-index l.parts)) ≡ grown_by (token_text (scene_of l.lens)) l.initial.text (map again_token l.parts)
+    grown_by (token_text (scene_of l.lens)) l.text (map again_token (drop l.part-index l.parts))
+    ≡ grown_by (token_text (scene_of l.lens)) l.initial.text (map again_token l.parts)

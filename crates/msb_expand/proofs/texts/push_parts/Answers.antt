@@ -13,13 +13,17 @@ returns-in_err-push_part c =
     let scene = scene_of c.args.lens.now in
     let p = err_from_is_err_and c.from_residual.result c.from_residual.ensures.1 in
     rw (p.1, p.2)
-    (stops _ (λ parts text. grown_by (token_text scene) text (flat_map (part_tokens scene) parts)) (λ text part. grown_by (token_text scene) text (part_tokens scene part))
-    (part_grown scene) c.args.parts.now c.loop-part.part-index c.part-item.result c.loop-part.text _ (c.loop-part-test.true, c.part-item.is) c.loop-part.invariant
+    (stops _ (λ parts text. grown_by (token_text scene) text (flat_map (part_tokens scene) parts))
+    (λ text part. grown_by (token_text scene) text (part_tokens scene part))
+    (part_grown scene) c.args.parts.now c.loop-part.part-index c.part-item.result c.loop-part.text _
+    (c.loop-part-test.true, c.part-item.is) c.loop-part.invariant
     c.in_err-push_part.ensures)
 
 pub loop-part-preserved : goal.loop-part-preserved
 loop-part-preserved c =
     let scene = scene_of c.args.lens.now in
-    goes_on (λ parts text. grown_by (token_text scene) text (flat_map (part_tokens scene) parts)) (λ text part. grown_by (token_text scene) text (part_tokens scene part))
-    (part_grown scene) c.args.parts.now c.loop-part.part-index c.part-item.result c.loop-part.text _ _ (c.loop-part-test.true, c.part-item.is) c.loop-part.invariant
+    goes_on (λ parts text. grown_by (token_text scene) text (flat_map (part_tokens scene) parts))
+    (λ text part. grown_by (token_text scene) text (part_tokens scene part))
+    (part_grown scene) c.args.parts.now c.loop-part.part-index c.part-item.result c.loop-part.text _
+    _ (c.loop-part-test.true, c.part-item.is) c.loop-part.invariant
     c.in_ok-push_part.ensures

@@ -5,7 +5,11 @@ use Rattle.msb_expand.specs.Values.{uncut_byte}
 use Rattle.msb_expand.proofs.whole.uncut.Given as goal
 
 abbrev pub invariant-loop-before : goal.invariant-loop-before
-invariant-loop-before l = record { utf8 : IsUtf8 l.rest; so_far : l.written ++ flat_map uncut_byte l.rest ≡ flat_map uncut_byte l.text }
+invariant-loop-before l = record {
+  utf8 : IsUtf8 l.rest;
+  so_far : l.written ++ flat_map uncut_byte l.rest
+      ≡ flat_map uncut_byte l.text;
+}
 
 abbrev pub decreases-loop-before : goal.decreases-loop-before
 decreases-loop-before l = length l.rest

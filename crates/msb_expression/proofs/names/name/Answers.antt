@@ -5,13 +5,16 @@ use Rattle.msb_expression.proofs.names.name.Goals as goal
 
 pub returns-in_ok-name_at-in-Letter-clause-leads : goal.returns-in_ok-name_at-in-Letter-clause-leads
 returns-in_ok-name_at-in-Letter-clause-leads c = λ host which.
-    c.spaces_end-start.ensures.over (name_opened host which) refl ∙ run-name_at host which c.args.text.now _ _ _ c.in_ok-name_at-in-Letter.ensures.name
+    c.spaces_end-start.ensures.over (name_opened host which) refl
+    ∙ run-name_at host which c.args.text.now _ _ _ c.in_ok-name_at-in-Letter.ensures.name
 
 pub returns-in_default : goal.returns-in_default
 returns-in_default c = record {
   leads = λ host which.
       Refuses-same c.args.text.now _ _ _
-      (c.spaces_end-start.ensures.over (name_opened host which) refl ∙ name_stops host which _ c.spaces_end-start.ensures.no_space (λ e. c.in_default.not-Letter (c.sort_at.ensures ∙ e)))
+      (c.spaces_end-start.ensures.over (name_opened host which) refl
+      ∙ name_stops host which _ c.spaces_end-start.ensures.no_space
+      (λ e. c.in_default.not-Letter (c.sort_at.ensures ∙ e)))
       c.refusal.ensures;
   after = tt;
   within = tt;

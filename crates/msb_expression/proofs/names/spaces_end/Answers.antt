@@ -9,5 +9,6 @@ loop-end-preserved c =
     record {
       after = omega arith;
       within = omega (arith, b.within);
-      over = λ mode s. c.loop-end.invariant.over mode s ∙ run-space_at c.args.text.now c.loop-end.end mode e s;
+      over = λ mode s. c.loop-end.invariant.over mode s
+          ∙ run-space_at c.args.text.now c.loop-end.end mode e s;
     }

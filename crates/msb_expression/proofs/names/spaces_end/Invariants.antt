@@ -7,7 +7,8 @@ abbrev pub invariant-loop-end : goal.invariant-loop-end
 invariant-loop-end l = record {
   after : l.at ≤ l.end;
   within : l.end ≤ length l.text;
-  over : (mode : Mode) → step_of mode Space 32 ≡ go mode → run (drop l.at l.text) mode ≡ run (drop l.end l.text) mode;
+  over : (mode : Mode) → step_of mode Space 32 ≡ go mode
+      → run (drop l.at l.text) mode ≡ run (drop l.end l.text) mode;
 }
 
 abbrev pub decreases-loop-end : goal.decreases-loop-end

@@ -11,5 +11,7 @@ piece_of-requires-clause-end_cut c =
 pub returns-clause-name : goal.returns-clause-name
 returns-clause-name c =
     let e = c.type_end-end.ensures in
-    subst (λ name. IsNameAt c.args.text.now c.args.start name c.type_end-end.result) (sym c.in_ok-piece_of.ensures)
-    (name_there c.args.text.now c.args.start c.type_end-end.result c.requires e.bytes e.after e.within)
+    subst (λ name. IsNameAt c.args.text.now c.args.start name c.type_end-end.result)
+    (sym c.in_ok-piece_of.ensures)
+    (name_there c.args.text.now c.args.start c.type_end-end.result c.requires e.bytes e.after
+    e.within)

@@ -2,7 +2,14 @@ use Rattle.std.proofs.Common.{ap, length}
 use Rattle.std.proofs.lemmas.Result.{err_from_is_err_and}
 use Rattle.msb_expression.specs.Reading.{read_as}
 use Rattle.msb_expression.proofs.Sound.{run_sound}
-use Rattle.msb_expression.proofs.Exact.{only_reading, not_read, handed_only, handed_refused, handed_only_refusal, handed_reading}
+use Rattle.msb_expression.proofs.Exact.{
+  only_reading,
+  not_read,
+  handed_only,
+  handed_refused,
+  handed_only_refusal,
+  handed_reading,
+}
 use Rattle.msb_expression.proofs.parsing.parse.Goals as goal
 
 pub returns : goal.returns
@@ -11,7 +18,8 @@ returns c = record {
   only = λ parts r. only_reading c.args.text.now c.in_ok-parts.parts parts c.in_ok-parts.ensures r;
   read = ap (read_as (length c.args.text.now)) c.in_ok-parts.ensures;
   refused = tt;
-  only_refusal = λ fault m r. not_read c.args.text.now c.in_ok-parts.parts fault m r c.in_ok-parts.ensures;
+  only_refusal = λ fault m r. not_read c.args.text.now c.in_ok-parts.parts fault m r
+      c.in_ok-parts.ensures;
 }
 
 pub returns-in_err-parts-clause-only : goal.returns-in_err-parts-clause-only

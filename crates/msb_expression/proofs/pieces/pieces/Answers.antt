@@ -4,4 +4,5 @@ use Rattle.msb_expression.proofs.pieces.pieces.Goals as goal
 
 pub returns-in-Quote-clause-leads : goal.returns-in-Quote-clause-leads
 returns-in-Quote-clause-leads c = λ place e.
-    c.loop-pieces.invariant.goes place e ∙ quote_at place c.loop-pieces.pieces c.args.inside c.args.text.now c.loop-pieces.next (sym c.in-Quote.ensures)
+    c.loop-pieces.invariant.goes place e ∙ quote_at place c.loop-pieces.pieces c.args.inside
+    c.args.text.now c.loop-pieces.next (sym c.in-Quote.ensures)

@@ -9,7 +9,8 @@ invariant-loop-pieces l = record {
   within : l.next ≤ length l.text;
   cut : IsCharBoundary l.text l.next;
   goes : (place : Place) → place_inside place ≡ l.inside
-      → run (drop l.at l.text) (in_text (inner place []) [] unmarked) ≡ run (drop l.next l.text) (in_text (inner place l.pieces) [] unmarked);
+      → run (drop l.at l.text) (in_text (inner place []) [] unmarked)
+      ≡ run (drop l.next l.text) (in_text (inner place l.pieces) [] unmarked);
 }
 
 abbrev pub decreases-loop-pieces : goal.decreases-loop-pieces

@@ -7,7 +7,8 @@ use Rattle.msb_expression.proofs.references.closed_name.Goals as goal
 pub returns-in-Close-clause-leads : goal.returns-in-Close-clause-leads
 returns-in-Close-clause-leads c = λ host which m.
     c.in_ok-name.ensures.leads host which
-    ∙ run-name_ended host which c.in_ok-name.name c.args.text.now _ _ c.in_ok-name.ensures.over (c.spaces_end-end.ensures.over (name_ended host which c.in_ok-name.name) refl)
+    ∙ run-name_ended host which c.in_ok-name.name c.args.text.now _ _ c.in_ok-name.ensures.over
+    (c.spaces_end-end.ensures.over (name_ended host which c.in_ok-name.name) refl)
     ∙ run-close host which c.in_ok-name.name c.args.text.now _ (sym c.in-Close.ensures)
 
 pub returns-in-Close-clause-cut : goal.returns-in-Close-clause-cut
@@ -18,8 +19,10 @@ returns-in_default c = record {
   leads = λ host which m.
       Refuses-same c.args.text.now _ _ _
       (c.in_ok-name.ensures.leads host which
-      ∙ run-name_ended host which c.in_ok-name.name c.args.text.now _ _ c.in_ok-name.ensures.over (c.spaces_end-end.ensures.over (name_ended host which c.in_ok-name.name) refl)
-      ∙ name_ended_stops host which c.in_ok-name.name _ c.spaces_end-end.ensures.no_space (λ e. c.in_default.not-Close (c.sort_at.ensures ∙ e)) (λ e. m))
+      ∙ run-name_ended host which c.in_ok-name.name c.args.text.now _ _ c.in_ok-name.ensures.over
+      (c.spaces_end-end.ensures.over (name_ended host which c.in_ok-name.name) refl)
+      ∙ name_ended_stops host which c.in_ok-name.name _ c.spaces_end-end.ensures.no_space
+      (λ e. c.in_default.not-Close (c.sort_at.ensures ∙ e)) (λ e. m))
       c.refusal.ensures;
   after = tt;
   within = tt;

@@ -5,12 +5,18 @@ use Rattle.msb_expression.proofs.RefPlaces.{start_here}
 use Rattle.msb_expression.proofs.starts.start_at.Goals as goal
 
 pub returns-in-Dollar : goal.returns-in-Dollar
-returns-in-Dollar c = c.if_opened.ensures ∙ sym (start_here c.args.inside c.args.text.now c.args.at Dollar (sym c.in-Dollar.ensures) (λ k. cc))
+returns-in-Dollar c = c.if_opened.ensures ∙ sym
+    (start_here c.args.inside c.args.text.now c.args.at Dollar (sym c.in-Dollar.ensures) (λ k. cc))
 
 pub returns-in-Percent : goal.returns-in-Percent
 returns-in-Percent c =
-    c.if_opened-in-Percent.ensures ∙ ap (opened_start _) c.metadata.ensures ∙ sym (start_here c.args.inside c.args.text.now c.args.at Percent (sym c.in-Percent.ensures) (λ k. cc))
+    c.if_opened-in-Percent.ensures ∙ ap (opened_start _) c.metadata.ensures
+    ∙ sym
+    (start_here c.args.inside c.args.text.now c.args.at Percent (sym c.in-Percent.ensures)
+    (λ k. cc))
 
 pub returns-in-At : goal.returns-in-At
 returns-in-At c =
-    c.if_opened-in-At.ensures ∙ ap (opened_start _) c.items.ensures ∙ sym (start_here c.args.inside c.args.text.now c.args.at At (sym c.in-At.ensures) (λ k. cc))
+    c.if_opened-in-At.ensures ∙ ap (opened_start _) c.items.ensures
+    ∙ sym
+    (start_here c.args.inside c.args.text.now c.args.at At (sym c.in-At.ensures) (λ k. cc))

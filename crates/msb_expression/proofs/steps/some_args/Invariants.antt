@@ -8,8 +8,10 @@ invariant-loop-args l = record {
   after : l.at ≤ l.next;
   within : l.next ≤ length l.text;
   cut : IsCharBoundary l.text l.next;
-  goes : (heads : Heads) (function : List ℕ) → run (drop l.at l.text) (in_text (inner (in_argument heads function []) []) [] unmarked)
-      ≡ run (drop l.next l.text) (in_text (inner (in_argument heads function l.args) []) [] unmarked);
+  goes : (heads : Heads) (function : List ℕ)
+      → run (drop l.at l.text) (in_text (inner (in_argument heads function []) []) [] unmarked)
+      ≡ run (drop l.next l.text)
+      (in_text (inner (in_argument heads function l.args) []) [] unmarked);
 }
 
 abbrev pub decreases-loop-args : goal.decreases-loop-args

@@ -8,11 +8,15 @@ use Rattle.msb_expression.proofs.steps.step.Goals as goal
 
 pub returns-in-Greater-clause-leads : goal.returns-in-Greater-clause-leads
 returns-in-Greater-clause-leads c = λ heads.
-    leads_same c.args.text.now _ _ _ _ (run-at c.args.text.now c.args.at (dashed heads) (arrow heads) Greater (sym c.in-Greater.ensures) (λ k. cc) refl) (c.act.ensures.leads heads)
+    leads_same c.args.text.now _ _ _ _
+    (run-at c.args.text.now c.args.at (dashed heads) (arrow heads) Greater
+    (sym c.in-Greater.ensures) (λ k. cc) refl) (c.act.ensures.leads heads)
 
 pub returns-in_default : goal.returns-in_default
 returns-in_default c = record {
-  leads = λ heads. Refuses-same c.args.text.now _ _ _ (dashed_stops heads _ (λ e. c.in_default.not-Greater (c.sort_at.ensures ∙ e))) c.refusal.ensures;
+  leads = λ heads. Refuses-same c.args.text.now _ _ _
+      (dashed_stops heads _ (λ e. c.in_default.not-Greater (c.sort_at.ensures ∙ e)))
+      c.refusal.ensures;
   after = tt;
   within = tt;
 }

@@ -11,7 +11,8 @@ returns-in_err-step-clause-leads c = λ heads.
     let p = err_from_is_err_and c.from_residual.result c.from_residual.ensures.1 in
     leads_err c.args.text.now _ p.0 _ _ _ _ p.1 p.2
     (c.loop-steps.invariant.goes heads
-    ∙ run-at c.args.text.now c.loop-steps.next (stepping (with_steps heads c.loop-steps.steps)) (dashed (with_steps heads c.loop-steps.steps)) Dash (sym c.in-Dash.ensures) (λ k. cc) refl)
+    ∙ run-at c.args.text.now c.loop-steps.next (stepping (with_steps heads c.loop-steps.steps))
+    (dashed (with_steps heads c.loop-steps.steps)) Dash (sym c.in-Dash.ensures) (λ k. cc) refl)
     (c.in_err-step.ensures.leads (with_steps heads c.loop-steps.steps))
 
 pub loop-steps-preserved : goal.loop-steps-preserved
@@ -23,6 +24,8 @@ loop-steps-preserved c =
       within = s.within;
       no_space = s.no_space;
       goes = λ heads.
-          step_read heads c.args.text.now _ _ _ _ c.loop-steps.steps c.push.new.self _ (c.loop-steps.invariant.goes heads) (sym c.in-Dash.ensures) (k.leads (with_steps heads c.loop-steps.steps)) c.in_ok-push.ensures.ok
+          step_read heads c.args.text.now _ _ _ _ c.loop-steps.steps c.push.new.self _
+          (c.loop-steps.invariant.goes heads) (sym c.in-Dash.ensures)
+          (k.leads (with_steps heads c.loop-steps.steps)) c.in_ok-push.ensures.ok
           (s.over (stepping (with_steps heads c.push.new.self)) refl);
     }

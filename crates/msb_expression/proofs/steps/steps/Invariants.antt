@@ -8,7 +8,8 @@ invariant-loop-steps l = record {
   after : l.at ≤ l.next;
   within : l.next ≤ length l.text;
   no_space : first_sort (drop l.next l.text) ≡ Space → ⊥;
-  goes : (heads : Heads) → run (drop l.at l.text) (stepping heads) ≡ run (drop l.next l.text) (stepping (with_steps heads l.steps));
+  goes : (heads : Heads) → run (drop l.at l.text) (stepping heads)
+      ≡ run (drop l.next l.text) (stepping (with_steps heads l.steps));
 }
 
 abbrev pub decreases-loop-steps : goal.decreases-loop-steps

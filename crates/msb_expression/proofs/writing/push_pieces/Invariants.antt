@@ -4,4 +4,5 @@ use Rattle.msb_expression.specs.Written.{piece_text}
 use Rattle.msb_expression.proofs.writing.push_pieces.Given as goal
 
 abbrev pub invariant-loop-piece : goal.invariant-loop-piece
-invariant-loop-piece l = l.word ≡ l.initial.word ++ flat_map piece_text (take l.piece-index l.pieces)
+invariant-loop-piece l = l.word ≡ l.initial.word
+    ++ flat_map piece_text (take l.piece-index l.pieces)

@@ -7,5 +7,9 @@ use Rattle.msb_files.proofs.below.is_ahead.Goals as goal
 
 pub returns : goal.returns
 returns c =
-    c.is_lt.ensures ∙ ap is_lt (cmp_from_yields_List (λ x y. y ≡ x) _ nat_cmp _ c.cmp.ensures.ran (YieldsList-from_bytes c.args.path.now (cc))
-    (λ it e. YieldsList-from_chain {s = it} (YieldsList-from_bytes c.args.folder.now (cc)) (YieldsList-from_once (Some 47) (cc)) (cc) (cc)) (λ x y. refl))
+    c.is_lt.ensures
+    ∙ ap is_lt
+    (cmp_from_yields_List (λ x y. y ≡ x) _ nat_cmp _ c.cmp.ensures.ran
+    (YieldsList-from_bytes c.args.path.now (cc))
+    (λ it e. YieldsList-from_chain {s = it} (YieldsList-from_bytes c.args.folder.now (cc))
+    (YieldsList-from_once (Some 47) (cc)) (cc) (cc)) (λ x y. refl))

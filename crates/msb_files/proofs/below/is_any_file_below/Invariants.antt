@@ -5,4 +5,5 @@ use Rattle.msb_files.proofs.Searches.{NoneTo}
 use Rattle.msb_files.proofs.below.is_any_file_below.Given as goal
 
 abbrev pub invariant-loop-at : goal.invariant-loop-at
-invariant-loop-at l = (l.first ≤ l.at) × NoneTo (λ (f : File). has_file_below l.view l.folder f.path) l.files l.at
+invariant-loop-at l = (l.first ≤ l.at)
+    × NoneTo (λ (f : File). has_file_below l.view l.folder f.path) l.files l.at

@@ -8,4 +8,5 @@ use Rattle.msb_files.proofs.committing.last_acts.Given as goal
 
 abbrev pub invariant-loop-at : goal.invariant-loop-at
 invariant-loop-at l = (l.acts.items ≡ last_acts (acts_of (take l.at l.journal)))
-    × ((path : List ℕ) → list_any (bytes_eq path) l.paths.keys ≡ list_any (bytes_eq path) (paths_of_acts (acts_of (take l.at l.journal))))
+    × ((path : List ℕ) → list_any (bytes_eq path) l.paths.keys
+    ≡ list_any (bytes_eq path) (paths_of_acts (acts_of (take l.at l.journal))))

@@ -11,8 +11,11 @@ returns-in_ok-push-clause-acts c =
     let keys = c.args.paths.now.keys in
     let path = c.in_ok-of.field-0 in
     let is : path ≡ act_path c.args.act.now = c.in_ok-of.ensures ∙ c.path.ensures in
-    pushed_if (list_any (bytes_eq (act_path c.args.act.now)) keys) c.in_ok-insert.field-0 acts (acts ++ c.args.act.now ∷ []) c.push.new.self.items
-    (c.in_ok-insert.ensures.added ∙ (ap not (among path keys) ∙ ap (λ p. not (list_any (bytes_eq p) keys)) is)) c.if-branch.true
+    pushed_if (list_any (bytes_eq (act_path c.args.act.now)) keys) c.in_ok-insert.field-0 acts
+    (acts ++ c.args.act.now ∷ []) c.push.new.self.items
+    (c.in_ok-insert.ensures.added
+    ∙ (ap not (among path keys) ∙ ap (λ p. not (list_any (bytes_eq p) keys)) is))
+    c.if-branch.true
     (c.in_ok-push.ensures.items ∙ ap (λ a. acts ++ a ∷ []) c.in_ok-copy.ensures)
 
 pub returns-else-branch-clause-acts : goal.returns-else-branch-clause-acts
@@ -21,5 +24,8 @@ returns-else-branch-clause-acts c =
     let keys = c.args.paths.now.keys in
     let path = c.in_ok-of.field-0 in
     let is : path ≡ act_path c.args.act.now = c.in_ok-of.ensures ∙ c.path.ensures in
-    kept_if (list_any (bytes_eq (act_path c.args.act.now)) keys) c.in_ok-insert.field-0 acts (acts ++ c.args.act.now ∷ []) acts
-    (c.in_ok-insert.ensures.added ∙ (ap not (among path keys) ∙ ap (λ p. not (list_any (bytes_eq p) keys)) is)) c.if-branch.false refl
+    kept_if (list_any (bytes_eq (act_path c.args.act.now)) keys) c.in_ok-insert.field-0 acts
+    (acts ++ c.args.act.now ∷ []) acts
+    (c.in_ok-insert.ensures.added
+    ∙ (ap not (among path keys) ∙ ap (λ p. not (list_any (bytes_eq p) keys)) is))
+    c.if-branch.false refl

@@ -9,4 +9,6 @@ pub returns-clause-merged : goal.returns-clause-merged
 returns-clause-merged c = merge-news
 
 pub returns-clause-content : goal.returns-clause-content
-returns-clause-content c = λ journal other path once. ap (λ j. content j path) (merge-news journal other once) ∙ content-append (news journal other) journal path
+returns-clause-content c = λ journal other path once.
+    ap (λ j. content j path) (merge-news journal other once)
+    ∙ content-append (news journal other) journal path

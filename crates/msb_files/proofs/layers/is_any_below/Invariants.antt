@@ -8,5 +8,6 @@ use Rattle.msb_files.proofs.layers.is_any_below.Given as goal
 
 abbrev pub invariant-loop-layer : goal.invariant-loop-layer
 invariant-loop-layer l =
-    list_any (λ act. has_file_below l.view l.folder (act_path act)) (acts_of (all_of (drop l.layer-index l.layers)))
+    list_any (λ act. has_file_below l.view l.folder (act_path act))
+    (acts_of (all_of (drop l.layer-index l.layers)))
     ≡ list_any (λ act. has_file_below l.view l.folder (act_path act)) (acts_of (all_of l.layers))

@@ -9,5 +9,9 @@ loop-at-preserved c =
     let other = c.args.other.now in
     let n = c.count-count.result in
     let at = c.loop-at.at in
-    c.in_ok-add.ensures.ok ∙ (ap (λ j. add j c.in_ok-copy.field-0) c.loop-at.invariant ∙ (ap (add (merge journal (drop (n - at) other))) c.in_ok-copy.ensures
-    ∙ sym (merge_more journal other n at c.newest.result.now c.count-count.ensures c.loop-at-test.true c.newest.ensures)))
+    c.in_ok-add.ensures.ok
+    ∙ (ap (λ j. add j c.in_ok-copy.field-0) c.loop-at.invariant
+    ∙ (ap (add (merge journal (drop (n - at) other))) c.in_ok-copy.ensures
+    ∙ sym
+    (merge_more journal other n at c.newest.result.now c.count-count.ensures c.loop-at-test.true
+    c.newest.ensures)))

@@ -4,7 +4,10 @@ use Rattle.result_cache.specs.Replay.{replay, replay_all}
 use Rattle.result_cache.proofs.Closed.{replay-has}
 use Rattle.msb_files.proofs.ReplaySteps.{run_step, run_defined}
 use Rattle.msb_files.proofs.replaying.take_all.Goals as goal
-use Rattle.msb_files.proofs.replaying.take_all.Goals.{then-not-has_ended+in_ok-take_run, else-not-has_ended}
+use Rattle.msb_files.proofs.replaying.take_all.Goals.{
+  then-not-has_ended+in_ok-take_run,
+  else-not-has_ended,
+}
 
 pub take_run-requires : goal.take_run-requires
 take_run-requires c =
@@ -13,7 +16,8 @@ take_run-requires c =
     let goes_on : has (end_of run) journal ≡ false = search (rules, tests) in
     record {
       goes_on = goes_on;
-      defined = run_defined (replay c.args.table.now.finished) c.args.runs.now c.loop-run.run-index run
+      defined = run_defined (replay c.args.table.now.finished) c.args.runs.now c.loop-run.run-index
+          run
           c.loop-run-test.true c.run-item.is journal
           (subst (λ o. IsSome o) (sym c.loop-run.invariant) c.requires);
     }

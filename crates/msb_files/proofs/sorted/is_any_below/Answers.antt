@@ -1,4 +1,19 @@
-use Rattle.std.proofs.Common.{◌≡◌, ℕ, List, [], ◌∷◌, ◌++◌, get_or, is_some, true, false, ◌∙◌, arith, rules, tests}
+use Rattle.std.proofs.Common.{
+  ◌≡◌,
+  ℕ,
+  List,
+  [],
+  ◌∷◌,
+  ◌++◌,
+  get_or,
+  is_some,
+  true,
+  false,
+  ◌∙◌,
+  arith,
+  rules,
+  tests,
+}
 use Rattle.std.proofs.lemmas.Fn.{always_returns_same}
 use Rattle.std.proofs.lemmas.List.{get_or_default}
 use Rattle.msb_files.specs.Below.{has_file_below}
@@ -6,7 +21,15 @@ use Rattle.msb_files.specs.Places.{path_at}
 use Rattle.msb_files.specs.Views.{content}
 use Rattle.file_store.proofs.Below.{begins}
 use Rattle.msb_files.proofs.Placed.{any_by_path, places_rise}
-use Rattle.msb_files.proofs.Searches.{IsMet, ahead, none_ahead, none_behind, none_there, one_there, parted}
+use Rattle.msb_files.proofs.Searches.{
+  IsMet,
+  ahead,
+  none_ahead,
+  none_behind,
+  none_there,
+  one_there,
+  parted,
+}
 use Rattle.msb_files.proofs.sorted.is_any_below.Goals as goal
 
 pub loop-at-init : goal.loop-at-init

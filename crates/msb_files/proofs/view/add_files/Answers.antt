@@ -12,5 +12,8 @@ loop-file-preserved c =
     let files = c.args.files.now in
     let i = c.loop-file.file-index in
     let keys = c.loop-file.all.keys in
-    ap (with_paths (paths_of (drop (i + 1) files))) (c.in_ok-insert.ensures.keys ∙ ap (insert_key (slice_cmp nat_cmp) keys) c.in_ok-copy.ensures)
-    ∙ (file_more files i c.file-item.result keys c.loop-file-test.true c.file-item.is ∙ c.loop-file.invariant)
+    ap (with_paths (paths_of (drop (i + 1) files)))
+    (c.in_ok-insert.ensures.keys ∙ ap (insert_key (slice_cmp nat_cmp) keys)
+    c.in_ok-copy.ensures)
+    ∙ (file_more files i c.file-item.result keys c.loop-file-test.true c.file-item.is
+    ∙ c.loop-file.invariant)

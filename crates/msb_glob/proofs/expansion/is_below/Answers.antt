@@ -6,4 +6,6 @@ use Rattle.msb_glob.proofs.expansion.is_below.Goals as goal
 
 pub returns-then-not-starts_with : goal.returns-then-not-starts_with
 returns-then-not-starts_with c =
-    not_below c.args.pattern.now.parts c.args.path.now (starts_text false c.args.front.now c.args.path.now c.if-not-starts_with.ensures.cases ∙ ap (starts_with eqb c.args.path.now) c.requires)
+    not_below c.args.pattern.now.parts c.args.path.now
+    (starts_text false c.args.front.now c.args.path.now c.if-not-starts_with.ensures.cases
+    ∙ ap (starts_with eqb c.args.path.now) c.requires)

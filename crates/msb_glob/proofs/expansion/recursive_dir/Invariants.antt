@@ -7,4 +7,5 @@ use Rattle.msb_glob.proofs.expansion.recursive_dir.Given as goal
 
 abbrev pub invariant-loop-at : goal.invariant-loop-at
 invariant-loop-at l =
-    first_gap (map segment_token (drop l.at l.parts)) (segments_left (option_copied l.left)) ≡ first_gap (map segment_token l.parts) (slice_split is_slash l.path)
+    first_gap (map segment_token (drop l.at l.parts)) (segments_left (option_copied l.left))
+    ≡ first_gap (map segment_token l.parts) (slice_split is_slash l.path)

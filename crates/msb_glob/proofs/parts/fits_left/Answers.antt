@@ -13,7 +13,10 @@ returns c =
     let tokens = map segment_token c.args.parts.now in
     c.are_gaps.ensures
     ∙ ap (list_all (λ part. is_gap (segment_token part))) (take_rest c.args.parts.now place.at)
-    ∙ sym (searching_ends tokens (segments_left (option_copied c.args.left)) place.at (segments_left (option_copied place.rest)) place.star (segments_left (option_copied place.from))
+    ∙ sym
+    (searching_ends tokens (segments_left (option_copied c.args.left)) place.at
+    (segments_left (option_copied place.rest)) place.star
+    (segments_left (option_copied place.from))
     c.in_default.ensures c.loop-segment.invariant
     ∙ ap (list_all is_gap) (drop-map segment_token place.at c.args.parts.now)
     ∙ list_all-map is_gap segment_token (drop place.at c.args.parts.now))

@@ -3,4 +3,5 @@ use Rattle.msb_glob.proofs.pieces.first_character.Goals as goal
 
 pub returns : goal.returns
 returns c =
-    chars_past_char c.args.text.now c.as_str.result.now c.in_ok-first.first c.utf8.text (cc (c.in_ok-first.ensures.steps.0, c.chars-characters.ensures.rest))
+    chars_past_char c.args.text.now c.as_str.result.now c.in_ok-first.first c.utf8.text
+    (cc (c.in_ok-first.ensures.steps.0, c.chars-characters.ensures.rest))

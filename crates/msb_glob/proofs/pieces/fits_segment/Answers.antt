@@ -14,6 +14,8 @@ returns c =
     let tokens = map character_token c.args.pieces.now in
     c.are_gaps.ensures
     ∙ ap (list_all (λ piece. is_gap (character_token piece))) (take_rest c.args.pieces.now place.at)
-    ∙ sym (searching_ends tokens (chars c.args.segment.now) place.at (chars place.rest.now) place.star (chars place.from.now) c.in_default.ensures c.loop-character.invariant
+    ∙ sym
+    (searching_ends tokens (chars c.args.segment.now) place.at (chars place.rest.now) place.star
+    (chars place.from.now) c.in_default.ensures c.loop-character.invariant
     ∙ ap (list_all is_gap) (drop-map character_token place.at c.args.pieces.now)
     ∙ list_all-map is_gap character_token (drop place.at c.args.pieces.now))

@@ -6,7 +6,9 @@ use Rattle.msb_glob.proofs.pieces.fits_segment.Given as goal
 
 abbrev pub invariant-loop-character : goal.invariant-loop-character
 invariant-loop-character l =
-    Searching (map character_token l.pieces) (chars l.segment) l.place.at (chars l.place.rest.now) l.place.star (chars l.place.from.now)
+    Searching (map character_token l.pieces) (chars l.segment) l.place.at (chars l.place.rest.now)
+    l.place.star (chars l.place.from.now)
 
 abbrev pub decreases-loop-character : goal.decreases-loop-character
-decreases-loop-character l = effort (map character_token l.pieces) l.place.at (chars l.place.from.now)
+decreases-loop-character l = effort (map character_token l.pieces) l.place.at
+    (chars l.place.from.now)

@@ -10,7 +10,9 @@ use Rattle.msb_glob.proofs.reading.has_stars_inside.Goals as goal
 
 pub returns : goal.returns
 returns c =
-    any_from_yields_List (λ part. list_any has_stars_inside (slice_split is_backslash part)) _ _ _ c.any.ensures.ran
-    (YieldsList-from_str_split {s = c.split.result} 47 c.args.text.now (lit< tt) (cc) (cc) (cc)) (λ x b q k. search (rules, tests))
+    any_from_yields_List (λ part. list_any has_stars_inside (slice_split is_backslash part)) _ _ _
+    c.any.ensures.ran
+    (YieldsList-from_str_split {s = c.split.result} 47 c.args.text.now (lit< tt) (cc) (cc) (cc))
+    (λ x b q k. search (rules, tests))
     ∙ list_any-flat_map has_stars_inside cut (slice_split is_slash c.args.text.now)
     ∙ ap (list_any has_stars_inside) (flat_map-cut c.args.text.now)

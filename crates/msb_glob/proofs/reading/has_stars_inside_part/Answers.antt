@@ -6,4 +6,6 @@ use Rattle.msb_glob.proofs.reading.has_stars_inside_part.Goals as goal
 
 pub returns : goal.returns
 returns c =
-    any_from_yields_List has_stars_inside _ _ _ c.any.ensures.ran (YieldsList-from_str_split {s = c.split.result} 92 c.args.part.now (lit< tt) (cc) (cc) (cc)) (λ x b q k. search (rules, tests))
+    any_from_yields_List has_stars_inside _ _ _ c.any.ensures.ran
+    (YieldsList-from_str_split {s = c.split.result} 92 c.args.part.now (lit< tt) (cc) (cc) (cc))
+    (λ x b q k. search (rules, tests))

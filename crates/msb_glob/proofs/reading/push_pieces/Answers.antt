@@ -8,6 +8,9 @@ pub loop-part-preserved : goal.loop-part-preserved
 loop-part-preserved c = record {
   is_text = search rules;
   so_far =
-      read_on AnyCharacter characters is_question (c.args.pieces.now ++ around_questions AnyCharacter characters c.args.text.now) c.loop-part.pieces _ _ c.loop-part.rest.now c.in-Some.part.now c.in-Some.behind.now
-      c.in-Some.ensures.parts c.loop-part.invariant.so_far c.in_ok-push_characters.ensures c.in_ok-push.ensures.ok;
+      read_on AnyCharacter characters is_question
+      (c.args.pieces.now ++ around_questions AnyCharacter characters c.args.text.now)
+      c.loop-part.pieces _ _ c.loop-part.rest.now c.in-Some.part.now c.in-Some.behind.now
+      c.in-Some.ensures.parts c.loop-part.invariant.so_far c.in_ok-push_characters.ensures
+      c.in_ok-push.ensures.ok;
 }

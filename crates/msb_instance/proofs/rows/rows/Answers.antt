@@ -7,4 +7,8 @@ use Rattle.msb_instance.proofs.rows.rows.Goals as goal
 pub loop-target-init : goal.loop-target-init
 loop-target-init c =
     let all = all_ok (row_for c.args.project.now c.args.scope.now) c.args.targets.now in
-    record { is = rows_seen c.args.project.now c.args.scope.now c.args.targets.now ∙ sym (map_ok-same all) ∙ ap (λ front. map_ok (λ ys. front ++ ys) all) (sym c.new-rows.ensures) }
+    record {
+      is = rows_seen c.args.project.now c.args.scope.now c.args.targets.now
+          ∙ sym (map_ok-same all) ∙ ap (λ front. map_ok (λ ys. front ++ ys) all)
+          (sym c.new-rows.ensures);
+    }

@@ -5,4 +5,5 @@ use Rattle.msb_instance.specs.Made.{target_seen, row_for}
 use Rattle.msb_instance.proofs.rows.rows.Given as goal
 
 abbrev pub invariant-loop-target : goal.invariant-loop-target
-invariant-loop-target l = IsOk (row_for l.project l.scope) l.targets l.target-index l.rows (rows_of l.project l.scope (map target_seen l.targets))
+invariant-loop-target l = IsOk (row_for l.project l.scope) l.targets l.target-index l.rows
+    (rows_of l.project l.scope (map target_seen l.targets))

@@ -10,4 +10,5 @@ returns-in_ok-insert c =
     let e = seen_placed c.args.placed in
     ap (map target_in) c.in_ok-insert.ensures.entries
     ∙ inserted c.args.last.now.entries c.in-Some.name c.args.placed
-    ∙ ap (λ name. put_if (map target_in c.args.last.now.entries) name e) (sym c.in-Some.is ∙ c.in_ok-name.ensures)
+    ∙ ap (λ name. put_if (map target_in c.args.last.now.entries) name e)
+    (sym c.in-Some.is ∙ c.in_ok-name.ensures)

@@ -15,8 +15,10 @@ loop-item-preserved c =
     let among : c.contains-is_given.result ≡ is_among given here =
     c.contains-is_given.ensures
     ∙ c.in_ok-set.ensures here
-    ∙ ap (λ keys. list_any (λ one. same_item one here) keys) (c.into_vec.ensures ∙ c.in_ok-of.ensures) in
+    ∙ ap (λ keys. list_any (λ one. same_item one here) keys)
+    (c.into_vec.ensures ∙ c.in_ok-of.ensures) in
     let changed : Item → Item = λ item. with_metadata_if (is_among given item) pairs item in
-    written_step changed c.loop-item.item-items c.loop-item.item-index c.item-item.result c.put_if.new.item within
+    written_step changed c.loop-item.item-items c.loop-item.item-index c.item-item.result
+    c.put_if.new.item within
     (c.in_ok-put_if.ensures ∙ ap (λ is. with_metadata_if is pairs here) among)
     ∙ c.loop-item.invariant

@@ -16,10 +16,13 @@ loop-item-preserved c =
     let named =
     c.contains.ensures
     ∙ c.in_ok-named.ensures c.in_ok-ident.ident
-    ∙ ap (λ keys. list_any (λ one. bytes_eq one c.in_ok-ident.ident) keys) c.in_ok-all_folded.ensures
-    ∙ ap (λ ident. list_any (λ one. bytes_eq one ident) (map folded_bytes texts)) (c.in_ok-ident.ensures.value ∙ ap folded_bytes c.as_str.ensures)
+    ∙ ap (λ keys. list_any (λ one. bytes_eq one c.in_ok-ident.ident) keys)
+    c.in_ok-all_folded.ensures
+    ∙ ap (λ ident. list_any (λ one. bytes_eq one ident) (map folded_bytes texts))
+    (c.in_ok-ident.ensures.value ∙ ap folded_bytes c.as_str.ensures)
     ∙ folded_any item.ident texts c.in_ok-ident.ensures.compared in
-    kept_turn texts item kept c.keep_unless.new.kept.items (into_iter_items c.next.new.self) c.contains.result named
+    kept_turn texts item kept c.keep_unless.new.kept.items (into_iter_items c.next.new.self)
+    c.contains.result named
     (c.in_ok-keep_unless.ensures ∙ ap (λ more. kept ++ more) (as_if c.contains.result item))
     ∙ ap (λ left. kept ++ without_named texts left) (sym c.in-Some.ensures.steps.0)
     ∙ c.loop-item.invariant

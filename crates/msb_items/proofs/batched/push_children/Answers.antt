@@ -16,13 +16,18 @@ loop-child-init c =
     record {
       is =
           fold-lists child_read s (children_of (seen_element c.args.element.now))
-          ∙ over_children (λ s e. map_ok (λ more. s ++ more) (child_read e)) c.args.element.now.file.now s _ _ c.children-child-items.ensures;
+          ∙ over_children (λ s e. map_ok (λ more. s ++ more) (child_read e))
+          c.args.element.now.file.now s _ _ c.children-child-items.ensures;
     }
 
 pub returns-in_err-push_child : goal.returns-in_err-push_child
 returns-in_err-push_child c =
     let p = err_from_is_err_and c.from_residual.result c.from_residual.ensures.1 in
     let fault = c.in_err-push_child.field-0.0 in
-    let P : At → Type 0 = λ e. UnlessMemory fault.cause (map_ok (λ more. exprs_in c.loop-child.read.items ++ more) (child_read e) ≡ Err fault) in
+    let P : At
+    → Type 0 = λ e. UnlessMemory fault.cause
+    (map_ok (λ more. exprs_in c.loop-child.read.items ++ more) (child_read e) ≡ Err fault) in
     rw (p.1, p.2)
-    (unless _ (fold_stop _ _ _ c.child-item.result _ _ _ c.loop-child.invariant c.loop-child-test.true c.child-item.is) (subst P c.child.ensures c.in_err-push_child.ensures))
+    (unless _
+    (fold_stop _ _ _ c.child-item.result _ _ _ c.loop-child.invariant c.loop-child-test.true
+    c.child-item.is) (subst P c.child.ensures c.in_err-push_child.ensures))

@@ -9,5 +9,8 @@ use Rattle.msb_items.proofs.batched.push_children.Given as goal
 
 abbrev pub invariant-loop-child : goal.invariant-loop-child
 invariant-loop-child l =
-    IsFolded (λ s child. map_ok (λ more. s ++ more) (child_read (at l.element.file.now (view child)))) l.child-items l.child-index (exprs_in l.read.items)
-    (map_ok (λ more. exprs_in l.initial.read.items ++ more) (joined_ok child_read (children_of (seen_element l.element))))
+    IsFolded
+    (λ s child. map_ok (λ more. s ++ more) (child_read (at l.element.file.now (view child))))
+    l.child-items l.child-index (exprs_in l.read.items)
+    (map_ok (λ more. exprs_in l.initial.read.items ++ more)
+    (joined_ok child_read (children_of (seen_element l.element))))

@@ -11,11 +11,15 @@ use Rattle.msb_items.proofs.changes.excluded.Goals as goal
 
 pub returns-in-Ok : goal.returns-in-Ok
 returns-in-Ok g c =
-    left_same (λ items. items) c.args.place.now.project.now c.args.items.items _ (seen_names c.in_ok-names.names) c.in_ok-names.ensures ∙ ap Ok (sym c.in-Ok.ensures)
+    left_same (λ items. items) c.args.place.now.project.now c.args.items.items _
+    (seen_names c.in_ok-names.names) c.in_ok-names.ensures ∙ ap Ok (sym c.in-Ok.ensures)
 
 pub returns-in_err-names : goal.returns-in_err-names
 returns-in_err-names g c =
     let p = err_from_is_err_and c.from_residual.result c.from_residual.ensures.1 in
     let place = place_of g.F.Present.files c.args.place.now in
     rw (p.1, p.2)
-    (unless _ (remapped folded_names (unnamed place.project c.args.items.items) (names_at place (seen_element c.args.element.now) c.args.exclude.now) _) c.in_err-names.ensures)
+    (unless _
+    (remapped folded_names (unnamed place.project c.args.items.items)
+    (names_at place (seen_element c.args.element.now) c.args.exclude.now) _)
+    c.in_err-names.ensures)

@@ -20,11 +20,22 @@ returns g c =
     let e = seen_element c.args.element.now in
     let items = list_of c.args.place.now.scope.now kind in
     let names = seen_names c.in_ok-names.names in
-    let next : (Item → Bool) → List WrittenMetadata → List Item → Result (List (Option Item)) EvalFault = λ test written items. replacements_of place kind written test items in
-    let whole : and_then (names_at place e c.args.update.now) (λ names. replacements_of place kind (metadata_on item_attributes e) (is_named place.project names) items) ≡ next (is_named_by place.project names) (map metadata_of c.deref.result.now) c.list_of-items.result.now =
-    chosen place.project (λ test. next test (metadata_on item_attributes e) items) _ names c.in_ok-names.ensures
+    let next : (Item → Bool) → List WrittenMetadata → List Item
+    → Result (List (Option Item)) EvalFault = λ test written items.
+    replacements_of place kind written test items in
+    let whole : and_then (names_at place e c.args.update.now)
+    (λ names. replacements_of place kind (metadata_on item_attributes e)
+    (is_named place.project names) items)
+    ≡ next (is_named_by place.project names) (map metadata_of c.deref.result.now)
+    c.list_of-items.result.now =
+    chosen place.project (λ test. next test (metadata_on item_attributes e) items) _ names
+    c.in_ok-names.ensures
     ∙ ap (λ written. next (is_named_by place.project names) written items) (sym c.in-Ok.ensures)
-    ∙ ap (λ written. next (is_named_by place.project names) (map metadata_of written) items) (sym c.deref.ensures.value)
-    ∙ ap (λ items. next (is_named_by place.project names) (map metadata_of c.deref.result.now) items) (sym c.list_of-items.ensures) in
-    let P : Result (List (Option Item)) EvalFault → Type 0 = λ x. GivesFault (λ replacements. replacements.items) c.replacements.result x in
+    ∙ ap (λ written. next (is_named_by place.project names) (map metadata_of written) items)
+    (sym c.deref.ensures.value)
+    ∙ ap
+    (λ items. next (is_named_by place.project names) (map metadata_of c.deref.result.now) items)
+    (sym c.list_of-items.ensures) in
+    let P : Result (List (Option Item)) EvalFault
+    → Type 0 = λ x. GivesFault (λ replacements. replacements.items) c.replacements.result x in
     subst P (sym whole) c.replacements.ensures

@@ -9,4 +9,5 @@ use Rattle.msb_items.proofs.definitions.define_all.Given as goal
 abbrev pub invariant-loop-placed : goal.invariant-loop-placed
 invariant-loop-placed g l =
     let place = definitions_in g.F.Present.files l.source l.initial.scope in
-    IsFolded (λ s placed. defined_by (with_scope place s) (seen_placed placed)) l.elements l.placed-index l.scope (after_each defined_by place (map seen_placed l.elements))
+    IsFolded (λ s placed. defined_by (with_scope place s) (seen_placed placed)) l.elements
+    l.placed-index l.scope (after_each defined_by place (map seen_placed l.elements))

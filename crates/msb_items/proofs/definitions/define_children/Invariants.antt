@@ -9,4 +9,6 @@ use Rattle.msb_items.proofs.definitions.define_children.Given as goal
 abbrev pub invariant-loop-child : goal.invariant-loop-child
 invariant-loop-child g l =
     let place = definitions_in g.F.Present.files l.source l.initial.scope in
-    IsFolded (λ s child. with_definition (with_scope place s) (at l.element.file.now (view child))) l.child-items l.child-index l.scope (after_each with_definition place (children_of (seen_element l.element)))
+    IsFolded (λ s child. with_definition (with_scope place s) (at l.element.file.now (view child)))
+    l.child-items l.child-index l.scope
+    (after_each with_definition place (children_of (seen_element l.element)))

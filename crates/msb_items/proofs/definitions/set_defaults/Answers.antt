@@ -7,4 +7,7 @@ use Rattle.msb_items.proofs.definitions.set_defaults.Goals as goal
 pub loop-metadata-init : goal.loop-metadata-init
 loop-metadata-init g c =
     let place = definitions_in g.F.Present.files c.args.source.now c.args.scope.now in
-    record { is = fold-map (λ s m. with_default_written c.args.kind.now (with_scope place s) m) metadata_of c.args.scope.now c.args.written.now }
+    record {
+      is = fold-map (λ s m. with_default_written c.args.kind.now (with_scope place s) m)
+          metadata_of c.args.scope.now c.args.written.now;
+    }

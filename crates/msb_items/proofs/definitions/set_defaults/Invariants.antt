@@ -8,4 +8,6 @@ use Rattle.msb_items.proofs.definitions.set_defaults.Given as goal
 abbrev pub invariant-loop-metadata : goal.invariant-loop-metadata
 invariant-loop-metadata g l =
     let place = definitions_in g.F.Present.files l.source l.initial.scope in
-    IsFolded (λ s metadata. with_default_written l.kind (with_scope place s) (metadata_of metadata)) l.written l.metadata-index l.scope (with_defaults_written l.kind place (map metadata_of l.written))
+    IsFolded (λ s metadata. with_default_written l.kind (with_scope place s) (metadata_of metadata))
+    l.written l.metadata-index l.scope
+    (with_defaults_written l.kind place (map metadata_of l.written))

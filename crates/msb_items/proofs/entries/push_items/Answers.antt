@@ -6,13 +6,19 @@ use Rattle.msb_items.proofs.Turning.{fold-lists}
 use Rattle.msb_items.proofs.entries.push_items.Goals as goal
 
 pub loop-entry-init : goal.loop-entry-init
-loop-entry-init g c = record { is = fold-lists (items_of c.args.paths.now c.args.project.now) c.args.items.now.items c.args.entries.now }
+loop-entry-init g c = record {
+  is = fold-lists (items_of c.args.paths.now c.args.project.now) c.args.items.now.items
+      c.args.entries.now;
+}
 
 pub loop-entry-preserved : goal.loop-entry-preserved
-loop-entry-preserved g c = fold_step _ _ _ c.entry-item.result _ _ _ c.loop-entry.invariant c.loop-entry-test.true c.entry-item.is c.in_ok-push_items_of.ensures
+loop-entry-preserved g c = fold_step _ _ _ c.entry-item.result _ _ _ c.loop-entry.invariant
+    c.loop-entry-test.true c.entry-item.is c.in_ok-push_items_of.ensures
 
 pub returns-in_err-push_items_of : goal.returns-in_err-push_items_of
 returns-in_err-push_items_of g c =
     let p = err_from_is_err_and c.from_residual.result c.from_residual.ensures.1 in
     rw (p.1, p.2)
-    (unless _ (fold_stop _ _ _ c.entry-item.result _ _ _ c.loop-entry.invariant c.loop-entry-test.true c.entry-item.is) c.in_err-push_items_of.ensures)
+    (unless _
+    (fold_stop _ _ _ c.entry-item.result _ _ _ c.loop-entry.invariant c.loop-entry-test.true
+    c.entry-item.is) c.in_err-push_items_of.ensures)

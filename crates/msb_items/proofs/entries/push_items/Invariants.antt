@@ -6,5 +6,6 @@ use Rattle.msb_items.proofs.entries.push_items.Given as goal
 
 abbrev pub invariant-loop-entry : goal.invariant-loop-entry
 invariant-loop-entry g l =
-    IsFolded (λ s entry. map_ok (λ more. s ++ more) (items_of l.paths l.project entry)) l.entries l.entry-index l.items.items
+    IsFolded (λ s entry. map_ok (λ more. s ++ more) (items_of l.paths l.project entry)) l.entries
+    l.entry-index l.items.items
     (map_ok (λ more. l.initial.items.items ++ more) (all_items l.paths l.project l.entries))

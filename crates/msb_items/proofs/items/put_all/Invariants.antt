@@ -5,5 +5,6 @@ use Rattle.msb_items.proofs.items.put_all.Given as goal
 
 abbrev pub invariant-loop-item : goal.invariant-loop-item
 invariant-loop-item l =
-    take l.item-index l.items ++ replaced (drop l.item-index l.items) (into_iter_items l.replacements)
+    take l.item-index l.items ++ replaced (drop l.item-index l.items)
+    (into_iter_items l.replacements)
     ≡ replaced l.initial.items (into_iter_items l.initial.replacements)

@@ -17,8 +17,12 @@ returns-in-Ok g c =
     let kind = c.args.kind.now in
     let project = c.args.source.now.project.now in
     let items = list_of scope kind in
-    ap (λ place. map_ok (λ found. with_list scope kind (unnamed project items found)) (names_at place (seen_element c.args.element.now) c.args.written.now)) (sym c.of_items-place.ensures)
-    ∙ left_same (with_list scope kind) project items _ (seen_names c.in_ok-names.names) c.in_ok-names.ensures ∙ ap Ok (sym c.in-Ok.ensures)
+    ap
+    (λ place. map_ok (λ found. with_list scope kind (unnamed project items found))
+    (names_at place (seen_element c.args.element.now) c.args.written.now))
+    (sym c.of_items-place.ensures)
+    ∙ left_same (with_list scope kind) project items _ (seen_names c.in_ok-names.names)
+    c.in_ok-names.ensures ∙ ap Ok (sym c.in-Ok.ensures)
 
 pub returns-in_err-names : goal.returns-in_err-names
 returns-in_err-names g c =
@@ -27,8 +31,13 @@ returns-in_err-names g c =
     let kind = c.args.kind.now in
     let e = seen_element c.args.element.now in
     let written = c.args.written.now in
-    let stops : (fault : EvalFault) → map_ok folded_names (names_at place e written) ≡ Err fault → removed (items_in g.F.Present.files c.args.source.now c.args.scope.now) kind e written ≡ Err fault =
+    let stops : (fault : EvalFault) → map_ok folded_names (names_at place e written) ≡ Err fault
+    → removed (items_in g.F.Present.files c.args.source.now c.args.scope.now) kind e written
+    ≡ Err fault =
     λ fault is.
     ap (λ seen. removed seen kind e written) (sym c.of_items-place.ensures)
-    ∙ remapped folded_names (λ names. with_list place.scope kind (unnamed place.project (list_of place.scope kind) names)) (names_at place e written) fault is in
+    ∙ remapped folded_names
+    (λ names.
+    with_list place.scope kind (unnamed place.project (list_of place.scope kind) names))
+    (names_at place e written) fault is in
     rw (p.1, p.2) (unless _ (stops _) c.in_err-names.ensures)

@@ -8,4 +8,7 @@ use Rattle.msb_items.proofs.items.take_all.Goals as goal
 pub loop-placed-init : goal.loop-placed-init
 loop-placed-init g c =
     let place = items_in g.F.Present.files c.args.source.now.source c.args.scope.now in
-    record { is = fold-map (λ s e. itemed_by (with_scope place s) e) seen_placed c.args.scope.now c.args.elements.now }
+    record {
+      is = fold-map (λ s e. itemed_by (with_scope place s) e) seen_placed c.args.scope.now
+          c.args.elements.now;
+    }

@@ -9,4 +9,6 @@ use Rattle.msb_items.proofs.items.take_children.Given as goal
 abbrev pub invariant-loop-child : goal.invariant-loop-child
 invariant-loop-child g l =
     let place = items_in g.F.Present.files l.source.source l.initial.scope in
-    IsFolded (λ s child. with_item (with_scope place s) (at l.element.file.now (view child))) l.child-items l.child-index l.scope (after_each with_item place (children_of (seen_element l.element)))
+    IsFolded (λ s child. with_item (with_scope place s) (at l.element.file.now (view child)))
+    l.child-items l.child-index l.scope
+    (after_each with_item place (children_of (seen_element l.element)))

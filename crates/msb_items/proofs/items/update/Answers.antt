@@ -21,11 +21,16 @@ returns-in-Ok g c =
     let kind = c.args.kind.now in
     let e = seen_element c.args.element.now in
     let written = c.args.written.now in
-    let put : List (Option Item) → Scope = λ replacements. with_list place.scope kind (replaced (list_of place.scope kind) replacements) in
+    let put : List (Option Item) → Scope = λ replacements.
+    with_list place.scope kind (replaced (list_of place.scope kind) replacements) in
     ap (λ seen. updated seen kind e written) (sym c.of_items-place.ensures)
     ∙ updated_by place kind e written
     ∙ ap (map_ok put) c.in_ok-replacements.ensures
-    ∙ ap Ok (ap (λ (seen : Place). with_list seen.scope kind (replaced (list_of seen.scope kind) c.in_ok-replacements.replacements.items)) c.of_items-place.ensures ∙ sym c.in-Ok.ensures)
+    ∙ ap Ok
+    (ap
+    (λ (seen : Place). with_list seen.scope kind
+    (replaced (list_of seen.scope kind) c.in_ok-replacements.replacements.items))
+    c.of_items-place.ensures ∙ sym c.in-Ok.ensures)
 
 pub returns-in_err-replacements : goal.returns-in_err-replacements
 returns-in_err-replacements g c =
@@ -34,8 +39,14 @@ returns-in_err-replacements g c =
     let kind = c.args.kind.now in
     let e = seen_element c.args.element.now in
     let written = c.args.written.now in
-    let put : List (Option Item) → Scope = λ replacements. with_list place.scope kind (replaced (list_of place.scope kind) replacements) in
-    let found = and_then (names_at place e written) (λ names. replacements_of place kind (metadata_on item_attributes e) (is_named place.project names) (list_of place.scope kind)) in
-    let stops : (fault : EvalFault) → found ≡ Err fault → updated (items_in g.F.Present.files c.args.source.now c.args.scope.now) kind e written ≡ Err fault =
-    λ fault is. ap (λ seen. updated seen kind e written) (sym c.of_items-place.ensures) ∙ updated_by place kind e written ∙ ap (map_ok put) is in
+    let put : List (Option Item) → Scope = λ replacements.
+    with_list place.scope kind (replaced (list_of place.scope kind) replacements) in
+    let found = and_then (names_at place e written)
+    (λ names. replacements_of place kind (metadata_on item_attributes e)
+    (is_named place.project names) (list_of place.scope kind)) in
+    let stops : (fault : EvalFault) → found ≡ Err fault
+    → updated (items_in g.F.Present.files c.args.source.now c.args.scope.now) kind e written
+    ≡ Err fault =
+    λ fault is. ap (λ seen. updated seen kind e written) (sym c.of_items-place.ensures)
+    ∙ updated_by place kind e written ∙ ap (map_ok put) is in
     rw (p.1, p.2) (unless _ (stops _) c.in_err-replacements.ensures)

@@ -12,8 +12,11 @@ loop-item-preserved c =
     let left = into_iter_items c.next.new.self in
     record {
       keys =
-          keys_turn [] items c.push.new.self item true key c.loop-item.keys c.insert.new.self c.loop-item.invariant.keys (c.in_ok-of.ensures ∙ ap (λ defaults. key_of defaults item) c.new-none.ensures) c.in_ok-push.ensures.ok
-          (λ one. has_added key one true c.loop-item.keys c.insert.new.self tt (c.in_ok-insert.ensures.updates.0 one));
+          keys_turn [] items c.push.new.self item true key c.loop-item.keys c.insert.new.self
+          c.loop-item.invariant.keys (c.in_ok-of.ensures
+          ∙ ap (λ defaults. key_of defaults item) c.new-none.ensures) c.in_ok-push.ensures.ok
+          (λ one. has_added key one true c.loop-item.keys c.insert.new.self tt
+          (c.in_ok-insert.ensures.updates.0 one));
       items =
           ap (λ items. items ++ left) c.in_ok-push.ensures.ok
           ∙ append_assoc items (item ∷ []) left

@@ -13,9 +13,11 @@ loop-item-init c =
     record {
       keys = λ key.
           ap (list_any (same_key key)) c.new-own.ensures.empty
-          ∙ ap (λ items. list_any (λ one. same_key one key) (map (key_of defaults) items)) (sym c.new-kept.ensures.items);
+          ∙ ap (λ items. list_any (λ one. same_key one key) (map (key_of defaults) items))
+          (sym c.new-kept.ensures.items);
       kept = λ there known.
-          ap (λ kept. kept ++ without_repeats defaults (there ++ kept) left) c.new-kept.ensures.items
+          ap (λ kept. kept ++ without_repeats defaults (there ++ kept) left)
+          c.new-kept.ensures.items
           ∙ ap (λ seen. without_repeats defaults seen left) (append-nil there)
           ∙ ap (without_repeats defaults there) c.into_iter-item-iterator.ensures.into_iter_gives.0;
     }
@@ -30,11 +32,15 @@ loop-item-preserved c =
     let is_new = c.in_ok-is_new.is_new in
     let grown = c.in_ok-keep_if.ensures in
     record {
-      keys = keys_turn defaults kept more item is_new key c.loop-item.own c.add_unknown.new.own c.loop-item.invariant.keys c.in_ok-key.ensures grown c.in_ok-is_new.ensures.added;
+      keys = keys_turn defaults kept more item is_new key c.loop-item.own c.add_unknown.new.own
+          c.loop-item.invariant.keys c.in_ok-key.ensures grown c.in_ok-is_new.ensures.added;
       kept = λ there known.
           repeats_turn defaults there kept more item (into_iter_items c.next.new.self) is_new
-          (c.in_ok-is_new.ensures.is_new ∙ ap not (is_known defaults there kept item key c.args.known.now c.loop-item.own known c.loop-item.invariant.keys c.in_ok-key.ensures))
+          (c.in_ok-is_new.ensures.is_new ∙ ap not
+          (is_known defaults there kept item key c.args.known.now c.loop-item.own known
+          c.loop-item.invariant.keys c.in_ok-key.ensures))
           grown
-          ∙ ap (λ left. kept ++ without_repeats defaults (there ++ kept) left) (sym c.in-Some.ensures.steps.0)
+          ∙ ap (λ left. kept ++ without_repeats defaults (there ++ kept) left)
+          (sym c.in-Some.ensures.steps.0)
           ∙ c.loop-item.invariant.kept there known;
     }

@@ -8,5 +8,7 @@ use Rattle.msb_items.proofs.repeats.new_items.Given as goal
 abbrev pub invariant-loop-item : goal.invariant-loop-item
 invariant-loop-item l = record {
   keys : HasKeys l.defaults l.kept.items l.own;
-  kept : (there : List Item) → HasKeys l.defaults there l.known → l.kept.items ++ without_repeats l.defaults (there ++ l.kept.items) (into_iter_items l.item-iterator) ≡ without_repeats l.defaults there l.fn.items.items;
+  kept : (there : List Item) → HasKeys l.defaults there l.known
+      → l.kept.items ++ without_repeats l.defaults (there ++ l.kept.items)
+      (into_iter_items l.item-iterator) ≡ without_repeats l.defaults there l.fn.items.items;
 }

@@ -18,19 +18,28 @@ use Rattle.msb_items.proofs.target_groups.bucket_changes.Goals as goal
 pub loop-bucket-init : goal.loop-bucket-init
 loop-bucket-init g c =
     let place = place_of g.F.Present.files c.args.place.now in
-    let changes : Bucket → Result (List Change) EvalFault = λ bucket. changes_in c.args.group c.args.name.now (in_bucket place bucket) (seen_element c.args.element.now) in
+    let changes : Bucket → Result (List Change) EvalFault = λ bucket.
+    changes_in c.args.group c.args.name.now (in_bucket place bucket)
+    (seen_element c.args.element.now) in
     let buckets = c.args.buckets.now in
     record {
       is =
           sym (from_nothing (joined_ok changes buckets))
           ∙ fold-lists changes [] buckets
-          ∙ ap (λ s. fold_ok (λ s bucket. map_ok (λ more. s ++ more) (changes bucket)) s buckets) (sym c.new-changes.ensures);
+          ∙ ap (λ s. fold_ok (λ s bucket. map_ok (λ more. s ++ more) (changes bucket)) s buckets)
+          (sym c.new-changes.ensures);
     }
 
 pub returns-in_err-push_changes_in : goal.returns-in_err-push_changes_in
 returns-in_err-push_changes_in g c =
     let p = err_from_is_err_and c.from_residual.result c.from_residual.ensures.1 in
     let fault = c.in_err-push_changes_in.field-0.0 in
-    let P : Place → Type 0 = λ place. UnlessMemory fault.cause (map_ok (λ more. c.loop-bucket.changes ++ more) (changes_in c.args.group c.args.name.now place (seen_element c.args.element.now)) ≡ Err fault) in
+    let P : Place
+    → Type 0 = λ place. UnlessMemory fault.cause
+    (map_ok (λ more. c.loop-bucket.changes ++ more)
+    (changes_in c.args.group c.args.name.now place (seen_element c.args.element.now))
+    ≡ Err fault) in
     rw (p.1, p.2)
-    (unless _ (fold_stop _ _ _ c.bucket-item.result _ _ _ c.loop-bucket.invariant c.loop-bucket-test.true c.bucket-item.is) (subst P c.in_bucket.ensures c.in_err-push_changes_in.ensures))
+    (unless _
+    (fold_stop _ _ _ c.bucket-item.result _ _ _ c.loop-bucket.invariant c.loop-bucket-test.true
+    c.bucket-item.is) (subst P c.in_bucket.ensures c.in_err-push_changes_in.ensures))

@@ -4,5 +4,6 @@ use Rattle.msb_items.proofs.target_items.named.Given as goal
 
 abbrev pub invariant-loop-item : goal.invariant-loop-item
 invariant-loop-item l =
-    map (λ item. item.now) l.named.items ++ filter (is_named_by l.project (seen_names l.names)) (drop l.item-index l.items)
+    map (λ item. item.now) l.named.items ++ filter (is_named_by l.project (seen_names l.names))
+    (drop l.item-index l.items)
     ≡ filter (is_named_by l.project (seen_names l.names)) l.items

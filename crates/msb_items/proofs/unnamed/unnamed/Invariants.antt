@@ -4,4 +4,5 @@ use Rattle.msb_items.specs.FoldedNames.{seen_names, unnamed_by}
 use Rattle.msb_items.proofs.unnamed.unnamed.Given as goal
 
 abbrev pub invariant-loop-item : goal.invariant-loop-item
-invariant-loop-item l = l.kept.items ++ unnamed_by l.project (seen_names l.names) (into_iter_items l.item-iterator) ≡ unnamed_by l.project (seen_names l.names) l.fn.items.items
+invariant-loop-item l = l.kept.items ++ unnamed_by l.project (seen_names l.names)
+    (into_iter_items l.item-iterator) ≡ unnamed_by l.project (seen_names l.names) l.fn.items.items

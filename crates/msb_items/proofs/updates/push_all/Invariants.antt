@@ -8,5 +8,7 @@ use Rattle.msb_items.proofs.updates.push_all.Given as goal
 
 abbrev pub invariant-loop-item : goal.invariant-loop-item
 invariant-loop-item g l =
-    let given = with_all_metadata (place_of g.F.Present.files l.place) l.kind (map metadata_of l.written) in
-    IsTaken given (into_iter_items l.item-iterator) l.done.items (map_ok (λ more. l.fn.done.items ++ more) (all_ok given l.fn.items.items))
+    let given = with_all_metadata (place_of g.F.Present.files l.place) l.kind
+    (map metadata_of l.written) in
+    IsTaken given (into_iter_items l.item-iterator) l.done.items
+    (map_ok (λ more. l.fn.done.items ++ more) (all_ok given l.fn.items.items))

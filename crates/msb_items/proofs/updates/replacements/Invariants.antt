@@ -11,5 +11,7 @@ use Rattle.msb_items.proofs.updates.replacements.Given as goal
 abbrev pub invariant-loop-item : goal.invariant-loop-item
 invariant-loop-item g l =
     let place = place_of g.F.Present.files l.place in
-    let replacement : Item → Result (Option Item) EvalFault = λ item. replacement_if (is_named_by l.place.project.now (seen_names l.names) item) place l.kind (map metadata_of l.written) item in
+    let replacement : Item → Result (Option Item) EvalFault = λ item.
+    replacement_if (is_named_by l.place.project.now (seen_names l.names) item) place l.kind
+    (map metadata_of l.written) item in
     IsOk replacement l.items l.item-index l.replacements.items (all_ok replacement l.items)

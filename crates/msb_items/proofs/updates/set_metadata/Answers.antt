@@ -5,4 +5,8 @@ use Rattle.msb_items.proofs.updates.set_metadata.Goals as goal
 
 pub loop-metadata-init : goal.loop-metadata-init
 loop-metadata-init g c =
-    record { is = fold-map (with_metadata_written (place_of g.F.Present.files c.args.place.now) c.args.kind.now) metadata_of c.args.item.now c.args.written.now }
+    record {
+      is = fold-map
+          (with_metadata_written (place_of g.F.Present.files c.args.place.now) c.args.kind.now)
+          metadata_of c.args.item.now c.args.written.now;
+    }

@@ -7,4 +7,6 @@ use Rattle.msb_items.proofs.updates.set_metadata.Given as goal
 abbrev pub invariant-loop-metadata : goal.invariant-loop-metadata
 invariant-loop-metadata g l =
     let place = place_of g.F.Present.files l.place in
-    IsFolded (λ s metadata. with_metadata_written place l.kind s (metadata_of metadata)) l.written l.metadata-index l.item (with_all_metadata place l.kind (map metadata_of l.written) l.initial.item)
+    IsFolded (λ s metadata. with_metadata_written place l.kind s (metadata_of metadata)) l.written
+    l.metadata-index l.item
+    (with_all_metadata place l.kind (map metadata_of l.written) l.initial.item)

@@ -7,7 +7,8 @@ use Rattle.msb_outcomes.proofs.Beginning.{begins_there}
 use Rattle.msb_outcomes.proofs.on_nodes.built_at.Goals as goal
 
 pub build_on_many-requires-send-W : goal.build_on_many-requires-send-W
-build_on_many-requires-send-W g c κs within = let y = c.type_bounds.send-T in search (Walk-send, sendable) depth 20
+build_on_many-requires-send-W g c κs within = let y = c.type_bounds.send-T in search
+    (Walk-send, sendable) depth 20
 
 pub build_on_many-requires-send-W-Place : goal.build_on_many-requires-send-W-Place
 build_on_many-requires-send-W-Place g c κs within =
@@ -22,5 +23,7 @@ build_on_many-requires-clause-fits g c κs within =
 pub build_on_many-requires-clause-begins : goal.build_on_many-requires-clause-begins
 build_on_many-requires-clause-begins g c κs within =
     let tools = g.T.CountedTools.answer in
-    begins_there (world_of tools c.args.world.now) (world_of tools c.in_ok-walk.walk.request.world.now) (root_of c.args.world.now) c.in_ok-key.key _
+    begins_there (world_of tools c.args.world.now)
+    (world_of tools c.in_ok-walk.walk.request.world.now) (root_of c.args.world.now)
+    c.in_ok-key.key _
     c.in_ok-walk.ensures.begins c.in_ok-walk.ensures.world c.in_ok-key.ensures

@@ -6,4 +6,6 @@ use Rattle.msb_paths.proofs.normal.is_normal.Goals as goal
 
 pub returns : goal.returns
 returns c =
-    all_from_yields_List is_normal_segment _ _ _ c.all.ensures.ran (YieldsList-from_str_split {s = c.split.result} 47 c.args.path.now (lit< tt) (cc) (cc) (cc)) (λ x b q k. search (rules, tests))
+    all_from_yields_List is_normal_segment _ _ _ c.all.ensures.ran
+    (YieldsList-from_str_split {s = c.split.result} 47 c.args.path.now (lit< tt) (cc) (cc) (cc))
+    (λ x b q k. search (rules, tests))

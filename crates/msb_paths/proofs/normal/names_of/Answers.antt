@@ -12,19 +12,31 @@ unfolding texts
 returns-in_err-walk c =
     let p = err_from_is_err_and c.from_residual.result c.from_residual.ensures.1 in
     let empty : texts c.new-names.result.items ≡ [] = ap texts c.new-names.ensures.items in
-    rw (p.1, p.2) (refused {A = Unit {0}} {B = Vec (Bor (List ℕ)) Global} (λ _. texts c.walk.new.names.items) (λ names. texts names.items) c.in_err-walk.field-0.0 _ _
-    (start_refused (segments c.args.start.now) (segments c.args.text.now) _ empty) c.in_err-walk.ensures)
+    rw (p.1, p.2)
+    (refused {A = Unit {0}} {B = Vec (Bor (List ℕ)) Global} (λ _. texts c.walk.new.names.items)
+    (λ names. texts names.items) c.in_err-walk.field-0.0 _ _
+    (start_refused (segments c.args.start.now) (segments c.args.text.now) _ empty)
+    c.in_err-walk.ensures)
 
 pub returns-in_err-walk-2 : goal.returns-in_err-walk-2
 unfolding texts
 returns-in_err-walk-2 c =
-    let p = err_from_is_err_and c.from_residual-in_err-walk-2.result c.from_residual-in_err-walk-2.ensures.1 in
+    let p = err_from_is_err_and c.from_residual-in_err-walk-2.result
+    c.from_residual-in_err-walk-2.ensures.1 in
     let empty : texts c.new-names.result.items ≡ [] = ap texts c.new-names.ensures.items in
-    rw (p.1, p.2) (refused {A = Unit {0}} {B = Vec (Bor (List ℕ)) Global} (λ _. texts c.walk-2.new.names.items) (λ names. texts names.items) c.in_err-walk-2.field-0.0 _ _
-    (λ stops. sym (start_goes_on (segments c.args.start.now) (segments c.args.text.now) _ (texts c.walk.new.names.items) empty c.in_ok-walk.ensures) ∙ stops) c.in_err-walk-2.ensures)
+    rw (p.1, p.2)
+    (refused {A = Unit {0}} {B = Vec (Bor (List ℕ)) Global}
+    (λ _. texts c.walk-2.new.names.items) (λ names. texts names.items) c.in_err-walk-2.field-0.0
+    _ _
+    (λ stops.
+    sym
+    (start_goes_on (segments c.args.start.now) (segments c.args.text.now) _
+    (texts c.walk.new.names.items) empty c.in_ok-walk.ensures) ∙ stops) c.in_err-walk-2.ensures)
 
 pub returns : goal.returns
 unfolding texts
 returns c =
     let empty : texts c.new-names.result.items ≡ [] = ap texts c.new-names.ensures.items in
-    sym (start_goes_on (segments c.args.start.now) (segments c.args.text.now) _ (texts c.walk.new.names.items) empty c.in_ok-walk.ensures) ∙ c.in_ok-walk-2.ensures
+    sym
+    (start_goes_on (segments c.args.start.now) (segments c.args.text.now) _
+    (texts c.walk.new.names.items) empty c.in_ok-walk.ensures) ∙ c.in_ok-walk-2.ensures

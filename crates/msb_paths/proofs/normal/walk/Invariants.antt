@@ -8,5 +8,6 @@ use Rattle.msb_paths.proofs.normal.walk.Given as goal
 -- what is left of the walk ends where the whole walk ends
 abbrev pub invariant-loop-part : goal.invariant-loop-part
 invariant-loop-part l =
-    walked (flat_map cut (drop (length l.yielded) (slice_split is_slash l.text))) (map (λ name. name.now) l.names.items)
+    walked (flat_map cut (drop (length l.yielded) (slice_split is_slash l.text)))
+    (map (λ name. name.now) l.names.items)
     ≡ walked (segments l.text) (map (λ name. name.now) l.initial.names.items)

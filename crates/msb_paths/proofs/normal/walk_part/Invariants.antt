@@ -7,5 +7,6 @@ use Rattle.msb_paths.proofs.normal.walk_part.Given as goal
 -- what is left of the walk ends where the whole walk ends
 abbrev pub invariant-loop-segment : goal.invariant-loop-segment
 invariant-loop-segment l =
-    walked (drop (length l.yielded) (slice_split is_backslash l.part)) (map (λ name. name.now) l.names.items)
+    walked (drop (length l.yielded) (slice_split is_backslash l.part))
+    (map (λ name. name.now) l.names.items)
     ≡ walked (slice_split is_backslash l.part) (map (λ name. name.now) l.initial.names.items)

@@ -8,7 +8,10 @@ use Rattle.msb_properties.proofs.taking.take_each.Given as goal
 
 abbrev pub invariant-loop-element : goal.invariant-loop-element
 invariant-loop-element l = record {
-  folded : IsFolded (λ p element. with_property (seen_setting l.setting) p (at l.file (view element))) l.elements l.element-index (seen_properties l.properties)
-      (fold_ok (λ p element. with_property (seen_setting l.setting) p (at l.file (view element))) (seen_properties l.initial.properties) l.elements);
+  folded : IsFolded
+      (λ p element. with_property (seen_setting l.setting) p (at l.file (view element))) l.elements
+      l.element-index (seen_properties l.properties)
+      (fold_ok (λ p element. with_property (seen_setting l.setting) p (at l.file (view element)))
+      (seen_properties l.initial.properties) l.elements);
   plain : IsPlain (seen_setting l.setting) l.properties;
 }

@@ -12,5 +12,7 @@ returns-in_err-more c =
     let p = err_from_is_err_and c.from_residual.result c.from_residual.ensures.1 in
     rw (p.1, p.2)
     (passed_on (λ (f : EvalFault). f.cause) c.in_err-more.field-0.0 _ _
-    (λ f is. initial_stops (seen_setting c.args.setting.now) (seen_properties c.args.properties.now) c.args.names.now (seen_placed c.args.placed.now) (seen_element c.of-element.result) c.in-Some.written.now f c.of-element.ensures (sym c.in-Some.ensures) is)
+    (λ f is. initial_stops (seen_setting c.args.setting.now) (seen_properties c.args.properties.now)
+    c.args.names.now (seen_placed c.args.placed.now) (seen_element c.of-element.result)
+    c.in-Some.written.now f c.of-element.ensures (sym c.in-Some.ensures) is)
     c.in_err-more.ensures)

@@ -9,6 +9,10 @@ pub returns-in-Some : goal.returns-in-Some
 returns-in-Some c =
     gives_same _ c.targets.result _ _
     (sym c.loop-placed.invariant
-    ∙ default_here (seen_setting c.args.setting.now) (seen_properties c.args.properties.now) c.args.elements.now c.loop-placed.placed-index c.placed-item.result c.in-Some.written.now c.loop-placed-test.true c.placed-item.is (sym c.in-Some.ensures)
-    ∙ ap (λ e. names_at (seen_setting c.args.setting.now) (seen_properties c.args.properties.now) e c.in-Some.written.now) (sym c.of-element.ensures))
+    ∙ default_here (seen_setting c.args.setting.now) (seen_properties c.args.properties.now)
+    c.args.elements.now c.loop-placed.placed-index c.placed-item.result c.in-Some.written.now
+    c.loop-placed-test.true c.placed-item.is (sym c.in-Some.ensures)
+    ∙ ap
+    (λ e. names_at (seen_setting c.args.setting.now) (seen_properties c.args.properties.now) e
+    c.in-Some.written.now) (sym c.of-element.ensures))
     c.targets.ensures

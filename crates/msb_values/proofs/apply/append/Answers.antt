@@ -13,7 +13,8 @@ returns-clause-ok c =
     (λ grown. c.replace.ensures.left
     ∙ ap (changed_at kind (λ _. after)) c.replace-items.ensures.left
     ∙ changed-twice kind (λ _. c.none.result) (λ _. after) old
-    ∙ ap (λ value. changed_at kind (λ _. value) old) (grown ∙ ap (λ items. items ++ c.args.more) c.replace-items.ensures.had)
+    ∙ ap (λ value. changed_at kind (λ _. value) old)
+    (grown ∙ ap (λ items. items ++ c.args.more) c.replace-items.ensures.had)
     ∙ changed-by kind (λ items. items ++ c.args.more) c.none.result old)
     c.append-appended.ensures.ok
 

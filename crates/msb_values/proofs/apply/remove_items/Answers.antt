@@ -16,5 +16,7 @@ returns-in_ok-of-in-Some-clause-ok c =
     let has = sym c.get.ensures ∙ ap option_copied c.in-Some.is in
     c.replace.ensures.left
     ∙ ap (λ items. changed_at kind (λ _. items) old)
-    (c.in_ok-of-in-Some.ensures ∙ c.in_ok-kept-in-Some.ensures ∙ ap (λ texts. without_named texts c.as_slice.result.now) c.as_slice-in-Some.ensures ∙ ap (without_named c.args.texts.now) c.as_slice.ensures)
+    (c.in_ok-of-in-Some.ensures ∙ c.in_ok-kept-in-Some.ensures
+    ∙ ap (λ texts. without_named texts c.as_slice.result.now) c.as_slice-in-Some.ensures
+    ∙ ap (without_named c.args.texts.now) c.as_slice.ensures)
     ∙ changed-value kind (without_named c.args.texts.now) c.in-Some.items.now old has

@@ -15,7 +15,11 @@ loop-item-preserved c =
     let among =
     c.contains.ensures
     ∙ c.in_ok-set.ensures item
-    ∙ ap (λ keys. list_any (λ one. same_item one item) keys) (c.into_vec.ensures ∙ c.in_ok-of.ensures) in
-    changed_turn given pairs item c.in_ok-with_metadata_if.field-0 c.loop-item.changed c.push.new.self (drop (at + 1) items) c.contains.result among c.in_ok-with_metadata_if.ensures c.in_ok-push.ensures.ok
-    ∙ ap (λ left. c.loop-item.changed ++ with_metadata_on given pairs left) (sym (dropped items at item c.loop-item-test.true c.item-item.is))
+    ∙ ap (λ keys. list_any (λ one. same_item one item) keys)
+    (c.into_vec.ensures ∙ c.in_ok-of.ensures) in
+    changed_turn given pairs item c.in_ok-with_metadata_if.field-0 c.loop-item.changed
+    c.push.new.self (drop (at + 1) items) c.contains.result among
+    c.in_ok-with_metadata_if.ensures c.in_ok-push.ensures.ok
+    ∙ ap (λ left. c.loop-item.changed ++ with_metadata_on given pairs left)
+    (sym (dropped items at item c.loop-item-test.true c.item-item.is))
     ∙ c.loop-item.invariant

@@ -15,9 +15,13 @@ loop-item-preserved c =
     let named =
     c.contains.ensures
     ∙ c.in_ok-named.ensures c.in_ok-ident.ident
-    ∙ ap (λ keys. list_any (λ one. bytes_eq one c.in_ok-ident.ident) keys) c.in_ok-all_folded.ensures
-    ∙ ap (λ ident. list_any (λ one. bytes_eq one ident) (map folded_bytes texts)) (c.in_ok-ident.ensures.value ∙ ap folded_bytes c.as_str.ensures)
+    ∙ ap (λ keys. list_any (λ one. bytes_eq one c.in_ok-ident.ident) keys)
+    c.in_ok-all_folded.ensures
+    ∙ ap (λ ident. list_any (λ one. bytes_eq one ident) (map folded_bytes texts))
+    (c.in_ok-ident.ensures.value ∙ ap folded_bytes c.as_str.ensures)
     ∙ folded_any item.ident texts c.in_ok-ident.ensures.compared in
-    kept_turn texts item c.loop-item.kept c.keep_unless.new.kept (drop (at + 1) items) c.contains.result named c.in_ok-keep_unless.ensures
-    ∙ ap (λ left. c.loop-item.kept ++ without_named texts left) (sym (dropped items at item c.loop-item-test.true c.item-item.is))
+    kept_turn texts item c.loop-item.kept c.keep_unless.new.kept (drop (at + 1) items)
+    c.contains.result named c.in_ok-keep_unless.ensures
+    ∙ ap (λ left. c.loop-item.kept ++ without_named texts left)
+    (sym (dropped items at item c.loop-item-test.true c.item-item.is))
     ∙ c.loop-item.invariant

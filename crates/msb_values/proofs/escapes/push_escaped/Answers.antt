@@ -5,4 +5,5 @@ use Rattle.msb_values.proofs.escapes.push_escaped.Goals as goal
 pub returns-in_ok-push-in-None : goal.returns-in_ok-push-in-None
 returns-in_ok-push-in-None c =
     c.in_ok-push-in-None.ensures.bytes
-    ∙ ap (λ t. string_bytes c.args.written.now ++ t) (sym (escaped_same c.args.character c.in-None.ensures))
+    ∙ ap (λ t. string_bytes c.args.written.now ++ t)
+    (sym (escaped_same c.args.character c.in-None.ensures))

@@ -9,5 +9,7 @@ returns-in_err-name c =
     let p = err_from_is_err_and c.from_residual.result c.from_residual.ensures.1 in
     rw (p.1, p.2)
     (passed_on _ (global_of c.as_str.result.now) _
-    (λ none. global_stops c.args.entries.now c.loop-entry.entry-index c.entry-item.result c.loop-entry.globals _ c.loop-entry.invariant c.loop-entry-test.true c.entry-item.is (ap global_of (sym c.as_str.ensures) ∙ none))
+    (λ none. global_stops c.args.entries.now c.loop-entry.entry-index c.entry-item.result
+    c.loop-entry.globals _ c.loop-entry.invariant c.loop-entry-test.true c.entry-item.is
+    (ap global_of (sym c.as_str.ensures) ∙ none))
     c.in_err-name.ensures)

@@ -26,7 +26,9 @@ returns g c =
     let stand = c.in_ok-stand.stand in
     let made = c.get-evaluated.result.now in
     let is = c.get-evaluated.ensures in
-    let begins : walk_in p key bodies journal ≡ walk p key bodies (order p.instance.rows (all_targets p.instance key)) (nothing_ran p) journal =
+    let begins : walk_in p key bodies journal
+    ≡ walk p key bodies (order p.instance.rows (all_targets p.instance key)) (nothing_ran p)
+    journal =
     ap (λ b. walk_unless p key bodies b journal)
     (sym (ap (λ i. has_no_targets (seen_instance i) key) is)
     ∙ (sym c.has_no_targets.ensures ∙ c.if-has_no_targets.false)) in
@@ -40,6 +42,11 @@ returns g c =
     ∙ (ap (λ t. walk p key bodies t s journal) order_is
     ∙ (ap (λ scope. walk p key bodies (order p.instance.rows (all_targets p.instance key))
     (record { scope = scope; returned = c.new.result }) journal) scope_is
-    ∙ (ap (λ returned. walk p key bodies (order p.instance.rows (all_targets p.instance key)) (record { scope = p.instance.scope; returned = returned }) journal) c.new.ensures ∙ sym begins))) in
-    IfOk-weaker c.stage_by.result (StandsBy key p.instance s now stand) (StandsAt w key journal (walk_in p key bodies journal))
-    (λ stage stands. tree_stands w key journal (left_by p key bodies s now journal stand) (walk_in p key bodies journal) stage same (stands w journal)) c.stage_by.ensures
+    ∙ (ap
+    (λ returned. walk p key bodies (order p.instance.rows (all_targets p.instance key))
+    (record { scope = p.instance.scope; returned = returned }) journal) c.new.ensures
+    ∙ sym begins))) in
+    IfOk-weaker c.stage_by.result (StandsBy key p.instance s now stand)
+    (StandsAt w key journal (walk_in p key bodies journal))
+    (λ stage stands. tree_stands w key journal (left_by p key bodies s now journal stand)
+    (walk_in p key bodies journal) stage same (stands w journal)) c.stage_by.ensures

@@ -4,4 +4,5 @@ use Rattle.request_machine.specs.declared.stage.Stage.TheVariants.{Over}
 use Rattle.request_machine.proofs.beginning.not_found.Goals as goal
 
 pub returns : goal.returns
-returns g c = ap Over (c.unevaluated.ensures ∙ ap unevaluated (c.from-text.ensures ∙ c.in_ok-format.ensures.ok))
+returns g c = ap Over
+    (c.unevaluated.ensures ∙ ap unevaluated (c.from-text.ensures ∙ c.in_ok-format.ensures.ok))

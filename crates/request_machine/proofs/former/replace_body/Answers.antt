@@ -6,7 +6,8 @@ use Rattle.request_machine.specs.Visited.{seen_stage}
 use Rattle.request_machine.proofs.former.replace_body.Goals as goal
 
 pub replace_at-requires : goal.replace_at-requires
-replace_at-requires g c = ∥∥₁_elim c.requires.fits (hlevel props) (λ x. (subst (λ s. IsVisitOf x.0 (body_before s c.args.at)) c.in-Visits.is x.1).1)
+replace_at-requires g c = ∥∥₁_elim c.requires.fits (hlevel props)
+    (λ x. (subst (λ s. IsVisitOf x.0 (body_before s c.args.at)) c.in-Visits.is x.1).1)
 
 pub returns : goal.returns
 returns g c = record {

@@ -6,4 +6,6 @@ loop-at-init c = rw c.new-by.ensures (taken_first c.args.returned.now c.args.nam
 
 pub loop-at-preserved : goal.loop-at-preserved
 loop-at-preserved c =
-    rw c.in_ok-push_returned.ensures (taken_more c.args.returned.now c.args.names.now c.loop-at.at c.loop-at.by c.index-names-at.result c.loop-at.invariant c.loop-at-test.true c.index-names-at.is)
+    rw c.in_ok-push_returned.ensures
+    (taken_more c.args.returned.now c.args.names.now c.loop-at.at c.loop-at.by
+    c.index-names-at.result c.loop-at.invariant c.loop-at-test.true c.index-names-at.is)

@@ -7,4 +7,6 @@ use Rattle.result_cache.proofs.run_ref.hash_of.Goals as goal
 
 pub returns : goal.returns
 unfolding run_hash
-returns c = c.finish.ensures ∙ ap finish (c.hash.ensures ∙ ap (λ h. fold write h (run_writes c.args.run.now)) c.default-hasher.ensures)
+returns c = c.finish.ensures
+    ∙ ap finish
+    (c.hash.ensures ∙ ap (λ h. fold write h (run_writes c.args.run.now)) c.default-hasher.ensures)

@@ -19,4 +19,8 @@ returns-in_ok-keys-in-Waits c = λ choose run.
     let P : Step AtRun → Type 0 = λ step. Tells choose run c.args.state step
     (Call c.in_ok-keys-in-Waits.keys)
     (standing_by choose run (Waiting (record { state = c.args.state; at = c.in-Waits.at }))) in
-    subst P (sym c.in-Waits.is) (ap (λ (keys : List RequestKey). Call keys) (c.in_ok-keys-in-Waits.ensures ∙ c.waiting.ensures), refl)
+    subst P (sym c.in-Waits.is) (
+      ap (λ (keys : List RequestKey). Call keys)
+          (c.in_ok-keys-in-Waits.ensures ∙ c.waiting.ensures),
+      refl,
+    )

@@ -8,8 +8,11 @@ use Rattle.target_body.proofs.tasks.push_inferred_in.Goals as goal
 
 pub returns : goal.returns
 returns c =
-    let view : View = record { files = c.args.at.now.context.world.now.tree.files; journal = c.args.journal.now } in
-    subst (λ (place : Place). Pushes c.push_inferred.result c.args.made.now c.push_inferred.new.changes (inferred_at place (seen_element c.args.at.now.element)))
+    let view : View = record
+    { files = c.args.at.now.context.world.now.tree.files; journal = c.args.journal.now } in
+    subst
+    (λ (place : Place). Pushes c.push_inferred.result c.args.made.now
+    c.push_inferred.new.changes (inferred_at place (seen_element c.args.at.now.element)))
     (c.place_of-place.ensures
     ∙ ap (λ (view : View). item_place (paths view) c.project.result.now c.args.scope.now)
     c.of-view.ensures

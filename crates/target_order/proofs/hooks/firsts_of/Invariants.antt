@@ -7,5 +7,7 @@ use Rattle.target_order.proofs.hooks.firsts_of.Given as goal
 
 abbrev pub invariant-loop-row : goal.invariant-loop-row
 invariant-loop-row l =
-    (first_rows (map (λ (x : Bor TargetRow). x.now) l.firsts.items) (drop l.row-index l.rows) ≡ first_rows [] l.rows)
-    × (l.numbers ≡ names_in (map (λ (x : Bor TargetRow). x.now) l.firsts.items)) × AreDistinct l.numbers
+    (first_rows (map (λ (x : Bor TargetRow). x.now) l.firsts.items) (drop l.row-index l.rows)
+    ≡ first_rows [] l.rows)
+    × (l.numbers ≡ names_in (map (λ (x : Bor TargetRow). x.now) l.firsts.items))
+    × AreDistinct l.numbers

@@ -1,4 +1,19 @@
-use Rattle.std.proofs.Common.{◌≡◌, ◌+◌, ◌++◌, ◌∷◌, [], eqb, Some, None, get_or, take, refl, sym, ap, ◌∙◌}
+use Rattle.std.proofs.Common.{
+  ◌≡◌,
+  ◌+◌,
+  ◌++◌,
+  ◌∷◌,
+  [],
+  eqb,
+  Some,
+  None,
+  get_or,
+  take,
+  refl,
+  sym,
+  ap,
+  ◌∙◌,
+}
 use Rattle.std.proofs.lemmas.List.{take_more}
 use Rattle.target_order.specs.Visit.{Name}
 use Rattle.target_order.specs.Progress.{number_of}
@@ -18,17 +33,23 @@ loop-name-preserved c =
     let turns = c.loop-name.turns.items in
     let seen = take at c.args.named.now in
     let inv = c.loop-name.invariant in
-    let seen_is : take (at + 1) c.args.named.now ≡ seen ++ name ∷ [] = take_more c.args.named.now at name c.loop-name-test.true ∙ ap (λ (n : Name). seen ++ n ∷ []) (sym c.name-item.is) in
+    let seen_is : take (at + 1) c.args.named.now
+    ≡ seen ++ name ∷ [] = take_more c.args.named.now at name c.loop-name-test.true
+    ∙ ap (λ (n : Name). seen ++ n ∷ []) (sym c.name-item.is) in
     elim c.match-find.branch [
       | in-Some+in_ok-hook_one-in-Some w ↦
           let t = w.in-Some.target in
           let number : number_of names name ≡ Some t = cc (w.in-Some.ensures.value) in
-          let new = hooked_some c.args.turn row seen names before lists turns c.requires.distinct inv name t number (number_below names name t number) (eqb (get_or turns t 0) c.args.turn) refl in
+          let new = hooked_some c.args.turn row seen names before lists turns c.requires.distinct
+          inv name t number (number_below names name t number)
+          (eqb (get_or turns t 0) c.args.turn) refl in
           let done = w.in_ok-hook_one-in-Some.ensures in
           rw (seen_is, w.lists-is, w.turns-is, done.lists, done.turns) new
       | in-None w ↦
           let value = c.find.ensures.value in
           let is = w.in-None.is in
           let none : number_of names name ≡ None = cc in
-          rw (seen_is, w.lists-is, w.turns-is) (hooked_none c.args.turn row seen names before lists turns c.requires.distinct inv name none)
+          rw (seen_is, w.lists-is, w.turns-is)
+          (hooked_none c.args.turn row seen names before lists turns c.requires.distinct inv
+          name none)
     ]

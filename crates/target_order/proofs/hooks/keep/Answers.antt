@@ -1,4 +1,18 @@
-use Rattle.std.proofs.Common.{◌≡◌, ◌++◌, ◌∷◌, [], true, false, None, map, sym, ap, ◌∙◌, subst, rules}
+use Rattle.std.proofs.Common.{
+  ◌≡◌,
+  ◌++◌,
+  ◌∷◌,
+  [],
+  true,
+  false,
+  None,
+  map,
+  sym,
+  ap,
+  ◌∙◌,
+  subst,
+  rules,
+}
 use Rattle.std.specs.Prelude.{is_some}
 use Rattle.std.specs.Borrow.{Bor}
 use Rattle.std.proofs.lemmas.List.{map-append}
@@ -30,8 +44,11 @@ returns-clause-firsts c =
     let unset : is_some c.find.result ≡ false = cc in
     let none = not_some c.find.result unset in
     let new : number_of (names_in rows) name ≡ None = cc in
-    let pushed : c.push.new.self.items ≡ c.args.firsts.now.items ++ c.args.row ∷ [] = search rules in
-    ap (map (λ (x : Bor TargetRow). x.now)) pushed ∙ (map-append (λ (x : Bor TargetRow). x.now) c.args.firsts.now.items (c.args.row ∷ []) ∙ sym (kept_new rows c.args.row.now new))
+    let pushed : c.push.new.self.items ≡ c.args.firsts.now.items ++ c.args.row
+    ∷ [] = search rules in
+    ap (map (λ (x : Bor TargetRow). x.now)) pushed
+    ∙ (map-append (λ (x : Bor TargetRow). x.now) c.args.firsts.now.items (c.args.row ∷ [])
+    ∙ sym (kept_new rows c.args.row.now new))
 
 pub returns-clause-distinct : goal.returns-clause-distinct
 returns-clause-distinct c =
@@ -42,4 +59,5 @@ returns-clause-distinct c =
     let unset : is_some c.find.result ≡ false = cc in
     let none = not_some c.find.result unset in
     let new : number_of c.args.numbers.now name ≡ None = cc in
-    subst AreDistinct (sym c.in_ok-add.ensures.ok) (distinct_push c.args.numbers.now name c.requires.distinct new)
+    subst AreDistinct (sym c.in_ok-add.ensures.ok)
+    (distinct_push c.args.numbers.now name c.requires.distinct new)

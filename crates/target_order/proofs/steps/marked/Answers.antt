@@ -10,4 +10,6 @@ returns c =
     let depth = c.args.depth in
     c.note.ensures
     ∙ (ap (λ vs. noted vs (length vs) c.args.step c.args.passed) c.in_ok-marked.ensures
-    ∙ (ap (λ n. noted (take depth visits) n c.args.step c.args.passed) (length-take-le depth visits c.requires) ∙ noted_top visits depth c.args.step c.args.passed c.requires))
+    ∙ (ap (λ n. noted (take depth visits) n c.args.step c.args.passed)
+    (length-take-le depth visits c.requires)
+    ∙ noted_top visits depth c.args.step c.args.passed c.requires))

@@ -5,4 +5,5 @@ use Rattle.target_texts.proofs.Alone.{by_own_texts}
 use Rattle.target_texts.proofs.batched.target_buckets.Goals as goal
 
 pub returns : goal.returns
-returns c = rw (by_own_texts (seen_place c.args.place.now) (seen_element c.args.target.now)) (search rules)
+returns c = rw (by_own_texts (seen_place c.args.place.now) (seen_element c.args.target.now))
+    (search rules)

@@ -10,5 +10,8 @@ use Rattle.target_texts.proofs.inferred.push_each.Given as goal
 
 abbrev pub invariant-loop-bucket : goal.invariant-loop-bucket
 invariant-loop-bucket l =
-    let of : Bucket → Made = λ bucket. inference (in_bucket (seen_place l.task.place) bucket) (seen_element l.task.element) l.task.task.now in
-    IsPushed of (drop l.bucket-index l.buckets) l.initial.changes l.changes (up_to_fault of l.buckets)
+    let of : Bucket
+    → Made = λ bucket. inference (in_bucket (seen_place l.task.place) bucket)
+    (seen_element l.task.element) l.task.task.now in
+    IsPushed of (drop l.bucket-index l.buckets) l.initial.changes l.changes
+    (up_to_fault of l.buckets)

@@ -4,4 +4,5 @@ use Rattle.target_texts.specs.Lists.{path_of}
 use Rattle.target_texts.proofs.lists.paths_of.Given as goal
 
 abbrev pub invariant-loop-item : goal.invariant-loop-item
-invariant-loop-item l = IsOk (path_of l.project) l.items l.item-index l.paths (all_ok (path_of l.project) l.items)
+invariant-loop-item l = IsOk (path_of l.project) l.items l.item-index l.paths
+    (all_ok (path_of l.project) l.items)

@@ -8,5 +8,6 @@ use Rattle.target_texts.proofs.outputs.push_outputs.Given as goal
 
 abbrev pub invariant-loop-child : goal.invariant-loop-child
 invariant-loop-child l =
-    IsPushed (λ child. output (seen_place l.place) l.given (at l.element.file.now (view child))) (drop l.child-index l.child-items) l.initial.changes l.changes
+    IsPushed (λ child. output (seen_place l.place) l.given (at l.element.file.now (view child)))
+    (drop l.child-index l.child-items) l.initial.changes l.changes
     (outputs (seen_place l.place) l.given (seen_element l.element))

@@ -11,16 +11,23 @@ use Rattle.target_texts.proofs.parameters.params_of.Goals as goal
 
 pub loop-attribute-init : goal.loop-attribute-init
 loop-attribute-init c =
-    let param = param_of (seen_place c.args.task.now.place) (seen_element c.args.task.now.element) c.args.task.now.task.now in
+    let param = param_of (seen_place c.args.task.now.place) (seen_element c.args.task.now.element)
+    c.args.task.now.task.now in
     rw c.new-params.ensures
-    (record { is = sym (from_nothing (joined_ok param c.args.attributes.now)) ∙ fold-lists param [] c.args.attributes.now })
+    (record {
+      is = sym (from_nothing (joined_ok param c.args.attributes.now))
+          ∙ fold-lists param [] c.args.attributes.now;
+    })
 
 pub loop-attribute-preserved : goal.loop-attribute-preserved
 loop-attribute-preserved c =
-    fold_step _ _ _ c.attribute-item.result _ _ _ c.loop-attribute.invariant c.loop-attribute-test.true c.attribute-item.is c.in_ok-push_param.ensures
+    fold_step _ _ _ c.attribute-item.result _ _ _ c.loop-attribute.invariant
+    c.loop-attribute-test.true c.attribute-item.is c.in_ok-push_param.ensures
 
 pub returns-in_err-push_param : goal.returns-in_err-push_param
 returns-in_err-push_param c =
     let p = err_from_is_err_and c.from_residual.result c.from_residual.ensures.1 in
     rw (p.1, p.2)
-    (unless _ (fold_stop _ _ _ c.attribute-item.result _ _ _ c.loop-attribute.invariant c.loop-attribute-test.true c.attribute-item.is) c.in_err-push_param.ensures)
+    (unless _
+    (fold_stop _ _ _ c.attribute-item.result _ _ _ c.loop-attribute.invariant
+    c.loop-attribute-test.true c.attribute-item.is) c.in_err-push_param.ensures)

@@ -9,5 +9,10 @@ use Rattle.target_texts.proofs.parameters.params_of.Given as goal
 
 abbrev pub invariant-loop-attribute : goal.invariant-loop-attribute
 invariant-loop-attribute l =
-    IsFolded (λ s pair. map_ok (λ more. s ++ more) (param_of (seen_place l.fn.task.place) (seen_element l.fn.task.element) l.fn.task.task.now pair)) l.attributes l.attribute-index l.params
-    (joined_ok (param_of (seen_place l.fn.task.place) (seen_element l.fn.task.element) l.fn.task.task.now) l.attributes)
+    IsFolded
+    (λ s pair. map_ok (λ more. s ++ more)
+    (param_of (seen_place l.fn.task.place) (seen_element l.fn.task.element) l.fn.task.task.now
+    pair)) l.attributes l.attribute-index l.params
+    (joined_ok
+    (param_of (seen_place l.fn.task.place) (seen_element l.fn.task.element) l.fn.task.task.now)
+    l.attributes)

@@ -5,9 +5,14 @@ use Rattle.task_kit.proofs.copies.all_sources.Goals as goal
 
 pub loop-item-preserved : goal.loop-item-preserved
 loop-item-preserved c =
-    rw c.in_ok-push.ensures.ok (ok_step _ _ _ c.item-item.result c.in_ok-source.source _ _ c.loop-item.invariant c.loop-item-test.true c.item-item.is c.in_ok-source.ensures)
+    rw c.in_ok-push.ensures.ok
+    (ok_step _ _ _ c.item-item.result c.in_ok-source.source _ _ c.loop-item.invariant
+    c.loop-item-test.true c.item-item.is c.in_ok-source.ensures)
 
 pub returns-in_err-source : goal.returns-in_err-source
 returns-in_err-source c =
     let p = err_from_is_err_and c.from_residual.result c.from_residual.ensures.1 in
-    rw (p.1, p.2) (unless _ (ok_stop _ _ _ c.item-item.result _ _ _ c.loop-item.invariant c.loop-item-test.true c.item-item.is) c.in_err-source.ensures)
+    rw (p.1, p.2)
+    (unless _
+    (ok_stop _ _ _ c.item-item.result _ _ _ c.loop-item.invariant c.loop-item-test.true
+    c.item-item.is) c.in_err-source.ensures)

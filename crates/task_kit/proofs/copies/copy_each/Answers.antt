@@ -11,17 +11,24 @@ returns-in_err-copy_one c =
     let sources = c.args.sources.now in
     let destinations = c.args.destinations.now in
     let within = zip_within sources destinations c.loop-at.at c.requires c.loop-at-test.true in
-    let pair = zip_at sources destinations c.loop-at.at _ _ c.requires c.loop-at-test.true c.index-sources-at.is c.index-destinations-at.is in
+    let pair = zip_at sources destinations c.loop-at.at _ _ c.requires c.loop-at-test.true
+    c.index-sources-at.is c.index-destinations-at.is in
     let failure = c.in_err-copy_one.field-0.0 in
-    rw (p.1, p.2) (unless failure (λ both. fold_stop _ _ _ _ _ _ _ c.loop-at.invariant within pair (stops c.loop-at.made c.copy_one.new.made _ failure both)) c.in_err-copy_one.ensures)
+    rw (p.1, p.2)
+    (unless failure
+    (λ both. fold_stop _ _ _ _ _ _ _ c.loop-at.invariant within pair
+    (stops c.loop-at.made c.copy_one.new.made _ failure both)) c.in_err-copy_one.ensures)
 
 pub loop-at-preserved : goal.loop-at-preserved
 loop-at-preserved c =
     let sources = c.args.sources.now in
     let destinations = c.args.destinations.now in
     let within = zip_within sources destinations c.loop-at.at c.requires c.loop-at-test.true in
-    let pair = zip_at sources destinations c.loop-at.at _ _ c.requires c.loop-at-test.true c.index-sources-at.is c.index-destinations-at.is in
+    let pair = zip_at sources destinations c.loop-at.at _ _ c.requires c.loop-at-test.true
+    c.index-sources-at.is c.index-destinations-at.is in
     fold_step _ _ _ _ _ _ _ c.loop-at.invariant within pair (goes_on _ _ _ c.in_ok-copy_one.ensures)
 
 pub returns : goal.returns
-returns c = fold_end _ _ _ _ _ c.loop-at.invariant (zip_ends c.args.sources.now c.args.destinations.now c.loop-at.at c.requires c.loop-at-test.false)
+returns c = fold_end _ _ _ _ _ c.loop-at.invariant
+    (zip_ends c.args.sources.now c.args.destinations.now c.loop-at.at c.requires
+    c.loop-at-test.false)

@@ -6,5 +6,6 @@ use Rattle.task_kit.proofs.copies.copy_each.Given as goal
 
 abbrev pub invariant-loop-at : goal.invariant-loop-at
 invariant-loop-at l =
-    IsFolded (λ so_far x. kept_by so_far (copied l.view l.skip so_far x)) (zip l.sources l.destinations) l.at l.made
+    IsFolded (λ so_far x. kept_by so_far (copied l.view l.skip so_far x))
+    (zip l.sources l.destinations) l.at l.made
     (made_by (copied l.view l.skip) l.initial.made (zip l.sources l.destinations))

@@ -5,4 +5,5 @@ use Rattle.task_kit.specs.Made.{made_by}
 use Rattle.task_kit.proofs.foreign.act_all.Given as goal
 
 abbrev pub invariant-loop-act : goal.invariant-loop-act
-invariant-loop-act l = made_by acted_by_tool l.made (into_iter_items l.act-iterator) ≡ made_by acted_by_tool l.fn.made l.fn.acts.items
+invariant-loop-act l = made_by acted_by_tool l.made (into_iter_items l.act-iterator)
+    ≡ made_by acted_by_tool l.fn.made l.fn.acts.items

@@ -5,4 +5,5 @@ use Rattle.task_kit.proofs.Rising.{paths_sorted}
 use Rattle.task_kit.proofs.included.items_included.Goals as goal
 
 pub of_texts-sorted-requires : goal.of_texts-sorted-requires
-of_texts-sorted-requires c = subst (IsSorted (slice_cmp nat_cmp)) (sym (c.as_slice.ensures ∙ c.in_ok-paths.ensures)) (paths_sorted c.args.view.now)
+of_texts-sorted-requires c = subst (IsSorted (slice_cmp nat_cmp))
+    (sym (c.as_slice.ensures ∙ c.in_ok-paths.ensures)) (paths_sorted c.args.view.now)

@@ -6,5 +6,6 @@ use Rattle.task_kit.proofs.removed.removed.Given as goal
 abbrev pub invariant-loop-path : goal.invariant-loop-path
 invariant-loop-path l = record {
   paths : HasPaths l.acts l.known;
-  acts : fold (with_removed l.view) l.acts (into_iter_items l.path-iterator) ≡ removed l.view l.fn.paths.items;
+  acts : fold (with_removed l.view) l.acts (into_iter_items l.path-iterator)
+      ≡ removed l.view l.fn.paths.items;
 }

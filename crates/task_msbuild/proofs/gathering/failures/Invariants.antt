@@ -5,4 +5,7 @@ use Rattle.task_msbuild.proofs.gathering.failures.Given as goal
 
 abbrev pub invariant-loop-key : goal.invariant-loop-key
 invariant-loop-key l =
-    l.notes ++ flat_map call_notes (zip (drop (length l.yielded) l.calls) (drop (length l.yielded) l.results)) ≡ flat_map call_notes (zip l.calls l.results)
+    l.notes
+    ++ flat_map call_notes
+    (zip (drop (length l.yielded) l.calls) (drop (length l.yielded) l.results))
+    ≡ flat_map call_notes (zip l.calls l.results)

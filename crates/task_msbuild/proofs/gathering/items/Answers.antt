@@ -13,6 +13,9 @@ returns c =
     let calls = c.args.calls.now in
     let results = c.args.results.now in
     let first : c.into_iter-key-iterator.result.a.rest.now ≡ calls = grind (arith, common_steps) in
-    let second : c.into_iter-key-iterator.result.b.rest.now ≡ results = grind (arith, common_steps) in
-    let end : n ≡ min (length calls) (length results) = zip_end calls results _ _ _ c.next.new.self _ first second c.loop-key.yielded_by c.in-None.is c.next.ensures.steps in
-    sym (ap (λ pairs. c.loop-key.items ++ flat_map call_items pairs) (zip-past n calls results end) ∙ append-nil c.loop-key.items) ∙ c.loop-key.invariant
+    let second : c.into_iter-key-iterator.result.b.rest.now
+    ≡ results = grind (arith, common_steps) in
+    let end : n ≡ min (length calls) (length results) = zip_end calls results _ _ _ c.next.new.self
+    _ first second c.loop-key.yielded_by c.in-None.is c.next.ensures.steps in
+    sym (ap (λ pairs. c.loop-key.items ++ flat_map call_items pairs) (zip-past n calls results end)
+    ∙ append-nil c.loop-key.items) ∙ c.loop-key.invariant

@@ -5,4 +5,7 @@ use Rattle.task_msbuild.proofs.gathering.items.Given as goal
 
 abbrev pub invariant-loop-key : goal.invariant-loop-key
 invariant-loop-key l =
-    l.items ++ flat_map call_items (zip (drop (length l.yielded) l.calls) (drop (length l.yielded) l.results)) ≡ flat_map call_items (zip l.calls l.results)
+    l.items
+    ++ flat_map call_items
+    (zip (drop (length l.yielded) l.calls) (drop (length l.yielded) l.results))
+    ≡ flat_map call_items (zip l.calls l.results)

@@ -6,4 +6,5 @@ use Rattle.task_msbuild.proofs.outputs.output_items.Given as goal
 
 abbrev pub invariant-loop-item : goal.invariant-loop-item
 invariant-loop-item l =
-    l.items ++ map (with_metadata (source_of l.key l.returned.target)) (into_iter_items l.item-iterator) ≡ output_items l.key l.returned
+    l.items ++ map (with_metadata (source_of l.key l.returned.target))
+    (into_iter_items l.item-iterator) ≡ output_items l.key l.returned

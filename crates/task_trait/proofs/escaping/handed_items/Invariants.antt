@@ -3,4 +3,5 @@ use Rattle.task_trait.specs.Escaping.{handed_item}
 use Rattle.task_trait.proofs.escaping.handed_items.Given as goal
 
 abbrev pub invariant-loop-item : goal.invariant-loop-item
-invariant-loop-item l = l.handed ++ map handed_item (drop l.item-index l.items) ≡ map handed_item l.items
+invariant-loop-item l = l.handed ++ map handed_item (drop l.item-index l.items)
+    ≡ map handed_item l.items

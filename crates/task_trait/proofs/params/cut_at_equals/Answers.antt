@@ -4,4 +4,5 @@ use Rattle.task_trait.proofs.Finding.{cut_is}
 use Rattle.task_trait.proofs.params.cut_at_equals.Goals as goal
 
 pub returns : goal.returns
-returns c = cut_is c.args.text.now c.split_once.result (split_once_first 61 c.args.text.now c.split_once.result c.split_once.ensures.cases (lit< tt))
+returns c = cut_is c.args.text.now c.split_once.result
+    (split_once_first 61 c.args.text.now c.split_once.result c.split_once.ensures.cases (lit< tt))

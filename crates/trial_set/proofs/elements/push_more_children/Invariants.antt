@@ -5,4 +5,5 @@ use Rattle.trial_set.proofs.elements.push_more_children.Given as goal
 
 abbrev pub invariant-loop-child : goal.invariant-loop-child
 invariant-loop-child l =
-    string_bytes l.text ++ flat_map next_child (map string_bytes (drop l.child-index l.children)) ≡ string_bytes l.initial.text ++ flat_map next_child (map string_bytes l.children)
+    string_bytes l.text ++ flat_map next_child (map string_bytes (drop l.child-index l.children))
+    ≡ string_bytes l.initial.text ++ flat_map next_child (map string_bytes l.children)

@@ -4,4 +4,5 @@ use Rattle.trial_set.specs.Projects.{next_file}
 use Rattle.trial_set.proofs.projects.push_more.Given as goal
 
 abbrev pub invariant-loop-number : goal.invariant-loop-number
-invariant-loop-number l = string_bytes l.list ++ flat_map next_file (drop l.number-index l.numbers) ≡ string_bytes l.initial.list ++ flat_map next_file l.numbers
+invariant-loop-number l = string_bytes l.list ++ flat_map next_file (drop l.number-index l.numbers)
+    ≡ string_bytes l.initial.list ++ flat_map next_file l.numbers

@@ -11,15 +11,26 @@ pub built-requires : goal.built-requires
 built-requires g c =
     let m = g.W.Walker in
     let core = c.args.core.now in
-    subst (λ (t : TableRuns). IsSome (replay_all t.finished c.in-Some-Root.root.runs [])) (sym c.table.ensures.table)
-    (root-replays (seen_by m.world m.position m.asked m.learnt) (m.world_of core.world) c.in-Some-Root.root core.legal (ap Some (sym c.in-Some-Root.field-0-is) ∙ c.in-Some-Root.ensures.end) c.end.ensures.told)
+    subst (λ (t : TableRuns). IsSome (replay_all t.finished c.in-Some-Root.root.runs []))
+    (sym c.table.ensures.table)
+    (root-replays (seen_by m.world m.position m.asked m.learnt) (m.world_of core.world)
+    c.in-Some-Root.root core.legal (ap Some (sym c.in-Some-Root.field-0-is)
+    ∙ c.in-Some-Root.ensures.end) c.end.ensures.told)
 
 pub returns-in-Some-Root-clause-outcome : goal.returns-in-Some-Root-clause-outcome
 returns-in-Some-Root-clause-outcome g c =
     let m = g.W.Walker in
     let core = c.args.core.now in
     let root = c.in-Some-Root.root in
-    IfOk-weaker c.built.result (λ outcome. IfSome (replay_all c.table.result.now.finished root.runs []) (λ journal. outcome ≡ built c.args.low root journal))
-    (λ outcome. ∥ IsOutcomeAt (m.world_of core.world) c.args.low core.history.events core.end outcome ∥₁)
-    (λ outcome h. root-outcome (seen_by m.world m.position m.asked m.learnt) (m.world_of core.world) root c.args.low outcome core.legal (ap Some (sym c.in-Some-Root.field-0-is) ∙ c.in-Some-Root.ensures.end) c.end.ensures.told
-    (subst (λ (t : TableRuns). IfSome (replay_all t.finished root.runs []) (λ journal. outcome ≡ built c.args.low root journal)) c.table.ensures.table h)) c.built.ensures.outcome
+    IfOk-weaker c.built.result
+    (λ outcome. IfSome (replay_all c.table.result.now.finished root.runs [])
+    (λ journal. outcome ≡ built c.args.low root journal))
+    (λ outcome.
+    ∥ IsOutcomeAt (m.world_of core.world) c.args.low core.history.events core.end outcome ∥₁)
+    (λ outcome h. root-outcome (seen_by m.world m.position m.asked m.learnt) (m.world_of core.world)
+    root c.args.low outcome core.legal (ap Some (sym c.in-Some-Root.field-0-is)
+    ∙ c.in-Some-Root.ensures.end) c.end.ensures.told
+    (subst
+    (λ (t : TableRuns). IfSome (replay_all t.finished root.runs [])
+    (λ journal. outcome ≡ built c.args.low root journal)) c.table.ensures.table h))
+    c.built.ensures.outcome

@@ -7,8 +7,11 @@ abbrev pub invariant-loop-place : goal.invariant-loop-place
 invariant-loop-place l = record {
   so_far : List RunId;
   pushed : l.runs.items ≡ l.fn.runs.items ++ so_far;
-  over : (rest : List RunId) → AreOver l.self.dependents.requests.keys l.self.dependents.needs.items l.making.items l.place rest →
-      AreOver l.self.dependents.requests.keys l.self.dependents.needs.items l.making.items l.self.place (so_far ++ rest);
+  over : (rest : List RunId)
+      → AreOver l.self.dependents.requests.keys l.self.dependents.needs.items l.making.items l.place
+      rest →
+      AreOver l.self.dependents.requests.keys l.self.dependents.needs.items l.making.items
+      l.self.place (so_far ++ rest);
   within : l.place < length l.self.dependents.requests.keys;
 }
 

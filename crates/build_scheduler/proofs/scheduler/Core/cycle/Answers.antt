@@ -1,25 +1,43 @@
 use Rattle.std.proofs.Common.{◌≡◌, true, false}
 use Rattle.build_scheduler.specs.Own.{seen_by}
-use Rattle.build_scheduler.proofs.Waiting.{absent-open, assigned-there, callers-there, cycle-told, finished-open, waiting-bounded}
+use Rattle.build_scheduler.proofs.Waiting.{
+  absent-open,
+  assigned-there,
+  callers-there,
+  cycle-told,
+  finished-open,
+  waiting-bounded,
+}
 use Rattle.build_scheduler.proofs.scheduler.Core.cycle.Goals as goal
 
 pub returns-in-Absent : goal.returns-in-Absent
 returns-in-Absent g c =
     let m = g.W.Walker in
-    let self = c.args.self.now in
-    ((λ e. absurd (let a : false ≡ true = e in cc)), λ h. absurd (absent-open (seen_by m.world m.position m.asked m.learnt) (m.world_of self.world) c.args.id c.args.run.now self.legal c.in-Absent.ensures.0 c.in-Absent.ensures.1 h))
+    let self = c.args.self.now in (
+      (λ e. absurd (let a : false ≡ true = e in cc)),
+      λ h.
+          absurd
+          (absent-open (seen_by m.world m.position m.asked m.learnt) (m.world_of self.world) c.args.id
+          c.args.run.now self.legal c.in-Absent.ensures.0 c.in-Absent.ensures.1 h),
+    )
 
 pub returns-in-Done : goal.returns-in-Done
 returns-in-Done g c =
     let m = g.W.Walker in
-    let self = c.args.self.now in
-    ((λ e. absurd (let a : false ≡ true = e in cc)), λ h. absurd (finished-open (seen_by m.world m.position m.asked m.learnt) (m.world_of self.world) c.args.id c.args.run.now c.in-Done.field-0.now self.legal c.in-Done.ensures h))
+    let self = c.args.self.now in (
+      (λ e. absurd (let a : false ≡ true = e in cc)),
+      λ h.
+          absurd
+          (finished-open (seen_by m.world m.position m.asked m.learnt) (m.world_of self.world)
+          c.args.id c.args.run.now c.in-Done.field-0.now self.legal c.in-Done.ensures h),
+    )
 
 pub find_dependent-requires-clause-there : goal.find_dependent-requires-clause-there
 find_dependent-requires-clause-there g c =
     let m = g.W.Walker in
     let self = c.args.self.now in
-    assigned-there (seen_by m.world m.position m.asked m.learnt) (m.world_of self.world) c.args.id self.legal c.requires.assigned
+    assigned-there (seen_by m.world m.position m.asked m.learnt) (m.world_of self.world) c.args.id
+    self.legal c.requires.assigned
 
 pub find_dependent-requires-clause-callers : goal.find_dependent-requires-clause-callers
 find_dependent-requires-clause-callers g c =
@@ -31,11 +49,14 @@ pub find_dependent-requires-clause-waiting : goal.find_dependent-requires-clause
 find_dependent-requires-clause-waiting g c =
     let m = g.W.Walker in
     let self = c.args.self.now in
-    waiting-bounded (seen_by m.world m.position m.asked m.learnt) (m.world_of self.world) self.legal self.indexed
+    waiting-bounded (seen_by m.world m.position m.asked m.learnt) (m.world_of self.world) self.legal
+    self.indexed
 
 pub returns-in_ok-dependent-in-Begun : goal.returns-in_ok-dependent-in-Begun
 returns-in_ok-dependent-in-Begun g c =
     let m = g.W.Walker in
     let self = c.args.self.now in
-    cycle-told (seen_by m.world m.position m.asked m.learnt) (m.world_of self.world) c.args.id c.args.run.now c.in-Begun.by c.in_ok-dependent-in-Begun.dependent self.legal self.indexed c.requires.assigned c.in-Begun.ensures.1 c.in-Begun.ensures.0
+    cycle-told (seen_by m.world m.position m.asked m.learnt) (m.world_of self.world) c.args.id
+    c.args.run.now c.in-Begun.by c.in_ok-dependent-in-Begun.dependent self.legal self.indexed
+    c.requires.assigned c.in-Begun.ensures.1 c.in-Begun.ensures.0
     c.in_ok-dependent-in-Begun.ensures c.is_some.result c.is_some.ensures

@@ -4,7 +4,18 @@ use Rattle.build_meaning.specs.declared.event.Event.TheVariants.{Done}
 use Rattle.build_scheduler.specs.declared.slot.Slot.TheVariants.{Done as Over}
 use Rattle.build_scheduler.specs.Own.{seen_by}
 use Rattle.build_scheduler.proofs.Behind.{behind-event, kept-put, kept-resumed}
-use Rattle.build_scheduler.proofs.Ending.{over-room, over-slot, over-there, root-zero, called-other-than_root, caller-open, caller-unlisted, ended-shown, resumed-shown, over-indexed}
+use Rattle.build_scheduler.proofs.Ending.{
+  over-room,
+  over-slot,
+  over-there,
+  root-zero,
+  called-other-than_root,
+  caller-open,
+  caller-unlisted,
+  ended-shown,
+  resumed-shown,
+  over-indexed,
+}
 use Rattle.build_scheduler.proofs.Passing.{asks-same}
 use Rattle.build_scheduler.proofs.Repeating.{kept-fewer}
 use Rattle.build_scheduler.proofs.SlotNumbers.{resumed-indexed}
@@ -64,7 +75,9 @@ invariant_of-self g c =
       kept_so = ∥∥₁_map self.kept_so (kept-fewer (seen_by m.world m.position m.asked m.learnt)
           (m.world_of self.world) self.table.finished self.origins.items self.kept.ends.items
           c.count_done.new.self.ends.items c.count_done.ensures);
-      behind = behind-event (seen_by m.world m.position m.asked m.learnt) (m.world_of self.world) (Done c.args.id) self.legal legal c.push.ensures.events (kept-put self.slots.items Over c.put_slot.ensures) self.behind;
+      behind = behind-event (seen_by m.world m.position m.asked m.learnt) (m.world_of self.world)
+          (Done c.args.id) self.legal legal c.push.ensures.events
+          (kept-put self.slots.items Over c.put_slot.ensures) self.behind;
     }
 
 pub resume-requires-clause-calls : goal.resume-requires-clause-calls
@@ -114,7 +127,9 @@ invariant_of-self-in-Some g c =
           ∥∥₁_map (over-indexed (seen_by m.world m.position m.asked m.learnt)
           (m.world_of self.world) c.args.id c.args.told self.legal asks c.put_slot.ensures
           self.indexed)
-          (λ x. resumed-indexed c.put_slot.new.slots.items c.resume.new.slots.items self.ready c.resume.new.ready self.waiting.items c.in-Some.caller c.args.id c.args.told c.resume.ensures x);
+          (λ x. resumed-indexed c.put_slot.new.slots.items c.resume.new.slots.items self.ready
+          c.resume.new.ready self.waiting.items c.in-Some.caller c.args.id c.args.told
+          c.resume.ensures x);
       counted = self.counted;
       active = c.push.ensures.active;
       few = self.few;
@@ -123,7 +138,9 @@ invariant_of-self-in-Some g c =
       kept_so = ∥∥₁_map self.kept_so (kept-fewer (seen_by m.world m.position m.asked m.learnt)
           (m.world_of self.world) self.table.finished self.origins.items self.kept.ends.items
           c.count_done.new.self.ends.items c.count_done.ensures);
-      behind = behind-event (seen_by m.world m.position m.asked m.learnt) (m.world_of self.world) (Done c.args.id) self.legal legal c.push.ensures.events (kept-resumed self.slots.items c.put_slot.ensures c.resume.ensures) self.behind;
+      behind = behind-event (seen_by m.world m.position m.asked m.learnt) (m.world_of self.world)
+          (Done c.args.id) self.legal legal c.push.ensures.events
+          (kept-resumed self.slots.items c.put_slot.ensures c.resume.ensures) self.behind;
     }
 
 pub returns-in-None-clause-others : goal.returns-in-None-clause-others

@@ -6,4 +6,5 @@ pub returns-clause-told : goal.returns-clause-told
 returns-clause-told g c =
     let m = g.W.Walker in
     let self = c.args.self.now in
-    end-told (seen_by m.world m.position m.asked m.learnt) (m.world_of self.world) self.end self.legal self.stops
+    end-told (seen_by m.world m.position m.asked m.learnt) (m.world_of self.world) self.end
+    self.legal self.stops

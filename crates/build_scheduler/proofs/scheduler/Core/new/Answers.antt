@@ -16,7 +16,8 @@ invariant_of-result g c =
     let parts = c.parts-history.ensures in
     let events = ap (λ (log : Logged). log.events) parts.history ∙ opening.events in
     record {
-      legal = ∣ shown-start (seen_by m.world m.position m.asked m.learnt) c.args.walk c.args.root c.origin-world.ensures c.requires.key c.requires.begins c.requires.asked c.requires.learnt
+      legal = ∣ shown-start (seen_by m.world m.position m.asked m.learnt) c.args.walk c.args.root
+          c.origin-world.ensures c.requires.key c.requires.begins c.requires.asked c.requires.learnt
           events
           (ap (λ (log : Logged). log.room) parts.history ∙ opening.room)
           c.in_ok-origins.ensures
@@ -26,12 +27,15 @@ invariant_of-result g c =
       indexed = ∣ indexed-start c.args.walk (record { numbers = []; room = 0 })
           c.in_ok-slots.ensures
           (ap (λ waiting. waiting.items) parts.waiting ∙ opening.waiting)
-          refl (λ n. ap (λ (ready : Numbered). among n ready.numbers) parts.ready ∙ opening.ready n) ∣₁;
+          refl (λ n. ap (λ (ready : Numbered). among n ready.numbers) parts.ready ∙ opening.ready n)
+          ∣₁;
       counted = ∣ counted-root c.args.root c.in_ok-instances.ensures c.in_ok-origins.ensures ∣₁;
-      active = subst (λ (log : Logged). AreOfNodes log.nodes log.events) (sym parts.history) (let none = ap retires opening.events in let one = opening.nodes in omega arith);
+      active = subst (λ (log : Logged). AreOfNodes log.nodes log.events) (sym parts.history)
+          (let none = ap retires opening.events in let one = opening.nodes in omega arith);
       few = few-root c.args.root c.in_ok-instances.ensures;
       nested = ∣ nested-root c.args.root c.in_ok-origins.ensures ∣₁;
       stops = ∣ tt ∣₁;
       kept_so = ∣ (λ kept i. absurd (none-kept _ kept c.in_ok-new.ensures i)) ∣₁;
-      behind = ∣ behind-start (seen_by m.world m.position m.asked m.learnt) _ c.args.walk events c.in_ok-slots.ensures ∣₁;
+      behind = ∣ behind-start (seen_by m.world m.position m.asked m.learnt) _ c.args.walk events
+          c.in_ok-slots.ensures ∣₁;
     }

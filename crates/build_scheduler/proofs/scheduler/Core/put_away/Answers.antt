@@ -17,19 +17,22 @@ pub wait_room-requires : goal.wait_room-requires
 wait_room-requires g c =
     let m = g.W.Walker in
     let self = c.args.self.now in
-    begun-there (seen_by m.world m.position m.asked m.learnt) (m.world_of self.world) c.args.run.now c.args.by self.legal self.indexed c.requires.begun c.requires.unfinished
+    begun-there (seen_by m.world m.position m.asked m.learnt) (m.world_of self.world) c.args.run.now
+    c.args.by self.legal self.indexed c.requires.begun c.requires.unfinished
 
 pub list_waiting-requires-clause-absent : goal.list_waiting-requires-clause-absent
 list_waiting-requires-clause-absent g c =
     let m = g.W.Walker in
     let self = c.args.self.now in
-    unlisted (seen_by m.world m.position m.asked m.learnt) (m.world_of self.world) c.args.id c.args.walk c.args.by self.legal self.indexed c.requires.own c.wait_room.ensures.same
+    unlisted (seen_by m.world m.position m.asked m.learnt) (m.world_of self.world) c.args.id
+    c.args.walk c.args.by self.legal self.indexed c.requires.own c.wait_room.ensures.same
 
 pub put_slot-requires : goal.put_slot-requires
 put_slot-requires g c =
     let m = g.W.Walker in
     let self = c.args.self.now in
-    slot-there (seen_by m.world m.position m.asked m.learnt) (m.world_of self.world) c.args.id c.args.walk self.legal c.requires.own
+    slot-there (seen_by m.world m.position m.asked m.learnt) (m.world_of self.world) c.args.id
+    c.args.walk self.legal c.requires.own
 
 pub invariant_of-self : goal.invariant_of-self
 invariant_of-self g c =
@@ -37,13 +40,22 @@ invariant_of-self g c =
     let self = c.args.self.now in
     let seen = seen_by m.world m.position m.asked m.learnt in
     let w = m.world_of self.world in
-    let legal = ∥∥₁_map₂ self.legal c.requires.own (λ x o. waited-shown seen w self.history c.push.new.self c.args.id c.args.walk c.args.run.now c.args.by o c.requires.asks c.requires.unfinished c.requires.begun c.requires.open
-    (c.push.ensures.events ∙ (ap (λ es. es ++ Claim c.args.id c.in-Ok.claimed Wait ∷ []) c.in-Ok.ensures.events ∙ ap (λ r. self.history.events ++ Claim c.args.id r Wait ∷ []) c.in-Ok.ensures.run))
+    let legal = ∥∥₁_map₂ self.legal c.requires.own
+    (λ x o. waited-shown seen w self.history c.push.new.self c.args.id c.args.walk
+    c.args.run.now c.args.by o c.requires.asks c.requires.unfinished c.requires.begun
+    c.requires.open
+    (c.push.ensures.events
+    ∙ (ap (λ es. es ++ Claim c.args.id c.in-Ok.claimed Wait ∷ []) c.in-Ok.ensures.events
+    ∙ ap (λ r. self.history.events ++ Claim c.args.id r Wait ∷ []) c.in-Ok.ensures.run))
     (sym c.in-Ok.ensures.ok ∙ c.push.ensures.room) c.put_slot.ensures x) in
     record {
       legal = legal;
-      indexed = ∥∥₁_elim self.legal ∥∥₁_prop (λ x. ∥∥₁_elim c.requires.own ∥∥₁_prop (λ o. ∥∥₁_map self.indexed (λ y.
-          waits-indexed c.args.id c.args.walk c.args.by (there-of seen w x c.args.id (m.position c.args.walk) o.stands).node (there-of seen w x c.args.id (m.position c.args.walk) o.stands).at_slots c.wait_room.ensures.same c.list_waiting.ensures c.put_slot.ensures y)));
+      indexed = ∥∥₁_elim self.legal ∥∥₁_prop
+          (λ x. ∥∥₁_elim c.requires.own ∥∥₁_prop (λ o. ∥∥₁_map self.indexed (λ y.
+          waits-indexed c.args.id c.args.walk c.args.by
+          (there-of seen w x c.args.id (m.position c.args.walk) o.stands).node
+          (there-of seen w x c.args.id (m.position c.args.walk) o.stands).at_slots
+          c.wait_room.ensures.same c.list_waiting.ensures c.put_slot.ensures y)));
       counted = self.counted;
       active = c.push.ensures.active;
       few = self.few;
@@ -51,7 +63,11 @@ invariant_of-self g c =
       stops = ∣ none-stops w _ c.requires.running ∣₁;
       kept_so = self.kept_so;
       behind = behind-event seen w (Claim c.args.id c.args.run.now Wait) self.legal legal
-          (c.push.ensures.events ∙ (ap (λ es. es ++ Claim c.args.id c.in-Ok.claimed Wait ∷ []) c.in-Ok.ensures.events ∙ ap (λ r. self.history.events ++ Claim c.args.id r Wait ∷ []) c.in-Ok.ensures.run)) (kept-put self.slots.items (Waiting c.args.walk c.args.by) c.put_slot.ensures) self.behind;
+          (c.push.ensures.events
+          ∙ (ap (λ es. es ++ Claim c.args.id c.in-Ok.claimed Wait ∷ []) c.in-Ok.ensures.events
+          ∙ ap (λ r. self.history.events ++ Claim c.args.id r Wait ∷ []) c.in-Ok.ensures.run))
+          (kept-put self.slots.items (Waiting c.args.walk c.args.by) c.put_slot.ensures)
+          self.behind;
     }
 
 pub invariant_of-self-in-Err : goal.invariant_of-self-in-Err
@@ -61,10 +77,14 @@ invariant_of-self-in-Err g c =
     let seen = seen_by m.world m.position m.asked m.learnt in
     let w = m.world_of self.world in
     record {
-      legal = ∥∥₁_map self.legal (λ x. room-shown seen w c.wait_room.ensures.events c.wait_room.ensures.room refl refl refl x);
-      indexed = ∥∥₁_map self.indexed (λ y. room-indexed refl refl (omega arith) c.wait_room.ensures.same y);
+      legal = ∥∥₁_map self.legal
+          (λ x. room-shown seen w c.wait_room.ensures.events c.wait_room.ensures.room refl refl refl
+          x);
+      indexed = ∥∥₁_map self.indexed
+          (λ y. room-indexed refl refl (omega arith) c.wait_room.ensures.same y);
       counted = self.counted;
-      active = active-same self.history.events self.history.nodes c.wait_room.ensures.events c.wait_room.ensures.nodes self.active;
+      active = active-same self.history.events self.history.nodes c.wait_room.ensures.events
+          c.wait_room.ensures.nodes self.active;
       few = self.few;
       nested = self.nested;
       stops = room-stops w self.end c.wait_room.ensures.events self.stops;

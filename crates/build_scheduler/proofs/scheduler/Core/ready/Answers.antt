@@ -6,4 +6,5 @@ pub returns : goal.returns
 returns g c =
     let m = g.W.Walker in
     let self = c.args.self.now in
-    least-ready (seen_by m.world m.position m.asked m.learnt) (m.world_of self.world) self.ready c.least.result self.legal self.indexed c.least.ensures
+    least-ready (seen_by m.world m.position m.asked m.learnt) (m.world_of self.world) self.ready
+    c.least.result self.legal self.indexed c.least.ensures

@@ -22,25 +22,29 @@ pub finish-requires : goal.finish-requires
 finish-requires g c =
     let m = g.W.Walker in
     let self = c.args.self.now in
-    finishes-begun (seen_by m.world m.position m.asked m.learnt) (m.world_of self.world) c.args.id c.args.run.now c.args.made self.legal c.requires.asks
+    finishes-begun (seen_by m.world m.position m.asked m.learnt) (m.world_of self.world) c.args.id
+    c.args.run.now c.args.made self.legal c.requires.asks
 
 pub take_run-requires : goal.take_run-requires
 take_run-requires g c =
     let m = g.W.Walker in
     let self = c.args.self.now in
-    finishes-there (seen_by m.world m.position m.asked m.learnt) (m.world_of self.world) c.args.id c.args.run.now c.args.made self.legal c.requires.asks
+    finishes-there (seen_by m.world m.position m.asked m.learnt) (m.world_of self.world) c.args.id
+    c.args.run.now c.args.made self.legal c.requires.asks
 
 pub push-requires-clause-room : goal.push-requires-clause-room
 push-requires-clause-room g c =
     let m = g.W.Walker in
     let self = c.args.self.now in
-    finishes-room (seen_by m.world m.position m.asked m.learnt) (m.world_of self.world) c.args.id c.args.run.now c.args.made self.legal c.requires.asks
+    finishes-room (seen_by m.world m.position m.asked m.learnt) (m.world_of self.world) c.args.id
+    c.args.run.now c.args.made self.legal c.requires.asks
 
 pub unreachable-requires : goal.unreachable-requires
 unreachable-requires g c =
     let m = g.W.Walker in
     let self = c.args.self.now in
-    finishes-some (seen_by m.world m.position m.asked m.learnt) (m.world_of self.world) c.args.id c.args.run.now c.args.made self.legal c.requires.asks c.in-None.ensures.was
+    finishes-some (seen_by m.world m.position m.asked m.learnt) (m.world_of self.world) c.args.id
+    c.args.run.now c.args.made self.legal c.requires.asks c.in-None.ensures.was
 
 pub wake-requires : goal.wake-requires
 wake-requires g c =
@@ -48,7 +52,8 @@ wake-requires g c =
     let self = c.args.self.now in
     record {
       indexed = self.indexed;
-      there = finishes-slot (seen_by m.world m.position m.asked m.learnt) (m.world_of self.world) c.args.id c.args.run.now c.args.made self.legal c.requires.asks;
+      there = finishes-slot (seen_by m.world m.position m.asked m.learnt) (m.world_of self.world)
+          c.args.id c.args.run.now c.args.made self.legal c.requires.asks;
     }
 
 pub invariant_of-self : goal.invariant_of-self
@@ -56,9 +61,14 @@ invariant_of-self g c =
     let m = g.W.Walker in
     let self = c.args.self.now in
     let named : c.in-Some.finished ≡ c.args.run.now =
-    finishes-named (seen_by m.world m.position m.asked m.learnt) (m.world_of self.world) c.args.id c.args.run.now c.args.made self.legal c.requires.asks c.in-Some.finished c.in-Some.ensures.was in
-    let legal = ∥∥₁_map₂ self.legal c.requires.asks (λ x a. finish-shown (seen_by m.world m.position m.asked m.learnt) (m.world_of self.world) self.history c.push.new.self c.args.id c.args.run.now c.args.made
-    a c.requires.running (c.push.ensures.events ∙ ap (λ r. self.history.events ++ Result c.args.id r ∷ []) named) c.push.ensures.room
+    finishes-named (seen_by m.world m.position m.asked m.learnt) (m.world_of self.world) c.args.id
+    c.args.run.now c.args.made self.legal c.requires.asks c.in-Some.finished
+    c.in-Some.ensures.was in
+    let legal = ∥∥₁_map₂ self.legal c.requires.asks
+    (λ x a. finish-shown (seen_by m.world m.position m.asked m.learnt) (m.world_of self.world)
+    self.history c.push.new.self c.args.id c.args.run.now c.args.made
+    a c.requires.running (c.push.ensures.events
+    ∙ ap (λ r. self.history.events ++ Result c.args.id r ∷ []) named) c.push.ensures.room
     c.wake.ensures.slots c.in-Some.ensures.is c.finish.ensures.finished c.finish.ensures.begun x) in
     record {
       legal = legal;
@@ -77,7 +87,10 @@ invariant_of-self g c =
           c.finish.new.self.finished self.origins.items self.kept.ends.items
           c.finish.ensures.finished
           (finish-new seen w self.history self.history c.args.id c.args.run.now made a x) each));
-      behind = behind-event (seen_by m.world m.position m.asked m.learnt) (m.world_of self.world) (Result c.args.id c.args.run.now) self.legal legal (c.push.ensures.events ∙ ap (λ r. self.history.events ++ Result c.args.id r ∷ []) named) (kept-woken self.slots.items c.wake.ensures.slots) self.behind;
+      behind = behind-event (seen_by m.world m.position m.asked m.learnt) (m.world_of self.world)
+          (Result c.args.id c.args.run.now) self.legal legal
+          (c.push.ensures.events ∙ ap (λ r. self.history.events ++ Result c.args.id r ∷ []) named)
+          (kept-woken self.slots.items c.wake.ensures.slots) self.behind;
     }
 
 pub returns-clause-history : goal.returns-clause-history
@@ -85,7 +98,9 @@ returns-clause-history g c =
     let m = g.W.Walker in
     let self = c.args.self.now in
     let named : c.in-Some.finished ≡ c.args.run.now =
-    finishes-named (seen_by m.world m.position m.asked m.learnt) (m.world_of self.world) c.args.id c.args.run.now c.args.made self.legal c.requires.asks c.in-Some.finished c.in-Some.ensures.was in
+    finishes-named (seen_by m.world m.position m.asked m.learnt) (m.world_of self.world) c.args.id
+    c.args.run.now c.args.made self.legal c.requires.asks c.in-Some.finished
+    c.in-Some.ensures.was in
     c.push.ensures.events ∙ ap (λ r. self.history.events ++ Result c.args.id r ∷ []) named
 
 pub returns-clause-out : goal.returns-clause-out
@@ -93,6 +108,12 @@ returns-clause-out g c walk own asks =
     let m = g.W.Walker in
     let self = c.args.self.now in
     let named : c.in-Some.finished ≡ c.args.run.now =
-    finishes-named (seen_by m.world m.position m.asked m.learnt) (m.world_of self.world) c.args.id c.args.run.now c.args.made self.legal c.requires.asks c.in-Some.finished c.in-Some.ensures.was in
-    ∥∥₁_map₂ self.legal own (λ x o. finish-out (seen_by m.world m.position m.asked m.learnt) (m.world_of self.world) self.history c.push.new.self c.args.id c.args.run.now c.args.made
-    walk o asks (c.push.ensures.events ∙ ap (λ r. self.history.events ++ Result c.args.id r ∷ []) named) c.finish.ensures.finished x)
+    finishes-named (seen_by m.world m.position m.asked m.learnt) (m.world_of self.world) c.args.id
+    c.args.run.now c.args.made self.legal c.requires.asks c.in-Some.finished
+    c.in-Some.ensures.was in
+    ∥∥₁_map₂ self.legal own
+    (λ x o. finish-out (seen_by m.world m.position m.asked m.learnt) (m.world_of self.world)
+    self.history c.push.new.self c.args.id c.args.run.now c.args.made
+    walk o asks
+    (c.push.ensures.events ∙ ap (λ r. self.history.events ++ Result c.args.id r ∷ []) named)
+    c.finish.ensures.finished x)

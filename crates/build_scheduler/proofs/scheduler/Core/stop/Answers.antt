@@ -8,13 +8,16 @@ invariant_of-self g c =
     let m = g.W.Walker in
     let self = c.args.self.now in
     record {
-      legal = ∥∥₁_map self.legal (λ x. stopped-shown (seen_by m.world m.position m.asked m.learnt) (m.world_of self.world) c.args.end c.requires.shown x);
+      legal = ∥∥₁_map self.legal
+          (λ x. stopped-shown (seen_by m.world m.position m.asked m.learnt) (m.world_of self.world)
+          c.args.end c.requires.shown x);
       indexed = self.indexed;
       counted = self.counted;
       active = self.active;
       few = self.few;
       nested = self.nested;
-      stops = ∣ shows-stop (m.world_of self.world) self.history.events c.args.end c.requires.shown ∣₁;
+      stops = ∣ shows-stop (m.world_of self.world) self.history.events c.args.end c.requires.shown
+          ∣₁;
       kept_so = self.kept_so;
       behind = self.behind;
     }

@@ -6,7 +6,15 @@ use Rattle.build_scheduler.specs.Shown.{AreNested}
 use Rattle.build_scheduler.proofs.Behind.{behind-same}
 use Rattle.build_scheduler.proofs.LogRoom.{active-same}
 use Rattle.build_scheduler.proofs.Repeating.{kept-alike}
-use Rattle.build_scheduler.proofs.Rooms.{room-kept, room-shown, room-indexed, room-stops, same-numbers, spare-of, unready-room}
+use Rattle.build_scheduler.proofs.Rooms.{
+  room-kept,
+  room-shown,
+  room-indexed,
+  room-stops,
+  same-numbers,
+  spare-of,
+  unready-room,
+}
 use Rattle.build_scheduler.proofs.scheduler.Core.take_room.Goals as goal
 
 pub invariant_of-self : goal.invariant_of-self
@@ -105,7 +113,8 @@ invariant_of-self-2 g c =
     }
 
 pub returns-clause-ready_room : goal.returns-clause-ready_room
-returns-clause-ready_room g c = unready-room c.args.count c.reserve.new.self.room c.reserve_all.ensures.slots c.in_ok-reserve.ensures.ok c.args.self.now.indexed
+returns-clause-ready_room g c = unready-room c.args.count c.reserve.new.self.room
+    c.reserve_all.ensures.slots c.in_ok-reserve.ensures.ok c.args.self.now.indexed
 
 pub returns-clause-spare : goal.returns-clause-spare
 returns-clause-spare g c =

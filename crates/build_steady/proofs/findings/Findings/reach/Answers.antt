@@ -12,7 +12,8 @@ use Rattle.build_steady.proofs.Events.{
 }
 use Rattle.build_steady.proofs.findings.Findings.reach.Goals as goal
 
-pub returns-then-len-gt-MOST_INSTANCES-clause-told : goal.returns-then-len-gt-MOST_INSTANCES-clause-told
+pub returns-then-len-gt-MOST_INSTANCES-clause-told :
+    goal.returns-then-len-gt-MOST_INSTANCES-clause-told
 unfolding most_instances
 returns-then-len-gt-MOST_INSTANCES-clause-told c before shows =
     let i = c.args.instance.now in

@@ -5,7 +5,8 @@ use Rattle.file_store.proofs.Order.{entries_of-ordered}
 use Rattle.file_store.proofs.memory.MemStoreStore.list.Goals as goal
 
 pub returns-clause-order : goal.returns-clause-order
-returns-clause-order c = entries_of-ordered c.is_failing.new.self.tree.files c.in_ok-entries.field-0 c.is_failing.new.self.tree.in_order (c.in_ok-entries.ensures ∙ ap entries_of c.as_slice.ensures)
+returns-clause-order c = entries_of-ordered c.is_failing.new.self.tree.files c.in_ok-entries.field-0
+    c.is_failing.new.self.tree.in_order (c.in_ok-entries.ensures ∙ ap entries_of c.as_slice.ensures)
 
 pub returns-then-is_failing-clause-kind : goal.returns-then-is_failing-clause-kind
 returns-then-is_failing-clause-kind c = listing_kind _ _ _ _ _ (search rules) (omega arith)

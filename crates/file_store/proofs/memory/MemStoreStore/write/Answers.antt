@@ -23,5 +23,6 @@ returns-in-None-clause-kind c = neither_kind _ _ _ _ (omega arith) (omega arith)
 
 pub returns-in_ok-put-in-Some-clause-written : goal.returns-in_ok-put-in-Some-clause-written
 returns-in_ok-put-in-Some-clause-written c =
-    written c.args.path.now c.args.bytes.now _ _ c.in-Some.stamp _ _ c.as_slice.result.now _ c.is_failing.ensures.tree c.as_slice.ensures c.in-Some.ensures.newest
+    written c.args.path.now c.args.bytes.now _ _ c.in-Some.stamp _ _ c.as_slice.result.now _
+    c.is_failing.ensures.tree c.as_slice.ensures c.in-Some.ensures.newest
     c.in_ok-path-in-Some.ensures c.in_ok-bytes-in-Some.ensures c.in_ok-put-in-Some.ensures.ok

@@ -5,4 +5,5 @@ use Rattle.msb_batching.proofs.mentions.Mentions.batched.Given as goal
 
 abbrev pub invariant-loop-kind : goal.invariant-loop-kind
 invariant-loop-kind l =
-    map (λ kind. kind.now) l.kinds.items ++ filter (is_batched (spoken_of l.self)) (drop l.kind-index l.kind-items) ≡ batched (spoken_of l.self)
+    map (λ kind. kind.now) l.kinds.items ++ filter (is_batched (spoken_of l.self))
+    (drop l.kind-index l.kind-items) ≡ batched (spoken_of l.self)

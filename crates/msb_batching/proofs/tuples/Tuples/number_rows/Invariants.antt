@@ -7,8 +7,10 @@ use Rattle.msb_batching.proofs.tuples.Tuples.number_rows.Given as goal
 abbrev pub invariant-loop-row : goal.invariant-loop-row
 invariant-loop-row l = record {
   keyed : IsKeyed l.self;
-  tuples : with_rows (tuples_in l.self) (map row_of (into_iter_items l.row-iterator)) ≡ with_rows (tuples_in l.fn.self) (map row_of l.fn.rows.items);
+  tuples : with_rows (tuples_in l.self) (map row_of (into_iter_items l.row-iterator))
+      ≡ with_rows (tuples_in l.fn.self) (map row_of l.fn.rows.items);
   numbers :
-      map numbered_of l.items.items ++ numbered_from (tuples_in l.self) (map row_of (into_iter_items l.row-iterator))
+      map numbered_of l.items.items ++ numbered_from (tuples_in l.self)
+      (map row_of (into_iter_items l.row-iterator))
       ≡ numbered_from (tuples_in l.fn.self) (map row_of l.fn.rows.items);
 }

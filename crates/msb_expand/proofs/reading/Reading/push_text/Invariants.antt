@@ -8,7 +8,8 @@ use Rattle.msb_expand.proofs.reading.Reading.push_text.Given as goal
 abbrev pub invariant-loop-piece : goal.invariant-loop-piece
 invariant-loop-piece l = record {
   utf8 : IsUtf8 l.rest;
-  so_far : with_pieces (reading_of l.self) (slice_split (λ b. b == 59) l.rest) ≡ with_pieces (reading_of l.initial.self) (slice_split (λ b. b == 59) l.text);
+  so_far : with_pieces (reading_of l.self) (slice_split (λ b. b == 59) l.rest)
+      ≡ with_pieces (reading_of l.initial.self) (slice_split (λ b. b == 59) l.text);
 }
 
 abbrev pub decreases-loop-piece : goal.decreases-loop-piece

@@ -8,10 +8,16 @@ pub returns-in-Some : goal.returns-in-Some
 returns-in-Some c =
     let seen = c.args.self.now in
     c.as_str.ensures
-    ∙ ap text_or_none (sym (own_at c.args.name.now _ (pairs_or_none (option_copied seen.defaults)) (pairs_or_none (option_copied seen.meta)) (sym c.in-Some.ensures)))
+    ∙ ap text_or_none
+    (sym
+    (own_at c.args.name.now _ (pairs_or_none (option_copied seen.defaults))
+    (pairs_or_none (option_copied seen.meta)) (sym c.in-Some.ensures)))
 
 pub returns-in-None : goal.returns-in-None
 returns-in-None c =
     let seen = c.args.self.now in
     c.text_or_empty.ensures
-    ∙ ap text_or_none (c.text_in-in-None.ensures ∙ sym (default_at c.args.name.now (pairs_or_none (option_copied seen.defaults)) (pairs_or_none (option_copied seen.meta)) (sym c.in-None.ensures)))
+    ∙ ap text_or_none (c.text_in-in-None.ensures
+    ∙ sym
+    (default_at c.args.name.now (pairs_or_none (option_copied seen.defaults))
+    (pairs_or_none (option_copied seen.meta)) (sym c.in-None.ensures)))

@@ -5,4 +5,5 @@ use Rattle.msb_expand.proofs.whole.Whole.push_items.Given as goal
 
 abbrev pub invariant-loop-item : goal.invariant-loop-item
 invariant-loop-item l =
-    if_small (l.self ++ entries_in (given (map seen_item (drop l.item-index l.items)))) ≡ if_small (l.initial.self ++ entries_in (given (map seen_item l.items)))
+    if_small (l.self ++ entries_in (given (map seen_item (drop l.item-index l.items))))
+    ≡ if_small (l.initial.self ++ entries_in (given (map seen_item l.items)))

@@ -7,4 +7,5 @@ use Rattle.msb_expression.proofs.expression.Expr.text.Goals as goal
 pub returns-clause-again : goal.returns-clause-again
 returns-clause-again c = λ text r.
     let e : c.push_parts.new.word ≡ text_of c.args.self.now.parts = search rules in
-    subst (λ word. IsReading word c.args.self.now.parts) (sym e) (text_again text c.args.self.now.parts r)
+    subst (λ word. IsReading word c.args.self.now.parts) (sym e)
+    (text_again text c.args.self.now.parts r)

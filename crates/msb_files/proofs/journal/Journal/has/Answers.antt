@@ -10,11 +10,13 @@ returns-then-has c =
     let m = c.args.mark.now in
     let newer = c.self.inside.part in
     let older = all_of c.self.inside.layers in
-    or_first c.has.result (has m newer) (has m older) c.has.ensures c.if-has.true ∙ (sym (has-append m newer older) ∙ ap (has m) c.self.view_is)
+    or_first c.has.result (has m newer) (has m older) c.has.ensures c.if-has.true
+    ∙ (sym (has-append m newer older) ∙ ap (has m) c.self.view_is)
 
 pub returns-else-has : goal.returns-else-has
 returns-else-has c =
     let m = c.args.mark.now in
     let newer = c.self.inside.part in
     let older = all_of c.self.inside.layers in
-    or_second c.has_mark.result c.has.result (has m newer) (has m older) c.has.ensures c.if-has.false (search rules) ∙ (sym (has-append m newer older) ∙ ap (has m) c.self.view_is)
+    or_second c.has_mark.result c.has.result (has m newer) (has m older) c.has.ensures
+    c.if-has.false (search rules) ∙ (sym (has-append m newer older) ∙ ap (has m) c.self.view_is)

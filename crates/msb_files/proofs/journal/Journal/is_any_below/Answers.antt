@@ -14,7 +14,8 @@ returns-then-is_any_below c =
     let test = λ (act : Act). has_file_below c.args.view.now c.args.folder.now (act_path act) in
     let newer = c.self.inside.part in
     let older = all_of c.self.inside.layers in
-    or_first c.is_any_below.result (list_any test (acts_of newer)) (list_any test (acts_of older)) c.is_any_below.ensures c.if-is_any_below.true
+    or_first c.is_any_below.result (list_any test (acts_of newer)) (list_any test (acts_of older))
+    c.is_any_below.ensures c.if-is_any_below.true
     ∙ (sym (any-append test newer older) ∙ ap (λ j. list_any test (acts_of j)) c.self.view_is)
 
 pub returns-else-is_any_below : goal.returns-else-is_any_below
@@ -22,5 +23,7 @@ returns-else-is_any_below c =
     let test = λ (act : Act). has_file_below c.args.view.now c.args.folder.now (act_path act) in
     let newer = c.self.inside.part in
     let older = all_of c.self.inside.layers in
-    or_second c.is_any_below-else-is_any_below.result c.is_any_below.result (list_any test (acts_of newer)) (list_any test (acts_of older)) c.is_any_below.ensures c.if-is_any_below.false (search rules)
+    or_second c.is_any_below-else-is_any_below.result c.is_any_below.result
+    (list_any test (acts_of newer)) (list_any test (acts_of older)) c.is_any_below.ensures
+    c.if-is_any_below.false (search rules)
     ∙ (sym (any-append test newer older) ∙ ap (λ j. list_any test (acts_of j)) c.self.view_is)

@@ -10,5 +10,7 @@ use Rattle.msb_files.proofs.part.Part.is_any_below.Goals as goal
 pub returns : goal.returns
 returns c =
     let test = λ (act : Act). has_file_below c.args.view.now c.args.folder.now (act_path act) in
-    c.is_any_entry_below.ensures ∙ (ap (list_any (λ e. list_any test (acts_of (e ∷ [])))) c.deref.ensures.value
-    ∙ (any_entry test c.self.inside.entries.items ∙ ap (λ j. list_any test (acts_of j)) c.self.view_is))
+    c.is_any_entry_below.ensures
+    ∙ (ap (list_any (λ e. list_any test (acts_of (e ∷ [])))) c.deref.ensures.value
+    ∙ (any_entry test c.self.inside.entries.items
+    ∙ ap (λ j. list_any test (acts_of j)) c.self.view_is))

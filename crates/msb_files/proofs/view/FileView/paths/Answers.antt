@@ -11,4 +11,5 @@ returns c =
     let live = λ (path : List ℕ). is_some (content view path) in
     let met : c.add_files.new.all.keys ≡ paths_met view = search rules in
     if_ok_is c.listed.result _ _ c.listed.ensures
-    (filter_same _ live _ (λ x b f k. (search rules, search rules)) c.add_files.new.all.keys c.retain.new.self.keys c.retain.ensures.filtered ∙ ap (filter live) met)
+    (filter_same _ live _ (λ x b f k. (search rules, search rules)) c.add_files.new.all.keys
+    c.retain.new.self.keys c.retain.ensures.filtered ∙ ap (filter live) met)

@@ -7,6 +7,7 @@ use Rattle.msb_files.proofs.view.FileView.written.Goals as goal
 pub returns : goal.returns
 returns c =
     let path = c.args.path.now in
-    let view : View = record { files = c.self.inside.tree.now.files; journal = c.self.inside.journal.now } in
+    let view : View = record
+    { files = c.self.inside.tree.now.files; journal = c.self.inside.journal.now } in
     let is : c.is_some.result ≡ is_some (last_act view.journal path) = search rules in
     is ∙ (written_by view path ∙ ap (λ (v : View). written v path) c.self.view_is)

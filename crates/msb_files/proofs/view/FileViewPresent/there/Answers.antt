@@ -14,7 +14,8 @@ returns-then-is_some c =
     let view = c.args.self.now in
     let path = c.args.path.now in
     or_first c.is_some.result (is_some (content view path))
-    (list_any (λ (file : File). has_file_below view path file.path) view.files || list_any (λ (act : Act). has_file_below view path (act_path act)) (acts_of view.journal))
+    (list_any (λ (file : File). has_file_below view path file.path) view.files
+    || list_any (λ (act : Act). has_file_below view path (act_path act)) (acts_of view.journal))
     (search rules) c.if-is_some.true ∙ there_is view path
 
 pub returns-else-is_some : goal.returns-else-is_some
@@ -22,5 +23,6 @@ returns-else-is_some c =
     let view = c.args.self.now in
     let path = c.args.path.now in
     or_second c.is_any_below.result c.is_some.result (is_some (content view path))
-    (list_any (λ (file : File). has_file_below view path file.path) view.files || list_any (λ (act : Act). has_file_below view path (act_path act)) (acts_of view.journal))
+    (list_any (λ (file : File). has_file_below view path file.path) view.files
+    || list_any (λ (act : Act). has_file_below view path (act_path act)) (acts_of view.journal))
     (search rules) c.if-is_some.false c.is_any_below.ensures ∙ there_is view path

@@ -11,8 +11,11 @@ use Rattle.msb_items.proofs.files.FileViewListedFiles.paths.Goals as goal
 pub returns-clause-in_order : goal.returns-clause-in_order
 returns-clause-in_order c =
     let view = c.args.self.now in
-    let met : IsRising (paths_met view) = all_rising (paths_of view.files) _ (all_rising (map act_path (acts_of view.journal)) [] tt) in
+    let met : IsRising (paths_met view) = all_rising (paths_of view.files) _
+    (all_rising (map act_path (acts_of view.journal)) [] tt) in
     let rising = some_rising (λ path. is_some (content view path)) (paths_met view) met in
     let IsAll : List (List ℕ) → Type 0 = λ all. all ≡ paths view in
     let InOrder : List (List ℕ) → Type 0 = λ all. IsSorted (slice_cmp nat_cmp) all in
-    IfOk-weaker c.paths.result IsAll InOrder (λ all is. subst (IsSorted (slice_cmp nat_cmp)) (sym is) (in_order (paths view) rising)) c.paths.ensures
+    IfOk-weaker c.paths.result IsAll InOrder
+    (λ all is. subst (IsSorted (slice_cmp nat_cmp)) (sym is) (in_order (paths view) rising))
+    c.paths.ensures

@@ -6,4 +6,5 @@ use Rattle.msb_values.proofs.named.Named.get.Goals as goal
 pub returns : goal.returns
 returns g c =
     let name = c.args.name.now in
-    c.get.ensures.value ∙ lookup-value_at name c.self.inside.map.entries ∙ ap (value_at name) c.self.view_is
+    c.get.ensures.value ∙ lookup-value_at name c.self.inside.map.entries
+    ∙ ap (value_at name) c.self.view_is

@@ -13,10 +13,15 @@ pub returns-clause-had : goal.returns-clause-had
 returns-clause-had g c =
     let name = c.args.name.now in
     let value = c.args.value in
-    let found = c.get_mut.ensures.value ∙ lookup-value_at name c.self.inside.map.entries ∙ ap (value_at name) c.self.view_is in
+    let found = c.get_mut.ensures.value ∙ lookup-value_at name c.self.inside.map.entries
+    ∙ ap (value_at name) c.self.view_is in
     elim c.match-get_mut.branch [
-      | in-Some w ↦ w.result-is ∙ w.replace.ensures.value ∙ sym (ap (λ held. unwrap_or (option_copied_mut held) value) w.in-Some.is) ∙ ap (λ held. unwrap_or held value) found
-      | in-None w ↦ w.result-is ∙ sym (ap (λ held. unwrap_or (option_copied_mut held) value) w.in-None.is) ∙ ap (λ held. unwrap_or held value) found
+      | in-Some w ↦ w.result-is ∙ w.replace.ensures.value
+          ∙ sym (ap (λ held. unwrap_or (option_copied_mut held) value) w.in-Some.is)
+          ∙ ap (λ held. unwrap_or held value) found
+      | in-None w ↦ w.result-is
+          ∙ sym (ap (λ held. unwrap_or (option_copied_mut held) value) w.in-None.is)
+          ∙ ap (λ held. unwrap_or held value) found
     ]
 
 pub returns-clause-inserted : goal.returns-clause-inserted
@@ -32,7 +37,8 @@ returns-clause-inserted g c = λ next. elim c.match-get_mut.branch [
   | in-None w ↦
       let name = c.args.name.now in
       ap (λ inside. insert_entry (slice_cmp nat_cmp) inside.map.entries name next) w.self-inside-is
-      ∙ ap (λ map. insert_entry (slice_cmp nat_cmp) map.entries name next) c.get_mut.follows.holds-at-none
+      ∙ ap (λ map. insert_entry (slice_cmp nat_cmp) map.entries name next)
+      c.get_mut.follows.holds-at-none
       ∙ ap (λ entries. insert_entry (slice_cmp nat_cmp) entries name next) c.self.view_is
 ]
 
@@ -45,10 +51,12 @@ returns-clause-left g c =
           ap (λ inside. inside.map.entries) w.self-inside-is
           ∙ (c.get_mut.follows.holds w.replace.new.dest).0
           ∙ set-changed name w.replace.new.dest c.self.inside.map.entries
-          ∙ ap (λ next. changed_at name (λ _. next) c.self.inside.map.entries) w.replace.ensures.after
+          ∙ ap (λ next. changed_at name (λ _. next) c.self.inside.map.entries)
+          w.replace.ensures.after
           ∙ ap (changed_at name (λ _. value)) c.self.view_is
       | in-None w ↦
-          let none = sym (c.get_mut.ensures.value ∙ lookup-value_at name c.self.inside.map.entries ∙ ap (value_at name) c.self.view_is) ∙ ap option_copied_mut w.in-None.is in
+          let none = sym (c.get_mut.ensures.value ∙ lookup-value_at name c.self.inside.map.entries
+          ∙ ap (value_at name) c.self.view_is) ∙ ap option_copied_mut w.in-None.is in
           ap (λ inside. inside.map.entries) w.self-inside-is
           ∙ ap (λ map. map.entries) c.get_mut.follows.holds-at-none
           ∙ c.self.view_is

@@ -10,16 +10,20 @@ use Rattle.msb_values.proofs.named.Named.take.Goals as goal
 pub returns-clause-had : goal.returns-clause-had
 returns-clause-had g c =
     let name = c.args.name.now in
-    c.remove.ensures.value ∙ lookup-value_at name c.self.inside.map.entries ∙ ap (value_at name) c.self.view_is
+    c.remove.ensures.value ∙ lookup-value_at name c.self.inside.map.entries
+    ∙ ap (value_at name) c.self.view_is
 
 pub returns-clause-left : goal.returns-clause-left
 returns-clause-left g c =
     let name = c.args.name.now in
-    c.remove.ensures.entries ∙ removed-without name c.self.inside.map.entries ∙ ap (without_name name) c.self.view_is
+    c.remove.ensures.entries ∙ removed-without name c.self.inside.map.entries
+    ∙ ap (without_name name) c.self.view_is
 
 pub returns-clause-inserted : goal.returns-clause-inserted
 returns-clause-inserted g c = λ next.
     let name = c.args.name.now in
     ap (λ entries. insert_entry (slice_cmp nat_cmp) entries name next) c.remove.ensures.entries
-    ∙ ap (λ entries. insert_entry (slice_cmp nat_cmp) (remove_entry (is_at (slice_cmp nat_cmp name)) entries) name next) c.self.view_is
+    ∙ ap
+    (λ entries. insert_entry (slice_cmp nat_cmp)
+    (remove_entry (is_at (slice_cmp nat_cmp name)) entries) name next) c.self.view_is
     ∙ insert-removed name next c.args.self.now c.names_rise.ensures

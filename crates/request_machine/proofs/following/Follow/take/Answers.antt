@@ -6,7 +6,17 @@ use Rattle.request_machine.proofs.following.Follow.take.Goals as goal
 pub returns-in-Wants : goal.returns-in-Wants
 returns-in-Wants g c =
     let f = c.args.self in
-    record { taken = subst (λ stand. TakenOn c.args.stage.now (record { standing = f.standing; order = f.order; stand = stand }) c.want.new.stage) (sym c.in-Wants.is) c.want.ensures.taken; before = c.want.ensures.before }
+    record {
+      taken = subst
+          (λ stand.
+          TakenOn c.args.stage.now (record { standing = f.standing; order = f.order; stand = stand })
+          c.want.new.stage) (sym c.in-Wants.is) c.want.ensures.taken;
+      before = c.want.ensures.before;
+    }
 
 pub returns-in-Over : goal.returns-in-Over
-returns-in-Over g c = record { taken = over_taken c.args.stage.now c.over.new.stage c.args.self c.in-Over.reply c.in-Over.is c.over.ensures.over; before = c.over.ensures.before }
+returns-in-Over g c = record {
+  taken = over_taken c.args.stage.now c.over.new.stage c.args.self c.in-Over.reply c.in-Over.is
+      c.over.ensures.over;
+  before = c.over.ensures.before;
+}

@@ -16,7 +16,9 @@ step-requires g c =
     record {
       run = c.in_ok-body.ensures.run;
       target = c.requires;
-      fits = begins_fits g.T.CountedTools.answer g.T.CountedTools.calls w run target c.args.scope.now c.in_ok-body.body c.new-none.result c.new-none.ensures c.in_ok-body.ensures.begins;
+      fits = begins_fits g.T.CountedTools.answer g.T.CountedTools.calls w run target
+          c.args.scope.now c.in_ok-body.body c.new-none.result c.new-none.ensures
+          c.in_ok-body.ensures.begins;
     }
 
 pub returns-clause-goes : goal.returns-clause-goes
@@ -34,6 +36,12 @@ returns-clause-goes g c =
     let log = c.new.result in
     let body = c.in_ok-body.body in
     let none = c.new-none.result in
-    IfOk-weaker c.step.result (λ step. IfSome target (λ t. Plays answer calls w run t (standing_in w run t body) none before after old new log step))
-    (Steps answer calls w run target (body_if w run target scope before) nothing_yet before after old new)
-    (λ step plays. begins_steps answer calls w run target scope body log none before after old new step c.new.ensures c.in_ok-body.ensures.begins c.requires plays) c.step.ensures.goes
+    IfOk-weaker c.step.result
+    (λ step.
+    IfSome target
+    (λ t. Plays answer calls w run t (standing_in w run t body) none before after old new log
+    step))
+    (Steps answer calls w run target (body_if w run target scope before) nothing_yet before after
+    old new)
+    (λ step plays. begins_steps answer calls w run target scope body log none before after old new
+    step c.new.ensures c.in_ok-body.ensures.begins c.requires plays) c.step.ensures.goes

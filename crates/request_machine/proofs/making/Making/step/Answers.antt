@@ -36,9 +36,19 @@ returns g c =
     after (calls old) (calls new) ask (standing_in w id target then_body)))
     c.requires.run c.in_ok-ask.ensures.goes) in
     record {
-      goes = IfOk-weaker c.stopped.result (IsStep run then_body then_log ask) (λ step. IfSome (target_named targets run.target) (λ target. Plays answer calls w run target (standing_in w run target body) results before after old new log step))
-          (λ step is. all_play answer calls w run results before after old new log then_log body then_body ask step (target_named targets run.target)
-          (λ uses called. noted_uses calls log then_log c.noted-before.result c.noted.result old new uses c.and-uses.ensures c.noted-before.ensures c.noted.ensures called) is goes) c.stopped.ensures;
-      tools = all_begin answer w run (target_named targets run.target) body then_body results before after (calls old) (calls new) ask c.requires.target c.requires.fits goes;
-      run = IfOk-weaker c.stopped.result (IsStep run then_body then_log ask) (λ step. run_in run step.at ≡ run) (λ step is. step_run run then_body then_log ask step (c.advance.ensures.run ∙ c.requires.run) is) c.stopped.ensures;
+      goes = IfOk-weaker c.stopped.result (IsStep run then_body then_log ask)
+          (λ step. IfSome (target_named targets run.target)
+          (λ target. Plays answer calls w run target (standing_in w run target body) results before
+          after old new log step))
+          (λ step is. all_play answer calls w run results before after old new log then_log body
+          then_body ask step (target_named targets run.target)
+          (λ uses called. noted_uses calls log then_log c.noted-before.result c.noted.result old new
+          uses c.and-uses.ensures c.noted-before.ensures c.noted.ensures called) is goes)
+          c.stopped.ensures;
+      tools = all_begin answer w run (target_named targets run.target) body then_body results before
+          after (calls old) (calls new) ask c.requires.target c.requires.fits goes;
+      run = IfOk-weaker c.stopped.result (IsStep run then_body then_log ask)
+          (λ step. run_in run step.at ≡ run)
+          (λ step is. step_run run then_body then_log ask step
+          (c.advance.ensures.run ∙ c.requires.run) is) c.stopped.ensures;
     }

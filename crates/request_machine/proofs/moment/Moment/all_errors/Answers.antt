@@ -26,11 +26,16 @@ returns-in_err-more c =
     let i = c.loop-element.element-index in
     let e = c.element-item.result in
     let p = err_from_is_err_and c.from_residual.result c.from_residual.ensures.1 in
-    let all = errors_of (seen_project m.project) m.standing.now.scope m.journal.now (map (at file) (map view elements)) in
+    let all = errors_of (seen_project m.project) m.standing.now.scope m.journal.now
+    (map (at file) (map view elements)) in
     let fault = c.in_err-more.field-0.0 in
     subst (λ r. GivesFault (λ names. names) r all) (sym p.1)
     (subst (λ f. UnlessMemory f.cause (all ≡ Err f)) (sym p.2)
-    (unless fault.cause (read_fault of (map (at file) (map view elements)) i c.loop-element.names c.loop-element.invariant (at file (view e)) (placed_within file elements i c.loop-element-test.true) (placed_at file elements i e c.loop-element-test.true c.element-item.is) fault)
+    (unless fault.cause
+    (read_fault of (map (at file) (map view elements)) i c.loop-element.names
+    c.loop-element.invariant (at file (view e))
+    (placed_within file elements i c.loop-element-test.true)
+    (placed_at file elements i e c.loop-element-test.true c.element-item.is) fault)
     c.in_err-more.ensures))
 
 pub loop-element-preserved : goal.loop-element-preserved
@@ -41,6 +46,10 @@ loop-element-preserved c =
     let elements = c.args.elements.now in
     let i = c.loop-element.element-index in
     let e = c.element-item.result in
-    rw (on_ok c.add_all.result c.if-is_err.ensures.value c.add_all.ensures ∙ ap (λ more. c.loop-element.names ++ more) c.as_slice.ensures)
-    (read_more of (map (at file) (map view elements)) i c.loop-element.names c.loop-element.invariant (at file (view e)) (placed_within file elements i c.loop-element-test.true) (placed_at file elements i e c.loop-element-test.true c.element-item.is) c.in_ok-more.more
+    rw (on_ok c.add_all.result c.if-is_err.ensures.value c.add_all.ensures
+    ∙ ap (λ more. c.loop-element.names ++ more) c.as_slice.ensures)
+    (read_more of (map (at file) (map view elements)) i c.loop-element.names
+    c.loop-element.invariant (at file (view e))
+    (placed_within file elements i c.loop-element-test.true)
+    (placed_at file elements i e c.loop-element-test.true c.element-item.is) c.in_ok-more.more
     c.in_ok-more.ensures)

@@ -8,4 +8,5 @@ use Rattle.request_machine.proofs.moment.Moment.all_errors.Given as goal
 
 abbrev pub invariant-loop-element : goal.invariant-loop-element
 invariant-loop-element l =
-    AreRead (errors_at (seen_project l.self.project) l.self.standing.now.scope l.self.journal.now) (map (at l.file) (map view l.elements)) l.element-index l.names
+    AreRead (errors_at (seen_project l.self.project) l.self.standing.now.scope l.self.journal.now)
+    (map (at l.file) (map view l.elements)) l.element-index l.names

@@ -11,7 +11,8 @@ follow_turn-requires c =
     let m = c.args.self.now in
     record {
       asked = ap (λ o. o.asked) c.in_ok-order.ensures ∙ c.requires;
-      fits = run_fits (seen_project m.project) c.args.made.now.ok c.in_ok-standing.standing m.journal.now c.args.name.now c.in_ok-turn.turn c.in_ok-turn.ensures;
+      fits = run_fits (seen_project m.project) c.args.made.now.ok c.in_ok-standing.standing
+          m.journal.now c.args.name.now c.in_ok-turn.turn c.in_ok-turn.ensures;
     }
 
 pub returns : goal.returns
@@ -28,12 +29,14 @@ returns c =
     let stand = c.in_ok-stand.stand in
     let turn = c.in_ok-turn.turn in
     record {
-      ready = run_ready p key s journal copy now stand (answer_of p ok s journal name) turn c.in_ok-turn.ensures c.in_ok-stand.ensures;
+      ready = run_ready p key s journal copy now stand (answer_of p ok s journal name) turn
+          c.in_ok-turn.ensures c.in_ok-stand.ensures;
       goes = λ (bodies : Bodies).
           ap (λ x. or_failed (answer_of p ok x journal name)
           (λ answer. walk p key bodies (left c.args.order.now answer) x journal))
           (sym c.in_ok-standing.ensures)
           ∙ (ap (λ o. or_failed (answer_of p ok s journal name)
           (λ answer. walk p key bodies (left o answer) s journal)) (sym c.in_ok-order.ensures)
-          ∙ run_goes p key s journal copy now stand (answer_of p ok s journal name) turn c.in_ok-turn.ensures c.in_ok-stand.ensures bodies);
+          ∙ run_goes p key s journal copy now stand (answer_of p ok s journal name) turn
+          c.in_ok-turn.ensures c.in_ok-stand.ensures bodies);
     }

@@ -10,8 +10,11 @@ use Rattle.request_machine.proofs.moment.Moment.go_on.Given as goal
 abbrev pub invariant-loop-answer : goal.invariant-loop-answer
 invariant-loop-answer l = record {
   fits : Fits l.order l.answer;
-  same : (bodies : Bodies) → walk (seen_project l.self.project) l.self.key.now bodies (left l.fn.order l.fn.first) l.self.standing.now l.self.journal.now
-      ≡ walk (seen_project l.self.project) l.self.key.now bodies (left l.order l.answer) l.self.standing.now l.self.journal.now;
+  same : (bodies : Bodies)
+      → walk (seen_project l.self.project) l.self.key.now bodies (left l.fn.order l.fn.first)
+      l.self.standing.now l.self.journal.now
+      ≡ walk (seen_project l.self.project) l.self.key.now bodies (left l.order l.answer)
+      l.self.standing.now l.self.journal.now;
 }
 
 abbrev pub decreases-loop-answer : goal.decreases-loop-answer

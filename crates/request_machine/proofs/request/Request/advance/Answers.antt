@@ -22,8 +22,10 @@ go-requires g c =
     let r = c.args.self.now in
     let w = r.world.now in
     let table = c.args.learnt.now.finished in
-    go_fits answer calls w r.key table r.journal r.runs r.stage (subst (IsNext (has_begun r.stage)) c.in-Go.is c.requires.turn)
-    (subst (λ a. IsSome (answered (world_of answer w) table (request_position calls r) a)) c.in-Go.is c.requires.fits)
+    go_fits answer calls w r.key table r.journal r.runs r.stage
+    (subst (IsNext (has_begun r.stage)) c.in-Go.is c.requires.turn)
+    (subst (λ a. IsSome (answered (world_of answer w) table (request_position calls r) a))
+    c.in-Go.is c.requires.fits)
 
 pub use_record-requires : goal.use_record-requires
 use_record-requires g c =
@@ -32,8 +34,10 @@ use_record-requires g c =
     let r = c.args.self.now in
     let w = r.world.now in
     let table = c.args.learnt.now.finished in
-    use_fits answer calls w r.key table r.journal r.runs r.stage (subst (IsNext (has_begun r.stage)) c.in-Use.is c.requires.turn) r.own_run
-    (subst (λ a. IsSome (answered (world_of answer w) table (request_position calls r) a)) c.in-Use.is c.requires.fits)
+    use_fits answer calls w r.key table r.journal r.runs r.stage
+    (subst (IsNext (has_begun r.stage)) c.in-Use.is c.requires.turn) r.own_run
+    (subst (λ a. IsSome (answered (world_of answer w) table (request_position calls r) a))
+    c.in-Use.is c.requires.fits)
 
 pub take_results-requires : goal.take_results-requires
 take_results-requires g c =
@@ -44,5 +48,6 @@ take_results-requires g c =
     let table = c.args.learnt.now.finished in
     let results = c.in-Results.results in
     let both = results_wait answer calls w r.key table r.journal r.runs results r.stage
-    (subst (λ a. IsSome (answered (world_of answer w) table (request_position calls r) a)) c.in-Results.is c.requires.fits) in
+    (subst (λ a. IsSome (answered (world_of answer w) table (request_position calls r) a))
+    c.in-Results.is c.requires.fits) in
     record { waits = both.0; replays = both.1; known = c.requires.known }

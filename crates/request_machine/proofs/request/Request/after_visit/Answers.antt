@@ -34,9 +34,12 @@ returns g c =
     let next = c.record.new.journal in
     record {
       made = made;
-      is = record_of table v.run r.journal next v.at made c.in_ok-run.ensures c.in_ok-journal.ensures
+      is = record_of table v.run r.journal next v.at made c.in_ok-run.ensures
+          c.in_ok-journal.ensures
           c.in_ok-made.ensures;
-      follows = subst (λ m. Follows (project_of r.world.now r.key (seen_instance v.instance)) r.key v.standing next v.order v.run.target m c.in_ok-follow.follow) c.get.ensures c.in_ok-follow.ensures;
+      follows = subst
+          (λ m. Follows (project_of r.world.now r.key (seen_instance v.instance)) r.key v.standing
+          next v.order v.run.target m c.in_ok-follow.follow) c.get.ensures c.in_ok-follow.ensures;
       runs_are = c.in_ok-runs.ensures
           ∙ ap (λ name. r.runs ++ name ∷ []) (c.name_or.ensures ∙ c.in_ok-run.ensures);
       asks = c.in_ok-ask.ensures;

@@ -13,7 +13,10 @@ returns g c =
     let target = target_named (seen_instance v.instance).targets v.run.target in
     record {
       halted = record {
-        steps = subst (λ j. Steps g.T.CountedTools.answer g.T.CountedTools.calls w v.run target (body_if w v.run target v.standing.scope j) nothing_yet j c.make.new.journal c.args.tools.now c.make.new.tools c.in_ok-step.step)
+        steps = subst
+            (λ j. Steps g.T.CountedTools.answer g.T.CountedTools.calls w v.run target
+            (body_if w v.run target v.standing.scope j) nothing_yet j c.make.new.journal
+            c.args.tools.now c.make.new.tools c.in_ok-step.step)
             c.in_ok-journal.ensures c.in_ok-step.ensures.goes;
         own = c.in_ok-step.ensures.run;
       };

@@ -13,7 +13,13 @@ use Rattle.request_machine.specs.declared.visit.Visit.{Visit}
 use Rattle.request_machine.specs.Former.{IsVisitOf, body_before, place_seen}
 use Rattle.request_machine.specs.Taken.{IsVisit}
 use Rattle.request_machine.specs.Visited.{seen_stage, seen_visit}
-use Rattle.request_machine.proofs.PutBack.{shown_begun, shown_of, shown_own, shown_position, waits_visit}
+use Rattle.request_machine.proofs.PutBack.{
+  shown_begun,
+  shown_of,
+  shown_own,
+  shown_position,
+  waits_visit,
+}
 use Rattle.request_machine.proofs.PlacesAnswered.{results_go, results_used}
 use Rattle.request_machine.proofs.request.Request.take_results.Goals as goal
 
@@ -32,13 +38,21 @@ replace_body-at-requires g c =
     let results = c.args.results.now in
     let old = c.args.tools.now in
     let new = c.resumed.new.tools in
-    let own : v.run.instance ≡ key.instance = subst (λ s. instance_in key.instance s ≡ key.instance) visits.1 r.own_run in
+    let own : v.run.instance ≡ key.instance = subst (λ s. instance_in key.instance s ≡ key.instance)
+    visits.1 r.own_run in
     let waiting = subst (WaitsFor calls w results) visits.1 c.requires.waits in
-    let halt = halt_at calls w v.run (target_named (seen_instance v.instance).targets v.run.target) v.at in
-    let resumed : HasResumedRun answer calls w table results v r.journal next old new step = subst (λ s. IsResumed answer calls w table results s r.journal next old new step) visits.1 c.in_ok-step.ensures.halted in
+    let halt = halt_at calls w v.run (target_named (seen_instance v.instance).targets v.run.target)
+    v.at in
+    let resumed : HasResumedRun answer calls w table results v r.journal next old new step = subst
+    (λ s. IsResumed answer calls w table results s r.journal next old new step) visits.1
+    c.in_ok-step.ensures.halted in
     record {
       visits = subst IsVisit (sym visits.1) tt;
-      fits = ∣ (key.instance, subst (λ s. IsVisitOf key.instance (body_before s step.at)) (sym visits.1) (v.asks_body, resumed.own, own)) ∣₁;
+      fits = ∣ (
+        key.instance,
+        subst (λ s. IsVisitOf key.instance (body_before s step.at)) (sym visits.1)
+            (v.asks_body, resumed.own, own),
+      ) ∣₁;
     }
 
 pub invariant_of-self : goal.invariant_of-self
@@ -56,12 +70,28 @@ invariant_of-self g c =
     let results = c.args.results.now in
     let old = c.args.tools.now in
     let new = c.resumed.new.tools in
-    let own : v.run.instance ≡ key.instance = subst (λ s. instance_in key.instance s ≡ key.instance) visits.1 r.own_run in
+    let own : v.run.instance ≡ key.instance = subst (λ s. instance_in key.instance s ≡ key.instance)
+    visits.1 r.own_run in
     let waiting = subst (WaitsFor calls w results) visits.1 c.requires.waits in
-    let halt = halt_at calls w v.run (target_named (seen_instance v.instance).targets v.run.target) v.at in
-    let resumed : HasResumedRun answer calls w table results v r.journal next old new step = subst (λ s. IsResumed answer calls w table results s r.journal next old new step) visits.1 c.in_ok-step.ensures.halted in
-    let n : Visit g.row.T.Denot = record { instance = v.instance; standing = v.standing; order = v.order; run = v.run; at = step.at; asks_body = v.asks_body; own_body = resumed.own } in
-    record { own_run = shown_own c.replace_body-at.new.stage (Some (seen_visit n)) key.instance (c.replace_body-at.ensures.now ∙ ap (λ s. body_before s step.at) visits.1) ∣ (v.asks_body, resumed.own, own) ∣₁ }
+    let halt = halt_at calls w v.run (target_named (seen_instance v.instance).targets v.run.target)
+    v.at in
+    let resumed : HasResumedRun answer calls w table results v r.journal next old new step = subst
+    (λ s. IsResumed answer calls w table results s r.journal next old new step) visits.1
+    c.in_ok-step.ensures.halted in
+    let n : Visit g.row.T.Denot = record {
+      instance = v.instance;
+      standing = v.standing;
+      order = v.order;
+      run = v.run;
+      at = step.at;
+      asks_body = v.asks_body;
+      own_body = resumed.own;
+    } in
+    record {
+      own_run = shown_own c.replace_body-at.new.stage (Some (seen_visit n)) key.instance
+          (c.replace_body-at.ensures.now ∙ ap (λ s. body_before s step.at) visits.1) ∣
+          (v.asks_body, resumed.own, own) ∣₁;
+    }
 
 pub returns : goal.returns
 returns g c =
@@ -78,36 +108,83 @@ returns g c =
     let results = c.args.results.now in
     let old = c.args.tools.now in
     let new = c.resumed.new.tools in
-    let own : v.run.instance ≡ key.instance = subst (λ s. instance_in key.instance s ≡ key.instance) visits.1 r.own_run in
+    let own : v.run.instance ≡ key.instance = subst (λ s. instance_in key.instance s ≡ key.instance)
+    visits.1 r.own_run in
     let waiting = subst (WaitsFor calls w results) visits.1 c.requires.waits in
-    let halt = halt_at calls w v.run (target_named (seen_instance v.instance).targets v.run.target) v.at in
-    let resumed : HasResumedRun answer calls w table results v r.journal next old new step = subst (λ s. IsResumed answer calls w table results s r.journal next old new step) visits.1 c.in_ok-step.ensures.halted in
-    let n : Visit g.row.T.Denot = record { instance = v.instance; standing = v.standing; order = v.order; run = v.run; at = step.at; asks_body = v.asks_body; own_body = resumed.own } in
+    let halt = halt_at calls w v.run (target_named (seen_instance v.instance).targets v.run.target)
+    v.at in
+    let resumed : HasResumedRun answer calls w table results v r.journal next old new step = subst
+    (λ s. IsResumed answer calls w table results s r.journal next old new step) visits.1
+    c.in_ok-step.ensures.halted in
+    let n : Visit g.row.T.Denot = record {
+      instance = v.instance;
+      standing = v.standing;
+      order = v.order;
+      run = v.run;
+      at = step.at;
+      asks_body = v.asks_body;
+      own_body = resumed.own;
+    } in
     let stage = c.replace_body-at.new.stage in
     let then_journal = c.replace-journal.new.dest in
     let shows = c.replace_body-at.ensures.now ∙ ap (λ s. body_before s step.at) visits.1 in
     let place : place_of calls w key then_journal stage ≡ place_of calls w key next (Visits n) =
-    shown_of stage n shows calls w key then_journal ∙ ap (λ j. place_of calls w key j (Visits n)) c.replace-journal.ensures.after in
-    let position : position_of calls w key then_journal r.runs stage ≡ position_of calls w key next r.runs (Visits n) =
-    ap (λ p. record { journal = then_journal; runs = r.runs; place = p }) place ∙ ap (λ j. record { journal = j; runs = r.runs; place = place_of calls w key next (Visits n) }) c.replace-journal.ensures.after in
+    shown_of stage n shows calls w key then_journal
+    ∙ ap (λ j. place_of calls w key j (Visits n)) c.replace-journal.ensures.after in
+    let position : position_of calls w key then_journal r.runs stage
+    ≡ position_of calls w key next r.runs (Visits n) =
+    ap (λ p. record { journal = then_journal; runs = r.runs; place = p }) place
+    ∙ ap
+    (λ j. record { journal = j; runs = r.runs; place = place_of calls w key next (Visits n) })
+    c.replace-journal.ensures.after in
     record {
-      goes = subst (λ p. GoesOn (world_of answer w) table (position_of calls w key r.journal r.runs r.stage) p (Results results) step.ask) (sym position)
-          (subst (λ s. GoesOn (world_of answer w) table (position_of calls w key r.journal r.runs s) (position_of calls w key next r.runs (Visits n)) (Results results) step.ask) (sym visits.1)
-          (results_go answer calls w key v own table r.journal next r.runs n old new step refl resumed.replayed results resumed.is halt refl waiting resumed.goes));
-      used = subst (λ p. map tool_use (calls new) ≡ map tool_use (calls old) ++ used_between (place_of calls w key r.journal r.stage) p) (sym place)
-          (subst (λ s. map tool_use (calls new) ≡ map tool_use (calls old) ++ used_between (place_of calls w key r.journal s) (place_of calls w key next (Visits n))) (sym visits.1)
-          (results_used answer calls w key v own table r.journal next r.runs n old new step refl resumed.replayed results resumed.is halt refl waiting resumed.goes));
-      begun = shown_begun stage (Some (seen_visit n)) key.instance shows ∣ (v.asks_body, resumed.own, own) ∣₁;
+      goes = subst
+          (λ p. GoesOn (world_of answer w) table (position_of calls w key r.journal r.runs r.stage)
+          p (Results results) step.ask) (sym position)
+          (subst
+          (λ s. GoesOn (world_of answer w) table (position_of calls w key r.journal r.runs s)
+          (position_of calls w key next r.runs (Visits n)) (Results results) step.ask)
+          (sym visits.1)
+          (results_go answer calls w key v own table r.journal next r.runs n old new step refl
+          resumed.replayed results resumed.is halt refl waiting resumed.goes));
+      used = subst (λ p. map tool_use (calls new)
+          ≡ map tool_use (calls old) ++ used_between (place_of calls w key r.journal r.stage) p)
+          (sym place)
+          (subst (λ s. map tool_use (calls new)
+          ≡ map tool_use (calls old) ++ used_between (place_of calls w key r.journal s)
+          (place_of calls w key next (Visits n))) (sym visits.1)
+          (results_used answer calls w key v own table r.journal next r.runs n old new step refl
+          resumed.replayed results resumed.is halt refl waiting resumed.goes));
+      begun = shown_begun stage (Some (seen_visit n)) key.instance shows ∣
+          (v.asks_body, resumed.own, own) ∣₁;
       world = refl;
       former =
-          let visit : IsVisitOf key.instance (seen_stage r.stage) = subst (λ s. IsVisitOf key.instance (seen_stage s)) (sym visits.1) (v.asks_body, v.own_body, own) in
+          let visit : IsVisitOf key.instance (seen_stage r.stage) = subst
+          (λ s. IsVisitOf key.instance (seen_stage s)) (sym visits.1)
+          (v.asks_body, v.own_body, own) in
           record {
             fits = subst (IsVisitOf key.instance) (sym c.replace_body-at.ensures.before) visit;
             begun = ap has_begun visits.1;
             stood =
-                ap (λ o. record { journal = c.replace-journal.result; runs = r.runs; place = place_seen calls w key c.replace-journal.result o }) c.replace_body-at.ensures.before
-                ∙ (ap (λ j. record { journal = j; runs = r.runs; place = place_seen calls w key j (seen_stage r.stage) }) c.replace-journal.ensures.value
-                ∙ sym (shown_position calls w key r.journal r.runs r.stage (seen_stage r.stage) key.instance refl ∣ visit ∣₁));
+                ap
+                (λ o.
+                record {
+                  journal = c.replace-journal.result;
+                  runs = r.runs;
+                  place = place_seen calls w
+                      key c.replace-journal.result o;
+                }) c.replace_body-at.ensures.before
+                ∙ (ap
+                (λ j.
+                record {
+                  journal = j;
+                  runs = r.runs;
+                  place = place_seen calls w key j
+                      (seen_stage r.stage);
+                }) c.replace-journal.ensures.value
+                ∙ sym
+                (shown_position calls w key r.journal r.runs r.stage (seen_stage r.stage)
+                key.instance refl ∣ visit ∣₁));
           };
       tools = c.resumed.ensures.tools;
       err = tt;

@@ -22,15 +22,21 @@ step-requires g c =
     let copy = c.in_ok-copy-in-Called.copy in
     let uses = uses_in calls c.in-Called.uses in
     let named = sym c.in_ok-run-in-Called.ensures in
-    let own : copy.run ≡ run = ap (λ b. b.run) c.in_ok-copy-in-Called.ensures ∙ subst (λ at. run_in run at ≡ run) c.in-Called.is v.own_body in
+    let own : copy.run ≡ run = ap (λ b. b.run) c.in_ok-copy-in-Called.ensures
+    ∙ subst (λ at. run_in run at ≡ run) c.in-Called.is v.own_body in
     let same = sym own ∙ named in
-    let waiting : IsWaiting (halt_of w run body uses target) results = subst (λ at. IsWaiting (halt_at calls w run target at) results) c.in-Called.is c.requires in
+    let waiting : IsWaiting (halt_of w run body uses target) results = subst
+    (λ at. IsWaiting (halt_at calls w run target at) results) c.in-Called.is c.requires in
     record {
       run = named;
       target = subst (λ r. IsSome (target_named targets r.target)) same
           (waits_there answer calls w run target body uses results waiting);
-      fits = subst (λ r. IfSome (target_named targets r.target) (λ t. Fits (standing_in w r t copy) results)) same
-          (subst (λ b. IfSome target (λ t. Fits (standing_in w run t b) results)) (sym c.in_ok-copy-in-Called.ensures) (waits_fits answer calls w run target body uses results waiting));
+      fits = subst
+          (λ r. IfSome (target_named targets r.target) (λ t. Fits (standing_in w r t copy) results))
+          same
+          (subst (λ b. IfSome target (λ t. Fits (standing_in w run t b) results))
+          (sym c.in_ok-copy-in-Called.ensures)
+          (waits_fits answer calls w run target body uses results waiting));
     }
 
 pub returns : goal.returns
@@ -53,13 +59,26 @@ returns g c =
     let same = c.in_ok-run-in-Called.ensures ∙ (ap (λ b. b.run) c.in_ok-copy-in-Called.ensures
     ∙ subst (λ at. run_in run at ≡ run) c.in-Called.is v.own_body) in
     let goes = subst (λ r. IfOk c.step.result (λ step. IfSome (target_named targets r.target)
-    (λ t. Plays answer calls w r t (standing_in w r t copy) results before after old new log step))) same c.step.ensures.goes in
+    (λ t. Plays answer calls w r t (standing_in w r t copy) results before after old new log step)))
+    same c.step.ensures.goes in
     record {
-      goes = IfOk-weaker c.step.result (λ step. IfSome target (λ t. Plays answer calls w run t (standing_in w run t copy) results before after old new log step))
-          (λ step. GoesOnFrom answer calls w run target (halt_at calls w run target v.at) results before after old new step)
-          (λ step plays. subst (λ at. GoesOnFrom answer calls w run target (halt_at calls w run target at) results before after old new step) (sym c.in-Called.is)
+      goes = IfOk-weaker c.step.result
+          (λ step.
+          IfSome target
+          (λ t. Plays answer calls w run t (standing_in w run t copy) results before after old new
+          log step))
+          (λ step. GoesOnFrom answer calls w run target (halt_at calls w run target v.at) results
+          before after old new step)
+          (λ step plays.
+          subst
+          (λ at. GoesOnFrom answer calls w run target (halt_at calls w run target at) results
+          before after old new step) (sym c.in-Called.is)
           (plays_on answer calls w run target body log results before after old new step
-          (subst (λ b. IfSome target (λ t. Plays answer calls w run t (standing_in w run t b) results before after old new log step)) c.in_ok-copy-in-Called.ensures plays))) goes;
+          (subst
+          (λ b.
+          IfSome target
+          (λ t. Plays answer calls w run t (standing_in w run t b) results before after old new
+          log step)) c.in_ok-copy-in-Called.ensures plays))) goes;
       tools = c.step.ensures.tools;
       run = subst (λ r. IfOk c.step.result (λ step. run_in r step.at ≡ r)) same c.step.ensures.run;
     }

@@ -1,4 +1,17 @@
-use Rattle.std.proofs.Common.{◌≡◌, [], IfOk, IsSome, None, option_map, option_copied, refl, sym, ap, ◌∙◌, subst}
+use Rattle.std.proofs.Common.{
+  ◌≡◌,
+  [],
+  IfOk,
+  IsSome,
+  None,
+  option_map,
+  option_copied,
+  refl,
+  sym,
+  ap,
+  ◌∙◌,
+  subst,
+}
 use Rattle.std.proofs.lemmas.Result.{IfOk-weaker}
 use Rattle.build_meaning.specs.SoFar.{nothing_yet, recorded}
 use Rattle.build_world.specs.Instances.{seen_instance, seen_target}
@@ -14,7 +27,8 @@ pub begin-requires : goal.begin-requires
 begin-requires g c =
     let targets = (seen_instance c.args.self.now.instance).targets in
     subst (λ run. IsSome (target_named targets run.target)) (sym c.in_ok-run.ensures)
-    (subst (λ o. IsSome o) (sym (ap (λ r. option_map seen_target (option_copied r)) c.in-Some.is) ∙ c.target.ensures) refl)
+    (subst (λ o. IsSome o) (sym (ap (λ r. option_map seen_target (option_copied r)) c.in-Some.is)
+    ∙ c.target.ensures) refl)
 
 pub returns-in-Some : goal.returns-in-Some
 returns-in-Some g c =
@@ -28,10 +42,13 @@ returns-in-Some g c =
     let after = c.begin.new.journal in
     let same = c.in_ok-run.ensures in
     record {
-      goes = subst (λ run. IfOk c.begin.result (λ step. let target = target_named targets run.target in
-          Steps answer calls w run target (body_if w run target scope before) nothing_yet before after c.args.tools.now c.begin.new.tools step)) same c.begin.ensures.goes;
+      goes = subst
+          (λ run. IfOk c.begin.result (λ step. let target = target_named targets run.target in
+          Steps answer calls w run target (body_if w run target scope before) nothing_yet before
+          after c.args.tools.now c.begin.new.tools step)) same c.begin.ensures.goes;
       tools = c.begin.ensures.tools;
-      run = subst (λ run. IfOk c.begin.result (λ step. run_in run step.at ≡ run)) same c.begin.ensures.run;
+      run = subst (λ run. IfOk c.begin.result (λ step. run_in run step.at ≡ run)) same
+          c.begin.ensures.run;
     }
 
 pub returns : goal.returns
@@ -45,13 +62,17 @@ returns g c =
     let journal = c.args.journal.now in
     let tools = c.args.tools.now in
     let log = c.new-in-None.result in
-    let absent : target ≡ None = sym c.target.ensures ∙ ap (λ r. option_map seen_target (option_copied r)) c.in-None.is in
+    let absent : target ≡ None = sym c.target.ensures
+    ∙ ap (λ r. option_map seen_target (option_copied r)) c.in-None.is in
     let is = subst (λ name. IfOk c.nothing.result (IsFinished name log (recorded nothing_made [])))
     c.in_ok-run.ensures c.nothing.ensures in
     record {
       goes = IfOk-weaker c.nothing.result (IsFinished run log (recorded nothing_made []))
-          (Steps answer calls w run target (body_if w run target v.standing.scope journal) nothing_yet journal journal tools tools)
-          (λ step is. nothing_steps answer calls w run target v.standing.scope log journal tools step absent c.new-in-None.ensures is) is;
+          (Steps answer calls w run target (body_if w run target v.standing.scope journal)
+          nothing_yet journal journal tools tools)
+          (λ step is. nothing_steps answer calls w run target v.standing.scope log journal tools
+          step absent c.new-in-None.ensures is) is;
       tools = begins_here (calls tools);
-      run = IfOk-weaker c.nothing.result (IsFinished run log (recorded nothing_made [])) (λ step. run_in run step.at ≡ run) (λ step is. finished_run run log step is) is;
+      run = IfOk-weaker c.nothing.result (IsFinished run log (recorded nothing_made []))
+          (λ step. run_in run step.at ≡ run) (λ step is. finished_run run log step is) is;
     }

@@ -4,7 +4,8 @@ use Rattle.request_machine.proofs.WalksAnswered.{position_begins}
 use Rattle.request_machine.proofs.walk.Walk.of.Goals as goal
 
 pub invariant_of-result : goal.invariant_of-result
-invariant_of-result g c = record { begun = ap has_begun c.new-request.ensures.stage; fits = ∣ tt ∣₁; known = ∣ tt ∣₁ }
+invariant_of-result g c = record
+    { begun = ap has_begun c.new-request.ensures.stage; fits = ∣ tt ∣₁; known = ∣ tt ∣₁ }
 
 pub returns : goal.returns
 returns g c =
@@ -12,7 +13,9 @@ returns g c =
     let r = c.new-request.result in
     record {
       world = ap (λ world. world.now) e.world;
-      begins = position_begins g.T.CountedTools.answer g.T.CountedTools.calls r.world.now c.args.world.now r.key c.args.key r.journal c.args.journal r.runs r.stage (ap (λ world. world.now) e.world) e.key e.journal e.runs e.stage;
+      begins = position_begins g.T.CountedTools.answer g.T.CountedTools.calls r.world.now
+          c.args.world.now r.key c.args.key r.journal c.args.journal r.runs r.stage
+          (ap (λ world. world.now) e.world) e.key e.journal e.runs e.stage;
       asked = refl;
       learnt = c.new.ensures.finished;
       before = refl;

@@ -11,7 +11,8 @@ advance-requires g c =
     let walk = c.args.self.now in
     record {
       fits = c.requires.fits;
-      turn = in_turn walk.asked (has_begun walk.request.stage) c.args.answer.now walk.begun c.requires.turn;
+      turn = in_turn walk.asked (has_begun walk.request.stage) c.args.answer.now walk.begun
+          c.requires.turn;
       known = walk.known;
       place = c.requires.place;
     }
@@ -23,7 +24,8 @@ invariant_of-self g c =
     record {
       begun = ap (λ r. has_begun r.stage) e ∙ walk.begun;
       fits = subst (λ r. ∥ IfSome walk.before (IsBefore r) ∥₁) (sym e) walk.fits;
-      known = subst (λ r. ∥ IfSome walk.replayed (IsReplayed walk.learnt.finished r.journal) ∥₁) (sym e) walk.known;
+      known = subst (λ r. ∥ IfSome walk.replayed (IsReplayed walk.learnt.finished r.journal) ∥₁)
+          (sym e) walk.known;
     }
 
 pub invariant_of-self-2 : goal.invariant_of-self-2
@@ -41,7 +43,8 @@ always (Ok x) P p = tt
 always (Err e) P p = p
 
 pub returns-in_err-ask-clause-stays : goal.returns-in_err-ask-clause-stays
-returns-in_err-ask-clause-stays g c = always c.from_residual.result _ (ap (request_position g.T.CountedTools.calls) c.in_err-ask.ensures.err)
+returns-in_err-ask-clause-stays g c = always c.from_residual.result _
+    (ap (request_position g.T.CountedTools.calls) c.in_err-ask.ensures.err)
 
 pub returns-in_err-ask-clause-used_err : goal.returns-in_err-ask-clause-used_err
 returns-in_err-ask-clause-used_err g c =

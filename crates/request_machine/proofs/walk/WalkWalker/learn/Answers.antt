@@ -14,8 +14,10 @@ invariant_of-self g c =
     record {
       begun = walk.begun;
       fits = walk.fits;
-      known = subst (λ records. ∥ IfSome walk.replayed (IsReplayed records journal) ∥₁) (sym c.in_ok-learnt.ensures.finished)
-          (replayed-more walk.learnt.finished c.args.table.now.finished c.requires.in_order c.requires.known journal walk.replayed walk.known);
+      known = subst (λ records. ∥ IfSome walk.replayed (IsReplayed records journal) ∥₁)
+          (sym c.in_ok-learnt.ensures.finished)
+          (replayed-more walk.learnt.finished c.args.table.now.finished c.requires.in_order
+          c.requires.known journal walk.replayed walk.known);
     }
 
 pub returns : goal.returns

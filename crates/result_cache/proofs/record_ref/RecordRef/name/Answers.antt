@@ -5,7 +5,8 @@ use Rattle.result_cache.specs.Same.{same_run}
 use Rattle.result_cache.proofs.RunTests.{same_run-true}
 use Rattle.result_cache.proofs.record_ref.RecordRef.name.Goals as goal
 
-if_this : (r : Result RunId NoMemory) (a b : RunId) → IfOk r (λ x. x ≡ a) → a ≡ b → IfOk r (λ x. x ≡ b)
+if_this : (r : Result RunId NoMemory) (a b : RunId) → IfOk r (λ x. x ≡ a) → a ≡ b
+    → IfOk r (λ x. x ≡ b)
 if_this (Ok x) a b is same = is ∙ same
 if_this (Err fault) a b is same = is
 

@@ -1,4 +1,19 @@
-use Rattle.std.proofs.Common.{◌≡◌, ℕ, Option, Some, IsSome, [], ◌∷◌, ◌++◌, reverse, slice_get, ap, sym, subst, ◌∙◌}
+use Rattle.std.proofs.Common.{
+  ◌≡◌,
+  ℕ,
+  Option,
+  Some,
+  IsSome,
+  [],
+  ◌∷◌,
+  ◌++◌,
+  reverse,
+  slice_get,
+  ap,
+  sym,
+  subst,
+  ◌∙◌,
+}
 use Rattle.std.specs.Map.{lookup_key}
 use Rattle.std.proofs.lemmas.List.{reverse-append}
 use Rattle.result_cache.specs.declared.run.RunId.{RunId}
@@ -8,7 +23,15 @@ use Rattle.result_cache.specs.Same.{same_run, AreDistinct}
 use Rattle.result_cache.specs.Slots.{Slots, begun_in, AreSlots}
 use Rattle.result_cache.specs.Table.{TableRuns, request_of, without}
 use Rattle.result_cache.proofs.SlotEntries.{begun-taken}
-use Rattle.result_cache.proofs.TableSlots.{taken-at, own-name, finished-once, has-room, slots-finished, has-entry, not-taken}
+use Rattle.result_cache.proofs.TableSlots.{
+  taken-at,
+  own-name,
+  finished-once,
+  has-room,
+  slots-finished,
+  has-entry,
+  not-taken,
+}
 use Rattle.result_cache.proofs.table.Table.finish.Goals as goal
 
 -- the place that was found is the run's, and what was taken there is its own

@@ -1,10 +1,33 @@
-use Rattle.std.proofs.Common.{◌≡◌, ◌∙◌, Option, Some, None, Bor, IfSome, IsSome, ap, option_copied, option_map, subst, sym}
+use Rattle.std.proofs.Common.{
+  ◌≡◌,
+  ◌∙◌,
+  Option,
+  Some,
+  None,
+  Bor,
+  IfSome,
+  IsSome,
+  ap,
+  option_copied,
+  option_map,
+  subst,
+  sym,
+}
 use Rattle.build_world.specs.Instances.{UsedTarget, seen_instance, seen_target}
 use Rattle.build_world.specs.declared.instance.UsedTarget.{UsedTarget as MadeTarget}
 use Rattle.build_world.specs.declared.world.World.{World}
 use Rattle.result_cache.specs.declared.run.RunId.{RunId}
 use Rattle.target_body.specs.Pieces.{choice_of}
-use Rattle.target_body.specs.Standings.{Fits, Goes, Standing, body_in, run_with, standing_by, standing_in, target_named}
+use Rattle.target_body.specs.Standings.{
+  Fits,
+  Goes,
+  Standing,
+  body_in,
+  run_with,
+  standing_by,
+  standing_in,
+  target_named,
+}
 use Rattle.target_body.specs.States.{Run}
 use Rattle.target_body.specs.declared.body.Stand.{Stand}
 use Rattle.target_body.proofs.body.Body.advance.Goals as goal
@@ -20,7 +43,8 @@ unreachable-requires g c =
     c.args.self.now.run.target ≡ None =
     ap (λ (id : RunId). target_named (seen_instance c.args.instance.now).targets id.target)
     (sym c.get.ensures) ∙ sym c.find.ensures
-    ∙ ap (λ (found : Option (Bor MadeTarget)). option_map seen_target (option_copied found)) c.in_default.is in
+    ∙ ap (λ (found : Option (Bor MadeTarget)). option_map seen_target (option_copied found))
+    c.in_default.is in
     cc (subst (λ (found : Option UsedTarget). IsSome found) none c.requires.target)
 
 pub go_on-requires : goal.go_on-requires

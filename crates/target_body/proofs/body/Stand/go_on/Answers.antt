@@ -31,7 +31,9 @@ returns-in-Waiting-clause-goes g c =
     (all_gone g.T.CountedTools.answer c.args.context.now.id.now choose run (waiting_run w.at)
     w.state.segments (λ results journal. body_of (left choose run w.at (seen_state w.state journal)
     results journal))
-    c.args.results.now c.args.journal.now c.resume.new.journal (g.T.CountedTools.calls c.args.tools.now) (g.T.CountedTools.calls c.resume.new.tools) c.resume.result
+    c.args.results.now c.args.journal.now c.resume.new.journal
+    (g.T.CountedTools.calls c.args.tools.now) (g.T.CountedTools.calls c.resume.new.tools)
+    c.resume.result
     (subst (λ (stand : Stand). Fits (standing_by choose run stand) c.args.results.now)
     c.in-Waiting.is c.requires) c.resume.ensures.goes)
 

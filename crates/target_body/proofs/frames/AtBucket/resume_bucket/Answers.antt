@@ -14,8 +14,16 @@ returns-clause-plays g c =
     let run = seen_run c.args.context.now in
     let at = c.args.self in
     let tools = g.T.CountedTools.calls c.resume_children.new.tools in
-    all_nested (children_frames run at.choice) (bucket_frames run) (player c.args.context.now.id.now g.T.CountedTools.answer) (λ s. children_left run at.choice at.task s c.args.results c.args.journal.now)
-    (λ end. unless_stopped end (λ s. done (map_ok (with_decision (word_of at.choice at.items)) (returned run at.bucket s)))) (λ end. done (or_failed end))
-    (moment c.args.state.now c.args.journal.now (g.T.CountedTools.calls c.args.tools.now)) (moment c.resume_children.new.self c.resume_children.new.journal tools)
-    (moment c.bucket_on.new.self c.resume_children.new.journal tools) c.in_ok-step.step c.bucket_on.result c.in_ok-step.ensures.plays
+    all_nested (children_frames run at.choice) (bucket_frames run)
+    (player c.args.context.now.id.now g.T.CountedTools.answer)
+    (λ s. children_left run at.choice at.task s c.args.results c.args.journal.now)
+    (λ end.
+    unless_stopped end
+    (λ s.
+    done (map_ok (with_decision (word_of at.choice at.items)) (returned run at.bucket s))))
+    (λ end. done (or_failed end))
+    (moment c.args.state.now c.args.journal.now (g.T.CountedTools.calls c.args.tools.now))
+    (moment c.resume_children.new.self c.resume_children.new.journal tools)
+    (moment c.bucket_on.new.self c.resume_children.new.journal tools) c.in_ok-step.step
+    c.bucket_on.result c.in_ok-step.ensures.plays
     (c.bucket_on.ensures g.T.CountedTools.answer tools)

@@ -16,8 +16,10 @@ returns-clause-plays g c =
     (λ s. bucket_left run at.at s c.args.results c.args.journal.now)
     (λ end. unless_stopped end (each_in_turn (bucket_by choose run at.found) at.later))
     (moment c.args.state.now c.args.journal.now (g.T.CountedTools.calls c.args.tools.now))
-    (moment c.resume_bucket.new.state c.resume_bucket.new.journal (g.T.CountedTools.calls c.resume_bucket.new.tools))
-    (moment c.buckets_on.new.self c.buckets_on.new.journal (g.T.CountedTools.calls c.buckets_on.new.tools))
+    (moment c.resume_bucket.new.state c.resume_bucket.new.journal
+    (g.T.CountedTools.calls c.resume_bucket.new.tools))
+    (moment c.buckets_on.new.self c.buckets_on.new.journal
+    (g.T.CountedTools.calls c.buckets_on.new.tools))
     c.in_ok-step.step c.buckets_on.result c.in_ok-step.ensures.plays c.buckets_on.ensures.goes
 
 pub returns-clause-begun : goal.returns-clause-begun

@@ -9,4 +9,6 @@ pub returns-in-None : goal.returns-in-None
 returns-in-None c =
     let target : At = seen_element c.of-target.result in
     subst (λ (t : At). target ≡ get_or (children_of t) c.args.place t) c.of-target.ensures
-    (sym (get_or_missing (at target.file) (children_in target.node) c.args.place target (sym c.in-None.ensures)))
+    (sym
+    (get_or_missing (at target.file) (children_in target.node) c.args.place target
+    (sym c.in-None.ensures)))

@@ -17,17 +17,23 @@ pub returns-in-Ok-clause-plays : goal.returns-in-Ok-clause-plays
 returns-in-Ok-clause-plays g c =
     let run = seen_run c.args.context.now in
     let choose = seen_chooser c.args.context.now in
-    let before : Moment = moment c.args.self.now c.args.journal.now (g.T.CountedTools.calls c.args.tools.now) in
-    let after : Moment = moment c.buckets.new.self c.buckets.new.journal (g.T.CountedTools.calls c.buckets.new.tools) in
+    let before : Moment = moment c.args.self.now c.args.journal.now
+    (g.T.CountedTools.calls c.args.tools.now) in
+    let after : Moment = moment c.buckets.new.self c.buckets.new.journal
+    (g.T.CountedTools.calls c.buckets.new.tools) in
     let part = bucket_by choose run c.args.found in
     all_as (buckets_frames choose run) (player c.args.context.now.id.now g.T.CountedTools.answer)
     (λ s. each_in_turn part c.of.result s) (buckets_by choose run c.args.found) before after
     c.buckets.result
-    (ap (λ (r : Result (List Bucket) EvalFault). unless_stopped (or_failed (or_stop (state_at before) r)) (λ found. each_in_turn part found (state_at before))) c.in-Ok.ensures
+    (ap
+    (λ (r : Result (List Bucket) EvalFault). unless_stopped
+    (or_failed (or_stop (state_at before) r))
+    (λ found. each_in_turn part found (state_at before))) c.in-Ok.ensures
     ∙ ap (λ (found : List Bucket). each_in_turn part found (state_at before)) (sym c.of.ensures))
     c.buckets.ensures.plays
 
-pub returns-in_ok-add_decision-in-Err-clause-plays : goal.returns-in_ok-add_decision-in-Err-clause-plays
+pub returns-in_ok-add_decision-in-Err-clause-plays :
+    goal.returns-in_ok-add_decision-in-Err-clause-plays
 returns-in_ok-add_decision-in-Err-clause-plays g c =
     let run = seen_run c.args.context.now in
     let choose = seen_chooser c.args.context.now in
@@ -36,7 +42,9 @@ returns-in_ok-add_decision-in-Err-clause-plays g c =
     let part = bucket_by choose run c.args.found in
     ap (λ (r : Result (List Bucket) EvalFault). played (player c.args.context.now.id.now
     g.T.CountedTools.answer)
-    (unless_stopped (or_failed (or_stop (state_at before) r)) (λ found. each_in_turn part found (state_at before))) (done_at before))
+    (unless_stopped (or_failed (or_stop (state_at before) r))
+    (λ found. each_in_turn part found (state_at before))) (done_at before))
     (told c.in-Err.fault.cause c.in_ok-note_fault-in-Err.ensures.told c.in-Err.ensures)
-    ∙ faulted_so c.in-Err.fault c.args.journal.now tools c.args.self.now c.note_fault.new.self c.add_decision.new.self
+    ∙ faulted_so c.in-Err.fault c.args.journal.now tools c.args.self.now c.note_fault.new.self
+    c.add_decision.new.self
     c.in_ok-note_fault-in-Err.ensures.noted c.in_ok-add_decision-in-Err.ensures

@@ -23,7 +23,8 @@ returns-in-Ok-clause-plays g c =
     let p = player c.args.context.now.id.now g.T.CountedTools.answer in
     let tools = g.T.CountedTools.calls c.args.tools.now in
     let begun : Moment = moment c.enter.new.self c.args.journal.now tools in
-    let after : Moment = moment c.piece.new.self c.piece.new.journal (g.T.CountedTools.calls c.piece.new.tools) in
+    let after : Moment = moment c.piece.new.self c.piece.new.journal
+    (g.T.CountedTools.calls c.piece.new.tools) in
     let bucket = c.args.bucket in
     let last : Result Now Stopped → Work (Result Now Stopped) = λ end. done (or_failed end) in
     all_entered choose run bucket p c.args.found.now c.args.self.now c.enter.new.self
@@ -36,7 +37,8 @@ returns-in-Ok-clause-plays g c =
     (state_at begun))) last) c.in-Ok.ensures)
     c.piece.ensures.plays)
 
-pub returns-in_ok-add_decision-in-Err-clause-plays : goal.returns-in_ok-add_decision-in-Err-clause-plays
+pub returns-in_ok-add_decision-in-Err-clause-plays :
+    goal.returns-in_ok-add_decision-in-Err-clause-plays
 returns-in_ok-add_decision-in-Err-clause-plays g c =
     let run = seen_run c.args.context.now in
     let choose = seen_chooser c.args.context.now in
@@ -52,5 +54,6 @@ returns-in_ok-add_decision-in-Err-clause-plays g c =
     (followed_by (unless_stopped (or_stop (state_at begun) r) (chosen_or_run choose run bucket
     (state_at begun))) last) (done_at begun))
     (told c.in-Err.fault.cause c.in_ok-note_fault-in-Err.ensures.told c.in-Err.ensures)
-    ∙ faulted_so c.in-Err.fault c.args.journal.now tools c.enter.new.self c.note_fault.new.self c.add_decision.new.self
+    ∙ faulted_so c.in-Err.fault c.args.journal.now tools c.enter.new.self c.note_fault.new.self
+    c.add_decision.new.self
     c.in_ok-note_fault-in-Err.ensures.noted c.in_ok-add_decision-in-Err.ensures)

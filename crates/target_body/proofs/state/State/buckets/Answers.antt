@@ -19,11 +19,16 @@ returns-in-Over-Faulted-clause-plays g c =
     let p = player c.args.context.now.id.now g.T.CountedTools.answer in
     let frames = bucket_frames run in
     let part = bucket_by choose run c.args.found in
-    let now : Moment = moment c.loop-bucket.self c.loop-bucket.journal (g.T.CountedTools.calls c.loop-bucket.tools) in
-    let after : Moment = moment c.bucket.new.self c.bucket.new.journal (g.T.CountedTools.calls c.bucket.new.tools) in
+    let now : Moment = moment c.loop-bucket.self c.loop-bucket.journal
+    (g.T.CountedTools.calls c.loop-bucket.tools) in
+    let after : Moment = moment c.bucket.new.self c.bucket.new.journal
+    (g.T.CountedTools.calls c.bucket.new.tools) in
     sym c.loop-bucket.invariant.plays
-    ∙ in_turn frames p part c.in-Some.bucket c.next.new.self c.loop-bucket.later now after c.in_ok-bucket.field-0 c.in-Some.ensures c.in_ok-bucket.ensures.plays
-    ∙ ap (λ (step : Step AtBucket). reached_then p (reached_by frames step after) (λ end. unless_stopped end (each_in_turn part c.next.new.self)))
+    ∙ in_turn frames p part c.in-Some.bucket c.next.new.self c.loop-bucket.later now after
+    c.in_ok-bucket.field-0 c.in-Some.ensures c.in_ok-bucket.ensures.plays
+    ∙ ap
+    (λ (step : Step AtBucket). reached_then p (reached_by frames step after)
+    (λ end. unless_stopped end (each_in_turn part c.next.new.self)))
     (c.in-Over-Faulted.is ∙ ap (λ (ending : Ending). Over ending) c.in-Over-Faulted.field-0-is)
 
 pub returns-in-Over-Failed-clause-plays : goal.returns-in-Over-Failed-clause-plays
@@ -33,11 +38,16 @@ returns-in-Over-Failed-clause-plays g c =
     let p = player c.args.context.now.id.now g.T.CountedTools.answer in
     let frames = bucket_frames run in
     let part = bucket_by choose run c.args.found in
-    let now : Moment = moment c.loop-bucket.self c.loop-bucket.journal (g.T.CountedTools.calls c.loop-bucket.tools) in
-    let after : Moment = moment c.bucket.new.self c.bucket.new.journal (g.T.CountedTools.calls c.bucket.new.tools) in
+    let now : Moment = moment c.loop-bucket.self c.loop-bucket.journal
+    (g.T.CountedTools.calls c.loop-bucket.tools) in
+    let after : Moment = moment c.bucket.new.self c.bucket.new.journal
+    (g.T.CountedTools.calls c.bucket.new.tools) in
     sym c.loop-bucket.invariant.plays
-    ∙ in_turn frames p part c.in-Some.bucket c.next.new.self c.loop-bucket.later now after c.in_ok-bucket.field-0 c.in-Some.ensures c.in_ok-bucket.ensures.plays
-    ∙ ap (λ (step : Step AtBucket). reached_then p (reached_by frames step after) (λ end. unless_stopped end (each_in_turn part c.next.new.self)))
+    ∙ in_turn frames p part c.in-Some.bucket c.next.new.self c.loop-bucket.later now after
+    c.in_ok-bucket.field-0 c.in-Some.ensures c.in_ok-bucket.ensures.plays
+    ∙ ap
+    (λ (step : Step AtBucket). reached_then p (reached_by frames step after)
+    (λ end. unless_stopped end (each_in_turn part c.next.new.self)))
     (c.in-Over-Failed.is ∙ ap (λ (ending : Ending). Over ending) c.in-Over-Failed.field-0-is)
 
 pub returns-in-Waits-clause-plays : goal.returns-in-Waits-clause-plays
@@ -47,11 +57,16 @@ returns-in-Waits-clause-plays g c =
     let p = player c.args.context.now.id.now g.T.CountedTools.answer in
     let frames = bucket_frames run in
     let part = bucket_by choose run c.args.found in
-    let now : Moment = moment c.loop-bucket.self c.loop-bucket.journal (g.T.CountedTools.calls c.loop-bucket.tools) in
-    let after : Moment = moment c.bucket.new.self c.bucket.new.journal (g.T.CountedTools.calls c.bucket.new.tools) in
+    let now : Moment = moment c.loop-bucket.self c.loop-bucket.journal
+    (g.T.CountedTools.calls c.loop-bucket.tools) in
+    let after : Moment = moment c.bucket.new.self c.bucket.new.journal
+    (g.T.CountedTools.calls c.bucket.new.tools) in
     sym c.loop-bucket.invariant.plays
-    ∙ in_turn frames p part c.in-Some.bucket c.next.new.self c.loop-bucket.later now after c.in_ok-bucket.field-0 c.in-Some.ensures c.in_ok-bucket.ensures.plays
-    ∙ ap (λ (step : Step AtBucket). reached_then p (reached_by frames step after) (λ end. unless_stopped end (each_in_turn part c.next.new.self))) c.in-Waits.is
+    ∙ in_turn frames p part c.in-Some.bucket c.next.new.self c.loop-bucket.later now after
+    c.in_ok-bucket.field-0 c.in-Some.ensures c.in_ok-bucket.ensures.plays
+    ∙ ap
+    (λ (step : Step AtBucket). reached_then p (reached_by frames step after)
+    (λ end. unless_stopped end (each_in_turn part c.next.new.self))) c.in-Waits.is
 
 pub loop-bucket-preserved : goal.loop-bucket-preserved
 loop-bucket-preserved g c =
@@ -60,12 +75,18 @@ loop-bucket-preserved g c =
     let p = player c.args.context.now.id.now g.T.CountedTools.answer in
     let frames = bucket_frames run in
     let part = bucket_by choose run c.args.found in
-    let now : Moment = moment c.loop-bucket.self c.loop-bucket.journal (g.T.CountedTools.calls c.loop-bucket.tools) in
-    let after : Moment = moment c.bucket.new.self c.bucket.new.journal (g.T.CountedTools.calls c.bucket.new.tools) in
+    let now : Moment = moment c.loop-bucket.self c.loop-bucket.journal
+    (g.T.CountedTools.calls c.loop-bucket.tools) in
+    let after : Moment = moment c.bucket.new.self c.bucket.new.journal
+    (g.T.CountedTools.calls c.bucket.new.tools) in
     record {
       plays =
-          sym (in_turn frames p part c.in-Some.bucket c.next.new.self c.loop-bucket.later now after c.in_ok-bucket.field-0 c.in-Some.ensures c.in_ok-bucket.ensures.plays
-          ∙ ap (λ (step : Step AtBucket). reached_then p (reached_by frames step after) (λ end. unless_stopped end (each_in_turn part c.next.new.self)))
+          sym
+          (in_turn frames p part c.in-Some.bucket c.next.new.self c.loop-bucket.later now after
+          c.in_ok-bucket.field-0 c.in-Some.ensures c.in_ok-bucket.ensures.plays
+          ∙ ap
+          (λ (step : Step AtBucket). reached_then p (reached_by frames step after)
+          (λ end. unless_stopped end (each_in_turn part c.next.new.self)))
           (c.in-Over-Fine.is ∙ ap (λ (ending : Ending). Over ending) c.in-Over-Fine.field-0-is))
           ∙ c.loop-bucket.invariant.plays;
       begun = begins_on _ _ _ c.loop-bucket.invariant.begun c.in_ok-bucket.ensures.begun;
@@ -77,4 +98,5 @@ returns-clause-plays g c =
     ∙ none_left (player c.args.context.now.id.now g.T.CountedTools.answer)
     (bucket_by (seen_chooser c.args.context.now) (seen_run c.args.context.now) c.args.found)
     c.loop-bucket.later
-    (moment c.loop-bucket.self c.loop-bucket.journal (g.T.CountedTools.calls c.loop-bucket.tools)) c.in_default.ensures
+    (moment c.loop-bucket.self c.loop-bucket.journal (g.T.CountedTools.calls c.loop-bucket.tools))
+    c.in_default.ensures

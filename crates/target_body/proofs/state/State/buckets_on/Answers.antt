@@ -16,45 +16,60 @@ pub returns-in-Over-Fine-clause-goes : goal.returns-in-Over-Fine-clause-goes
 returns-in-Over-Fine-clause-goes g c =
     let run = seen_run c.args.context.now in
     let choose = seen_chooser c.args.context.now in
-    let m : Moment = moment c.args.self.now c.args.journal.now (g.T.CountedTools.calls c.args.tools.now) in
-    let after : Moment = moment c.buckets.new.self c.buckets.new.journal (g.T.CountedTools.calls c.buckets.new.tools) in
+    let m : Moment = moment c.args.self.now c.args.journal.now
+    (g.T.CountedTools.calls c.args.tools.now) in
+    let after : Moment = moment c.buckets.new.self c.buckets.new.journal
+    (g.T.CountedTools.calls c.buckets.new.tools) in
     let P : Step AtBucket → Type 0 = λ step. IfOk c.buckets.result
     (λ step_then. GoesOn (bucket_frames run) (buckets_frames choose run)
     (player c.args.context.now.id.now g.T.CountedTools.answer)
     (λ end. unless_stopped end (each_in_turn (bucket_by choose run c.args.found) c.args.later))
     step m step_then after) in
-    subst P (sym (c.in-Over-Fine.is ∙ ap (λ (ending : Ending). Over ending) (rw c.in-Over-Fine.is at c.in-Over-Fine.field-0-is))) c.buckets.ensures.plays
+    subst P
+    (sym
+    (c.in-Over-Fine.is ∙ ap (λ (ending : Ending). Over ending)
+    (rw c.in-Over-Fine.is at c.in-Over-Fine.field-0-is))) c.buckets.ensures.plays
 
 pub returns-in-Over-Faulted-clause-goes : goal.returns-in-Over-Faulted-clause-goes
 returns-in-Over-Faulted-clause-goes g c =
     let run = seen_run c.args.context.now in
     let choose = seen_chooser c.args.context.now in
-    let m : Moment = moment c.args.self.now c.args.journal.now (g.T.CountedTools.calls c.args.tools.now) in
+    let m : Moment = moment c.args.self.now c.args.journal.now
+    (g.T.CountedTools.calls c.args.tools.now) in
     let step_then : Step AtRun = Over Faulted in
     let P : Step AtBucket → Type 0 = λ step. GoesOn (bucket_frames run) (buckets_frames choose run)
     (player c.args.context.now.id.now g.T.CountedTools.answer)
     (λ end. unless_stopped end (each_in_turn (bucket_by choose run c.args.found) c.args.later))
     step m step_then m in
-    subst P (sym (c.in-Over-Faulted.is ∙ ap (λ (ending : Ending). Over ending) (rw c.in-Over-Faulted.is at c.in-Over-Faulted.field-0-is))) refl
+    subst P
+    (sym
+    (c.in-Over-Faulted.is ∙ ap (λ (ending : Ending). Over ending)
+    (rw c.in-Over-Faulted.is at c.in-Over-Faulted.field-0-is))) refl
 
 pub returns-in-Over-Failed-clause-goes : goal.returns-in-Over-Failed-clause-goes
 returns-in-Over-Failed-clause-goes g c =
     let run = seen_run c.args.context.now in
     let choose = seen_chooser c.args.context.now in
-    let m : Moment = moment c.args.self.now c.args.journal.now (g.T.CountedTools.calls c.args.tools.now) in
+    let m : Moment = moment c.args.self.now c.args.journal.now
+    (g.T.CountedTools.calls c.args.tools.now) in
     let step_then : Step AtRun = Over Failed in
     let P : Step AtBucket → Type 0 = λ step. GoesOn (bucket_frames run) (buckets_frames choose run)
     (player c.args.context.now.id.now g.T.CountedTools.answer)
     (λ end. unless_stopped end (each_in_turn (bucket_by choose run c.args.found) c.args.later))
     step m step_then m in
-    subst P (sym (c.in-Over-Failed.is ∙ ap (λ (ending : Ending). Over ending) (rw c.in-Over-Failed.is at c.in-Over-Failed.field-0-is))) refl
+    subst P
+    (sym
+    (c.in-Over-Failed.is ∙ ap (λ (ending : Ending). Over ending)
+    (rw c.in-Over-Failed.is at c.in-Over-Failed.field-0-is))) refl
 
 pub returns-in-Waits-clause-goes : goal.returns-in-Waits-clause-goes
 returns-in-Waits-clause-goes g c =
     let run = seen_run c.args.context.now in
     let choose = seen_chooser c.args.context.now in
-    let m : Moment = moment c.args.self.now c.args.journal.now (g.T.CountedTools.calls c.args.tools.now) in
-    let step_then : Step AtRun = Waits (record { found = c.args.found; at = c.in-Waits.at; later = c.args.later }) in
+    let m : Moment = moment c.args.self.now c.args.journal.now
+    (g.T.CountedTools.calls c.args.tools.now) in
+    let step_then : Step AtRun = Waits
+    (record { found = c.args.found; at = c.in-Waits.at; later = c.args.later }) in
     let P : Step AtBucket → Type 0 = λ step. GoesOn (bucket_frames run) (buckets_frames choose run)
     (player c.args.context.now.id.now g.T.CountedTools.answer)
     (λ end. unless_stopped end (each_in_turn (bucket_by choose run c.args.found) c.args.later))

@@ -11,11 +11,14 @@ use Rattle.target_body.proofs.state.State.calls.Given as goal
 abbrev pub invariant-loop-bucket : goal.invariant-loop-bucket
 invariant-loop-bucket g l =
     let now : Moment = moment l.self l.journal (g.T.CountedTools.calls l.tools) in
-    let first : Moment = moment l.initial.self l.initial.journal (g.T.CountedTools.calls l.initial.tools) in
+    let first : Moment = moment l.initial.self l.initial.journal
+    (g.T.CountedTools.calls l.initial.tools) in
     let part = call (seen_run l.at.context) (seen_element l.at.element) l.at.gives in
     record {
-      plays : played (player l.at.context.id.now g.T.CountedTools.answer) (each_in_turn part l.later (state_at now)) (done_at now)
-          ≡ played (player l.at.context.id.now g.T.CountedTools.answer) (each_in_turn part l.fn.later (state_at first)) (done_at first);
+      plays : played (player l.at.context.id.now g.T.CountedTools.answer)
+          (each_in_turn part l.later (state_at now)) (done_at now)
+          ≡ played (player l.at.context.id.now g.T.CountedTools.answer)
+          (each_in_turn part l.fn.later (state_at first)) (done_at first);
       begun : BeginsWith (g.T.CountedTools.calls l.initial.tools) (g.T.CountedTools.calls l.tools);
     }
 

@@ -18,10 +18,13 @@ pub returns-in-Fine-clause-goes : goal.returns-in-Fine-clause-goes
 returns-in-Fine-clause-goes g c =
     let run = seen_run c.args.at.now.context in
     let e = seen_element c.args.at.now.element in
-    goes_as (call_frames run e c.args.at.now.gives c.args.bucket) (calls_frames run) (player c.args.at.now.context.id.now g.T.CountedTools.answer)
+    goes_as (call_frames run e c.args.at.now.gives c.args.bucket) (calls_frames run)
+    (player c.args.at.now.context.id.now g.T.CountedTools.answer)
     (λ end. unless_stopped end (each_in_turn (call run e c.args.at.now.gives) c.args.later))
-    (moment c.args.self.now c.args.journal.now (g.T.CountedTools.calls c.args.tools.now)) (moment c.calls.new.self c.calls.new.journal (g.T.CountedTools.calls c.calls.new.tools))
-    c.args.step (Over Fine) c.calls.result (c.in-Over.is ∙ ap (λ (ending : Ending). Over ending) c.in-Fine.is) c.calls.ensures.plays
+    (moment c.args.self.now c.args.journal.now (g.T.CountedTools.calls c.args.tools.now))
+    (moment c.calls.new.self c.calls.new.journal (g.T.CountedTools.calls c.calls.new.tools))
+    c.args.step (Over Fine) c.calls.result (c.in-Over.is
+    ∙ ap (λ (ending : Ending). Over ending) c.in-Fine.is) c.calls.ensures.plays
 
 pub returns-clause-goes : goal.returns-clause-goes
 returns-clause-goes g c =
@@ -29,5 +32,10 @@ returns-clause-goes g c =
     let e = seen_element c.args.at.now.element in
     let p = player c.args.at.now.context.id.now g.T.CountedTools.answer in
     let m = moment c.args.self.now c.args.journal.now (g.T.CountedTools.calls c.args.tools.now) in
-    ap (λ (step : Step AtCall). reached_then p (reached_by (call_frames run e c.args.at.now.gives c.args.bucket) step m) (λ end. unless_stopped end (each_in_turn (call run e c.args.at.now.gives) c.args.later))) c.in-Waits.is
-    ∙ calls_wait_so p run e c.args.at.now.child c.args.at.now.gives c.args.bucket c.args.later c.in-Waits.call m c.requires
+    ap
+    (λ (step : Step AtCall). reached_then p
+    (reached_by (call_frames run e c.args.at.now.gives c.args.bucket) step m)
+    (λ end. unless_stopped end (each_in_turn (call run e c.args.at.now.gives) c.args.later)))
+    c.in-Waits.is
+    ∙ calls_wait_so p run e c.args.at.now.child c.args.at.now.gives c.args.bucket c.args.later
+    c.in-Waits.call m c.requires

@@ -29,10 +29,17 @@ returns-in-Fine c = λ answer tools.
     given_ends run e c.args.call.now.gives bucket c.args.on_error p c.args.output
     before (moment after journal tools) held c.ending_of.result
     (subst P c.into_vec.ensures (c.in_ok-act_all.ensures answer tools))
-    (sym (c.in_ok-take_outputs.ensures.kept ∙ ap (λ (h : Held). h.segments) c.in_ok-add_notes.ensures))
-    (answered_so run e c.args.call.now.gives bucket c.args.on_error c.args.output held c.add_notes.new.self after journal c.in_ok-take_outputs.field-0
-    (c.in_ok-add_notes.ensures ∙ ap (λ (notes : List Note). record held { notes = held.notes ++ notes }) c.in_ok-notes.ensures) c.in_ok-take_outputs.ensures.taken
-    ∙ ap (λ (ending : Ending). results.and_then (ended ending (seen_state after journal)) (ended_by c.args.on_error c.args.output.ok)) c.in-Fine.is
+    (sym
+    (c.in_ok-take_outputs.ensures.kept ∙ ap (λ (h : Held). h.segments)
+    c.in_ok-add_notes.ensures))
+    (answered_so run e c.args.call.now.gives bucket c.args.on_error c.args.output held
+    c.add_notes.new.self after journal c.in_ok-take_outputs.field-0
+    (c.in_ok-add_notes.ensures
+    ∙ ap (λ (notes : List Note). record held { notes = held.notes ++ notes })
+    c.in_ok-notes.ensures) c.in_ok-take_outputs.ensures.taken
+    ∙ ap
+    (λ (ending : Ending). results.and_then (ended ending (seen_state after journal))
+    (ended_by c.args.on_error c.args.output.ok)) c.in-Fine.is
     ∙ sym (c.ending_of.ensures (seen_state after journal)))
 
 pub returns-in-Faulted : goal.returns-in-Faulted
@@ -50,7 +57,14 @@ returns-in-Faulted c = λ answer tools.
     given_ends run e c.args.call.now.gives bucket c.args.on_error p c.args.output
     before (moment after journal tools) held Faulted
     (subst P c.into_vec.ensures (c.in_ok-act_all.ensures answer tools))
-    (sym (c.in_ok-take_outputs.ensures.kept ∙ ap (λ (h : Held). h.segments) c.in_ok-add_notes.ensures))
-    (answered_so run e c.args.call.now.gives bucket c.args.on_error c.args.output held c.add_notes.new.self after journal c.in_ok-take_outputs.field-0
-    (c.in_ok-add_notes.ensures ∙ ap (λ (notes : List Note). record held { notes = held.notes ++ notes }) c.in_ok-notes.ensures) c.in_ok-take_outputs.ensures.taken
-    ∙ ap (λ (ending : Ending). results.and_then (ended ending (seen_state after journal)) (ended_by c.args.on_error c.args.output.ok)) c.in-Faulted.is)
+    (sym
+    (c.in_ok-take_outputs.ensures.kept ∙ ap (λ (h : Held). h.segments)
+    c.in_ok-add_notes.ensures))
+    (answered_so run e c.args.call.now.gives bucket c.args.on_error c.args.output held
+    c.add_notes.new.self after journal c.in_ok-take_outputs.field-0
+    (c.in_ok-add_notes.ensures
+    ∙ ap (λ (notes : List Note). record held { notes = held.notes ++ notes })
+    c.in_ok-notes.ensures) c.in_ok-take_outputs.ensures.taken
+    ∙ ap
+    (λ (ending : Ending). results.and_then (ended ending (seen_state after journal))
+    (ended_by c.args.on_error c.args.output.ok)) c.in-Faulted.is)

@@ -16,9 +16,13 @@ returns-then-is_empty c = λ answer tools.
     let e = seen_element c.args.call.now.element in
     let bucket = c.args.call.now.bucket.now in
     let at = c.args.at in
-    made_over run e c.args.call.now.gives bucket at.on_error (player c.args.call.now.context.id.now answer) at.plan at.results c.in_ok-output.output
-    (moment c.args.self.now c.args.journal.now tools) (moment c.give.new.self c.give.new.journal tools) c.in_ok-give.field-0
-    (empty_of (length (next_calls at.plan at.results)) (ap (λ l. length l == 0) (sym c.next.ensures) ∙ sym c.is_empty.ensures ∙ c.if-is_empty.true))
+    made_over run e c.args.call.now.gives bucket at.on_error
+    (player c.args.call.now.context.id.now answer) at.plan at.results c.in_ok-output.output
+    (moment c.args.self.now c.args.journal.now tools)
+    (moment c.give.new.self c.give.new.journal tools) c.in_ok-give.field-0
+    (empty_of (length (next_calls at.plan at.results))
+    (ap (λ l. length l == 0) (sym c.next.ensures) ∙ sym c.is_empty.ensures
+    ∙ c.if-is_empty.true))
     c.in_ok-output.ensures
     (c.in_ok-give.ensures answer tools)
 
@@ -28,6 +32,12 @@ returns c = λ answer tools.
     let e = seen_element c.args.call.now.element in
     let bucket = c.args.call.now.bucket.now in
     let at = c.args.at in
-    calls_wait (player c.args.call.now.context.id.now answer) (λ x. done (answered_to run e c.args.call.now.gives bucket at.on_error (x.0, gathered at.plan x.1)))
-    (seen_done c.args.self.now c.args.journal.now tools) at (seen_state c.args.self.now c.args.journal.now)
-    (not_empty (length (next_calls at.plan at.results)) (ap (λ l. length l == 0) (sym c.next.ensures) ∙ sym c.is_empty.ensures ∙ c.if-is_empty.false))
+    calls_wait (player c.args.call.now.context.id.now answer)
+    (λ x.
+    done
+    (answered_to run e c.args.call.now.gives bucket at.on_error (x.0, gathered at.plan x.1)))
+    (seen_done c.args.self.now c.args.journal.now tools) at
+    (seen_state c.args.self.now c.args.journal.now)
+    (not_empty (length (next_calls at.plan at.results))
+    (ap (λ l. length l == 0) (sym c.next.ensures) ∙ sym c.is_empty.ensures
+    ∙ c.if-is_empty.false))

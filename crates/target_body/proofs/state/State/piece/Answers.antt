@@ -20,13 +20,20 @@ returns-in_ok-choice-in-Some-clause-plays g c =
     let before : Moment = moment c.args.self.now c.args.journal.now tools in
     let last : Result Now Stopped → Work (Result Now Stopped) = λ end. done (or_failed end) in
     all_as (bucket_frames run) (player c.args.context.now.id.now g.T.CountedTools.answer)
-    (λ s. followed_by (decided run c.args.bucket c.in_ok-choice-in-Some.choice c.in-Some.lists.items s) last)
+    (λ s.
+    followed_by
+    (decided run c.args.bucket c.in_ok-choice-in-Some.choice c.in-Some.lists.items s) last)
     (λ s. followed_by (chosen_or_run choose run c.args.bucket s
     (option_map seen_lists c.args.lists)) last)
-    before (moment c.decided.new.self c.decided.new.journal (g.T.CountedTools.calls c.decided.new.tools)) c.decided.result
+    before
+    (moment c.decided.new.self c.decided.new.journal
+    (g.T.CountedTools.calls c.decided.new.tools)) c.decided.result
     (ap (λ (lists : Option Lists). followed_by (chosen_or_run choose run c.args.bucket
     (state_at before) (option_map seen_lists lists)) last) c.in-Some.is
-    ∙ ap (λ (choice : Choice). followed_by (decided run c.args.bucket choice c.in-Some.lists.items (state_at before)) last) (sym c.in_ok-choice-in-Some.ensures))
+    ∙ ap
+    (λ (choice : Choice).
+    followed_by (decided run c.args.bucket choice c.in-Some.lists.items (state_at before)) last)
+    (sym c.in_ok-choice-in-Some.ensures))
     c.decided.ensures.plays
 
 pub returns-in-None-clause-plays : goal.returns-in-None-clause-plays
@@ -40,7 +47,9 @@ returns-in-None-clause-plays g c =
     (λ s. followed_by (decided run c.args.bucket RunAll None s) last)
     (λ s. followed_by (chosen_or_run choose run c.args.bucket s
     (option_map seen_lists c.args.lists)) last)
-    before (moment c.decided-in-None.new.self c.decided-in-None.new.journal (g.T.CountedTools.calls c.decided-in-None.new.tools)) c.decided-in-None.result
+    before
+    (moment c.decided-in-None.new.self c.decided-in-None.new.journal
+    (g.T.CountedTools.calls c.decided-in-None.new.tools)) c.decided-in-None.result
     (ap (λ (lists : Option Lists). followed_by (chosen_or_run choose run c.args.bucket
     (state_at before) (option_map seen_lists lists)) last) c.in-None.is)
     c.decided-in-None.ensures.plays

@@ -10,9 +10,12 @@ use Rattle.target_body.proofs.state.State.plan_calls.Goals as goal
 pub returns : goal.returns
 returns c = λ answer tools.
     let run = seen_run c.args.call.now.context in
-    all_planned run (seen_element c.args.call.now.element) c.args.call.now.gives c.args.call.now.bucket.now c.args.on_error
-    (player c.args.call.now.context.id.now answer) c.in_ok-plan.plan c.args.input.now.params c.new.result
-    (moment c.args.self.now c.args.journal.now tools) (moment c.make_calls.new.self c.make_calls.new.journal tools) c.make_calls.result
+    all_planned run (seen_element c.args.call.now.element) c.args.call.now.gives
+    c.args.call.now.bucket.now c.args.on_error
+    (player c.args.call.now.context.id.now answer) c.in_ok-plan.plan c.args.input.now.params
+    c.new.result
+    (moment c.args.self.now c.args.journal.now tools)
+    (moment c.make_calls.new.self c.make_calls.new.journal tools) c.make_calls.result
     (c.in_ok-plan.ensures
     ∙ ap (λ (folder : List ℕ).
     plan_of run.files folder c.globals.result.now c.args.input.now.params) c.folder.ensures

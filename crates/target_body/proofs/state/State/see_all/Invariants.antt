@@ -7,6 +7,8 @@ use Rattle.target_body.proofs.state.State.see_all.Given as goal
 abbrev pub invariant-loop-change : goal.invariant-loop-change
 invariant-loop-change l =
     record {
-      seen : (journal : Journal) → fold with_change (seen_state l.self journal) (drop l.change-index l.changes) ≡ fold with_change (seen_state l.initial.self journal) l.changes;
+      seen : (journal : Journal)
+          → fold with_change (seen_state l.self journal) (drop l.change-index l.changes)
+          ≡ fold with_change (seen_state l.initial.self journal) l.changes;
       kept : l.self.segments ≡ l.initial.self.segments;
     }

@@ -9,25 +9,46 @@ use Rattle.target_body.proofs.state.State.task.Goals as goal
 pub returns-in-Run-clause-plays : goal.returns-in-Run-clause-plays
 returns-in-Run-clause-plays g c =
     runs_so g.T.CountedTools.answer c.args.context.now c.args.child
-    (moment c.args.self.now c.args.journal.now (g.T.CountedTools.calls c.args.tools.now)) (moment c.called.new.self c.called.new.journal (g.T.CountedTools.calls c.called.new.tools)) c.called.result
-    c.of.result.context (seen_element c.of.result.element) c.of.result.gives c.args.choice.now c.of.ensures.context c.of.ensures.element c.of.ensures.gives c.in-Run.is c.called.ensures.plays
+    (moment c.args.self.now c.args.journal.now (g.T.CountedTools.calls c.args.tools.now))
+    (moment c.called.new.self c.called.new.journal (g.T.CountedTools.calls c.called.new.tools))
+    c.called.result
+    c.of.result.context (seen_element c.of.result.element) c.of.result.gives c.args.choice.now
+    c.of.ensures.context c.of.ensures.element c.of.ensures.gives c.in-Run.is
+    c.called.ensures.plays
 
 pub returns-in-Part-clause-plays : goal.returns-in-Part-clause-plays
 returns-in-Part-clause-plays g c =
     runs_in_part g.T.CountedTools.answer c.args.context.now c.args.child
-    (moment c.args.self.now c.args.journal.now (g.T.CountedTools.calls c.args.tools.now)) (moment c.called-in-Part.new.self c.called-in-Part.new.journal (g.T.CountedTools.calls c.called-in-Part.new.tools)) c.called-in-Part.result
-    c.of-in-Part.result.context (seen_element c.of-in-Part.result.element) c.of-in-Part.result.gives c.args.choice.now c.in-Part.field-0 c.of-in-Part.ensures.context c.of-in-Part.ensures.element c.of-in-Part.ensures.gives c.in-Part.is c.called-in-Part.ensures.plays
+    (moment c.args.self.now c.args.journal.now (g.T.CountedTools.calls c.args.tools.now))
+    (moment c.called-in-Part.new.self c.called-in-Part.new.journal
+    (g.T.CountedTools.calls c.called-in-Part.new.tools)) c.called-in-Part.result
+    c.of-in-Part.result.context (seen_element c.of-in-Part.result.element) c.of-in-Part.result.gives
+    c.args.choice.now c.in-Part.field-0 c.of-in-Part.ensures.context
+    c.of-in-Part.ensures.element c.of-in-Part.ensures.gives c.in-Part.is
+    c.called-in-Part.ensures.plays
 
-pub returns-in_ok-settle_after-in-Skip-clause-plays : goal.returns-in_ok-settle_after-in-Skip-clause-plays
+pub returns-in_ok-settle_after-in-Skip-clause-plays :
+    goal.returns-in_ok-settle_after-in-Skip-clause-plays
 returns-in_ok-settle_after-in-Skip-clause-plays g c =
     let run = seen_run c.args.context.now in
-    is_inferred (player c.args.context.now.id.now g.T.CountedTools.answer) run (child_at run c.args.child) c.args.self.now c.settle_after.new.self c.args.journal.now (g.T.CountedTools.calls c.args.tools.now)
-    c.in_ok-settle_after-in-Skip.field-0 (seen_run c.of-in-Skip.result.context) (seen_element c.of-in-Skip.result.element) c.args.choice.now c.infer.new.self c.in_ok-ending-in-Skip.ending
-    (ap (λ (w : RunContext). seen_run w) c.of-in-Skip.ensures.context) c.of-in-Skip.ensures.element c.in-Skip.is c.in_ok-ending-in-Skip.ensures.ended c.in_ok-ending-in-Skip.ensures.kept
-    (c.in_ok-settle_after-in-Skip.ensures.ended c.args.journal.now) c.in_ok-settle_after-in-Skip.ensures.kept
+    is_inferred (player c.args.context.now.id.now g.T.CountedTools.answer) run
+    (child_at run c.args.child) c.args.self.now c.settle_after.new.self c.args.journal.now
+    (g.T.CountedTools.calls c.args.tools.now)
+    c.in_ok-settle_after-in-Skip.field-0 (seen_run c.of-in-Skip.result.context)
+    (seen_element c.of-in-Skip.result.element) c.args.choice.now c.infer.new.self
+    c.in_ok-ending-in-Skip.ending
+    (ap (λ (w : RunContext). seen_run w) c.of-in-Skip.ensures.context) c.of-in-Skip.ensures.element
+    c.in-Skip.is c.in_ok-ending-in-Skip.ensures.ended c.in_ok-ending-in-Skip.ensures.kept
+    (c.in_ok-settle_after-in-Skip.ensures.ended c.args.journal.now)
+    c.in_ok-settle_after-in-Skip.ensures.kept
 
-pub returns-in_ok-settle_after-in-Nothing-clause-plays : goal.returns-in_ok-settle_after-in-Nothing-clause-plays
+pub returns-in_ok-settle_after-in-Nothing-clause-plays :
+    goal.returns-in_ok-settle_after-in-Nothing-clause-plays
 returns-in_ok-settle_after-in-Nothing-clause-plays g c =
     let run = seen_run c.args.context.now in
-    is_passed (player c.args.context.now.id.now g.T.CountedTools.answer) run (child_at run c.args.child) c.args.self.now c.settle_after-in-Nothing.new.self c.args.journal.now (g.T.CountedTools.calls c.args.tools.now)
-    c.in_ok-settle_after-in-Nothing.field-0 c.args.choice.now c.in-Nothing.is (c.in_ok-settle_after-in-Nothing.ensures.ended c.args.journal.now) c.in_ok-settle_after-in-Nothing.ensures.kept
+    is_passed (player c.args.context.now.id.now g.T.CountedTools.answer) run
+    (child_at run c.args.child) c.args.self.now c.settle_after-in-Nothing.new.self
+    c.args.journal.now (g.T.CountedTools.calls c.args.tools.now)
+    c.in_ok-settle_after-in-Nothing.field-0 c.args.choice.now c.in-Nothing.is
+    (c.in_ok-settle_after-in-Nothing.ensures.ended c.args.journal.now)
+    c.in_ok-settle_after-in-Nothing.ensures.kept

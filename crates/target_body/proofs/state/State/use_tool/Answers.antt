@@ -22,14 +22,25 @@ pub returns-in-Ok-clause-plays : goal.returns-in-Ok-clause-plays
 returns-in-Ok-clause-plays g c =
     let run = seen_run c.args.call.now.context in
     let e = seen_element c.args.call.now.element in
-    let before : Moment = moment c.args.self.now c.args.journal.now (g.T.CountedTools.calls c.args.tools.now) in
-    let f : Now × TaskOutput → Work (Result Now Stopped) = λ x. done (answered_to run e c.args.call.now.gives c.args.call.now.bucket.now c.args.on_error x) in
-    all_as (call_frames run e c.args.call.now.gives c.args.call.now.bucket.now) (player c.args.call.now.context.id.now g.T.CountedTools.answer)
-    (λ s. followed_by (tool c.args.task.now s (Ok c.in-Ok.input)) f) (λ s. followed_by (not_built_in false run s c.args.task.now c.args.params) f)
-    before (moment c.call_tool.new.self c.call_tool.new.journal (g.T.CountedTools.calls c.call_tool.new.tools)) c.call_tool.result
+    let before : Moment = moment c.args.self.now c.args.journal.now
+    (g.T.CountedTools.calls c.args.tools.now) in
+    let f : Now × TaskOutput → Work (Result Now Stopped) = λ x.
+    done (answered_to run e c.args.call.now.gives c.args.call.now.bucket.now c.args.on_error x)
+    in
+    all_as (call_frames run e c.args.call.now.gives c.args.call.now.bucket.now)
+    (player c.args.call.now.context.id.now g.T.CountedTools.answer)
+    (λ s. followed_by (tool c.args.task.now s (Ok c.in-Ok.input)) f)
+    (λ s. followed_by (not_built_in false run s c.args.task.now c.args.params) f)
+    before
+    (moment c.call_tool.new.self c.call_tool.new.journal
+    (g.T.CountedTools.calls c.call_tool.new.tools)) c.call_tool.result
     (ap (λ (r : Result ToolInput Failure). followed_by (tool c.args.task.now (state_at before) r) f)
-    (ap (λ (folder : List ℕ). foreign_input folder (record { files = run.files; journal = c.args.journal.now }) c.args.params) (sym c.folder.ensures)
-    ∙ ap (λ (view : View). foreign_input c.folder.result.now view c.args.params) (sym c.of-view.ensures) ∙ c.in-Ok.ensures))
+    (ap
+    (λ (folder : List ℕ). foreign_input folder
+    (record { files = run.files; journal = c.args.journal.now }) c.args.params)
+    (sym c.folder.ensures)
+    ∙ ap (λ (view : View). foreign_input c.folder.result.now view c.args.params)
+    (sym c.of-view.ensures) ∙ c.in-Ok.ensures))
     c.call_tool.ensures.plays
 
 pub returns-in_ok-give-in-Err-clause-plays : goal.returns-in_ok-give-in-Err-clause-plays
@@ -37,11 +48,20 @@ returns-in_ok-give-in-Err-clause-plays g c =
     let run = seen_run c.args.call.now.context in
     let e = seen_element c.args.call.now.element in
     let tools = g.T.CountedTools.calls c.args.tools.now in
-    let f : Now × TaskOutput → Work (Result Now Stopped) = λ x. done (answered_to run e c.args.call.now.gives c.args.call.now.bucket.now c.args.on_error x) in
-    tool_fails (player c.args.call.now.context.id.now g.T.CountedTools.answer) c.args.task.now f c.in-Err.failure _ c.in_ok-output-in-Err.output
-    (moment c.args.self.now c.args.journal.now tools) (moment c.give.new.self c.give.new.journal tools) c.in_ok-give-in-Err.field-0
-    (ap (λ (folder : List ℕ). foreign_input folder (record { files = run.files; journal = c.args.journal.now }) c.args.params) (sym c.folder.ensures)
-    ∙ ap (λ (view : View). foreign_input c.folder.result.now view c.args.params) (sym c.of-view.ensures)
+    let f : Now × TaskOutput → Work (Result Now Stopped) = λ x.
+    done (answered_to run e c.args.call.now.gives c.args.call.now.bucket.now c.args.on_error x)
+    in
+    tool_fails (player c.args.call.now.context.id.now g.T.CountedTools.answer) c.args.task.now f
+    c.in-Err.failure _ c.in_ok-output-in-Err.output
+    (moment c.args.self.now c.args.journal.now tools)
+    (moment c.give.new.self c.give.new.journal tools) c.in_ok-give-in-Err.field-0
+    (ap
+    (λ (folder : List ℕ). foreign_input folder
+    (record { files = run.files; journal = c.args.journal.now }) c.args.params)
+    (sym c.folder.ensures)
+    ∙ ap (λ (view : View). foreign_input c.folder.result.now view c.args.params)
+    (sym c.of-view.ensures)
     ∙ told c.in-Err.failure c.in_ok-output-in-Err.ensures.told c.in-Err.ensures)
-    (c.in_ok-output-in-Err.ensures.output ∙ ap (λ (name : List ℕ). failed name c.in-Err.failure) c.key.ensures)
+    (c.in_ok-output-in-Err.ensures.output ∙ ap (λ (name : List ℕ). failed name c.in-Err.failure)
+    c.key.ensures)
     (c.in_ok-give-in-Err.ensures g.T.CountedTools.answer tools)

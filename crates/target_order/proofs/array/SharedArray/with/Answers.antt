@@ -1,4 +1,19 @@
-use Rattle.std.proofs.Common.{◌≡◌, ◌<◌, ◌/◌, ◌%◌, [], length, get_or, set, sym, ap, ◌∙◌, subst, rules, arith}
+use Rattle.std.proofs.Common.{
+  ◌≡◌,
+  ◌<◌,
+  ◌/◌,
+  ◌%◌,
+  [],
+  length,
+  get_or,
+  set,
+  sym,
+  ap,
+  ◌∙◌,
+  subst,
+  rules,
+  arith,
+}
 use Rattle.std.specs.Prelude.{vec_len}
 use Rattle.std.proofs.lemmas.List.{get_or_read}
 use Rattle.target_order.specs.Chunks.{joined}
@@ -11,7 +26,8 @@ bounds-as_slice-at g c =
     let i = c.args.index in
     let held : c.as_slice.result.now ≡ chunks = c.as_slice.ensures ∙ c.deref.ensures in
     let lt = subst (λ xs. i < length xs) (sym c.self.view_is) c.requires in
-    subst (λ cs. i / 256 < length cs) (sym held) (at_chunk 256 (omega arith) chunks c.self.invariant i lt)
+    subst (λ cs. i / 256 < length cs) (sym held)
+    (at_chunk 256 (omega arith) chunks c.self.invariant i lt)
 
 pub index_mut-requires : goal.index_mut-requires
 index_mut-requires g c =
@@ -19,10 +35,15 @@ index_mut-requires g c =
     let i = c.args.index in
     let held : c.as_slice.result.now ≡ chunks = c.as_slice.ensures ∙ c.deref.ensures in
     let lt = subst (λ xs. i < length xs) (sym c.self.view_is) c.requires in
-    let chunk = get_or_read chunks (i / 256) _ (at_chunk 256 (omega arith) chunks c.self.invariant i lt) (c.index-as_slice-at.is ∙ ap (λ cs. get_or cs (i / 256) c.index-as_slice-at.result) held) [] in
+    let chunk = get_or_read chunks (i / 256) _
+    (at_chunk 256 (omega arith) chunks c.self.invariant i lt)
+    (c.index-as_slice-at.is ∙ ap (λ cs. get_or cs (i / 256) c.index-as_slice-at.result) held) []
+    in
     let entries = c.in_ok-entries.ensures ∙ (c.as_slice-2.ensures ∙ chunk) in
-    let len : vec_len c.in_ok-entries.entries ≡ length c.in_ok-entries.entries.items = search rules in
-    let below = subst (λ xs. i % 256 < length xs) (sym entries) (in_chunk 256 (omega arith) chunks c.self.invariant i lt) in
+    let len : vec_len c.in_ok-entries.entries
+    ≡ length c.in_ok-entries.entries.items = search rules in
+    let below = subst (λ xs. i % 256 < length xs) (sym entries)
+    (in_chunk 256 (omega arith) chunks c.self.invariant i lt) in
     omega arith
 
 pub index_mut-requires-2 : goal.index_mut-requires-2
@@ -30,9 +51,12 @@ index_mut-requires-2 g c =
     let chunks = c.self.inside.chunks.value in
     let i = c.args.index in
     let lt = subst (λ xs. i < length xs) (sym c.self.view_is) c.requires in
-    let copies : c.into_vec-chunks.result.items ≡ chunks = c.into_vec-chunks.ensures ∙ (c.in_ok-copy.ensures ∙ c.deref-2.ensures) in
-    let len : vec_len c.into_vec-chunks.result ≡ length c.into_vec-chunks.result.items = search rules in
-    let below = subst (λ cs. i / 256 < length cs) (sym copies) (at_chunk 256 (omega arith) chunks c.self.invariant i lt) in
+    let copies : c.into_vec-chunks.result.items ≡ chunks = c.into_vec-chunks.ensures
+    ∙ (c.in_ok-copy.ensures ∙ c.deref-2.ensures) in
+    let len : vec_len c.into_vec-chunks.result
+    ≡ length c.into_vec-chunks.result.items = search rules in
+    let below = subst (λ cs. i / 256 < length cs) (sym copies)
+    (at_chunk 256 (omega arith) chunks c.self.invariant i lt) in
     omega arith
 
 pub returns : goal.returns
@@ -41,9 +65,18 @@ returns g c =
     let i = c.args.index in
     let held : c.as_slice.result.now ≡ chunks = c.as_slice.ensures ∙ c.deref.ensures in
     let lt = subst (λ xs. i < length xs) (sym c.self.view_is) c.requires in
-    let chunk = get_or_read chunks (i / 256) _ (at_chunk 256 (omega arith) chunks c.self.invariant i lt) (c.index-as_slice-at.is ∙ ap (λ cs. get_or cs (i / 256) c.index-as_slice-at.result) held) [] in
+    let chunk = get_or_read chunks (i / 256) _
+    (at_chunk 256 (omega arith) chunks c.self.invariant i lt)
+    (c.index-as_slice-at.is ∙ ap (λ cs. get_or cs (i / 256) c.index-as_slice-at.result) held) []
+    in
     let entries = c.in_ok-entries.ensures ∙ (c.as_slice-2.ensures ∙ chunk) in
-    let copies : c.into_vec-chunks.result.items ≡ chunks = c.into_vec-chunks.ensures ∙ (c.in_ok-copy.ensures ∙ c.deref-2.ensures) in
+    let copies : c.into_vec-chunks.result.items ≡ chunks = c.into_vec-chunks.ensures
+    ∙ (c.in_ok-copy.ensures ∙ c.deref-2.ensures) in
     let made = c.in_ok-chunks.ensures ∙ ap (λ xs. set xs (i % 256) c.args.entry) entries in
-    let all = c.in_ok-new.ensures.ok ∙ (c.from.ensures ∙ (ap (λ cs. set cs (i / 256) c.in_ok-chunks.field-0) copies ∙ ap (λ x. set chunks (i / 256) x) made)) in
-    ap joined all ∙ (joined_write 256 (omega arith) chunks c.self.invariant i lt c.args.entry ∙ ap (λ xs. set xs i c.args.entry) c.self.view_is)
+    let all = c.in_ok-new.ensures.ok
+    ∙ (c.from.ensures
+    ∙ (ap (λ cs. set cs (i / 256) c.in_ok-chunks.field-0) copies
+    ∙ ap (λ x. set chunks (i / 256) x) made)) in
+    ap joined all
+    ∙ (joined_write 256 (omega arith) chunks c.self.invariant i lt c.args.entry
+    ∙ ap (λ xs. set xs i c.args.entry) c.self.view_is)

@@ -10,5 +10,8 @@ invariant_of-self-2 c =
     let held_is : c.in_ok-held.held ≡ c.args.name.now = search rules in
     let len_is : c.len.result ≡ length names = search rules in
     let pushed : c.push.new.self.items ≡ names ++ c.args.name.now ∷ [] = search rules in
-    let absent : number_of names c.args.name.now ≡ None = ap (λ ns. number_of ns c.args.name.now) c.self.view_is ∙ c.requires in
-    rw pushed (numbered_push names c.args.name.now c.self.inside.by_name c.insert.new.self c.self.invariant absent (λ q. rw (← key_is, ← len_is) (c.in_ok-insert.ensures.updates.0 q)))
+    let absent : number_of names c.args.name.now
+    ≡ None = ap (λ ns. number_of ns c.args.name.now) c.self.view_is ∙ c.requires in
+    rw pushed
+    (numbered_push names c.args.name.now c.self.inside.by_name c.insert.new.self
+    c.self.invariant absent (λ q. rw (← key_is, ← len_is) (c.in_ok-insert.ensures.updates.0 q)))

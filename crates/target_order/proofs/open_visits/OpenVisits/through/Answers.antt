@@ -11,6 +11,11 @@ returns-in_ok-of c =
     let len : c.len.result ≡ length inner = search rules in
     let chunks = in_chunks outer inner c.self.inside.count c.self.invariant in
     let from : c.self.inside.count - c.len.result ≡ length (joined outer) = omega arith in
-    let part = c.into_vec.ensures ∙ (c.in_ok-of.ensures ∙ (ap (take (depth - (c.self.inside.count - c.len.result))) c.deref.ensures.value ∙ ap (λ n. take (depth - n) inner) from)) in
+    let part = c.into_vec.ensures
+    ∙ (c.in_ok-of.ensures
+    ∙ (ap (take (depth - (c.self.inside.count - c.len.result))) c.deref.ensures.value
+    ∙ ap (λ n. take (depth - n) inner) from)) in
     ap (λ cs. joined cs ++ c.into_vec.result.items) c.in_ok-try_clone.ensures
-    ∙ (ap (λ vs. joined outer ++ vs) part ∙ (through_inner outer inner depth (let h = c.if-depth-outer.true in omega arith) ∙ ap (take depth) c.self.view_is))
+    ∙ (ap (λ vs. joined outer ++ vs) part
+    ∙ (through_inner outer inner depth (let h = c.if-depth-outer.true in omega arith)
+    ∙ ap (take depth) c.self.view_is))

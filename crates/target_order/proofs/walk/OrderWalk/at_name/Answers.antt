@@ -8,4 +8,5 @@ pub returns-in-Settled : goal.returns-in-Settled
 returns-in-Settled c =
     let p = c.args.self.now in
     let sound = subst (λ q. IsSound q c.self.inside.places) c.self.view_is c.self.invariant in
-    passes p c.self.inside.places c.args.cursor sound c.requires.cursor c.requires.within (subst (λ t. standing_at p c.args.cursor t ≡ settled) c.requires.name c.in-Settled.ensures)
+    passes p c.self.inside.places c.args.cursor sound c.requires.cursor c.requires.within
+    (subst (λ t. standing_at p c.args.cursor t ≡ settled) c.requires.name c.in-Settled.ensures)

@@ -9,4 +9,6 @@ returns-clause-place c =
     let d = c.args.depth - 1 in
     let lt : d < length p.visits = omega (arith, c.requires) in
     let v = c.top-visit.ensures.value in
-    below_is p d c.args.depth _ (omega arith) lt (ap (λ u. u.step) v) (c.list_of.ensures ∙ ap (λ u. list_at p.table u.target u.names u.step) v) (ap (λ u. u.passed) v)
+    below_is p d c.args.depth _ (omega arith) lt (ap (λ u. u.step) v)
+    (c.list_of.ensures ∙ ap (λ u. list_at p.table u.target u.names u.step) v)
+    (ap (λ u. u.passed) v)

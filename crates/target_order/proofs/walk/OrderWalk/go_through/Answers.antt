@@ -10,7 +10,8 @@ put_back-requires-clause-progress c =
     let undo = c.in_ok-undo.undo in
     let sound = subst (λ q. IsSound q c.self.inside.places) c.self.view_is c.self.invariant in
     let at = c.in-Err.ensures.kept ∙ c.in_ok-undo.ensures.taken in
-    let back = ap (λ q. restored q undo) at ∙ put_back_is p c.args.step c.args.names undo c.in_ok-undo.ensures.undo in
+    let back = ap (λ q. restored q undo) at ∙ put_back_is p c.args.step c.args.names undo
+    c.in_ok-undo.ensures.undo in
     subst IsProgress (sym back) sound.progress
 
 pub returns-in-Err-clause-kept : goal.returns-in-Err-clause-kept
@@ -18,4 +19,6 @@ returns-in-Err-clause-kept c =
     let p = c.args.self.now in
     let undo = c.in_ok-undo.undo in
     let at = c.in-Err.ensures.kept ∙ c.in_ok-undo.ensures.taken in
-    c.put_back.ensures ∙ (ap (λ q. restored q undo) at ∙ put_back_is p c.args.step c.args.names undo c.in_ok-undo.ensures.undo)
+    c.put_back.ensures
+    ∙ (ap (λ q. restored q undo) at ∙ put_back_is p c.args.step c.args.names undo
+    c.in_ok-undo.ensures.undo)

@@ -13,5 +13,11 @@ invariant_of-self c =
     let some = subst (λ q. 0 < length q.visits) (sym c.self.view_is) c.requires.some in
     let same = c.requires.same ∙ ap top_target (sym c.self.view_is) in
     let back = subst (λ q. IsProgress (restored q undo)) (sym c.self.view_is) c.requires.progress in
-    subst (λ (vs : List OpenVisit). IsSound (record p { visits = vs; has_run = undo.has_run; asked = undo.asked; failed = undo.failed }) c.self.inside.places)
-    (sym c.replace_last.ensures.replaced) (restored_sound p c.self.inside.places undo c.self.invariant some same c.requires.within back)
+    subst
+    (λ (vs : List OpenVisit).
+    IsSound
+    (record p { visits = vs; has_run = undo.has_run; asked = undo.asked; failed = undo.failed })
+    c.self.inside.places)
+    (sym c.replace_last.ensures.replaced)
+    (restored_sound p c.self.inside.places undo c.self.invariant some same c.requires.within
+    back)

@@ -14,12 +14,19 @@ invariant_of-self c =
     let depth = c.args.depth in
     let place = subst (λ q. IsPlace q depth c.args.step) (sym c.self.view_is) c.requires.place in
     let known = subst (λ q. k < length q.table.names) (sym c.self.view_is) c.requires.known in
-    let apart = subst (λ q. (d : ℕ) → d < depth → (visit_at q.visits d).target ≢ k) (sym c.self.view_is) c.requires.apart in
-    let visits = c.in_ok-self-inside.ensures ∙ ap (λ (names : List Name). marked_visits p.visits depth c.args.step c.args.passed ++ record { target = k; step = Depends; passed = 0; names = names } ∷ []) c.none.ensures in
+    let apart = subst (λ q. (d : ℕ) → d < depth → (visit_at q.visits d).target ≢ k)
+    (sym c.self.view_is) c.requires.apart in
+    let visits = c.in_ok-self-inside.ensures ∙ ap
+    (λ (names : List Name). marked_visits p.visits depth c.args.step c.args.passed
+    ++ record { target = k; step = Depends; passed = 0; names = names } ∷ []) c.none.ensures in
     subst (λ q. IsSound q c.in_ok-places.places)
-    (sym (visiting_is p depth c.args.step c.args.passed k c.in_ok-self-inside.field-0 c.request_passed-self-inside.result visits c.request_passed-self-inside.ensures))
-    (subst (λ places. IsSound (visiting p depth c.args.step c.args.passed k) places) (sym c.in_ok-places.ensures)
-    (visiting_sound p c.self.inside.places depth c.args.step c.args.passed k c.self.invariant place known apart))
+    (sym
+    (visiting_is p depth c.args.step c.args.passed k c.in_ok-self-inside.field-0
+    c.request_passed-self-inside.result visits c.request_passed-self-inside.ensures))
+    (subst (λ places. IsSound (visiting p depth c.args.step c.args.passed k) places)
+    (sym c.in_ok-places.ensures)
+    (visiting_sound p c.self.inside.places depth c.args.step c.args.passed k c.self.invariant place
+    known apart))
 
 pub returns-clause-ok : goal.returns-clause-ok
 returns-clause-ok c =
@@ -27,6 +34,9 @@ returns-clause-ok c =
     let k = c.args.target in
     let depth = c.args.depth in
     let place = subst (λ q. IsPlace q depth c.args.step) (sym c.self.view_is) c.requires.place in
-    let visits = c.in_ok-self-inside.ensures ∙ ap (λ (names : List Name). marked_visits p.visits depth c.args.step c.args.passed ++ record { target = k; step = Depends; passed = 0; names = names } ∷ []) c.none.ensures in
-    visiting_is p depth c.args.step c.args.passed k c.in_ok-self-inside.field-0 c.request_passed-self-inside.result visits c.request_passed-self-inside.ensures
+    let visits = c.in_ok-self-inside.ensures ∙ ap
+    (λ (names : List Name). marked_visits p.visits depth c.args.step c.args.passed
+    ++ record { target = k; step = Depends; passed = 0; names = names } ∷ []) c.none.ensures in
+    visiting_is p depth c.args.step c.args.passed k c.in_ok-self-inside.field-0
+    c.request_passed-self-inside.result visits c.request_passed-self-inside.ensures
     ∙ ap (λ q. visiting q depth c.args.step c.args.passed k) c.self.view_is

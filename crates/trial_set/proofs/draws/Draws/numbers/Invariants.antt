@@ -9,6 +9,9 @@ decreases-loop-left l = l.left
 
 abbrev pub invariant-loop-left : goal.invariant-loop-left
 invariant-loop-left l = record {
-  numbers : fold (insert_key nat_cmp) l.numbers.keys (drawn (l.last + 1) l.left l.self.state).numbers ≡ fold (insert_key nat_cmp) [] (drawn (l.last + 1) l.count l.initial.self.state).numbers;
-  state : (drawn (l.last + 1) l.left l.self.state).state ≡ (drawn (l.last + 1) l.count l.initial.self.state).state;
+  numbers : fold (insert_key nat_cmp) l.numbers.keys
+      (drawn (l.last + 1) l.left l.self.state).numbers
+      ≡ fold (insert_key nat_cmp) [] (drawn (l.last + 1) l.count l.initial.self.state).numbers;
+  state : (drawn (l.last + 1) l.left l.self.state).state
+      ≡ (drawn (l.last + 1) l.count l.initial.self.state).state;
 }

@@ -6,8 +6,12 @@ use Rattle.turn_board.proofs.board.Board.take.Goals as goal
 
 pub fetch_or-requires : goal.fetch_or-requires
 fetch_or-requires g c =
-    let home = ap (λ v. v.has_state) c.seat.view_is ∙ c.requires.home in
-    (search rules, search rules, take_keeps g.S.Histories.world g.S.Histories.history _ _ _ _ (step 0 0 0 0 none) c.seat.invariant.0 home (c.seat.invariant.2 home))
+    let home = ap (λ v. v.has_state) c.seat.view_is ∙ c.requires.home in (
+      search rules,
+      search rules,
+      take_keeps g.S.Histories.world g.S.Histories.history _ _ _ _
+          (step 0 0 0 0 none) c.seat.invariant.0 home (c.seat.invariant.2 home),
+    )
 
 pub exchange-requires : goal.exchange-requires
 exchange-requires g c =
