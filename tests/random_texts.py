@@ -251,9 +251,30 @@ STEP = seq("->", SPACES, either(seq("'", TRANSFORM, "'"), CALL), SPACES)
 ITEMS = seq("@", named("items", seq(
     named("type", seq("(", SPACES, NAME, SPACES)), many(STEP),
     maybe(seq(",", SPACES, ARGUMENT, SPACES)), ")")))
-REFERENCE = either(PROPERTY, METADATA, ITEMS)
+
+
+def keyword(word: str) -> Form:
+    """A word in any case."""
+    return seq(*(any_of(letter.lower() + letter.upper()) for letter in word))
+
+
+def called_form(quoted: Form) -> Form:
+    """A property with calls behind its name, or calls of `[MSBuild]`; some arguments are quoted."""
+    loose = but_not(text_form("$", PROPERTY, "'(),@%"), EMPTY)
+    argument = either(quoted, loose)
+    arguments = either(SPACES, seq(argument, many(seq(",", argument))))
+    name = seq(SPACES, NAME, SPACES)
+    parentheses = seq("(", arguments, ")", SPACES)
+    calls = many(seq(".", name, maybe(parentheses)))
+    return seq("$", named("reference", seq("(", either(
+        seq(name, calls), seq(keyword("[msbuild]::"), name, parentheses, calls)), ")")))
+
+
+CALLED = called_form(seq(SPACES, ARGUMENT, SPACES))
+REFERENCE = either(CALLED, METADATA, ITEMS)
 EXPRESSION = text_form("$%@", REFERENCE, "")
-QUOTED = text_form("$%@", REFERENCE, "'")
+# between the quotes of a condition no quote is a part of a call
+QUOTED = text_form("$%@", either(called_form(NOTHING), METADATA, ITEMS), "'")
 
 
 def refusal(text: str, stop: Stop) -> str:
@@ -271,9 +292,92 @@ def refusal(text: str, stop: Stop) -> str:
     return f"9 BadTransform {place}"
 
 
+class Fault(Exception):
+    """The fault that an evaluation meets."""
+
+
 def value_of(reference: str, values: dict[str, str]) -> str:
-    """The value of `$( Name )`."""
-    return values.get(reference[2:-1].strip(" ").lower(), "")
+    """The value of `$( Name )`, with the calls behind the name."""
+    head, body = re.match(r"( *[\w-]+ *|\[msbuild\]::)(.*)", reference[2:-1], re.I | re.S).groups()
+    value = None if head[0] == "[" else values.get(head.strip(" ").lower(), "")
+    if not body:
+        return value or ""
+    of = None if value is None else unescaped(value)
+    while body:
+        name, body = re.match(r"\.? *([\w-]+) *(.*)", body, re.S).groups()
+        arguments = None
+        if body[:1] == "(":
+            arguments, body = read_arguments(body[1:], values)
+        of = called(of, name, arguments)
+    return re.sub(r"[%$@';?*]", lambda found: f"%{ord(found[0]):02X}", of or "")
+
+
+def read_arguments(text: str, values: dict[str, str]) -> tuple[list[str], str]:
+    """The arguments behind a `(`, and what comes behind their `)` and the spaces after it."""
+    found: list[str] = []
+    while True:
+        match = re.match(r" *'([^']*)' *|((?:\$\([^)]*\)|[^,)])*)", text)
+        plain = match[2].strip(" \t\r\n") if match[1] is None else match[1]
+        value = re.sub(r"\$\([^)]*\)", lambda one: value_of(one[0], values), plain)
+        if found or match[1] is not None or match[2].strip(" ") or text[match.end()] == ",":
+            found.append(unescaped(value))
+        text = text[match.end():]
+        if text[0] == ")":
+            return found, text[1:].lstrip(" ")
+        text = text[1:]
+
+
+TEXT_CALLS = {"replace": (2,), "substring": (1, 2), "startswith": (1,), "endswith": (1,),
+              "contains": (1,), "trim": (0,)}
+BUILD_CALLS = {"add": (2,), "subtract": (2,), "multiply": (2,), "valueordefault": (2,)}
+
+
+def called(of: str | None, name: str, arguments: list[str] | None) -> str:
+    """What a property function gives, of a text or of `[MSBuild]`, or its fault."""
+    key, known = name.lower(), BUILD_CALLS if of is None else TEXT_CALLS
+    if arguments is None and of is not None and key == "length":
+        return str(len(of))
+    if arguments is None or key not in known:
+        raise Fault(f"13 UnknownFunction {name}")
+    if len(arguments) not in known[key]:
+        raise Fault(f"26 BadArgument {name}")
+    if key == "valueordefault":
+        return arguments[0] or arguments[1]
+    if of is None or key == "substring":
+        numbers = [whole_number(name, text) for text in arguments]
+        return of_numbers(name, numbers) if of is None else substring(of, name, numbers)
+    if key == "replace" and not arguments[0]:
+        raise Fault(f"26 BadArgument {name}")
+    return {"replace": lambda: of.replace(*arguments), "trim": of.strip,
+            "startswith": lambda: str(of.startswith(*arguments)),
+            "endswith": lambda: str(of.endswith(*arguments)),
+            "contains": lambda: str(arguments[0] in of)}[key]()
+
+
+def whole_number(name: str, text: str) -> int:
+    """A number of 64 bits with sign."""
+    if not re.fullmatch(r"-?[0-9]{1,19}", text):
+        raise Fault(f"26 BadArgument {name}")
+    return in_range(name, int(text))
+
+
+def in_range(name: str, number: int) -> int:
+    if not -2 ** 63 <= number < 2 ** 63:
+        raise Fault(f"27 Overflow {name}")
+    return number
+
+
+def of_numbers(name: str, numbers: list[int]) -> str:
+    left, right = numbers
+    results = {"add": left + right, "subtract": left - right, "multiply": left * right}
+    return str(in_range(name, results[name.lower()]))
+
+
+def substring(of: str, name: str, numbers: list[int]) -> str:
+    begin, count = numbers[0], numbers[1] if len(numbers) > 1 else 0
+    if min(begin, count) < 0 or begin + count > len(of):
+        raise Fault(f"26 BadArgument {name}")
+    return of[begin:begin + count] if len(numbers) > 1 else of[begin:]
 
 
 def stays(items: str, values: dict[str, str]) -> str:
@@ -316,11 +420,6 @@ BLANKS = many(any_of(" \t\r\n"))
 WORD_END = not_before(IN_WORDS)  # a word goes as far as it can
 
 
-def keyword(word: str) -> Form:
-    """A word in any case."""
-    return seq(*(any_of(letter.lower() + letter.upper()) for letter in word))
-
-
 AND, OR = seq(keyword("and"), WORD_END), seq(keyword("or"), WORD_END)
 WORD = seq(but_not(seq(any_of(IN_WORDS), many(any_of(IN_WORDS))),
                    either(keyword("and"), keyword("or"))), WORD_END)
@@ -354,10 +453,6 @@ def condition_refusal(text: str, stop: Stop) -> str:
     if at_quote and "quoted" in stop.names and "items" not in stop.names:
         return f"8 Unclosed {place}"
     return refusal(text, stop)
-
-
-class Fault(Exception):
-    """The fault that the evaluation of a condition meets."""
 
 
 @dataclass
@@ -673,17 +768,49 @@ EXPRESSION_PIECES = ["$(", "%(", "@(X", "@(", "@", "$", "%", "(", ")", "'", ",",
                      "->", " ", "A", "b1", "X-", "7", "->'", "F(", "')", "','", "é"]
 WHOLE_PIECES = ["$(A)", "$( b1 )", "%(M)", "%( T . M )", "@(X)", "@( X- -> 'a$( c )%( M )' )",
                 "@(X->F( 'v' , '%( M )$(D)'), '$( A )')", "a b", "%41", "$", "@", "'", "->", "é"]
+CALL_PIECES = ["$(A.", "$(b1.", "$(X-.", "$([MSBuild]::", "$([msbuild", "]::", ".", "(", ")", "()",
+               ",", "'", "' '", " ", "\t", "-", "7", "a", "%3B", "$(E)", "$(X-)", "$(", "@", "%",
+               "é", "Length", "length)", "Trim()", "Replace('u', ", "StartsWith(t", "Add(",
+               "Add(1,"]
+NUMBERS_GIVEN = ["0", "1", "-1", "2", "007", "-0", "9223372036854775807", "-9223372036854775808",
+                 "9999999999999999999", "12345678901234567890", "+1", "x", "", " 3 ", "'4'", "' 5'",
+                 "$(A)", "$(c)"]
+TEXTS_GIVEN = ["''", "'t'", "ru", "' ru '", " ru ", "'$(E)'", "$(X-)", "%77", "'e;'", "true", "é",
+               "$"]
+
+
+def drawn_call(draws: random.Random) -> str:
+    """A call of a property function, mostly with arguments that it may take."""
+    name = draws.choice([*TEXT_CALLS, *BUILD_CALLS, "length", "Length", "Other"])
+    given = NUMBERS_GIVEN if name in ("substring", "add", "subtract", "multiply") else TEXTS_GIVEN
+    most = max({**TEXT_CALLS, **BUILD_CALLS}.get(name, (0,)))
+    count = most if draws.random() < 0.8 else draws.randrange(4)
+    if name.lower() == "length" and draws.random() < 0.9:
+        return name
+    comma = draws.choice([",", ", "])
+    return f"{name}({comma.join(draws.choices(given, k=count))})"
+
+
+def drawn_function(draws: random.Random) -> str:
+    """A property reference with calls."""
+    head = draws.choice(["$(A.", "$( b1 .", "$(X-.", "$(E.", "$([MSBuild]::", "$(None."])
+    calls = ".".join(drawn_call(draws) for _ in range(draws.randint(1, 3)))
+    return f"{head}{calls})"
 
 
 def draw_expression(draws: random.Random, folder: str, number: str) -> Probe:
     """A text that is read as an expression, as the value of a property."""
-    pieces = WHOLE_PIECES if draws.random() < 0.3 else EXPRESSION_PIECES
-    text = drawn_text(draws, pieces, 8)
+    kind = draws.random()
+    pieces = WHOLE_PIECES if kind < 0.3 else CALL_PIECES if kind < 0.5 else EXPRESSION_PIECES
+    text = drawn_function(draws) if kind > 0.7 else drawn_text(draws, pieces, 8)
+    child = group("PropertyGroup", [element("P", text)])
     stop = stop_of(EXPRESSION, text)
     if stop is not None:
-        child = group("PropertyGroup", [element("P", text)])
         return Refused(number, text, [child], f"/2/0: {refusal(text, stop)}")
-    value = unescaped(property_value(text, VALUES))
+    try:
+        value = unescaped(property_value(text, VALUES))
+    except Fault as fault:
+        return Refused(number, text, [child], f"/2/0: {fault}")
     return Shown(number, text, [element(f"P{number}", text)], [f"property p{number}={value}"])
 
 

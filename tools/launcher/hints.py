@@ -22,16 +22,20 @@ MEANINGS = {
     "3": "an element, attribute or text that the format does not have here; the table is in "
          "docs/FORMATS.md",
     "4": "this element may not stand here; docs/FORMATS.md has the table",
-    "7": "a name has letters, digits, `_` and `-`, and begins with a letter or `_`; property "
-         "functions and registry references are not read",
+    "7": "a name has letters, digits, `_` and `-`, and begins with a letter or `_`; functions of "
+         ".NET types and registry references are not read",
     "11": "a list `@(..)` has no value yet where this is read",
     "12": "metadata `%(..)` have no value where this is read",
+    "13": "there is no function of this name that is called so; docs/FORMATS.md has those of items "
+          "and of properties",
     "15": "an entry of a list is one `@(..)` alone, or has none",
     "19": "a path stays below the folder that msb runs in, and names a file",
     "21": "the imported file is not in the folder that msb runs in; a toolset's files are staged "
           "there",
     "23": "the engine sets this one itself",
     "24": "write `%(TYPE.NAME)`, or name the list by `@(TYPE)` in the same element",
+    "26": "this property function takes other arguments; docs/FORMATS.md has the table",
+    "27": "property functions have whole numbers of 64 bits",
 }
 
 AT_ROOT = {

@@ -4,7 +4,7 @@ from __future__ import annotations
 
 import re
 
-from .expressions import ITEMS, METADATA, PROPERTY
+from .expressions import FUNCTION, ITEMS, METADATA, PROPERTY
 
 SPACE = re.compile(r"[ \t\r\n]*")
 SIGN = re.compile(r"==|!=|<=|>=|<|>|!|\(|\)")
@@ -45,7 +45,7 @@ class Condition:
     def next(self) -> None:
         """Takes the token at the place: a sign, a word, a reference, or a text in quotes."""
         self.begin = SPACE.match(self.text, self.place).end()
-        for pattern in (SIGN, WORD, PROPERTY, ITEMS, METADATA):
+        for pattern in (SIGN, WORD, PROPERTY, FUNCTION, ITEMS, METADATA):
             found = pattern.match(self.text, self.begin)
             if found:
                 self.token, self.place = found[0], found.end()

@@ -5,7 +5,7 @@ from __future__ import annotations
 import re
 from dataclasses import dataclass
 
-from .table import ARGUMENTS, NAME
+from .table import ARGUMENTS, NAME, OF_BUILD, OF_TEXT
 
 QUOTED = r"'[^']*'"
 PROPERTY = re.compile(rf"\$\( *({NAME}) *\)")
@@ -16,6 +16,13 @@ ITEMS = re.compile(
 STEP = re.compile(rf"-> *(?:({QUOTED})|({NAME}) *\(([^()]*)\))")
 ARGUMENT = re.compile(rf"(?: *{QUOTED} *(?:,(?= *')|$))*$")
 BEGIN = re.compile(r"[$@%]\(")
+LOOSE = rf"(?:\$\( *{NAME} *\)|[^'(),@%])+"
+GIVEN = rf"(?: *{QUOTED} *|{LOOSE})"
+CALL = rf" *(?:{NAME}) *(?:\((?: *|{GIVEN}(?:,{GIVEN})*)\) *)?"
+FUNCTION = re.compile(
+    rf"\$\((?: *({NAME}) *((?:\.{CALL})+)|\[msbuild\]::({CALL}(?:\.{CALL})*))\)", re.IGNORECASE
+)
+ONE_CALL = re.compile(rf"\.? *({NAME}) *(?:\((( *)|{GIVEN}(?:,{GIVEN})*)\) *)?")
 STATIC = re.compile(r"\[([^\]]*)\]::(\w+)")
 MEMBER = re.compile(rf"({NAME})\s*\.\s*(\w+)")
 WHITE = re.compile(r"[\t\r\n]")
@@ -42,15 +49,23 @@ class Refused:
     is_late: bool = False
 
 
-def scan(text: str) -> tuple[list[Reference], list[Refused]]:
-    """The references of a text that msb takes, without those inside of others, and the rest."""
+def scan(text: str, calls: bool = True) -> tuple[list[Reference], list[Refused]]:
+    """The references of a text that msb takes, without those inside of others, and the rest.
+
+    Calls of property functions are taken outside of all other references alone.
+    """
     references: list[Reference] = []
     refused: list[Refused] = []
     begin = BEGIN.search(text)
     while begin:
         sign, place = begin[0][0], begin.start()
         match = {"$": PROPERTY, "%": METADATA, "@": ITEMS}[sign].match(text, place)
-        if match:
+        called = FUNCTION.match(text, place) if calls and sign == "$" and not match else None
+        if called:
+            end = called.end()
+            references.append(Reference(sign, called[1] or "", "", place, end))
+            refused += refused_calls(called)
+        elif match:
             end = match.end()
             kind = match[1] if sign == "%" else ""
             references.append(
@@ -63,6 +78,26 @@ def scan(text: str) -> tuple[list[Reference], list[Refused]]:
             refused += inner(text, place + 2, end)
         begin = BEGIN.search(text, end)
     return references, refused
+
+
+def refused_calls(function: re.Match[str]) -> list[Refused]:
+    """What msb does not take in the calls of a property reference."""
+    found = []
+    known = OF_TEXT if function[1] else OF_BUILD
+    for call in ONE_CALL.finditer(function[2] or function[3]):
+        if given(call) not in known.get(call[1].lower(), []):
+            of = "." if known is OF_TEXT else "[MSBuild]::"
+            found.append(f"property function {of}{call[1]}")
+        found += in_argument(call[2] or "")
+        known = OF_TEXT
+    return [Refused(what, function.start(), function.end()) for what in found]
+
+
+def given(call: re.Match[str]) -> int:
+    """How many arguments a property function is called with, or -1 where it has no parentheses."""
+    if call[2] is None:
+        return -1
+    return 0 if call[3] is not None else len(re.findall(GIVEN + "(?:,|$)", call[2]))
 
 
 def inner(text: str, begin: int, end: int) -> list[Refused]:
@@ -140,7 +175,7 @@ def number_of(arguments: str) -> int:
 
 
 def in_transform(text: str) -> list[str]:
-    references, refused = scan(text)
+    references, refused = scan(text, calls=False)
     found = [
         "metadata of an item type in a transform"
         for one in references
@@ -151,7 +186,7 @@ def in_transform(text: str) -> list[str]:
 
 
 def in_argument(text: str) -> list[str]:
-    references, refused = scan(text)
+    references, refused = scan(text, calls=False)
     found = [
         "reference to items or metadata in an argument or separator"
         for one in references

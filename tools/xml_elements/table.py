@@ -100,6 +100,21 @@ FUNCTIONS = {  # item functions, with the numbers of their arguments
 }
 ARGUMENTS = {name.lower(): number for name, number in FUNCTIONS.items()}
 
+# property functions of a text, and of [MSBuild], with the numbers of their arguments; -1 stands
+# for one without parentheses
+TEXT_FUNCTIONS = {
+    "Length": [-1],
+    "Replace": [2],
+    "Substring": [1, 2],
+    "StartsWith": [1],
+    "EndsWith": [1],
+    "Contains": [1],
+    "Trim": [0],
+}
+BUILD_FUNCTIONS = {"Add": [2], "Subtract": [2], "Multiply": [2], "ValueOrDefault": [2]}
+OF_TEXT = {name.lower(): numbers for name, numbers in TEXT_FUNCTIONS.items()}
+OF_BUILD = {name.lower(): numbers for name, numbers in BUILD_FUNCTIONS.items()}
+
 WELL_KNOWN = """
     FullPath RootDir Filename Extension RelativeDir Directory RecursiveDir Identity
 """.split()

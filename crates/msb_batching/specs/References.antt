@@ -19,7 +19,13 @@ use Rattle.std.specs.List.{list_any, flat_map}
 use Rattle.std.specs.Str.{bytes_eq}
 use Rattle.msb_expression.specs.declared.expression.Expr.{Expr}
 use Rattle.msb_expression.specs.declared.expression.Part.{Part}
-use Rattle.msb_expression.specs.declared.expression.Part.TheVariants.{Plain, Prop, Meta, Items}
+use Rattle.msb_expression.specs.declared.expression.Part.TheVariants.{
+  Plain,
+  Prop,
+  Func,
+  Meta,
+  Items,
+}
 use Rattle.msb_values.specs.Keys.{key_of}
 use Rattle.msb_expand.specs.Tokens.{reference_key, is_qualifier}
 use Rattle.msb_batching.specs.declared.reference.Reference.{Reference}
@@ -37,6 +43,7 @@ keyed (Some key) = record { kind = key.0; name = key.1 } ∷ []
 abbrev pub part_references : Part → List Reference
 part_references (Plain text) = []
 part_references (Prop name) = []
+part_references (Func subject calls) = []
 part_references (Meta qualifier name) = keyed (reference_key qualifier name)
 part_references (Items kind steps separator) = []
 
@@ -44,6 +51,7 @@ part_references (Items kind steps separator) = []
 abbrev pub part_names : Part → List (List ℕ)
 part_names (Plain text) = []
 part_names (Prop name) = []
+part_names (Func subject calls) = []
 part_names (Meta qualifier name) = []
 part_names (Items kind steps separator) = option_to_list (key_of kind)
 

@@ -153,7 +153,7 @@ impl Mentions {
     {
         match part {
             Part::Plain(_) => Ok(()),
-            Part::Prop(_) => Ok(()),
+            Part::Prop(_) | Part::Func(_, _) => Ok(()),
             Part::Meta(qualifier, name) => match read_reference(alloc, qualifier, name)? {
                 Some(reference) => self.add_reference(reference),
                 None => Ok(()),

@@ -2,11 +2,13 @@
 use Rattle.std.proofs.Common.{
   ◌≡◌,
   ℕ,
+  ◌<◌,
   false,
   List,
   [],
   ◌∷◌,
   ◌++◌,
+  length,
   Option,
   Some,
   None,
@@ -16,14 +18,22 @@ use Rattle.std.proofs.Common.{
   ◌∙◌,
   subst,
   append_assoc,
+  length-append,
   arith,
 }
-use Rattle.std.specs.Prelude.{IsTrue, eqb}
+use Rattle.std.specs.Prelude.{IsTrue, eqb, codes}
+use Rattle.std.specs.Str.{str_to_ascii_lowercase}
 use Rattle.std.proofs.lemmas.List.{append-nil}
 use Rattle.msb_expression.specs.declared.starts.Inside.{Inside}
-use Rattle.msb_expression.specs.declared.starts.Inside.TheVariants.{Whole, Transform, Quoted}
+use Rattle.msb_expression.specs.declared.starts.Inside.TheVariants.{Whole, Transform, Quoted, Loose}
 use Rattle.msb_expression.specs.declared.expression.Part.{Part}
-use Rattle.msb_expression.specs.declared.expression.Part.TheVariants.{Plain, Prop, Meta, Items}
+use Rattle.msb_expression.specs.declared.expression.Part.TheVariants.{
+  Plain,
+  Prop,
+  Func,
+  Meta,
+  Items,
+}
 use Rattle.msb_expression.specs.declared.expression.Step.{Step}
 use Rattle.msb_expression.specs.declared.expression.Step.TheVariants.{Transform as Transforms, Call}
 use Rattle.msb_expression.specs.declared.expression.Piece.{Piece}
@@ -56,9 +66,12 @@ use Rattle.msb_expression.specs.Machine.{
   in_transform,
   in_separator,
   in_argument,
+  in_call,
+  in_loose,
   Host,
   whole,
   inner,
+  Mark,
   unmarked,
   Named,
   property,
@@ -66,11 +79,14 @@ use Rattle.msb_expression.specs.Machine.{
   qualified,
   place_inside,
   host_inside,
+  spelled,
+  settled,
   flushed_parts,
   flushed_pieces,
   flushed,
   referred,
   with_step,
+  call_heads,
   left,
 }
 use Rattle.msb_expression.proofs.Joined.{Joins-more, Apart-more, Apart-fresh, Every-append}
@@ -81,6 +97,11 @@ use Rattle.msb_expression.proofs.Behind.{
   FreshPieces,
   HeadsAt,
   ArrowAt,
+  CallWanted,
+  starts_space,
+  NoSpace,
+  LooseBegun,
+  Begun,
   QuoteOpened,
   LeftAt,
   Fresh,
@@ -88,6 +109,83 @@ use Rattle.msb_expression.proofs.Behind.{
   Stepping,
   Behind,
 }
+
+-- no space begins an argument without quotes
+starts_same : (x : Piece) (xs ys : List Piece) → starts_space (x ∷ xs) ≡ starts_space (x ∷ ys)
+starts_same (PlainPiece plain) xs ys = refl
+starts_same (PropPiece name) xs ys = refl
+starts_same (MetaPiece name) xs ys = refl
+
+starts_added : (pieces : List Piece) (piece : Piece) → is_plain_piece piece ≡ false
+    → starts_space pieces ≡ false → starts_space (pieces ++ piece ∷ []) ≡ false
+starts_added [] (PlainPiece plain) e h = cc
+starts_added [] (PropPiece name) e h = refl
+starts_added [] (MetaPiece name) e h = refl
+starts_added (x ∷ xs) piece e h = starts_same x (xs ++ piece ∷ []) xs ∙ h
+
+starts_before : (pieces : List Piece) (plain more : List ℕ) → starts_space pieces ≡ false
+    → starts_space (flushed_pieces pieces (plain ++ more)) ≡ false
+    → starts_space (flushed_pieces pieces plain) ≡ false
+starts_before [] [] more p q = refl
+starts_before [] (b ∷ bs) more p q = q
+starts_before (x ∷ xs) [] more p q = p
+starts_before (x ∷ xs) (b ∷ bs) more p q = starts_same x (xs ++ PlainPiece (b ∷ bs) ∷ []) xs ∙ p
+
+abbrev pub NoSpaceIn : Host → List ℕ → Type 0
+NoSpaceIn (whole parts) plain = Unit {0}
+NoSpaceIn (inner place pieces) plain = NoSpace place (flushed_pieces pieces plain)
+
+pub begun_no_space : (host : Host) (plain : List ℕ) → Begun host plain → NoSpaceIn host plain
+begun_no_space (whole parts) plain h = tt
+begun_no_space (inner place pieces) plain h = λ i. (h i).1
+
+pub no_space_before : (host : Host) (base plain : List ℕ) (mark : Mark) → Fresh host base
+    → Begun host (settled plain mark) → NoSpaceIn host plain
+no_space_before (whole parts) base plain mark f h = tt
+no_space_before (inner place pieces) base plain mark f h =
+    λ i. starts_before pieces plain (spelled mark) (f.no_space i) (h i).1
+
+flushed_head : (x : Piece) (xs : List Piece) (plain : List ℕ)
+    → (ys : List Piece) × (flushed_pieces (x ∷ xs) plain ≡ x ∷ ys)
+flushed_head x xs [] = (xs, refl)
+flushed_head x xs (b ∷ bs) = (xs ++ PlainPiece (b ∷ bs) ∷ [], refl)
+
+loose_head : (x : Piece) (xs ys : List Piece) → LooseBegun (x ∷ xs) → LooseBegun (x ∷ ys)
+loose_head x xs ys h = (omega arith, starts_same x ys xs ∙ h.1)
+
+loose_more : (pieces : List Piece) (plain more : List ℕ) → LooseBegun (flushed_pieces pieces plain)
+    → LooseBegun (flushed_pieces pieces (plain ++ more))
+loose_more [] [] more h = absurd (omega (arith, h.0))
+loose_more [] (b ∷ bs) more h = h
+loose_more (x ∷ xs) plain more h =
+    let f = flushed_head x xs plain in
+    let g = flushed_head x xs (plain ++ more) in
+    subst (λ t. LooseBegun t) (sym g.1) (loose_head x f.0 g.0 (subst (λ t. LooseBegun t) f.1 h))
+
+pub begun_more : (host : Host) (plain more : List ℕ) → Begun host plain → Begun host (plain ++ more)
+begun_more (whole parts) plain more h = tt
+begun_more (inner place pieces) plain more h = λ i. loose_more pieces plain more (h i)
+
+pub begun_elsewhere : (host : Host) (plain : List ℕ) → (host_inside host ≡ Loose → ⊥)
+    → Begun host plain
+begun_elsewhere (whole parts) plain n = tt
+begun_elsewhere (inner place pieces) plain n = λ i. absurd (n i)
+
+some_pieces : (pieces : List Piece) (piece : Piece) → 0 < length (pieces ++ piece ∷ [])
+some_pieces pieces piece = omega (arith, length-append pieces (piece ∷ []))
+
+pub referred_begun : (host : Host) (which : Named) (name front : List ℕ)
+    → Fresh (referred host which name) front
+    → Begun (referred host which name) []
+referred_begun (whole parts) property name front f = tt
+referred_begun (whole parts) metadata name front f = tt
+referred_begun (whole parts) (qualified kind) name front f = tt
+referred_begun (inner place pieces) property name front f =
+    λ i. (some_pieces pieces _, f.no_space i)
+referred_begun (inner place pieces) metadata name front f =
+    λ i. (some_pieces pieces _, f.no_space i)
+referred_begun (inner place pieces) (qualified kind) name front f =
+    λ i. (some_pieces pieces _, f.no_space i)
 
 -- a text with its plain part
 abbrev pub FlushedAt : Host → List ℕ → Type 0
@@ -105,16 +203,18 @@ parts-flushed parts front (b ∷ bs) h p = record {
 
 pub pieces-flushed : (place : Place) (pieces : List Piece) (front plain : List ℕ)
     → FreshPieces place pieces front → IsPlain (place_inside place) plain
+    → NoSpace place (flushed_pieces pieces plain)
     → PiecesAt place (flushed_pieces pieces plain) (front ++ plain)
-pieces-flushed place pieces front [] h p = record {
+pieces-flushed place pieces front [] h p n = record {
   base = h.base;
   text = h.text;
   split = append-nil front ∙ h.split;
   opened = h.opened;
   joins = h.joins;
   apart = h.apart;
+  no_space = n;
 }
-pieces-flushed place pieces front (b ∷ bs) h p = record {
+pieces-flushed place pieces front (b ∷ bs) h p n = record {
   base = h.base;
   text = h.text ++ b ∷ bs;
   split = ap (λ t. t ++ b ∷ bs) h.split ∙ append_assoc h.base h.text (b ∷ bs);
@@ -122,12 +222,14 @@ pieces-flushed place pieces front (b ∷ bs) h p = record {
   joins = Joins-more (IsPiece (place_inside place)) h.text (b ∷ bs) pieces (PlainPiece (b ∷ bs))
       h.joins ((omega arith, p), refl);
   apart = h.fresh (PlainPiece (b ∷ bs));
+  no_space = n;
 }
 
 pub host-flushed : (host : Host) (front plain : List ℕ) → Fresh host front
-    → IsPlain (host_inside host) plain → FlushedAt (flushed host plain) (front ++ plain)
-host-flushed (whole parts) front plain h p = parts-flushed parts front plain h p
-host-flushed (inner place pieces) front plain h p = pieces-flushed place pieces front plain h p
+    → IsPlain (host_inside host) plain → NoSpaceIn host plain
+    → FlushedAt (flushed host plain) (front ++ plain)
+host-flushed (whole parts) front plain h p n = parts-flushed parts front plain h p
+host-flushed (inner place pieces) front plain h p n = pieces-flushed place pieces front plain h p n
 
 -- the text is that of a reference
 abbrev pub Refers : Host → Named → List ℕ → List ℕ → Type 0
@@ -158,6 +260,7 @@ piece-added place pieces front text piece e h p = record {
   joins = Joins-more (IsPiece (place_inside place)) h.text text pieces piece h.joins p;
   apart = Apart-more is_plain_piece pieces piece e h.apart;
   fresh = λ next. Apart-fresh is_plain_piece pieces piece next e h.apart;
+  no_space = λ i. starts_added pieces piece e (h.no_space i);
 }
 
 pub reference-added : (host : Host) (which : Named) (name front text : List ℕ)
@@ -275,27 +378,39 @@ items_at heads base separated after separator h s a =
     ))
 
 -- a text between quotes begins
-pub quote_begun : (place : Place) (front : List ℕ) → QuoteOpened place front
-    → TextAt (inner place []) [] unmarked front
-quote_begun place front h = record {
+pub quote_begun : (place : Place) (front : List ℕ) → (place_inside place ≡ Loose → ⊥)
+    → QuoteOpened place front → TextAt (inner place []) [] unmarked front
+quote_begun place front n h = record {
   base = front;
   split = sym (append-nil front);
-  fresh = record {
-    base = front;
-    text = [];
-    split = sym (append-nil front);
-    opened = h;
-    joins = refl;
-    apart =
-        tt;
-    fresh = λ piece. tt;
-  };
+  fresh =
+      record {
+        base = front;
+        text = [];
+        split = sym (append-nil front);
+        opened = h;
+        joins = refl;
+        apart = tt;
+        fresh = λ piece. tt;
+        no_space = λ i. refl;
+      };
   so_far = λ more k. k;
+  marks = tt;
+  begun = λ i. absurd (n i);
 }
 
-pub text_begun : (host : Host) (front : List ℕ) → Fresh host front → TextAt host [] unmarked front
-text_begun host front h = record
-    { base = front; split = sym (append-nil front); fresh = h; so_far = λ more k. k }
+pub text_begun : (host : Host) (front : List ℕ) → Begun host [] → Fresh host front
+    → TextAt host [] unmarked front
+text_begun host front b h =
+    record {
+      base = front;
+      split = sym (append-nil front);
+      fresh = h;
+      so_far = λ more k. k;
+      marks =
+          tt;
+      begun = b;
+    }
 
 pub stepping_at : (heads : Heads) (front : List ℕ) → HeadsAt heads front → Stepping heads front
 stepping_at heads front h = record
@@ -307,3 +422,40 @@ left_at (in_transform heads) pieces front h = stepping_at (with_step heads (Tran
     front h
 left_at (in_separator heads) pieces front h = h
 left_at (in_argument heads function args) pieces front h = h
+left_at (in_call a) pieces front h = h
+left_at (in_loose a) pieces front h = h
+
+-- the calls of a property, and those behind `[MSBuild]::`
+pub property_calls : (parts : List Part) (base named name : List ℕ) → PartsAt parts base
+    → IsNamed named name
+    → CallWanted (call_heads parts (Some name)) (base ++ 36 ∷ 40 ∷ (named ++ 46 ∷ []))
+property_calls parts base named name h n = λ text call c m others more o.
+    let function : List ℕ = named ++ ((46 ∷ text) ++ others) in
+    let split : base ++ (36 ∷ 40 ∷ (function ++ 41 ∷ []))
+    ≡ ((base ++ 36 ∷ 40 ∷ (named ++ 46 ∷ [])) ++ text) ++ (others ++ 41 ∷ []) =
+    simp append_assoc in
+    subst (λ t. FreshParts (parts ++ Func (Some name) (call ∷ more) ∷ []) t) split
+    (part-added parts base (36 ∷ 40 ∷ (function ++ 41 ∷ [])) (Func (Some name) (call ∷ more)) refl h (
+      function,
+      (
+        named,
+        (46 ∷ text) ++ others,
+        n,
+        (46 ∷ text, others, refl, (text, c, refl), o),
+        omega arith,
+        refl,
+      ),
+      refl,
+    ))
+
+pub build_calls : (parts : List Part) (base head : List ℕ) → PartsAt parts base
+    → str_to_ascii_lowercase head ≡ codes "[msbuild]::"
+    → CallWanted (call_heads parts None) (base ++ 36 ∷ 40 ∷ head)
+build_calls parts base head h low = λ text call c m others more o.
+    let function : List ℕ = head ++ (text ++ others) in
+    let split : base ++ (36 ∷ 40 ∷ (function ++ 41 ∷ []))
+    ≡ ((base ++ 36 ∷ 40 ∷ head) ++ text) ++ (others ++ 41 ∷ []) =
+    simp append_assoc in
+    subst (λ t. FreshParts (parts ++ Func None (call ∷ more) ∷ []) t) split
+    (part-added parts base (36 ∷ 40 ∷ (function ++ 41 ∷ [])) (Func None (call ∷ more)) refl h
+    (function, (head, text, others, low, c, m refl, o, sym (append_assoc head text others)), refl))

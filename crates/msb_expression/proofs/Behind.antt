@@ -1,12 +1,20 @@
 -- What stands behind the machine: how the text that it has read is written.
-use Rattle.std.proofs.Common.{◌≡◌, ℕ, List, [], ◌∷◌, ◌++◌, Some}
+use Rattle.std.proofs.Common.{◌≡◌, ℕ, ◌<◌, Bool, true, false, List, [], ◌∷◌, ◌++◌, length, Some}
+use Rattle.std.specs.Prelude.{IsSome, codes}
+use Rattle.std.specs.Str.{str_to_ascii_lowercase}
 use Rattle.msb_expression.specs.declared.starts.Inside.{Inside}
-use Rattle.msb_expression.specs.declared.starts.Inside.TheVariants.{Quoted}
+use Rattle.msb_expression.specs.declared.starts.Inside.TheVariants.{Quoted, Loose}
 use Rattle.msb_expression.specs.declared.expression.Part.{Part}
-use Rattle.msb_expression.specs.declared.expression.Part.TheVariants.{Items}
+use Rattle.msb_expression.specs.declared.expression.Part.TheVariants.{Func, Items}
+use Rattle.msb_expression.specs.declared.expression.Call.{Call as PropertyCall}
 use Rattle.msb_expression.specs.declared.expression.Step.{Step}
 use Rattle.msb_expression.specs.declared.expression.Step.TheVariants.{Transform as Transforms, Call}
 use Rattle.msb_expression.specs.declared.expression.Piece.{Piece}
+use Rattle.msb_expression.specs.declared.expression.Piece.TheVariants.{
+  Plain as PlainPiece,
+  Prop as PropPiece,
+  Meta as MetaPiece,
+}
 use Rattle.msb_expression.specs.Grammar.{
   IsName,
   IsSpaces,
@@ -21,19 +29,33 @@ use Rattle.msb_expression.specs.Grammar.{
   IsArgs,
   IsAct,
   IsStep,
+  begins_space,
+  trimmed_pieces,
+  IsArgument,
+  IsNextArgument,
+  IsCall,
+  IsNextCall,
   IsPart,
   is_plain,
 }
 use Rattle.msb_expression.specs.Machine.{
   Heads,
+  CallHeads,
+  Arguments,
   Place,
   in_transform,
   in_separator,
   in_argument,
+  in_call,
+  in_loose,
   Host,
   whole,
   inner,
   Mark,
+  unmarked,
+  dollar,
+  percent,
+  at_sign,
   Named,
   property,
   metadata,
@@ -56,13 +78,27 @@ use Rattle.msb_expression.specs.Machine.{
   arg_wanted,
   separator_wanted,
   separator_ended,
+  property_opened,
+  build_opened,
+  call_wanted,
+  call_named,
+  call_ended,
+  called,
+  call_arg_wanted,
+  call_arg_ended,
   place_inside,
   host_inside,
   spelled,
   settled,
+  flushed_pieces,
   referred,
   heads_of,
   with_step,
+  call_heads,
+  with_call,
+  property_call,
+  with_arg,
+  may_be_plain,
 }
 
 -- whole parts, of which the last is no plain one where anything may follow
@@ -120,14 +156,96 @@ SeparatorWanted heads front =
     (quoted : List ℕ) (pieces : List Piece) → IsQuoted Quoted quoted pieces
     → SeparatorEnded heads pieces (front ++ quoted)
 
+-- whole calls, and what becomes of the text if others and a `)` follow
+abbrev pub CallsDone : CallHeads → List ℕ → Type 0
+CallsDone heads front =
+    (others : List ℕ) (more : List PropertyCall) → Joins IsNextCall others more
+    → FreshParts (heads.parts ++ Func heads.subject (heads.calls ++ more) ∷ [])
+    (front ++ (others ++ 41 ∷ []))
+
+-- the same where spaces may follow the last call
+abbrev pub Called : CallHeads → List ℕ → Type 0
+Called heads front = (after : List ℕ) → IsSpaces after → CallsDone heads (front ++ after)
+
+-- the first call behind `::` has parentheses
+abbrev pub MayFollow : CallHeads → PropertyCall → Type 0
+MayFollow heads call = may_be_plain heads ≡ false → IsSome call.args
+
+abbrev pub CallWanted : CallHeads → List ℕ → Type 0
+CallWanted heads front =
+    (text : List ℕ) (call : PropertyCall) → IsCall text call → MayFollow heads call
+    → CallsDone (with_call heads call) (front ++ text)
+
+-- whole arguments, and what becomes of the text if others and a `)` follow
+pub record ArgsAt (a : Arguments) (front : List ℕ) : Type 0 where
+  pub some : a.args ≡ [] → ⊥
+  pub closes : (others : List ℕ) (more : List (List Piece)) → Joins IsNextArgument others more
+      → Called (with_call a.heads (property_call a.function (Some (a.args ++ more))))
+      (front ++ (others ++ 41 ∷ []))
+
+-- the same where an argument may begin: the first one begins no text of spaces alone
+pub record ArgumentAt (a : Arguments) (front : List ℕ) : Type 0 where
+  pub none : a.args ≡ [] → (after : List ℕ) → IsSpaces after
+      → Called (with_call a.heads (property_call a.function (Some [])))
+      (front ++ (after ++ 41 ∷ []))
+  pub some : (argument : List ℕ) (pieces : List Piece) (others : List ℕ) (more : List (List Piece))
+      → IsArgument argument pieces → Joins IsNextArgument others more
+      → (a.args ≡ [] → IsSpaces (argument ++ others) → ⊥)
+      → Called (with_call a.heads
+      (property_call a.function (Some ((a.args ++ pieces ∷ []) ++ more))))
+      (front ++ (argument ++ (others ++ 41 ∷ [])))
+
+pub record CallArgWanted (a : Arguments) (spaced : Bool) (front : List ℕ) : Type 0 where
+  pub base : List ℕ
+  pub spaces : List ℕ
+  pub split : front ≡ base ++ spaces
+  pub argument_at : ArgumentAt a base
+  pub are_spaces : IsSpaces spaces
+  pub some_space : spaced ≡ true → 0 < length spaces
+
+abbrev pub CallArgEnded : Arguments → List ℕ → Type 0
+CallArgEnded a front = (after : List ℕ) → IsSpaces after → ArgsAt a (front ++ after)
+
+-- an argument without quotes begins with no space
+abbrev pub starts_space : List Piece → Bool
+starts_space [] = false
+starts_space (PlainPiece plain ∷ pieces) = begins_space plain
+starts_space (PropPiece name ∷ pieces) = false
+starts_space (MetaPiece name ∷ pieces) = false
+
+abbrev pub NoSpace : Place → List Piece → Type 0
+NoSpace place pieces = place_inside place ≡ Loose → starts_space pieces ≡ false
+
+-- and some of it is read
+abbrev pub LooseBegun : List Piece → Type 0
+LooseBegun pieces = (0 < length pieces) × (starts_space pieces ≡ false)
+
+abbrev pub Begun : Host → List ℕ → Type 0
+Begun (whole parts) plain = Unit {0}
+Begun (inner place pieces) plain =
+    place_inside place ≡ Loose → LooseBegun (flushed_pieces pieces plain)
+
+-- in an argument without quotes only `$` is a mark
+abbrev pub Marks : Mark → Inside → Type 0
+Marks unmarked inside = Unit {0}
+Marks dollar inside = Unit {0}
+Marks percent inside = inside ≡ Loose → ⊥
+Marks at_sign inside = inside ≡ Loose → ⊥
+
 abbrev pub LeftAt : Place → List Piece → List ℕ → Type 0
 LeftAt (in_transform heads) pieces front = HeadsAt (with_step heads (Transforms pieces)) front
 LeftAt (in_separator heads) pieces front = SeparatorEnded heads pieces front
 LeftAt (in_argument heads function args) pieces front = ArgEnded heads function
     (args ++ pieces ∷ []) front
+LeftAt (in_call a) pieces front = CallArgEnded (with_arg a pieces) front
+LeftAt (in_loose a) pieces front = CallArgEnded (with_arg a (trimmed_pieces pieces)) front
 
--- what becomes of the text if a text and a quote follow
+-- what becomes of the text if a text and a quote follow, or the text of an argument without quotes
 abbrev pub QuoteOpened : Place → List ℕ → Type 0
+QuoteOpened (in_loose a) front =
+    (text : List ℕ) (pieces : List Piece) → Joins (IsPiece Loose) text pieces
+    → Apart is_plain_piece pieces
+    → LooseBegun pieces → ArgsAt (with_arg a (trimmed_pieces pieces)) (front ++ text)
 QuoteOpened place front =
     (text : List ℕ) (pieces : List Piece) → Joins (IsPiece (place_inside place)) text pieces
     → Apart is_plain_piece pieces
@@ -140,6 +258,7 @@ pub record PiecesAt (place : Place) (pieces : List Piece) (front : List ℕ) : T
   pub opened : QuoteOpened place base
   pub joins : Joins (IsPiece (place_inside place)) text pieces
   pub apart : Apart is_plain_piece pieces
+  pub no_space : NoSpace place pieces
 
 pub record FreshPieces (place : Place) (pieces : List Piece) (front : List ℕ) : Type 0 where
   pub base : List ℕ
@@ -149,6 +268,7 @@ pub record FreshPieces (place : Place) (pieces : List Piece) (front : List ℕ) 
   pub joins : Joins (IsPiece (place_inside place)) text pieces
   pub apart : Apart is_plain_piece pieces
   pub fresh : (piece : Piece) → Apart is_plain_piece (pieces ++ piece ∷ [])
+  pub no_space : NoSpace place pieces
 
 abbrev pub Fresh : Host → List ℕ → Type 0
 Fresh (whole parts) front = FreshParts parts front
@@ -164,6 +284,8 @@ pub record TextAt (host : Host) (plain : List ℕ) (mark : Mark) (front : List �
   pub split : front ≡ base ++ settled plain mark
   pub fresh : Fresh host base
   pub so_far : IsPlainSoFar (host_inside host) plain mark
+  pub marks : Marks mark (host_inside host)
+  pub begun : Begun host (settled plain mark)
 
 -- what becomes of the text if a name and a `)` follow
 abbrev pub Closes : Host → Named → List ℕ → Type 0
@@ -176,7 +298,9 @@ abbrev pub Dots : Host → Named → List ℕ → Type 0
 Dots (whole parts) metadata front =
     (text : List ℕ) (kind : List ℕ) → IsNamed text kind
     → Closes (whole parts) (qualified kind) (front ++ (text ++ 46 ∷ []))
-Dots (whole parts) property front = Unit {0}
+Dots (whole parts) property front =
+    (text : List ℕ) (name : List ℕ) → IsNamed text name
+    → CallWanted (call_heads parts (Some name)) (front ++ (text ++ 46 ∷ []))
 Dots (whole parts) (qualified kind) front = Unit {0}
 Dots (inner place pieces) which front = Unit {0}
 
@@ -240,6 +364,35 @@ pub record FunctionEnded (heads : Heads) (function : List ℕ) (front : List ℕ
   pub arrow_at : ArrowAt heads base
   pub is_named : IsNamed text function
 
+-- behind `$(`, and behind some of `[MSBuild]::`
+pub record PropertyOpened (parts : List Part) (front : List ℕ) : Type 0 where
+  pub base : List ℕ
+  pub split : front ≡ base ++ 36 ∷ 40 ∷ []
+  pub parts_at : PartsAt parts base
+
+pub record BuildOpened (parts : List Part) (left : List ℕ) (front : List ℕ) : Type 0 where
+  pub base : List ℕ
+  pub head : List ℕ
+  pub split : front ≡ base ++ 36 ∷ 40 ∷ head
+  pub parts_at : PartsAt parts base
+  pub head_is : str_to_ascii_lowercase head ++ left ≡ codes "[msbuild]::"
+  pub some : left ≡ [] → ⊥
+
+pub record CallNamed (heads : CallHeads) (function : List ℕ) (front : List ℕ) : Type 0 where
+  pub base : List ℕ
+  pub spaces : List ℕ
+  pub split : front ≡ base ++ (spaces ++ function)
+  pub wanted : CallWanted heads base
+  pub are_spaces : IsSpaces spaces
+  pub is_name : IsName function
+
+pub record CallEnded (heads : CallHeads) (function : List ℕ) (front : List ℕ) : Type 0 where
+  pub base : List ℕ
+  pub text : List ℕ
+  pub split : front ≡ base ++ text
+  pub wanted : CallWanted heads base
+  pub is_named : IsNamed text function
+
 abbrev pub Behind : Mode → List ℕ → Type 0
 Behind (in_text host plain mark) front = TextAt host plain mark front
 Behind (name_opened host which) front = NameOpened host which front
@@ -258,3 +411,11 @@ Behind (arg_ended heads function args) front = ArgEnded heads function args fron
 Behind (arg_wanted heads function args) front = ArgWanted heads function args front
 Behind (separator_wanted heads) front = SeparatorWanted heads front
 Behind (separator_ended heads pieces) front = SeparatorEnded heads pieces front
+Behind (property_opened parts) front = PropertyOpened parts front
+Behind (build_opened parts left) front = BuildOpened parts left front
+Behind (call_wanted heads) front = CallWanted heads front
+Behind (call_named heads function) front = CallNamed heads function front
+Behind (call_ended heads function) front = CallEnded heads function front
+Behind (called heads) front = Called heads front
+Behind (call_arg_wanted a spaced) front = CallArgWanted a spaced front
+Behind (call_arg_ended a) front = CallArgEnded a front

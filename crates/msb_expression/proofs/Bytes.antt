@@ -33,6 +33,7 @@ use Rattle.msb_expression.specs.declared.sorts.Sort.TheVariants.{
   Dollar,
   Percent,
   At,
+  Bracket,
   Other,
 }
 use Rattle.msb_expression.specs.declared.sorts.Kind.{Kind}
@@ -63,6 +64,7 @@ SortIs Greater b = b ≡ 62
 SortIs Dollar b = b ≡ 36
 SortIs Percent b = b ≡ 37
 SortIs At b = b ≡ 64
+SortIs Bracket b = b ≡ 91
 SortIs Other b = Unit {0}
 
 picked : (t : Bool) (b : ℕ) (one rest : Sort) → (t ≡ true → SortIs one b) → SortIs rest b
@@ -81,8 +83,8 @@ sort_is b =
     (coded b 32 Space _ (λ e. e) (coded b 39 Quote _ (λ e. e) (coded b 40 Open _ (λ e. e)
     (coded b 41 Close _ (λ e. e)
     (coded b 44 Comma _ (λ e. e) (coded b 46 Dot _ (λ e. e) (coded b 62 Greater _ (λ e. e)
-    (coded b 36 Dollar _ (λ e. e)
-    (coded b 37 Percent _ (λ e. e) (coded b 64 At Other (λ e. e) tt))))))))))))
+    (coded b 36 Dollar _ (λ e. e) (coded b 37 Percent _ (λ e. e) (coded b 64 At _ (λ e. e)
+    (coded b 91 Bracket Other (λ e. e) tt)))))))))))))
 
 -- a byte of another sort than that of k isn't k
 pub other_byte : (b k : ℕ) → (sort_of b ≡ sort_of k → ⊥) → (b == k) ≡ false

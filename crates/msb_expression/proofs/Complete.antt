@@ -17,7 +17,13 @@ use Rattle.std.proofs.Common.{
 }
 use Rattle.std.proofs.lemmas.List.{append-nil}
 use Rattle.msb_expression.specs.declared.expression.Part.{Part}
-use Rattle.msb_expression.specs.declared.expression.Part.TheVariants.{Plain, Prop, Meta, Items}
+use Rattle.msb_expression.specs.declared.expression.Part.TheVariants.{
+  Plain,
+  Prop,
+  Func,
+  Meta,
+  Items,
+}
 use Rattle.msb_expression.specs.Grammar.{IsReading, IsPart, is_plain, Joins, Apart}
 use Rattle.msb_expression.specs.Machine.{
   whole,
@@ -47,6 +53,7 @@ use Rattle.msb_expression.proofs.RunsPieces.{
   tail_apart,
 }
 use Rattle.msb_expression.proofs.RunsItems.{items_run}
+use Rattle.msb_expression.proofs.RunsCalls.{function_runs}
 
 qualified_runs : (parts : List Part) (kind name text rest : List ℕ)
     → IsPart text (Meta (Some kind) name) → run (text ++ rest) (in_text (whole parts) [] unmarked)
@@ -54,7 +61,7 @@ qualified_runs : (parts : List Part) (kind name text rest : List ℕ)
 qualified_runs parts kind name text rest h =
     ap (λ t. run t (in_text (whole parts) [] unmarked))
     (ap (λ t. t ++ rest) h.4 ∙ simp append_assoc)
-    ∙ reach_metadata (whole parts) [] unmarked (h.0 ++ 46 ∷ (h.1 ++ 41 ∷ rest)) (λ q. cc)
+    ∙ reach_metadata (whole parts) [] unmarked (h.0 ++ 46 ∷ (h.1 ++ 41 ∷ rest)) tt
     ∙ run-named (whole parts) metadata h.0 kind (46 ∷ (h.1 ++ 41 ∷ rest)) h.2 refl
     ∙ run-go 46 (h.1 ++ 41 ∷ rest) (name_ended (whole parts) metadata kind)
     (name_opened (whole parts) (qualified kind)) refl
@@ -71,20 +78,24 @@ next_over had (Prop name ∷ parts) text h plain a =
     subst (λ t. OverAt (whole had) t) (append-nil text)
     (property_over (whole had) text ((h.3.0 ++ 41 ∷ []) ++ h.1) []
     (h.2 ∙ ap (λ t. t ++ h.1) h.3.2))
+next_over had (Func subject calls ∷ parts) text h plain a =
+    subst (λ t. OverAt (whole had) t) (append-nil text)
+    (property_over (whole had) text ((h.3.0 ++ 41 ∷ []) ++ h.1) []
+    (h.2 ∙ ap (λ t. t ++ h.1) h.3.2))
 next_over had (Meta None name ∷ parts) text h plain a =
     subst (λ t. OverAt (whole had) t) (append-nil text)
-    (metadata_over (whole had) text ((h.3.0 ++ 41 ∷ []) ++ h.1) [] (λ q. cc)
+    (metadata_over (whole had) text ((h.3.0 ++ 41 ∷ []) ++ h.1) [] tt
     (h.2 ∙ ap (λ t. t ++ h.1) h.3.2))
 next_over had (Meta (Some kind) name ∷ parts) text h plain a =
     subst (λ t. OverAt (whole had) t) (append-nil text)
-    (metadata_over (whole had) text (h.3.0 ++ 46 ∷ (h.3.1 ++ 41 ∷ h.1)) [] (λ q. cc)
+    (metadata_over (whole had) text (h.3.0 ++ 46 ∷ (h.3.1 ++ 41 ∷ h.1)) [] tt
     (h.2 ∙ ap (λ t. t ++ h.1) h.3.4 ∙ simp append_assoc))
 next_over had (Items kind steps separator ∷ parts) text h plain a = λ front last.
     let more : List ℕ = h.3.0 ++ (kind ++ (h.3.1 ++ (h.3.2 ++ (h.3.3 ++ 41 ∷ h.1)))) in
     let split : text ≡ 64 ∷ 40 ∷ more = h.2 ∙ ap (λ t. t ++ h.1) h.3.9 ∙ simp append_assoc in
-    subst (λ t. run t (in_text (whole had) front last)
-    ≡ run t (in_text (flushed (whole had) (settled front last)) [] unmarked)) (sym split)
-    (over_items (whole had) front last more (λ q. cc))
+    subst (λ t. run t (in_text (whole had) front last) ≡ run t
+    (in_text (flushed (whole had) (settled front last)) [] unmarked)) (sym split)
+    (over_items (whole had) front last more tt)
 
 part_runs : (had : List Part) (part : Part) (parts : List Part) (text : List ℕ)
     (h : Joins IsPart text (part ∷ parts)) → Apart is_plain (part ∷ parts)
@@ -92,14 +103,18 @@ part_runs : (had : List Part) (part : Part) (parts : List Part) (text : List ℕ
     ≡ run h.1 (in_text (whole (had ++ part ∷ [])) [] unmarked)
 part_runs had (Plain plain) parts text h a =
     ap (λ t. run t (in_text (whole had) [] unmarked)) (h.2 ∙ ap (λ t. t ++ h.1) h.3.1)
-    ∙ plain_part_runs (whole had) plain h.1 h.3.0.1 (next_over had parts h.1 h.4 plain a)
+    ∙ plain_part_runs (whole had) plain h.1 h.3.0.1
+    (λ front last e. next_over had parts h.1 h.4 plain a front last)
     ∙ ap (λ ps. run h.1 (in_text (whole ps) [] unmarked)) (flushed_parts-some had plain h.3.0.0)
 part_runs had (Prop name) parts text h a =
     ap (λ t. run t (in_text (whole had) [] unmarked)) h.2
     ∙ property_runs (whole had) h.0 h.3.0 name h.1 h.3.1 h.3.2
+part_runs had (Func subject calls) parts text h a =
+    ap (λ t. run t (in_text (whole had) [] unmarked)) h.2
+    ∙ function_runs had subject calls h.0 h.1 h.3
 part_runs had (Meta None name) parts text h a =
     ap (λ t. run t (in_text (whole had) [] unmarked)) h.2
-    ∙ metadata_runs (whole had) h.0 h.3.0 name h.1 (λ q. cc) h.3.1 h.3.2
+    ∙ metadata_runs (whole had) h.0 h.3.0 name h.1 tt h.3.1 h.3.2
 part_runs had (Meta (Some kind) name) parts text h a =
     ap (λ t. run t (in_text (whole had) [] unmarked)) h.2 ∙ qualified_runs had kind name h.0 h.1 h.3
 part_runs had (Items kind steps separator) parts text h a =

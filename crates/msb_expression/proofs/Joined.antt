@@ -20,6 +20,10 @@ use Rattle.std.proofs.lemmas.List.{append-nil}
 use Rattle.msb_expression.specs.Grammar.{Joins, Apart, Every}
 
 -- one more at the end
+pub append_some : {A : Type 0} (xs : List A) (x : A) → xs ++ x ∷ [] ≡ [] → ⊥
+append_some [] x e = cc
+append_some (y ∷ ys) x e = cc
+
 pub Joins-more : {A : Type 0} (Is : List ℕ → A → Type 0) (text more : List ℕ) (xs : List A) (x : A)
     → Joins Is text xs → Is more x → Joins Is (text ++ more) (xs ++ x ∷ [])
 Joins-more Is text more [] x h k = (

@@ -127,7 +127,7 @@ stepping_keeps heads front Close b f h =
     let split : front ++ b ∷ [] ≡ h.base ++ ([] ++ (h.spaces ++ 41 ∷ [])) = ap (λ t. t ++ b ∷ [])
     h.split ∙ append_assoc h.base h.spaces (b ∷ [])
     ∙ ap (λ c. h.base ++ (h.spaces ++ c ∷ [])) f in
-    text_begun (whole (heads.parts ++ Items heads.kind heads.steps None ∷ [])) (front ++ b ∷ [])
+    text_begun (whole (heads.parts ++ Items heads.kind heads.steps None ∷ [])) (front ++ b ∷ []) tt
     (subst (λ t. FreshParts (heads.parts ++ Items heads.kind heads.steps None ∷ []) t) (sym split)
     (items_at heads h.base [] h.spaces None h.heads_at refl h.are_spaces))
 stepping_keeps heads front _ b f h = tt
@@ -239,7 +239,7 @@ arrow_keeps heads front Space b f h = λ rest step a.
     subst (λ t. HeadsAt (with_step heads step) t) (sym (append_assoc front (b ∷ []) rest))
     (h (b ∷ rest) step (IsAct-spaced rest step b f a))
 arrow_keeps heads front Quote b f h =
-    quote_begun (in_transform heads) (front ++ b ∷ []) (λ text pieces j p.
+    quote_begun (in_transform heads) (front ++ b ∷ []) (λ e. cc) (λ text pieces j p.
     subst (λ t. HeadsAt (with_step heads (Transforms pieces)) t)
     (sym (ap (λ c. (front ++ c ∷ []) ++ (text ++ 39 ∷ [])) f
     ∙ append_assoc front (39 ∷ []) (text ++ 39 ∷ [])))
@@ -321,7 +321,7 @@ args_opened_keeps heads function front Space b f h = λ rest args a.
     (sym (append_assoc front (b ∷ []) (rest ++ 41 ∷ [])))
     (h (b ∷ rest) args (IsArgs-spaced rest args b f a))
 args_opened_keeps heads function front Quote b f h =
-    quote_begun (in_argument heads function []) (front ++ b ∷ [])
+    quote_begun (in_argument heads function []) (front ++ b ∷ []) (λ e. cc)
     (λ text pieces j p others more after o s.
     let quoted : List ℕ = 39 ∷ (text ++ 39 ∷ []) in
     let split : ((front ++ b ∷ []) ++ (text ++ 39 ∷ [])) ++ (others ++ (after ++ 41 ∷ []))
@@ -382,7 +382,7 @@ arg_wanted_keeps heads function args front Space b f h = λ quoted pieces q.
     (sym (append_assoc front (b ∷ []) quoted))
     (h (b ∷ quoted) pieces (IsQuoted-spaced Quoted quoted pieces b f q))
 arg_wanted_keeps heads function args front Quote b f h =
-    quote_begun (in_argument heads function args) (front ++ b ∷ []) (λ text pieces j p.
+    quote_begun (in_argument heads function args) (front ++ b ∷ []) (λ e. cc) (λ text pieces j p.
     subst (λ t. ArgEnded heads function (args ++ pieces ∷ []) t)
     (sym (ap (λ c. (front ++ c ∷ []) ++ (text ++ 39 ∷ [])) f
     ∙ append_assoc front (39 ∷ []) (text ++ 39 ∷ [])))
@@ -396,7 +396,7 @@ separator_wanted_keeps heads front Space b f h = λ quoted pieces q.
     subst (λ t. SeparatorEnded heads pieces t) (sym (append_assoc front (b ∷ []) quoted))
     (h (b ∷ quoted) pieces (IsQuoted-spaced Quoted quoted pieces b f q))
 separator_wanted_keeps heads front Quote b f h =
-    quote_begun (in_separator heads) (front ++ b ∷ []) (λ text pieces j p.
+    quote_begun (in_separator heads) (front ++ b ∷ []) (λ e. cc) (λ text pieces j p.
     subst (λ t. SeparatorEnded heads pieces t)
     (sym (ap (λ c. (front ++ c ∷ []) ++ (text ++ 39 ∷ [])) f
     ∙ append_assoc front (39 ∷ []) (text ++ 39 ∷ [])))
@@ -412,7 +412,7 @@ separator_ended_keeps heads pieces front Space b f h = λ after s.
     (h (b ∷ after) (IsSpaces-cons after b f s))
 separator_ended_keeps heads pieces front Close b f h =
     text_begun (whole (heads.parts ++ Items heads.kind heads.steps (Some pieces) ∷ []))
-    (front ++ b ∷ [])
+    (front ++ b ∷ []) tt
     (subst
     (λ c. FreshParts (heads.parts ++ Items heads.kind heads.steps (Some pieces) ∷ [])
     (front ++ c ∷ [])) (sym f) (h [] tt))

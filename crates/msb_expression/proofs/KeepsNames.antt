@@ -9,6 +9,7 @@ use Rattle.std.proofs.Common.{
   [],
   ◌∷◌,
   ◌++◌,
+  Some,
   refl,
   sym,
   ap,
@@ -31,6 +32,7 @@ use Rattle.msb_expression.specs.Machine.{
   Host,
   whole,
   inner,
+  call_heads,
   Named,
   property,
   metadata,
@@ -42,12 +44,22 @@ use Rattle.msb_expression.specs.Machine.{
   name_ended_step,
 }
 use Rattle.msb_expression.proofs.Bytes.{SortIs}
-use Rattle.msb_expression.proofs.Behind.{Fresh, NameOpened, InName, NameEnded, Closes, Dots, Behind}
+use Rattle.msb_expression.proofs.Behind.{
+  CallWanted,
+  Fresh,
+  NameOpened,
+  InName,
+  NameEnded,
+  Closes,
+  Dots,
+  Behind,
+}
 use Rattle.msb_expression.proofs.Adds.{
   IsNamed-spaced,
   IsNamed-more,
   IsNamed-of,
   IsName-more,
+  referred_begun,
   text_begun,
 }
 use Rattle.msb_expression.proofs.KeepsText.{Keeps}
@@ -81,7 +93,10 @@ dots_spaced (whole parts) metadata front b e h = λ text kind n.
     subst (λ t. Closes (whole parts) (qualified kind) t)
     (sym (append_assoc front (b ∷ []) (text ++ 46 ∷ [])))
     (h (b ∷ text) kind (IsNamed-spaced text kind b e n))
-dots_spaced (whole parts) property front b e h = tt
+dots_spaced (whole parts) property front b e h = λ text name n.
+    subst (λ t. CallWanted (call_heads parts (Some name)) t)
+    (sym (append_assoc front (b ∷ []) (text ++ 46 ∷ [])))
+    (h (b ∷ text) name (IsNamed-spaced text name b e n))
 dots_spaced (whole parts) (qualified kind) front b e h = tt
 dots_spaced (inner place pieces) which front b e h = tt
 
@@ -105,7 +120,10 @@ dot_keeps (whole parts) metadata name front h = record {
       (h.opened.dots h.text name h.is_named);
   dots = tt;
 }
-dot_keeps (whole parts) property name front h = tt
+dot_keeps (whole parts) property name front h =
+    subst (λ t. CallWanted (call_heads parts (Some name)) t)
+    (sym (ap (λ t. t ++ 46 ∷ []) h.split ∙ append_assoc h.base h.text (46 ∷ [])))
+    (h.opened.dots h.text name h.is_named)
 dot_keeps (whole parts) (qualified kind) name front h = tt
 dot_keeps (inner place pieces) property name front h = tt
 dot_keeps (inner place pieces) metadata name front h = tt
@@ -122,10 +140,12 @@ name_ended_keeps host which name front Space b f h = record {
   is_named = IsNamed-more h.text name b f h.is_named;
 }
 name_ended_keeps host which name front Close b f h =
-    text_begun (referred host which name) (front ++ b ∷ [])
-    (subst (λ t. Fresh (referred host which name) t)
+    let fresh : Fresh (referred host which name) (front ++ b ∷ []) =
+    subst (λ t. Fresh (referred host which name) t)
     (sym (ap (λ t. t ++ b ∷ []) h.split ∙ append_assoc h.base h.text (b ∷ [])
-    ∙ ap (λ c. h.base ++ (h.text ++ c ∷ [])) f)) (h.opened.closes h.text name h.is_named))
+    ∙ ap (λ c. h.base ++ (h.text ++ c ∷ [])) f)) (h.opened.closes h.text name h.is_named) in
+    text_begun (referred host which name) (front ++ b ∷ [])
+    (referred_begun host which name (front ++ b ∷ []) fresh) fresh
 name_ended_keeps host which name front Dot b f h =
     subst (λ c. Keeps (dot_step host which name) (λ mode. Behind mode (front ++ c ∷ []))) (sym f)
     (dot_keeps host which name front h)

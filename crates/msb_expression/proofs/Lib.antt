@@ -6,6 +6,7 @@ pub mod Adds
 pub mod KeepsText
 pub mod KeepsNames
 pub mod KeepsItems
+pub mod KeepsCalls
 pub mod Sound
 pub mod Runs
 pub mod TypeNames
@@ -13,7 +14,9 @@ pub mod RunsText
 pub mod StartsAt
 pub mod RunsPieces
 pub mod RunsItems
+pub mod RunsCalls
 pub mod Complete
+pub mod Lefts
 pub mod Trails
 pub mod KeepsTrails
 pub mod Closing
@@ -23,5 +26,9 @@ pub mod NamePlaces
 pub mod PlainPlaces
 pub mod RefPlaces
 pub mod StepPlaces
+pub mod CallPlaces
 pub mod Exact
+pub mod Trimmed
+pub mod Blanks
+pub mod Marker
 pub mod WrittenReads

@@ -64,6 +64,8 @@ use Rattle.msb_expression.specs.Machine.{
   sort_of,
   is_name_sort,
   is_arrow,
+  Mode,
+  step_of,
   Host,
   Named,
   name_opened,
@@ -78,10 +80,10 @@ use Rattle.msb_expression.specs.Machine.{
   Outcome,
   refused,
 }
-use Rattle.msb_expression.specs.Answers.{Refuses, IsNameAt, EndsType}
-use Rattle.msb_expression.proofs.Bytes.{SortIs, sort_is}
+use Rattle.msb_expression.specs.Answers.{Refuses, TakesName, IsNameAt, EndsType}
+use Rattle.msb_expression.proofs.Bytes.{SortIs, sort_is, letter_sort}
 use Rattle.msb_expression.proofs.Places.{HasByte, has_byte, byte_is, run-refused}
-use Rattle.msb_expression.proofs.Runs.{name_byte_sort, run-name}
+use Rattle.msb_expression.proofs.Runs.{Grows, run-go, run-grows, name_byte_sort, run-name}
 use Rattle.msb_expression.proofs.TypeNames.{run-type}
 
 small_by : (b : ℕ) (sort : Sort) → is_name_sort sort ≡ true → SortIs sort b → b < 128
@@ -102,7 +104,7 @@ name_byte_small b h = small_by b (sort_of b) (elim (name_byte_sort b h) [
   | inr k ↦ elim k [ inl e ↦ ap is_name_sort e | inr e ↦ ap is_name_sort e ]
 ]) (sort_is b)
 
-Every-at : (test : ℕ → Bool) (xs : List ℕ) (i : ℕ) → Every test xs → i < length xs
+pub Every-at : (test : ℕ → Bool) (xs : List ℕ) (i : ℕ) → Every test xs → i < length xs
     → IsTrue (test (get_or xs i 0))
 Every-at test [] i h l = absurd (omega arith)
 Every-at test (x ∷ xs) zero h l = h.0
@@ -114,12 +116,12 @@ Every-take test [] (suc n) h = tt
 Every-take test (x ∷ xs) (suc n) h = (h.0, Every-take test xs n h.1)
 
 -- the bytes from one place to another
-length-between : (bs : List ℕ) (start end : ℕ) → start ≤ end → end ≤ length bs
+pub length-between : (bs : List ℕ) (start end : ℕ) → start ≤ end → end ≤ length bs
     → length (take (end - start) (drop start bs)) ≡ end - start
 length-between bs start end l w = length-take-le (end - start) (drop start bs)
     (omega (arith, length-drop start bs))
 
-get_or-between : (bs : List ℕ) (start end i : ℕ) → i < end - start
+pub get_or-between : (bs : List ℕ) (start end i : ℕ) → i < end - start
     → get_or (take (end - start) (drop start bs)) i 0 ≡ get_or bs (start + i) 0
 get_or-between bs start end i h = get_or-take (end - start) (drop start bs) i 0 h
     ∙ get_or-drop start bs i 0
@@ -273,3 +275,29 @@ pub run-type_at : (parts : List Part) (bs : List ℕ) (start : ℕ) (kind : List
     → run (drop start bs) (type_opened parts) ≡ run (drop end bs) (stepping (heads_of parts kind))
 run-type_at parts bs start kind end h e = ap (λ t. run t (type_opened parts)) h.split
     ∙ run-type parts kind (drop end bs) h.is_name e
+
+-- a name where a mode takes one
+names_taken : (mode : Mode) (named : List ℕ → Mode) → TakesName mode named → Grows named
+names_taken mode named t =
+    record { at_letter = t.at_letter; at_digit = t.at_digit; at_dash = t.at_dash }
+
+run-taken : (mode : Mode) (named : List ℕ → Mode) (name rest : List ℕ) → TakesName mode named
+    → IsName name
+    → run (name ++ rest) mode ≡ run rest (named name)
+run-taken mode named [] rest t n = absurd n
+run-taken mode named (b ∷ bs) rest t n =
+    run-go b (bs ++ rest) mode (named (b ∷ [])) (ap (λ s. step_of mode s b) (letter_sort b n.0)
+    ∙ t.opens b)
+    ∙ run-grows named (b ∷ []) bs rest (names_taken mode named t) n.1
+
+pub run-taken_at : (mode : Mode) (named : List ℕ → Mode) (bs : List ℕ) (start : ℕ) (name : List ℕ)
+    (end : ℕ)
+    → TakesName mode named → IsNameAt bs start name end
+    → run (drop start bs) mode ≡ run (drop end bs) (named name)
+run-taken_at mode named bs start name end t h =
+    ap (λ x. run x mode) h.split ∙ run-taken mode named name (drop end bs) t h.is_name
+
+pub taken_stops : (mode : Mode) (named : List ℕ → Mode) (bs : List ℕ) → TakesName mode named
+    → (first_sort bs ≡ Space → ⊥) → (first_sort bs ≡ Letter → ⊥) → run bs mode ≡ refused bs Name
+taken_stops mode named bs t s l =
+    run-refused bs mode Name t.ends (λ b e. t.stops (sort_of b) b (λ k. s (e ∙ k)) (λ k. l (e ∙ k)))

@@ -26,12 +26,13 @@ use Rattle.std.proofs.Common.{
   inr,
   length-drop,
 }
+use Rattle.std.specs.Prelude.{◌==◌}
 use Rattle.std.proofs.lemmas.List.{drop_more, drop_all, take_more, get_or-drop}
 use Rattle.std.proofs.lemmas.Bool.{cases_lt}
 use Rattle.msb_expression.specs.declared.sorts.Sort.{Sort}
 use Rattle.msb_expression.specs.declared.sorts.Sort.TheVariants.{End, Letter, Digit, Dash, Space}
 use Rattle.msb_expression.specs.declared.sorts.Kind.{Kind}
-use Rattle.msb_expression.specs.Grammar.{Every, is_name_byte}
+use Rattle.msb_expression.specs.Grammar.{Every, IsSpaces, is_name_byte}
 use Rattle.msb_expression.specs.Machine.{
   sort_of,
   first_sort,
@@ -124,6 +125,24 @@ name_goes bs at end l h e =
           (Every-append is_name_byte (take (end - at) (drop at bs)) (get_or bs end 0 ∷ []) h
           (n, tt));
     }
+
+-- spaces, with one more
+pub space_goes : (bs : List ℕ) (at end : ℕ) → at ≤ end → IsSpaces (take (end - at) (drop at bs))
+    → first_sort (drop end bs) ≡ Space → IsSpaces (take (end + 1 - at) (drop at bs))
+space_goes bs at end l h e =
+    let b : HasByte bs end = has_byte bs end (λ k. let z = sym e ∙ k in cc) in
+    let k : end - at < length (drop at bs) = omega (arith, length-drop at bs, b.within) in
+    let more : take (end - at + 1) (drop at bs) ≡ take (end - at) (drop at bs) ++ get_or
+    (drop at bs) (end - at) 0 ∷ [] = take_more (drop at bs) (end - at) 0 k in
+    let same : get_or (drop at bs) (end - at) 0 ≡ get_or bs end 0 =
+    get_or-drop at bs (end - at) 0 ∙ ap (λ i. get_or bs i 0) (omega arith) in
+    let count : end + 1 - at ≡ end - at + 1 = omega arith in
+    let is_space : (get_or bs end 0 == 32) ≡ true =
+    ap (λ c. c == 32) (byte_is bs end Space e (λ k. cc)) in
+    subst IsSpaces (sym (ap (λ i. take i (drop at bs)) count ∙ more
+    ∙ ap (λ x. take (end - at) (drop at bs) ++ x ∷ []) same))
+    (Every-append (λ x. x == 32) (take (end - at) (drop at bs)) (get_or bs end 0 ∷ []) h
+    (is_space, tt))
 
 -- where no byte that stands there can
 pub run-refused : (bs : List ℕ) (mode : Mode) (kind : Kind) → finish mode ≡ early

@@ -8,6 +8,7 @@ use Rattle.std.proofs.Common.{
   ◌-◌,
   ◌<◌,
   ◌≤◌,
+  true,
   false,
   List,
   [],
@@ -24,29 +25,68 @@ use Rattle.std.proofs.Common.{
   subst,
   arith,
   length-drop,
+  length-append,
   ◌⊎◌,
   inl,
   inr,
 }
 use Rattle.std.specs.Str.{IsCharBoundary}
-use Rattle.std.proofs.lemmas.List.{drop_more, take-append-drop}
+use Rattle.std.proofs.lemmas.List.{drop_more, take-append-drop, get_or_at}
 use Rattle.std.proofs.lemmas.Str.{IsCharBoundary-before_ascii, IsCharBoundary-end}
 use Rattle.msb_expression.specs.declared.starts.Inside.{Inside}
+use Rattle.msb_expression.specs.declared.starts.Inside.TheVariants.{Loose}
+use Rattle.msb_expression.specs.declared.sorts.Sort.{Sort}
+use Rattle.msb_expression.specs.declared.sorts.Sort.TheVariants.{
+  Quote,
+  Open,
+  Close,
+  Comma,
+  Percent,
+  At,
+}
+use Rattle.msb_expression.specs.declared.sorts.Kind.TheVariants.{Name}
+use Rattle.msb_expression.specs.declared.expression.Piece.{Piece}
 use Rattle.msb_expression.specs.declared.starts.Start.{Start}
 use Rattle.msb_expression.specs.declared.starts.Start.TheVariants as start
 use Rattle.msb_expression.specs.Grammar.{IsPlain, begins_reference, is_end_quote}
 use Rattle.msb_expression.specs.Machine.{
+  ends_argument,
+  sort_of,
+  first_sort,
+  Arguments,
+  Place,
+  in_transform,
+  in_separator,
+  in_argument,
+  in_call,
+  in_loose,
   Host,
+  whole,
+  inner,
+  Mark,
   unmarked,
+  dollar,
+  percent,
+  at_sign,
   in_text,
+  stop,
+  place_inside,
   host_inside,
+  spelled,
   flushed,
+  flushed_pieces,
   settled,
+  opened_start,
+  text_step,
   run,
+  refused,
   start_of,
 }
-use Rattle.msb_expression.proofs.PlainText.{begins-front}
-use Rattle.msb_expression.proofs.StartsAt.{StartIs, starts_at}
+use Rattle.msb_expression.proofs.PlainText.{ReadsMetadata, begins-front}
+use Rattle.msb_expression.proofs.Bytes.{SortIs, sort_is}
+use Rattle.msb_expression.proofs.Places.{run-refused}
+use Rattle.msb_expression.proofs.RunsCalls.{over_stop}
+use Rattle.msb_expression.proofs.StartsAt.{ReadsQuote, is_bad, StartIs, starts_at}
 use Rattle.msb_expression.proofs.RunsText.{
   over_property,
   over_metadata,
@@ -54,8 +94,8 @@ use Rattle.msb_expression.proofs.RunsText.{
   over_quote,
   over_end,
 }
-use Rattle.msb_expression.proofs.RunsPieces.{OverAt, plain_part_runs}
-use Rattle.msb_expression.proofs.NamePlaces.{split_between}
+use Rattle.msb_expression.proofs.RunsPieces.{OverAt, OverFor, plain_part_runs}
+use Rattle.msb_expression.proofs.NamePlaces.{split_between, length-between, get_or-between}
 
 pub start_is : (inside : Inside) (bs : List ℕ) (here : Start) → start_of inside bs ≡ here
     → StartIs here inside bs
@@ -114,30 +154,118 @@ pub plain_between : (inside : Inside) (bs : List ℕ) (at end : ℕ) → at ≤ 
 plain_between inside bs at end l w h = plain_taken inside bs (end - at) at (omega arith)
     (λ k x y. h k x (omega arith))
 
+-- no `(` that stands behind a `$` at the end of the text
+abbrev NoOpen : List ℕ → List ℕ → Type 0
+NoOpen text bs = (front : List ℕ) → front ++ 36 ∷ [] ≡ text → first_sort bs ≡ Open → ⊥
+
+no_open : (inside : Inside) (bs : List ℕ) (at end : ℕ) → at ≤ end → end ≤ length bs
+    → ((k : ℕ) → at ≤ k → k < end → start_of inside (drop k bs) ≡ start.Plain)
+    → NoOpen (take (end - at) (drop at bs)) (drop end bs)
+no_open inside bs at end l w h front e o =
+    let count : end - at ≡ length front + 1 =
+    sym (length-between bs at end l w) ∙ sym (ap length e) ∙ length-append front (36 ∷ []) in
+    let index : length front ≡ end - at - 1 = omega arith in
+    let last : get_or bs (end - 1) 0 ≡ 36 =
+    sym (get_or-between bs at end (end - at - 1) (omega arith)
+    ∙ ap (λ k. get_or bs k 0) (omega arith))
+    ∙ ap (λ t. get_or t (end - at - 1) 0) (sym e)
+    ∙ get_or_at front 36 [] 0 (end - at - 1) index in
+    let shape : drop (end - 1) bs ≡ 36 ∷ drop end bs =
+    drop_more bs (end - 1) 0 (omega arith) ∙ ap (λ x. x ∷ drop (end - 1 + 1) bs) last
+    ∙ ap (λ k. 36 ∷ drop k bs) (omega arith) in
+    let plain : start_of inside (drop (end - 1) bs) ≡ start.Plain =
+    h (end - 1) (omega arith) (omega arith) in
+    let property : start_of inside (36 ∷ drop end bs) ≡ start.Property =
+    ap (λ s. opened_start s start.Property) o in
+    let k : start.Plain ≡ start.Property = sym plain ∙ ap (start_of inside) shape ∙ property in
+    cc
+
+-- a byte that can't stand in an argument without quotes
+bad_step : (a : Arguments) (had : List Piece) (plain : List ℕ) (mark : Mark) (sort : Sort) (b : ℕ)
+    → is_bad sort ≡ true
+    → (mark ≡ dollar → sort ≡ Open → ⊥)
+    → text_step (inner (in_loose a) had) plain mark sort b ≡ stop Name
+bad_step a had plain mark Quote b e n = refl
+bad_step a had plain mark Percent b e n = refl
+bad_step a had plain mark At b e n = refl
+bad_step a had plain unmarked Open b e n = refl
+bad_step a had plain dollar Open b e n = absurd (n refl refl)
+bad_step a had plain percent Open b e n = refl
+bad_step a had plain at_sign Open b e n = refl
+bad_step a had plain mark _ b e n = cc
+
+bad_runs : (a : Arguments) (had : List Piece) (plain : List ℕ) (mark : Mark) (bs : List ℕ)
+    → is_bad (first_sort bs) ≡ true
+    → (mark ≡ dollar → first_sort bs ≡ Open → ⊥)
+    → run bs (in_text (inner (in_loose a) had) plain mark) ≡ refused bs Name
+bad_runs a had plain mark bs e n =
+    run-refused bs (in_text (inner (in_loose a) had) plain mark) Name refl
+    (λ b h. bad_step a had plain mark (sort_of b) b (ap is_bad (sym h) ∙ e) (λ d k. n d (h ∙ k)))
+
+loose_place : (place : Place) → place_inside place ≡ Loose → (a : Arguments) × (place ≡ in_loose a)
+loose_place (in_transform heads) e = cc
+loose_place (in_separator heads) e = cc
+loose_place (in_argument heads function args) e = cc
+loose_place (in_call a) e = cc
+loose_place (in_loose a) e = (a, refl)
+
+pub bad_there : (place : Place) (had : List Piece) (bs : List ℕ) → place_inside place ≡ Loose
+    → is_bad (first_sort bs) ≡ true
+    → run bs (in_text (inner place had) [] unmarked) ≡ refused bs Name
+bad_there place had bs i e =
+    let p = loose_place place i in
+    subst (λ x. run bs (in_text (inner x had) [] unmarked) ≡ refused bs Name) (sym p.1)
+    (bad_runs p.0 had [] unmarked bs e (λ d. cc))
+
+stop_over : (host : Host) (bs : List ℕ) → host_inside host ≡ Loose
+    → ends_argument (first_sort bs) ≡ true → OverAt host bs
+stop_over (whole parts) bs i e = cc
+stop_over (inner place had) bs i e =
+    let p =
+    loose_place place i in
+    subst (λ x. OverAt (inner x had) bs) (sym p.1) (over_stop p.0 had bs e)
+
+bad_over : (host : Host) (text bs : List ℕ) → host_inside host ≡ Loose
+    → is_bad (first_sort bs) ≡ true → NoOpen text bs
+    → OverFor host text bs
+bad_over (whole parts) text bs i e n = cc
+bad_over (inner place had) text bs i e n =
+    let p = loose_place place i in
+    subst (λ x. OverFor (inner x had) text bs) (sym p.1) (λ plain mark t.
+    bad_runs p.0 had plain mark bs e (λ d o. n plain (ap (λ m. plain ++ spelled m) (sym d) ∙ t) o)
+    ∙ sym (bad_runs p.0 (flushed_pieces had (settled plain mark)) [] unmarked bs e (λ d. cc)))
+
 -- where other than plain text starts, plain text before it may be taken for a part
-over_by : (host : Host) (inside : Inside) (here : Start) (bs : List ℕ) → host_inside host ≡ inside
-    → StartIs here inside bs → (here ≡ start.Plain → ⊥) → OverAt host bs
-over_by host inside start.End bs i p n = λ plain mark.
-    subst (λ t. run t (in_text host plain mark)
-    ≡ run t (in_text (flushed host (settled plain mark)) [] unmarked)) (sym p)
+over_by : (host : Host) (inside : Inside) (here : Start) (text bs : List ℕ)
+    → host_inside host ≡ inside → StartIs here inside bs
+    → (here ≡ start.Plain → ⊥) → NoOpen text bs → OverFor host text bs
+over_by host inside start.End text bs i p n o = λ plain mark t.
+    subst (λ x. run x (in_text host plain mark) ≡ run x
+    (in_text (flushed host (settled plain mark)) [] unmarked)) (sym p)
     (over_end host plain mark)
-over_by host inside start.Quote bs i p n = λ plain mark.
-    subst (λ t. run t (in_text host plain mark)
-    ≡ run t (in_text (flushed host (settled plain mark)) [] unmarked)) (sym p.1)
-    (over_quote host plain mark p.0 (λ q. p.2 (sym i ∙ q)))
-over_by host inside start.Property bs i p n = λ plain mark.
-    subst (λ t. run t (in_text host plain mark)
-    ≡ run t (in_text (flushed host (settled plain mark)) [] unmarked)) (sym p.1)
+over_by host inside start.Quote text bs i p n o = λ plain mark t.
+    subst (λ x. run x (in_text host plain mark) ≡ run x
+    (in_text (flushed host (settled plain mark)) [] unmarked)) (sym p.1)
+    (over_quote host plain mark p.0 (λ q. subst (λ x. ReadsQuote x) (sym i ∙ q) p.2)
+    (λ q. subst (λ x. ReadsQuote x) (sym i ∙ q) p.2))
+over_by host inside start.Property text bs i p n o = λ plain mark t.
+    subst (λ x. run x (in_text host plain mark) ≡ run x
+    (in_text (flushed host (settled plain mark)) [] unmarked)) (sym p.1)
     (over_property host plain mark p.0)
-over_by host inside start.Metadata bs i p n = λ plain mark.
-    subst (λ t. run t (in_text host plain mark)
-    ≡ run t (in_text (flushed host (settled plain mark)) [] unmarked)) (sym p.1)
-    (over_metadata host plain mark p.0 (λ q. p.2 (sym i ∙ q)))
-over_by host inside start.Items bs i p n = λ plain mark.
-    subst (λ t. run t (in_text host plain mark)
-    ≡ run t (in_text (flushed host (settled plain mark)) [] unmarked)) (sym p.1)
-    (over_items host plain mark p.0 (λ q. p.2 (sym i ∙ q)))
-over_by host inside start.Plain bs i p n = absurd (n refl)
+over_by host inside start.Metadata text bs i p n o = λ plain mark t.
+    subst (λ x. run x (in_text host plain mark) ≡ run x
+    (in_text (flushed host (settled plain mark)) [] unmarked)) (sym p.1)
+    (over_metadata host plain mark p.0 (subst (λ x. ReadsMetadata x) (sym i) p.2))
+over_by host inside start.Items text bs i p n o = λ plain mark t.
+    subst (λ x. run x (in_text host plain mark) ≡ run x
+    (in_text (flushed host (settled plain mark)) [] unmarked)) (sym p.1)
+    (over_items host plain mark p.0 (subst (λ x. ReadsMetadata x) (sym i) p.2))
+over_by host inside start.Stop text bs i p n o =
+    λ plain mark t. stop_over host bs (i ∙ p.3) (ap (λ x. ends_argument (first_sort x)) p.2
+    ∙ p.4) plain mark
+over_by host inside start.Bad text bs i p n o =
+    bad_over host text bs (i ∙ p.3) (ap (λ x. is_bad (first_sort x)) p.2 ∙ p.4) o
+over_by host inside start.Plain text bs i p n o = absurd (n refl)
 
 pub run-plain : (inside : Inside) (bs : List ℕ) (at end : ℕ) (host : Host)
     → host_inside host ≡ inside → at ≤ end → end ≤ length bs
@@ -150,8 +278,8 @@ run-plain inside bs at end host i l w h n =
     ∙ plain_part_runs host (take (end - at) (drop at bs)) (drop end bs)
     (subst (λ x. IsPlain x (take (end - at) (drop at bs))) (sym i)
     (plain_between inside bs at end l w h))
-    (over_by host inside (start_of inside (drop end bs)) (drop end bs) i
-    (starts_at inside (drop end bs)) n)
+    (over_by host inside (start_of inside (drop end bs)) (take (end - at) (drop at bs))
+    (drop end bs) i (starts_at inside (drop end bs)) n (no_open inside bs at end l w h))
 
 -- a text may be cut there
 byte_cuts : (bs : List ℕ) (n b : ℕ) (more : List ℕ) → drop n bs ≡ b ∷ more → b < 128 → n ≤ length bs
@@ -163,6 +291,18 @@ byte_cuts bs n b more e s w =
     (sym (drop_more bs n 0 l) ∙ e) in
     IsCharBoundary-before_ascii bs n l (omega arith)
 
+part_small : (b : ℕ) (sort : Sort) → SortIs sort b → ends_argument sort ≡ true → b < 128
+part_small b Comma f e = omega (arith, f)
+part_small b Close f e = omega (arith, f)
+part_small b _ f e = cc
+
+bad_small : (b : ℕ) (sort : Sort) → SortIs sort b → is_bad sort ≡ true → b < 128
+bad_small b Quote f e = omega (arith, f)
+bad_small b Open f e = omega (arith, f)
+bad_small b Percent f e = omega (arith, f)
+bad_small b At f e = omega (arith, f)
+bad_small b _ f e = cc
+
 cut_by : (inside : Inside) (bs : List ℕ) (n : ℕ) (here : Start) → StartIs here inside (drop n bs)
     → (here ≡ start.Plain → ⊥) → n ≤ length bs → IsCharBoundary bs n
 cut_by inside bs n start.End p h w =
@@ -172,6 +312,10 @@ cut_by inside bs n start.Quote p h w = byte_cuts bs n 39 p.0 p.1 (omega arith) w
 cut_by inside bs n start.Property p h w = byte_cuts bs n 36 (40 ∷ p.0) p.1 (omega arith) w
 cut_by inside bs n start.Metadata p h w = byte_cuts bs n 37 (40 ∷ p.0) p.1 (omega arith) w
 cut_by inside bs n start.Items p h w = byte_cuts bs n 64 (40 ∷ p.0) p.1 (omega arith) w
+cut_by inside bs n start.Stop p h w =
+    byte_cuts bs n p.0 p.1 p.2 (part_small p.0 (sort_of p.0) (sort_is p.0) p.4) w
+cut_by inside bs n start.Bad p h w =
+    byte_cuts bs n p.0 p.1 p.2 (bad_small p.0 (sort_of p.0) (sort_is p.0) p.4) w
 cut_by inside bs n start.Plain p h w = absurd (h refl)
 
 pub start_cuts : (inside : Inside) (bs : List ℕ) (n : ℕ)

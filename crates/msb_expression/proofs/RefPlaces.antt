@@ -20,7 +20,15 @@ use Rattle.std.proofs.lemmas.Str.{IsCharBoundary-after_ascii}
 use Rattle.msb_expression.specs.declared.expression.Piece.{Piece}
 use Rattle.msb_expression.specs.declared.starts.Inside.{Inside}
 use Rattle.msb_expression.specs.declared.sorts.Sort.{Sort}
-use Rattle.msb_expression.specs.declared.sorts.Sort.TheVariants.{End, Space, Quote, Close, Dot}
+use Rattle.msb_expression.specs.declared.sorts.Sort.TheVariants.{
+  End,
+  Space,
+  Quote,
+  Open,
+  Close,
+  Comma,
+  Dot,
+}
 use Rattle.msb_expression.specs.declared.sorts.Kind.TheVariants.{Name, Transform as BadStep}
 use Rattle.msb_expression.specs.Machine.{
   sort_of,
@@ -30,13 +38,9 @@ use Rattle.msb_expression.specs.Machine.{
   start_by,
   Place,
   Host,
-  whole,
   inner,
   Named,
-  property,
   metadata,
-  qualified,
-  is_metadata,
   unmarked,
   in_text,
   in_name,
@@ -72,32 +76,35 @@ close_cut bs n u e =
     let b : get_or bs n 0 ≡ 41 = byte_is bs n Close e (λ k. cc) in
     cut_behind bs n u (λ k. let z = sym e ∙ k in cc) (omega arith)
 
+pub open_cut : (bs : List ℕ) (n : ℕ) → IsUtf8 bs → first_sort (drop n bs) ≡ Open
+    → IsCharBoundary bs (n + 1)
+open_cut bs n u e =
+    let b : get_or bs n 0 ≡ 40 = byte_is bs n Open e (λ k. cc) in
+    cut_behind bs n u (λ k. let z = sym e ∙ k in cc) (omega arith)
+
+pub comma_cut : (bs : List ℕ) (n : ℕ) → IsUtf8 bs → first_sort (drop n bs) ≡ Comma
+    → IsCharBoundary bs (n + 1)
+comma_cut bs n u e =
+    let b : get_or bs n 0 ≡ 44 = byte_is bs n Comma e (λ k. cc) in
+    cut_behind bs n u (λ k. let z = sym e ∙ k in cc) (omega arith)
+
 pub quote_cut : (bs : List ℕ) (n : ℕ) → IsUtf8 bs → first_sort (drop n bs) ≡ Quote
     → IsCharBoundary bs (n + 1)
 quote_cut bs n u e =
     let b : get_or bs n 0 ≡ 39 = byte_is bs n Quote e (λ k. cc) in
     cut_behind bs n u (λ k. let z = sym e ∙ k in cc) (omega arith)
 
-dot_is_name : (host : Host) (which : Named) (name : List ℕ) → is_metadata which ≡ false
-    → dot_step host which name ≡ stop Name
-dot_is_name (whole parts) property name e = refl
-dot_is_name (whole parts) metadata name e = cc
-dot_is_name (whole parts) (qualified kind) name e = refl
-dot_is_name (inner place pieces) property name e = refl
-dot_is_name (inner place pieces) metadata name e = cc
-dot_is_name (inner place pieces) (qualified kind) name e = refl
-
 ended_stops : (host : Host) (which : Named) (name : List ℕ) (sort : Sort) → (sort ≡ Space → ⊥)
-    → (sort ≡ Close → ⊥) → (sort ≡ Dot → is_metadata which ≡ false)
+    → (sort ≡ Close → ⊥) → (sort ≡ Dot → dot_step host which name ≡ stop Name)
     → name_ended_step host which name sort ≡ stop Name
 ended_stops host which name Space s c d = absurd (s refl)
 ended_stops host which name Close s c d = absurd (c refl)
-ended_stops host which name Dot s c d = dot_is_name host which name (d refl)
+ended_stops host which name Dot s c d = d refl
 ended_stops host which name _ s c d = refl
 
 pub name_ended_stops : (host : Host) (which : Named) (name bs : List ℕ)
     → (first_sort bs ≡ Space → ⊥) → (first_sort bs ≡ Close → ⊥)
-    → (first_sort bs ≡ Dot → is_metadata which ≡ false)
+    → (first_sort bs ≡ Dot → dot_step host which name ≡ stop Name)
     → run bs (name_ended host which name) ≡ refused bs Name
 name_ended_stops host which name bs s c d =
     run-refused bs (name_ended host which name) Name refl

@@ -29,7 +29,16 @@ use Rattle.std.proofs.lemmas.List.{append-nil, reverse-append, drop_at}
 use Rattle.msb_expression.specs.declared.expression.Part.{Part}
 use Rattle.msb_expression.specs.declared.sorts.Kind.{Kind}
 use Rattle.msb_expression.specs.Grammar.{IsReading}
-use Rattle.msb_expression.specs.Refusals.{CanGoOn, IsBadAt, IsUnclosed, kind_of}
+use Rattle.msb_expression.specs.Refusals.{
+  CanGoOn,
+  IsBadAt,
+  IsUnclosed,
+  outside,
+  left_behind,
+  left_after,
+  is_in_property,
+  kind_at,
+}
 use Rattle.msb_expression.specs.Machine.{
   sort_of,
   whole,
@@ -56,7 +65,14 @@ use Rattle.msb_expression.proofs.Complete.{run_complete}
 use Rattle.msb_expression.proofs.Runs.{run-go, run-stop}
 use Rattle.msb_expression.proofs.Closing.{goes_on}
 use Rattle.msb_expression.proofs.Trails.{Trail}
-use Rattle.msb_expression.proofs.KeepsTrails.{Follows, step_follows}
+use Rattle.msb_expression.proofs.Lefts.{
+  LeftIs,
+  in_property,
+  property_is,
+  left_after-push,
+  step_left,
+}
+use Rattle.msb_expression.proofs.KeepsTrails.{FollowsIn, step_follows, kind_follows}
 
 -- the machine reads some bytes from a mode on, and stops at the next
 pub record StopsAt (mode : Mode) (start bs rest : List ℕ) (kind : Kind) : Type 0 where
@@ -68,6 +84,7 @@ pub record StopsAt (mode : Mode) (start bs rest : List ℕ) (kind : Kind) : Type
   pub rest_is : rest ≡ byte ∷ tail
   pub behind : Behind last (start ++ front)
   pub trail : Trail last (reverse (start ++ front))
+  pub left : LeftIs last (left_after (outside 0) (start ++ front))
   pub stops : step_of last (sort_of byte) byte ≡ stop kind
   pub runs : (more : List ℕ) → run (front ++ more) mode ≡ run more last
 
@@ -85,18 +102,24 @@ finish_is_no_stop (in_text (whole parts) plain mark) kind rest e = cc
 finish_is_no_stop (in_text (inner place pieces) plain mark) kind rest e = cc
 finish_is_no_stop _ kind rest e = cc
 
-here : (mode : Mode) (start : List ℕ) (b : ℕ) (bs rest : List ℕ) (kind : Kind) → Behind mode start
-    → Trail mode (reverse start) → step_of mode (sort_of b) b ≡ stop kind → rest ≡ b ∷ bs
-    → StopsAt mode start (b ∷ bs) rest kind
-here mode start b bs rest kind h t e r = record {
+-- what stands behind a mode
+pub record At (mode : Mode) (start : List ℕ) : Type 0 where
+  pub behind : Behind mode start
+  pub trail : Trail mode (reverse start)
+  pub left : LeftIs mode (left_after (outside 0) start)
+
+here : (mode : Mode) (start : List ℕ) (b : ℕ) (bs rest : List ℕ) (kind : Kind) → At mode start
+    → step_of mode (sort_of b) b ≡ stop kind → rest ≡ b ∷ bs → StopsAt mode start (b ∷ bs) rest kind
+here mode start b bs rest kind h e r = record {
   front = [];
   byte = b;
   tail = bs;
   last = mode;
   split = refl;
   rest_is = r;
-  behind = subst (λ x. Behind mode x) (sym (append-nil start)) h;
-  trail = subst (λ x. Trail mode (reverse x)) (sym (append-nil start)) t;
+  behind = subst (λ x. Behind mode x) (sym (append-nil start)) h.behind;
+  trail = subst (λ x. Trail mode (reverse x)) (sym (append-nil start)) h.trail;
+  left = subst (λ x. LeftIs mode (left_after (outside 0) x)) (sym (append-nil start)) h.left;
   stops = e;
   runs = λ more. refl;
 }
@@ -113,39 +136,57 @@ later mode next start b bs rest kind e s = record {
   rest_is = s.rest_is;
   behind = subst (λ x. Behind s.last x) (append_assoc start (b ∷ []) s.front) s.behind;
   trail = subst (λ x. Trail s.last (reverse x)) (append_assoc start (b ∷ []) s.front) s.trail;
+  left =
+      subst (λ x. LeftIs s.last (left_after (outside 0) x))
+      (append_assoc start (b ∷ []) s.front) s.left;
   stops = s.stops;
   runs = λ more. run-go b (s.front ++ more) mode next e ∙ s.runs more;
 }
 
+-- a step goes on to a mode behind which that stands too
+goes_at : (mode next : Mode) (start : List ℕ) (b : ℕ) → At mode start
+    → step_of mode (sort_of b) b ≡ go next → At next (start ++ b ∷ [])
+goes_at mode next start b h e = record {
+  behind =
+      subst (λ n. Keeps n (λ m. Behind m (start ++ b ∷ []))) e (step_keeps mode start b h.behind);
+  trail = subst (λ x. Trail next x) (sym (reverse-push start b))
+      (subst (λ n. FollowsIn (in_property mode) n b (reverse start)) e
+      (step_follows mode (left_after (outside 0) start) (reverse start) b h.left h.trail));
+  left = subst (λ l. LeftIs next l) (sym (left_after-push (outside 0) start b))
+      (subst (λ n. Keeps n (λ m. LeftIs m (left_behind (left_after (outside 0) start) b))) e
+      (step_left mode (left_after (outside 0) start) b h.left));
+}
+
 stops_next : (mode : Mode) (start : List ℕ) (b : ℕ) (bs rest : List ℕ) (kind : Kind) (next : Next)
-    → Behind mode start → Trail mode (reverse start)
-    → step_of mode (sort_of b) b ≡ next → Keeps next (λ m. Behind m (start ++ b ∷ []))
-    → Follows next b (reverse start)
-    → ((m : Mode) → Behind m (start ++ b ∷ []) → Trail m (reverse (start ++ b ∷ []))
-    → run bs m ≡ bad kind rest → StopsAt m (start ++ b ∷ []) bs rest kind)
+    → At mode start
+    → step_of mode (sort_of b) b ≡ next
+    → ((m : Mode) → At m (start ++ b ∷ []) → run bs m ≡ bad kind rest
+    → StopsAt m (start ++ b ∷ []) bs rest kind)
     → followed (run bs) next (b ∷ bs) ≡ bad kind rest → StopsAt mode start (b ∷ bs) rest kind
-stops_next mode start b bs rest kind (go m) h t e k f again g =
-    later mode m start b bs rest kind e
-    (again m k (subst (λ x. Trail m x) (sym (reverse-push start b)) f) g)
-stops_next mode start b bs rest kind (stop j) h t e k f again g =
-    here mode start b bs rest kind h t (e ∙ ap stop (same_kind j kind (b ∷ bs) rest g))
+stops_next mode start b bs rest kind (go m) h e again g =
+    later mode m start b bs rest kind e (again m (goes_at mode m start b h e) g)
+stops_next mode start b bs rest kind (stop j) h e again g =
+    here mode start b bs rest kind h (e ∙ ap stop (same_kind j kind (b ∷ bs) rest g))
     (sym (same_rest j kind (b ∷ bs) rest g))
 
-pub stops_at : (bs : List ℕ) (mode : Mode) (start rest : List ℕ) (kind : Kind) → Behind mode start
-    → Trail mode (reverse start) → run bs mode ≡ bad kind rest → StopsAt mode start bs rest kind
+pub stops_at : (bs : List ℕ) (mode : Mode) (start rest : List ℕ) (kind : Kind) → At mode start
+    → run bs mode ≡ bad kind rest → StopsAt mode start bs rest kind
 unfolding run
-stops_at [] mode start rest kind h t e = absurd (finish_is_no_stop mode kind rest e)
-stops_at (b ∷ bs) mode start rest kind h t e =
-    stops_next mode start b bs rest kind (step_of mode (sort_of b) b) h t refl
-    (step_keeps mode start b h) (step_follows mode (reverse start) b t)
-    (λ m k f g. stops_at bs m (start ++ b ∷ []) rest kind k f g) e
+stops_at [] mode start rest kind h e = absurd (finish_is_no_stop mode kind rest e)
+stops_at (b ∷ bs) mode start rest kind h e =
+    stops_next mode start b bs rest kind (step_of mode (sort_of b) b) h refl
+    (λ m k g. stops_at bs m (start ++ b ∷ []) rest kind k g) e
 
-begin_trail : Trail begin (reverse [])
-begin_trail = record { mark_is = (refl, refl, refl); outside = λ q. refl }
+at_begin : At begin []
+at_begin = record {
+  behind = begins;
+  trail = record { mark_is = (refl, refl, refl); outside = λ q. refl };
+  left = (0, refl, refl);
+}
 
 pub text_stops : (text rest : List ℕ) (kind : Kind) → run text begin ≡ bad kind rest
     → StopsAt begin [] text rest kind
-text_stops text rest kind e = stops_at text begin [] rest kind begins begin_trail e
+text_stops text rest kind e = stops_at text begin [] rest kind at_begin e
 
 -- no text goes on through the byte where the machine stops
 pub no_way : (text rest : List ℕ) (kind : Kind) (s : StopsAt begin [] text rest kind)
@@ -163,9 +204,13 @@ stops_through text rest kind s c =
     (subst (λ t. IsReading t c.1) (append_assoc s.front (s.byte ∷ []) c.0) c.2)
 
 pub stops_kind : (text rest : List ℕ) (kind : Kind) (s : StopsAt begin [] text rest kind)
-    → kind_of s.byte (reverse s.front) ≡ kind
-stops_kind text rest kind s = subst (λ n. Follows n s.byte (reverse s.front)) s.stops
-    (step_follows s.last (reverse s.front) s.byte s.trail)
+    → kind_at s.byte s.front ≡ kind
+stops_kind text rest kind s =
+    kind_follows (is_in_property (left_after (outside 0) s.front)) (in_property s.last) kind s.byte
+    (reverse s.front)
+    (property_is s.last (left_after (outside 0) s.front) s.left)
+    (subst (λ n. FollowsIn (in_property s.last) n s.byte (reverse s.front)) s.stops
+    (step_follows s.last (left_after (outside 0) s.front) (reverse s.front) s.byte s.left s.trail))
 
 place_of : (text front tail : List ℕ) (byte n : ℕ) → text ≡ front ++ byte ∷ tail
     → drop n text ≡ byte ∷ tail → n < length text → length front ≡ n
@@ -289,9 +334,9 @@ bad_is_stop text n kind h = outcome (run text begin) refl
         (stops_through text rest k s
         (goes_on_front (s.front ++ s.byte ∷ []) p.0 (subst (λ t. CanGoOn t) p.1 h.before)))
     same k rest s (inr (inr p)) =
-        let kinds : k ≡ kind = sym (stops_kind text rest k s)
-        ∙ ap (λ b. kind_of b (reverse s.front)) (sym p.1)
-        ∙ ap (λ f. kind_of h.byte (reverse f)) (sym p.0) ∙ h.kind_is in
+        let kinds : k ≡ kind =
+        sym (stops_kind text rest k s) ∙ ap (λ b. kind_at b s.front) (sym p.1)
+        ∙ ap (λ f. kind_at h.byte f) (sym p.0) ∙ h.kind_is in
         let rests : rest ≡ drop n text = s.rest_is ∙ ap (λ b. b ∷ s.tail) (sym p.1)
         ∙ ap (λ t. h.byte ∷ t) (sym p.2) ∙ sym rest_is in
         ap (λ j. bad j rest) kinds ∙ ap (λ r. bad kind r) rests

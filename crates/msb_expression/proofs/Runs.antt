@@ -23,8 +23,15 @@ use Rattle.std.specs.Prelude.{IsTrue}
 use Rattle.std.proofs.lemmas.List.{append-nil}
 use Rattle.std.proofs.lemmas.Bool.{eqb-true, false≢true}
 use Rattle.msb_expression.specs.declared.sorts.Sort.{Sort}
-use Rattle.msb_expression.specs.declared.sorts.Sort.TheVariants.{Letter, Digit, Dash, Space}
+use Rattle.msb_expression.specs.declared.sorts.Sort.TheVariants.{
+  Letter,
+  Digit,
+  Dash,
+  Space,
+  Bracket,
+}
 use Rattle.msb_expression.specs.declared.sorts.Kind.{Kind}
+use Rattle.msb_expression.specs.declared.expression.Part.{Part}
 use Rattle.msb_expression.specs.Grammar.{
   IsName,
   IsSpaces,
@@ -39,15 +46,27 @@ use Rattle.msb_expression.specs.Machine.{
   first_sort,
   is_name_sort,
   Heads,
+  CallHeads,
   Host,
+  whole,
   Named,
+  property,
   Mode,
+  property_opened,
+  call_wanted,
+  call_named,
+  call_ended,
+  property_opened_step,
+  name_opened_step,
+  call_named_step,
+  call_ended_step,
   name_opened,
   in_name,
   name_ended,
   function_named,
   function_ended,
   arrow,
+  Next,
   go,
   stop,
   step_of,
@@ -76,6 +95,11 @@ pub run-nil : (mode : Mode) → run [] mode ≡ finish mode
 unfolding run
 run-nil mode = refl
 
+-- where a test chooses
+pub picked : (t : Bool) (one other : Next) → t ≡ true → elim t [ true ↦ one | false ↦ other ] ≡ one
+picked true one other e = refl
+picked false one other e = cc
+
 -- two modes that do the same with the next byte, or with none
 pub run-same : (bs : List ℕ) (one other : Mode) → finish one ≡ finish other
     → ((b : ℕ) → first_sort bs ≡ sort_of b → step_of one (sort_of b) b
@@ -83,6 +107,13 @@ pub run-same : (bs : List ℕ) (one other : Mode) → finish one ≡ finish othe
 unfolding run
 run-same [] one other e h = e
 run-same (b ∷ bs) one other e h = ap (λ n. followed (run bs) n (b ∷ bs)) (h b refl)
+
+-- the same where the next byte is known
+pub run-head : (b : ℕ) (bs : List ℕ) (one other : Mode)
+    → step_of one (sort_of b) b ≡ step_of other (sort_of b) b
+    → run (b ∷ bs) one ≡ run (b ∷ bs) other
+unfolding run
+run-head b bs one other h = ap (λ n. followed (run bs) n (b ∷ bs)) h
 
 -- where spaces change nothing
 pub run-spaces : (mode : Mode) (spaces rest : List ℕ) → step_of mode Space 32 ≡ go mode
@@ -217,3 +248,66 @@ run-function_named heads text name rest n e =
     ∙ run-function heads name (n.1 ++ rest) n.3
     ∙ run-function_over heads name (n.1 ++ rest) (spaced_first n.1 rest n.4 e)
     ∙ run-spaces (function_ended heads name) n.1 rest refl n.4
+
+-- the name of a call
+calls_grow : (heads : CallHeads) → Grows (λ name. call_named heads name)
+calls_grow heads =
+    record { at_letter = λ name b. refl; at_digit = λ name b. refl; at_dash = λ name b. refl }
+
+over_call : (heads : CallHeads) (name : List ℕ) (sort : Sort) (b : ℕ) → is_name_sort sort ≡ false
+    → call_named_step heads name sort b ≡ call_ended_step heads name sort
+over_call heads name Letter b e = cc
+over_call heads name Digit b e = cc
+over_call heads name Dash b e = cc
+over_call heads name _ b e = refl
+
+pub run-call_over : (heads : CallHeads) (name rest : List ℕ)
+    → is_name_sort (first_sort rest) ≡ false
+    → run rest (call_named heads name) ≡ run rest (call_ended heads name)
+run-call_over heads name rest e =
+    run-same rest (call_named heads name) (call_ended heads name) refl
+    (λ b h. over_call heads name (sort_of b) b (ap is_name_sort (sym h) ∙ e))
+
+pub run-call : (heads : CallHeads) (name rest : List ℕ) → IsName name
+    → run (name ++ rest) (call_wanted heads) ≡ run rest (call_named heads name)
+run-call heads [] rest n = absurd n
+run-call heads (b ∷ bs) rest n =
+    run-go b (bs ++ rest) (call_wanted heads) (call_named heads (b ∷ []))
+    (ap (λ s. step_of (call_wanted heads) s b) (letter_sort b n.0))
+    ∙ run-grows (λ name. call_named heads name) (b ∷ []) bs rest (calls_grow heads) n.1
+
+pub run-call_named : (heads : CallHeads) (text name rest : List ℕ) → IsNamed text name
+    → is_name_sort (first_sort rest) ≡ false
+    → run (text ++ rest) (call_wanted heads) ≡ run rest (call_ended heads name)
+run-call_named heads text name rest n e =
+    ap (λ t. run t (call_wanted heads)) (ap (λ t. t ++ rest) n.5 ∙ simp append_assoc)
+    ∙ run-spaces (call_wanted heads) n.0 (name ++ (n.1 ++ rest)) refl n.2
+    ∙ run-call heads name (n.1 ++ rest) n.3
+    ∙ run-call_over heads name (n.1 ++ rest) (spaced_first n.1 rest n.4 e)
+    ∙ run-spaces (call_ended heads name) n.1 rest refl n.4
+
+-- a property's name stands behind `$(` where no `[` does
+property_step : (parts : List Part) (sort : Sort) (b : ℕ) → (sort ≡ Bracket → ⊥)
+    → property_opened_step parts sort b ≡ name_opened_step (whole parts) property sort b
+property_step parts Bracket b n = absurd (n refl)
+property_step parts _ b n = refl
+
+pub run-opened : (parts : List Part) (bs : List ℕ) → (first_sort bs ≡ Bracket → ⊥)
+    → run bs (property_opened parts) ≡ run bs (name_opened (whole parts) property)
+run-opened parts bs n =
+    run-same bs (property_opened parts) (name_opened (whole parts) property) refl
+    (λ b h. property_step parts (sort_of b) b (λ k. n (h ∙ k)))
+
+name_first : (before name more : List ℕ) → IsSpaces before → IsName name
+    → first_sort (before ++ (name ++ more)) ≡ Bracket → ⊥
+name_first [] [] more s n e = n
+name_first [] (b ∷ bs) more s n e = let k : Letter ≡ Bracket = sym (letter_sort b n.0) ∙ e in cc
+name_first (b ∷ bs) name more s n e =
+    let k : Space ≡ Bracket = ap sort_of (sym (eqb-true b 32 s.0)) ∙ e in cc
+
+pub named_first : (text name rest : List ℕ) → IsNamed text name
+    → first_sort (text ++ rest) ≡ Bracket → ⊥
+named_first text name rest n e =
+    let split : text ++ rest ≡ n.0 ++ (name ++ (n.1 ++ rest)) =
+    ap (λ t. t ++ rest) n.5 ∙ simp append_assoc in
+    name_first n.0 name (n.1 ++ rest) n.2 n.3 (sym (ap first_sort split) ∙ e)

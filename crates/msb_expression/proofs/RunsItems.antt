@@ -83,7 +83,7 @@ listed_runs heads function had (arg ∷ args) text rest h =
     ∙ run-go 44 (h.3.1 ++ (h.1 ++ rest)) (arg_ended heads function had)
     (arg_wanted heads function had) refl
     ∙ quoted_runs (arg_wanted heads function had) (in_argument heads function had) h.3.1 arg
-    (h.1 ++ rest) refl refl h.3.3
+    (h.1 ++ rest) refl refl h.3.3 (λ e. cc)
     ∙ listed_runs heads function (had ++ arg ∷ []) args h.1 rest h.4
     ∙ ap (λ list. run rest (arg_ended heads function list)) (append_assoc had (arg ∷ []) args)
 
@@ -97,7 +97,7 @@ args_run heads function [] text rest h =
 args_run heads function (arg ∷ args) text rest h =
     ap (λ t. run t (args_opened heads function)) (ap (λ t. t ++ 41 ∷ rest) h.6 ∙ simp append_assoc)
     ∙ quoted_runs (args_opened heads function) (in_argument heads function []) h.0 arg
-    (h.1 ++ (h.2 ++ 41 ∷ rest)) refl refl h.3
+    (h.1 ++ (h.2 ++ 41 ∷ rest)) refl refl h.3 (λ e. cc)
     ∙ listed_runs heads function (arg ∷ []) args h.1 (h.2 ++ 41 ∷ rest) h.4
     ∙ run-spaces (arg_ended heads function (arg ∷ args)) h.2 (41 ∷ rest) refl h.5
     ∙ run-go 41 rest (arg_ended heads function (arg ∷ args))
@@ -105,8 +105,8 @@ args_run heads function (arg ∷ args) text rest h =
 
 act_runs : (heads : Heads) (step : Step) (text rest : List ℕ) → IsAct text step
     → run (text ++ rest) (arrow heads) ≡ run rest (stepping (with_step heads step))
-act_runs heads (Transforms pieces) text rest h = quoted_runs (arrow heads) (in_transform heads) text
-    pieces rest refl refl h
+act_runs heads (Transforms pieces) text rest h =
+    quoted_runs (arrow heads) (in_transform heads) text pieces rest refl refl h (λ e. cc)
 act_runs heads (Call function args) text rest h =
     ap (λ t. run t (arrow heads)) (ap (λ t. t ++ rest) h.4 ∙ simp append_assoc)
     ∙ run-function_named heads h.0 function (40 ∷ (h.1 ++ 41 ∷ rest)) h.2 refl
@@ -150,8 +150,8 @@ separator_runs heads (Some pieces) text after rest h s =
     ap (λ t. run t (stepping heads)) (ap (λ t. t ++ (after ++ 41 ∷ rest)) h.4 ∙ simp append_assoc)
     ∙ run-spaces (stepping heads) h.0 (44 ∷ (h.1 ++ (after ++ 41 ∷ rest))) refl h.2
     ∙ run-go 44 (h.1 ++ (after ++ 41 ∷ rest)) (stepping heads) (separator_wanted heads) refl
-    ∙ quoted_runs (separator_wanted heads) (in_separator heads) h.1 pieces (after ++ 41 ∷ rest) refl
-    refl h.3
+    ∙ quoted_runs (separator_wanted heads) (in_separator heads) h.1 pieces
+    (after ++ 41 ∷ rest) refl refl h.3 (λ e. cc)
     ∙ run-spaces (separator_ended heads pieces) after (41 ∷ rest) refl s
     ∙ run-go 41 rest (separator_ended heads pieces) (closed heads (Some pieces)) refl
 

@@ -2,6 +2,7 @@
 use Rattle.std.proofs.Common.{
   ◌≡◌,
   ℕ,
+  true,
   false,
   List,
   [],
@@ -19,7 +20,7 @@ use Rattle.std.proofs.Common.{
 }
 use Rattle.std.proofs.lemmas.List.{append-nil}
 use Rattle.msb_expression.specs.declared.starts.Inside.{Inside}
-use Rattle.msb_expression.specs.declared.starts.Inside.TheVariants.{Whole, Transform, Quoted}
+use Rattle.msb_expression.specs.declared.starts.Inside.TheVariants.{Whole, Transform, Quoted, Loose}
 use Rattle.msb_expression.specs.declared.expression.Part.{Part}
 use Rattle.msb_expression.specs.declared.expression.Piece.{Piece}
 use Rattle.msb_expression.specs.declared.sorts.Sort.{Sort}
@@ -38,16 +39,27 @@ use Rattle.msb_expression.specs.declared.sorts.Sort.TheVariants.{
   Dollar,
   Percent,
   At,
+  Bracket,
   Other,
 }
 use Rattle.msb_expression.specs.declared.sorts.Kind.TheVariants.{Nested}
-use Rattle.msb_expression.specs.Grammar.{IsPlain, begins_reference, is_end_quote}
+use Rattle.msb_expression.specs.Grammar.{
+  IsPlain,
+  opens,
+  begins_reference,
+  is_quotable,
+  is_end_quote,
+}
 use Rattle.msb_expression.specs.Machine.{
+  ends_argument,
   sort_of,
+  first_sort,
   Place,
   in_transform,
   in_separator,
   in_argument,
+  in_call,
+  in_loose,
   Host,
   whole,
   inner,
@@ -58,14 +70,18 @@ use Rattle.msb_expression.specs.Machine.{
   at_sign,
   property,
   metadata,
+  Mode,
   in_text,
   name_opened,
   type_opened,
   Next,
   go,
   stop,
+  unless_loose,
+  dollar_opened,
   text_step,
   open_step,
+  part_step,
   items_step,
   percent_step,
   nested_step,
@@ -83,7 +99,8 @@ use Rattle.msb_expression.specs.Machine.{
   run,
 }
 use Rattle.msb_expression.proofs.Bytes.{SortIs, sort_is}
-use Rattle.msb_expression.proofs.Runs.{run-go, run-stop, run-nil}
+use Rattle.msb_expression.proofs.Runs.{run-go, run-stop, run-nil, run-opened}
+use Rattle.msb_expression.proofs.PlainText.{ReadsMetadata, reads_not_loose, unless-go, or_right}
 
 -- plain text is read up to a mark at its end
 abbrev pub PlainRuns : Host → List ℕ → Mark → List ℕ → List ℕ → Type 0
@@ -130,6 +147,24 @@ begun : (inside : Inside) (more : List ℕ) → begins_reference inside (36 ∷ 
 begun Whole more e = cc
 begun Transform more e = cc
 begun Quoted more e = cc
+begun Loose more e = cc
+
+-- what can't stand in an argument without quotes stands elsewhere
+unquotable : (inside : Inside) (b : ℕ) (more : List ℕ) → is_quotable b ≡ true
+    → begins_reference inside (b ∷ more) ≡ false → inside ≡ Loose → ⊥
+unquotable Whole b more q e i = cc
+unquotable Transform b more q e i = cc
+unquotable Quoted b more q e i = cc
+unquotable Loose b more q e i =
+    let n : is_quotable b ≡ false =
+    or_right (opens 36 (b ∷ more)) (is_quotable b) e in let k = sym q ∙ n in cc
+
+unless_goes : (host : Host) (plain : List ℕ) (mark : Mark) (mode : Mode) (b : ℕ)
+    → (host_inside host ≡ Loose → ⊥)
+    → Goes host plain mark (go mode) b
+    → Goes host plain mark (unless_loose (host_inside host) mode) b
+unless_goes host plain mark mode b n h =
+    subst (λ next. Goes host plain mark next b) (sym (unless-go (host_inside host) mode n)) h
 
 percent_goes : (host : Host) (inside : Inside) (plain more : List ℕ)
     → begins_reference inside (37 ∷ 40 ∷ more) ≡ false
@@ -137,6 +172,7 @@ percent_goes : (host : Host) (inside : Inside) (plain more : List ℕ)
 percent_goes host Whole plain more e = cc
 percent_goes host Transform plain more e = cc
 percent_goes host Quoted plain more e = joined host plain percent 37 refl
+percent_goes host Loose plain more e = cc
 
 nested_goes : (host : Host) (inside : Inside) (plain more : List ℕ)
     → begins_reference inside (64 ∷ 40 ∷ more) ≡ false
@@ -144,6 +180,7 @@ nested_goes : (host : Host) (inside : Inside) (plain more : List ℕ)
 nested_goes host Whole plain more e = cc
 nested_goes host Transform plain more e = cc
 nested_goes host Quoted plain more e = joined host plain at_sign 64 refl
+nested_goes host Loose plain more e = cc
 
 items_goes : (host : Host) (plain more : List ℕ)
     → begins_reference (host_inside host) (64 ∷ 40 ∷ more) ≡ false
@@ -155,28 +192,55 @@ items_goes (inner place pieces) plain more e = nested_goes (inner place pieces) 
 open_goes : (host : Host) (plain : List ℕ) (mark : Mark) (more : List ℕ)
     → IsPlain (host_inside host) (spelled mark ++ 40 ∷ more)
     → Goes host plain mark (open_step host plain mark) 40
-open_goes host plain unmarked more h = (
-  plain ++ 40 ∷ [],
-  unmarked,
-  append-nil (plain ++ 40 ∷ [])
-      ∙ ap (λ t. t ++ 40 ∷ []) (sym (append-nil plain)),
-  refl,
-  inl refl,
-)
+open_goes host plain unmarked more h =
+    unless_goes host plain unmarked (in_text host (plain ++ 40 ∷ []) unmarked) 40
+    (unquotable (host_inside host) 40 more refl h.0) (
+      plain ++ 40 ∷ [],
+      unmarked,
+      append-nil (plain ++ 40 ∷ [])
+          ∙ ap (λ t. t ++ 40 ∷ []) (sym (append-nil plain)),
+      refl,
+      inl refl,
+    )
 open_goes host plain dollar more h = absurd (begun (host_inside host) more h.0)
 open_goes host plain percent more h = percent_goes host (host_inside host) plain more h.0
 open_goes host plain at_sign more h = items_goes host plain more h.0
 
-quoted_ends : (place : Place) → is_end_quote (place_inside place) 39 ≡ false → ⊥
-quoted_ends (in_transform heads) e = cc
-quoted_ends (in_separator heads) e = cc
-quoted_ends (in_argument heads function args) e = cc
+part_ends : (sort : Sort) (b : ℕ) → SortIs sort b → ends_argument sort ≡ true
+    → is_end_quote Loose b ≡ false → ⊥
+part_ends Comma b f p e = let k = sym (ap (is_end_quote Loose) f) ∙ e in cc
+part_ends Close b f p e = let k = sym (ap (is_end_quote Loose) f) ∙ e in cc
+part_ends _ b f p e = cc
+
+quoted_ends : (place : Place) → is_end_quote (place_inside place) 39 ≡ false
+    → (place_inside place ≡ Loose → ⊥) → ⊥
+quoted_ends (in_transform heads) e n = cc
+quoted_ends (in_separator heads) e n = cc
+quoted_ends (in_argument heads function args) e n = cc
+quoted_ends (in_call a) e n = cc
+quoted_ends (in_loose a) e n = n refl
 
 quote_goes : (host : Host) (plain : List ℕ) (mark : Mark)
     → is_end_quote (host_inside host) 39 ≡ false
+    → (host_inside host ≡ Loose → ⊥)
     → Goes host plain mark (quote_step host (settled plain mark)) 39
-quote_goes (whole parts) plain mark e = appended (whole parts) plain mark 39
-quote_goes (inner place pieces) plain mark e = absurd (quoted_ends place e)
+quote_goes (whole parts) plain mark e n = appended (whole parts) plain mark 39
+quote_goes (inner place pieces) plain mark e n = absurd (quoted_ends place e n)
+
+part_goes : (host : Host) (plain : List ℕ) (mark : Mark) (sort : Sort) (b : ℕ) → SortIs sort b
+    → ends_argument sort ≡ true
+    → is_end_quote (host_inside host) b ≡ false
+    → Goes host plain mark (part_step host (settled plain mark) sort b) b
+part_goes (whole parts) plain mark sort b f p e = appended (whole parts) plain mark b
+part_goes (inner (in_transform heads) pieces) plain mark sort b f p e =
+    appended (inner (in_transform heads) pieces) plain mark b
+part_goes (inner (in_separator heads) pieces) plain mark sort b f p e =
+    appended (inner (in_separator heads) pieces) plain mark b
+part_goes (inner (in_argument heads function args) pieces) plain mark sort b f p e =
+    appended (inner (in_argument heads function args) pieces) plain mark b
+part_goes (inner (in_call a) pieces) plain mark sort b f p e =
+    appended (inner (in_call a) pieces) plain mark b
+part_goes (inner (in_loose a) pieces) plain mark sort b f p e = absurd (part_ends sort b f p e)
 
 plain_goes : (host : Host) (plain : List ℕ) (mark : Mark) (b : ℕ) (more : List ℕ) (sort : Sort)
     → SortIs sort b → IsPlain (host_inside host) (spelled mark ++ b ∷ more)
@@ -189,22 +253,26 @@ plain_goes host plain mark b more Dollar f h = (
   inr
       (ap (λ c. c ∷ []) (sym f)),
 )
-plain_goes host plain mark b more Percent f h = (
-  settled plain mark,
-  percent,
-  ap (λ c. settled plain mark ++ c ∷ []) (sym f),
-  refl,
-  inr
-      (ap (λ c. c ∷ []) (sym f)),
-)
-plain_goes host plain mark b more At f h = (
-  settled plain mark,
-  at_sign,
-  ap (λ c. settled plain mark ++ c ∷ []) (sym f),
-  refl,
-  inr
-      (ap (λ c. c ∷ []) (sym f)),
-)
+plain_goes host plain mark b more Percent f h =
+    unless_goes host plain mark (in_text host (settled plain mark) percent) b
+    (unquotable (host_inside host) b more (ap is_quotable f)
+    (plain_tail (host_inside host) mark (b ∷ more) h).0) (
+      settled plain mark,
+      percent,
+      ap (λ c. settled plain mark ++ c ∷ []) (sym f),
+      refl,
+      inr (ap (λ c. c ∷ []) (sym f)),
+    )
+plain_goes host plain mark b more At f h =
+    unless_goes host plain mark (in_text host (settled plain mark) at_sign) b
+    (unquotable (host_inside host) b more (ap is_quotable f)
+    (plain_tail (host_inside host) mark (b ∷ more) h).0) (
+      settled plain mark,
+      at_sign,
+      ap (λ c. settled plain mark ++ c ∷ []) (sym f),
+      refl,
+      inr (ap (λ c. c ∷ []) (sym f)),
+    )
 plain_goes host plain mark b more Open f h =
     subst (λ c. Goes host plain mark (open_step host plain mark) c) (sym f)
     (open_goes host plain mark more
@@ -213,17 +281,22 @@ plain_goes host plain mark b more Quote f h =
     subst (λ c. Goes host plain mark (quote_step host (settled plain mark)) c) (sym f)
     (quote_goes host plain mark
     (subst (λ c. is_end_quote (host_inside host) c ≡ false) f
-    (plain_tail (host_inside host) mark (b ∷ more) h).1))
+    (plain_tail (host_inside host) mark (b ∷ more) h).1)
+    (unquotable (host_inside host) b more (ap is_quotable f)
+    (plain_tail (host_inside host) mark (b ∷ more) h).0))
 plain_goes host plain mark b more End f h = absurd f
 plain_goes host plain mark b more Letter f h = appended host plain mark b
 plain_goes host plain mark b more Digit f h = appended host plain mark b
 plain_goes host plain mark b more Dash f h = appended host plain mark b
 plain_goes host plain mark b more Space f h = appended host plain mark b
-plain_goes host plain mark b more Close f h = appended host plain mark b
-plain_goes host plain mark b more Comma f h = appended host plain mark b
+plain_goes host plain mark b more Close f h =
+    part_goes host plain mark Close b f refl (plain_tail (host_inside host) mark (b ∷ more) h).1
+plain_goes host plain mark b more Comma f h =
+    part_goes host plain mark Comma b f refl (plain_tail (host_inside host) mark (b ∷ more) h).1
 plain_goes host plain mark b more Dot f h = appended host plain mark b
 plain_goes host plain mark b more Greater f h = appended host plain mark b
 plain_goes host plain mark b more Other f h = appended host plain mark b
+plain_goes host plain mark b more Bracket f h = appended host plain mark b
 
 mark_is : (last : Mark) (b : ℕ) (inside : Inside) (more : List ℕ) → IsPlain inside (b ∷ more)
     → ((spelled last ≡ []) ⊎ (spelled last ≡ b ∷ [])) → IsPlain inside (spelled last ++ more)
@@ -247,24 +320,38 @@ plain_runs host plain mark (b ∷ bs) rest h =
 
 -- behind plain text a reference begins, or the text ends
 pub reach_property : (host : Host) (plain : List ℕ) (mark : Mark) (rest : List ℕ)
-    → run (36 ∷ 40 ∷ rest) (in_text host plain mark)
-    ≡ run rest (name_opened (flushed host (settled plain mark)) property)
+    → run (36 ∷ 40 ∷ rest) (in_text host plain mark) ≡ run rest
+    (dollar_opened host (settled plain mark))
 reach_property host plain mark rest =
     run-go 36 (40 ∷ rest) (in_text host plain mark) (in_text host (settled plain mark) dollar) refl
     ∙ run-go 40 rest (in_text host (settled plain mark) dollar)
-    (name_opened (flushed host (settled plain mark)) property) refl
+    (dollar_opened host (settled plain mark)) refl
 
-percent_opens : (host : Host) (inside : Inside) (plain : List ℕ) → (inside ≡ Quoted → ⊥)
+pub dollar-flushed : (host : Host) (plain : List ℕ)
+    → dollar_opened (flushed host plain) [] ≡ dollar_opened host plain
+dollar-flushed (whole parts) plain = refl
+dollar-flushed (inner place pieces) plain = refl
+
+pub dollar-name : (host : Host) (rest : List ℕ) → (first_sort rest ≡ Bracket → ⊥)
+    → run rest (dollar_opened host []) ≡ run rest (name_opened host property)
+dollar-name (whole parts) rest n = run-opened parts rest n
+dollar-name (inner place pieces) rest n = refl
+
+percent_opens : (host : Host) (inside : Inside) (plain : List ℕ) → ReadsMetadata inside
     → percent_step host inside plain ≡ go (name_opened (flushed host plain) metadata)
 percent_opens host Whole plain q = refl
 percent_opens host Transform plain q = refl
-percent_opens host Quoted plain q = absurd (q refl)
+percent_opens host Quoted plain q = absurd q
+percent_opens host Loose plain q = absurd q
 
 pub reach_metadata : (host : Host) (plain : List ℕ) (mark : Mark) (rest : List ℕ)
-    → (host_inside host ≡ Quoted → ⊥) → run (37 ∷ 40 ∷ rest) (in_text host plain mark)
-    ≡ run rest (name_opened (flushed host (settled plain mark)) metadata)
+    → ReadsMetadata (host_inside host)
+    → run (37 ∷ 40 ∷ rest) (in_text host plain mark) ≡ run rest
+    (name_opened (flushed host (settled plain mark)) metadata)
 reach_metadata host plain mark rest q =
-    run-go 37 (40 ∷ rest) (in_text host plain mark) (in_text host (settled plain mark) percent) refl
+    run-go 37 (40 ∷ rest) (in_text host plain mark) (in_text host (settled plain mark) percent)
+    (unless-go (host_inside host) (in_text host (settled plain mark) percent)
+    (reads_not_loose (host_inside host) q))
     ∙ run-go 40 rest (in_text host (settled plain mark) percent)
     (name_opened (flushed host (settled plain mark)) metadata)
     (percent_opens host (host_inside host) (settled plain mark) q)
@@ -278,26 +365,32 @@ reach_items parts plain mark rest =
     ∙ run-go 40 rest (in_text (whole parts) (settled plain mark) at_sign)
     (type_opened (flushed_parts parts (settled plain mark))) refl
 
-nested_stops : (host : Host) (inside : Inside) (plain : List ℕ) → (inside ≡ Quoted → ⊥)
+nested_stops : (host : Host) (inside : Inside) (plain : List ℕ) → ReadsMetadata inside
     → nested_step host inside plain ≡ stop Nested
 nested_stops host Whole plain q = refl
 nested_stops host Transform plain q = refl
-nested_stops host Quoted plain q = absurd (q refl)
+nested_stops host Quoted plain q = absurd q
+nested_stops host Loose plain q = absurd q
 
 pub reach_nested : (place : Place) (pieces : List Piece) (plain : List ℕ) (mark : Mark)
-    (rest : List ℕ) → (place_inside place ≡ Quoted → ⊥)
+    (rest : List ℕ) → ReadsMetadata (place_inside place)
     → run (64 ∷ 40 ∷ rest) (in_text (inner place pieces) plain mark) ≡ bad Nested (40 ∷ rest)
 reach_nested place pieces plain mark rest q =
     run-go 64 (40 ∷ rest) (in_text (inner place pieces) plain mark)
-    (in_text (inner place pieces) (settled plain mark) at_sign) refl
+    (in_text (inner place pieces) (settled plain mark) at_sign)
+    (unless-go (place_inside place) (in_text (inner place pieces) (settled plain mark) at_sign)
+    (reads_not_loose (place_inside place) q))
     ∙ run-stop 40 rest (in_text (inner place pieces) (settled plain mark) at_sign) Nested
     (nested_stops (inner place pieces) (place_inside place) (settled plain mark) q)
 
 pub reach_quote : (place : Place) (pieces : List Piece) (plain : List ℕ) (mark : Mark)
-    (rest : List ℕ) → run (39 ∷ rest) (in_text (inner place pieces) plain mark)
-    ≡ run rest (left place (flushed_pieces pieces (settled plain mark)))
-reach_quote place pieces plain mark rest = run-go 39 rest (in_text (inner place pieces) plain mark)
-    (left place (flushed_pieces pieces (settled plain mark))) refl
+    (rest : List ℕ) → (place_inside place ≡ Loose → ⊥)
+    → run (39 ∷ rest) (in_text (inner place pieces) plain mark) ≡ run rest
+    (left place (flushed_pieces pieces (settled plain mark)))
+reach_quote place pieces plain mark rest n =
+    run-go 39 rest (in_text (inner place pieces) plain mark)
+    (left place (flushed_pieces pieces (settled plain mark)))
+    (unless-go (place_inside place) (left place (flushed_pieces pieces (settled plain mark))) n)
 
 pub flushed-nil : (host : Host) → flushed host [] ≡ host
 flushed-nil (whole parts) = refl
@@ -313,34 +406,37 @@ pub over_property : (host : Host) (plain : List ℕ) (mark : Mark) (rest : List 
     → run (36 ∷ 40 ∷ rest) (in_text host plain mark)
     ≡ run (36 ∷ 40 ∷ rest) (in_text (flushed host (settled plain mark)) [] unmarked)
 over_property host plain mark rest =
-    reach_property host plain mark rest ∙ ap (λ h. run rest (name_opened h property))
-    (sym (flushed-nil (flushed host (settled plain mark))))
+    reach_property host plain mark rest
+    ∙ ap (run rest) (sym (dollar-flushed host (settled plain mark)))
     ∙ sym (reach_property (flushed host (settled plain mark)) [] unmarked rest)
 
 pub over_metadata : (host : Host) (plain : List ℕ) (mark : Mark) (rest : List ℕ)
-    → (host_inside host ≡ Quoted → ⊥) → run (37 ∷ 40 ∷ rest) (in_text host plain mark)
-    ≡ run (37 ∷ 40 ∷ rest) (in_text (flushed host (settled plain mark)) [] unmarked)
+    → ReadsMetadata (host_inside host)
+    → run (37 ∷ 40 ∷ rest) (in_text host plain mark) ≡ run (37 ∷ 40 ∷ rest)
+    (in_text (flushed host (settled plain mark)) [] unmarked)
 over_metadata host plain mark rest q =
     reach_metadata host plain mark rest q ∙ ap (λ h. run rest (name_opened h metadata))
     (sym (flushed-nil (flushed host (settled plain mark))))
-    ∙ sym
-    (reach_metadata (flushed host (settled plain mark)) [] unmarked rest
-    (λ e. q (sym (host-inside-flushed host (settled plain mark)) ∙ e)))
+    ∙ sym (reach_metadata (flushed host (settled plain mark)) [] unmarked rest
+    (subst (λ i. ReadsMetadata i) (sym (host-inside-flushed host (settled plain mark))) q))
 
 pub over_items : (host : Host) (plain : List ℕ) (mark : Mark) (rest : List ℕ)
-    → (host_inside host ≡ Quoted → ⊥) → run (64 ∷ 40 ∷ rest) (in_text host plain mark)
-    ≡ run (64 ∷ 40 ∷ rest) (in_text (flushed host (settled plain mark)) [] unmarked)
+    → ReadsMetadata (host_inside host)
+    → run (64 ∷ 40 ∷ rest) (in_text host plain mark) ≡ run (64 ∷ 40 ∷ rest)
+    (in_text (flushed host (settled plain mark)) [] unmarked)
 over_items (whole parts) plain mark rest q = reach_items parts plain mark rest
     ∙ sym (reach_items (flushed_parts parts (settled plain mark)) [] unmarked rest)
 over_items (inner place pieces) plain mark rest q = reach_nested place pieces plain mark rest q
     ∙ sym (reach_nested place (flushed_pieces pieces (settled plain mark)) [] unmarked rest q)
 
 pub over_quote : (host : Host) (plain : List ℕ) (mark : Mark) (rest : List ℕ)
-    → (host_inside host ≡ Whole → ⊥) → run (39 ∷ rest) (in_text host plain mark)
-    ≡ run (39 ∷ rest) (in_text (flushed host (settled plain mark)) [] unmarked)
-over_quote (whole parts) plain mark rest q = absurd (q refl)
-over_quote (inner place pieces) plain mark rest q = reach_quote place pieces plain mark rest
-    ∙ sym (reach_quote place (flushed_pieces pieces (settled plain mark)) [] unmarked rest)
+    → (host_inside host ≡ Whole → ⊥) → (host_inside host ≡ Loose → ⊥)
+    → run (39 ∷ rest) (in_text host plain mark) ≡ run (39 ∷ rest)
+    (in_text (flushed host (settled plain mark)) [] unmarked)
+over_quote (whole parts) plain mark rest q n = absurd (q refl)
+over_quote (inner place pieces) plain mark rest q n =
+    reach_quote place pieces plain mark rest n
+    ∙ sym (reach_quote place (flushed_pieces pieces (settled plain mark)) [] unmarked rest n)
 
 pub over_end : (host : Host) (plain : List ℕ) (mark : Mark)
     → run [] (in_text host plain mark) ≡ run []

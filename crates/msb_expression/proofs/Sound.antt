@@ -26,6 +26,14 @@ use Rattle.msb_expression.specs.Machine.{
   arg_wanted,
   separator_wanted,
   separator_ended,
+  property_opened,
+  build_opened,
+  call_wanted,
+  call_named,
+  call_ended,
+  called,
+  call_arg_wanted,
+  call_arg_ended,
   Next,
   go,
   stop,
@@ -57,6 +65,16 @@ use Rattle.msb_expression.proofs.KeepsItems.{
   arg_wanted_keeps,
   separator_wanted_keeps,
   separator_ended_keeps,
+}
+use Rattle.msb_expression.proofs.KeepsCalls.{
+  property_opened_keeps,
+  build_opened_keeps,
+  call_wanted_keeps,
+  call_named_keeps,
+  call_ended_keeps,
+  called_keeps,
+  call_arg_wanted_keeps,
+  call_arg_ended_keeps,
 }
 
 mode_keeps : (mode : Mode) (front : List ℕ) (sort : Sort) (b : ℕ) → sort_of b ≡ sort → SortIs sort b
@@ -90,6 +108,17 @@ mode_keeps (separator_wanted heads) front sort b e f h = separator_wanted_keeps 
     h
 mode_keeps (separator_ended heads pieces) front sort b e f h = separator_ended_keeps heads pieces
     front sort b f h
+mode_keeps (property_opened parts) front sort b e f h = property_opened_keeps parts front sort b f h
+mode_keeps (build_opened parts left) front sort b e f h = build_opened_keeps parts left front b h
+mode_keeps (call_wanted heads) front sort b e f h = call_wanted_keeps heads front sort b f h
+mode_keeps (call_named heads function) front sort b e f h =
+    call_named_keeps heads function front sort b f h
+mode_keeps (call_ended heads function) front sort b e f h =
+    call_ended_keeps heads function front sort b f h
+mode_keeps (called heads) front sort b e f h = called_keeps heads front sort b f h
+mode_keeps (call_arg_wanted a spaced) front sort b e f h =
+    call_arg_wanted_keeps a spaced front sort b e f h
+mode_keeps (call_arg_ended a) front sort b e f h = call_arg_ended_keeps a front sort b f h
 
 pub step_keeps : (mode : Mode) (front : List ℕ) (b : ℕ) → Behind mode front
     → Keeps (step_of mode (sort_of b) b) (λ next. Behind next (front ++ b ∷ []))
@@ -127,7 +156,7 @@ run_sound_from (b ∷ bs) mode front parts h e =
     e
 
 pub begins : Behind begin []
-begins = text_begun (whole []) [] (record { joins = refl; apart = tt; fresh = λ part. tt })
+begins = text_begun (whole []) [] tt (record { joins = refl; apart = tt; fresh = λ part. tt })
 
 pub run_sound : (text : List ℕ) (parts : List Part) → run text begin ≡ done parts
     → IsReading text parts

@@ -23,9 +23,6 @@ use Rattle.std.proofs.Common.{
   arith,
   append_assoc,
   length-drop,
-  ◌⊎◌,
-  inl,
-  inr,
 }
 use Rattle.std.proofs.lemmas.List.{drop-drop, drop_all}
 use Rattle.msb_expression.specs.declared.expression.Part.{Part}
@@ -48,7 +45,7 @@ use Rattle.msb_expression.specs.declared.sorts.Sort.TheVariants.{
   Greater,
 }
 use Rattle.msb_expression.specs.declared.sorts.Kind.{Kind}
-use Rattle.msb_expression.specs.declared.sorts.Kind.TheVariants.{Transform as BadStep, Nested}
+use Rattle.msb_expression.specs.declared.sorts.Kind.TheVariants.{Name, Transform as BadStep, Nested}
 use Rattle.msb_expression.specs.Machine.{
   is_name_sort,
   sort_of,
@@ -61,11 +58,11 @@ use Rattle.msb_expression.specs.Machine.{
   Host,
   whole,
   inner,
-  property,
   metadata,
   unmarked,
   Mode,
   in_text,
+  dollar_opened,
   name_opened,
   type_opened,
   stepping,
@@ -110,8 +107,9 @@ use Rattle.msb_expression.proofs.RunsText.{
   reach_nested,
   flushed-nil,
 }
-use Rattle.msb_expression.proofs.StartsAt.{StartIs}
-use Rattle.msb_expression.proofs.PlainPlaces.{start_is}
+use Rattle.msb_expression.proofs.StartsAt.{ReadsQuote, is_bad, StartIs}
+use Rattle.msb_expression.proofs.PlainText.{ReadsMetadata, unless-go}
+use Rattle.msb_expression.proofs.PlainPlaces.{start_is, bad_there}
 
 -- what a `?` hands on
 pub leads_err : {X : Type 0} (bs : List ℕ) (r : Result (X × ℕ) ExprFault) (given fault : ExprFault)
@@ -134,13 +132,12 @@ behind_one bs more n a e = sym (ap (drop 1) e) ∙ drop-drop 1 n bs
 
 pub property_at : (host : Host) (inside : Inside) (bs : List ℕ) (n : ℕ)
     → start_of inside (drop n bs) ≡ start.Property
-    → run (drop n bs) (in_text host [] unmarked) ≡ run (drop (n + 2) bs) (name_opened host property)
+    → run (drop n bs) (in_text host [] unmarked) ≡ run (drop (n + 2) bs) (dollar_opened host [])
 property_at host inside bs n e =
     let p : StartIs start.Property inside (drop n bs) = start_is inside (drop n bs) start.Property e
     in
     ap (λ t. run t (in_text host [] unmarked)) p.1 ∙ reach_property host [] unmarked p.0
-    ∙ ap (λ h. run p.0 (name_opened h property)) (flushed-nil host)
-    ∙ ap (λ t. run t (name_opened host property)) (behind_two bs p.0 n 36 40 p.1)
+    ∙ ap (λ t. run t (dollar_opened host [])) (behind_two bs p.0 n 36 40 p.1)
 
 pub metadata_at : (host : Host) (inside : Inside) (bs : List ℕ) (n : ℕ) → host_inside host ≡ inside
     → start_of inside (drop n bs) ≡ start.Metadata
@@ -149,7 +146,7 @@ metadata_at host inside bs n i e =
     let p : StartIs start.Metadata inside (drop n bs) = start_is inside (drop n bs) start.Metadata e
     in
     ap (λ t. run t (in_text host [] unmarked)) p.1
-    ∙ reach_metadata host [] unmarked p.0 (λ q. p.2 (sym i ∙ q))
+    ∙ reach_metadata host [] unmarked p.0 (subst (λ x. ReadsMetadata x) (sym i) p.2)
     ∙ ap (λ h. run p.0 (name_opened h metadata)) (flushed-nil host)
     ∙ ap (λ t. run t (name_opened host metadata)) (behind_two bs p.0 n 37 40 p.1)
 
@@ -167,17 +164,27 @@ pub nested_at : (place : Place) (pieces : List Piece) (inside : Inside) (bs : Li
 nested_at place pieces inside bs n i e =
     let p : StartIs start.Items inside (drop n bs) = start_is inside (drop n bs) start.Items e in
     ap (λ t. run t (in_text (inner place pieces) [] unmarked)) p.1
-    ∙ reach_nested place pieces [] unmarked p.0 (λ q. p.2 (sym i ∙ q))
+    ∙ reach_nested place pieces [] unmarked p.0 (subst (λ x. ReadsMetadata x) (sym i) p.2)
     ∙ ap (λ t. refused t Nested) (behind_one bs (40 ∷ p.0) n 64 p.1)
 
 pub quote_at : (place : Place) (pieces : List Piece) (inside : Inside) (bs : List ℕ) (n : ℕ)
-    → start_of inside (drop n bs) ≡ start.Quote
-    → run (drop n bs) (in_text (inner place pieces) [] unmarked)
-    ≡ run (drop (n + 1) bs) (left place pieces)
-quote_at place pieces inside bs n e =
+    → place_inside place ≡ inside → start_of inside (drop n bs) ≡ start.Quote
+    → run (drop n bs) (in_text (inner place pieces) [] unmarked) ≡ run (drop (n + 1) bs)
+    (left place pieces)
+quote_at place pieces inside bs n i e =
     let p : StartIs start.Quote inside (drop n bs) = start_is inside (drop n bs) start.Quote e in
     run-at bs n (in_text (inner place pieces) [] unmarked) (left place pieces) Quote
-    (ap first_sort p.1) (λ k. cc) refl
+    (ap first_sort p.1) (λ k. cc)
+    (unless-go (place_inside place) (left place pieces)
+    (λ q. subst (λ x. ReadsQuote x) (sym i ∙ q) p.2))
+
+pub bad_at : (place : Place) (pieces : List Piece) (inside : Inside) (bs : List ℕ) (n : ℕ)
+    → place_inside place ≡ inside
+    → start_of inside (drop n bs) ≡ start.Bad
+    → run (drop n bs) (in_text (inner place pieces) [] unmarked) ≡ refused (drop n bs) Name
+bad_at place pieces inside bs n i e =
+    let p : StartIs start.Bad inside (drop n bs) = start_is inside (drop n bs) start.Bad e in
+    bad_there place pieces (drop n bs) (i ∙ p.3) (ap (λ x. is_bad (first_sort x)) p.2 ∙ p.4)
 
 pub end_at : (place : Place) (pieces : List Piece) (inside : Inside) (bs : List ℕ) (n : ℕ)
     → start_of inside (drop n bs) ≡ start.End
@@ -367,16 +374,26 @@ step_read heads bs start at end to had all step a d b e s =
     (append_assoc heads.steps had (step ∷ []))
     ∙ ap (λ list. run (drop end bs) (stepping (with_steps heads list))) (sym e) ∙ s
 
--- within a whole text, other than the end and a quote start
+-- within a whole text a reference starts, or plain text
+starts_by : (bs : List ℕ) (n : ℕ) (here : Start) → n < length bs → StartIs here Whole (drop n bs)
+    → (here ≡ start.Property → ⊥) → (here ≡ start.Metadata → ⊥) → (here ≡ start.Items → ⊥)
+    → (here ≡ start.Plain → ⊥) → ⊥
+starts_by bs n start.End w s p m i t =
+    let k : length (drop n bs) ≡ 0 = ap length s in omega (arith, length-drop n bs)
+starts_by bs n start.Quote w s p m i t = s.2
+starts_by bs n start.Property w s p m i t = p refl
+starts_by bs n start.Metadata w s p m i t = m refl
+starts_by bs n start.Items w s p m i t = i refl
+starts_by bs n start.Stop w s p m i t = let k = s.3 in cc
+starts_by bs n start.Bad w s p m i t = let k = s.3 in cc
+starts_by bs n start.Plain w s p m i t = t refl
+
 pub no_start : (bs : List ℕ) (n : ℕ) (here : Start) → n < length bs
-    → here ≡ start_of Whole (drop n bs) → (here ≡ start.End) ⊎ (here ≡ start.Quote) → ⊥
-no_start bs n here w e (inl h) =
-    let p : length (drop n bs) ≡ 0 = ap length (start_is Whole (drop n bs) start.End (sym e ∙ h)) in
-    omega (arith, length-drop n bs)
-no_start bs n here w e (inr h) =
-    let p : StartIs start.Quote Whole (drop n bs) = start_is Whole (drop n bs) start.Quote
-    (sym e ∙ h) in
-    p.2 refl
+    → here ≡ start_of Whole (drop n bs)
+    → (here ≡ start.Property → ⊥) → (here ≡ start.Metadata → ⊥) → (here ≡ start.Items → ⊥)
+    → (here ≡ start.Plain → ⊥) → ⊥
+no_start bs n here w e p m i t =
+    starts_by bs n here w (start_is Whole (drop n bs) here (sym e)) p m i t
 
 pub run_end : (parts : List Part) (bs : List ℕ) (n : ℕ) → length bs ≤ n
     → run (drop n bs) (in_text (whole parts) [] unmarked) ≡ done parts

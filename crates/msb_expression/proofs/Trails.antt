@@ -2,7 +2,6 @@
 use Rattle.std.proofs.Common.{◌≡◌, ℕ, Bool, true, false, cond, eqb, List, ◌∷◌, refl, sym, ap, ◌∙◌}
 use Rattle.std.specs.Prelude.{◌&&◌, ◌||◌}
 use Rattle.std.proofs.lemmas.Bool.{false≢true}
-use Rattle.msb_expression.specs.declared.starts.Inside.TheVariants.{Quoted}
 use Rattle.msb_expression.specs.declared.sorts.Sort.{Sort}
 use Rattle.msb_expression.specs.declared.sorts.Kind.{Kind}
 use Rattle.msb_expression.specs.declared.sorts.Kind.TheVariants.{Name, Transform as BadStep, Nested}
@@ -43,10 +42,12 @@ use Rattle.msb_expression.specs.Machine.{
   arg_wanted,
   separator_wanted,
   separator_ended,
+  property_opened,
   host_inside,
   stepping_kind,
 }
 use Rattle.msb_expression.proofs.Bytes.{other_byte}
+use Rattle.msb_expression.proofs.PlainText.{ReadsMetadata}
 
 -- whether the bytes end as a mark with its `(` and spaces, with a name, and with spaces behind that
 pub record Ends (mark : ℕ) (opened named spaced : Bool) (back : List ℕ) : Type 0 where
@@ -143,7 +144,7 @@ MarkIs at_sign back = (more : List ℕ) × (back ≡ 64 ∷ more)
 
 pub record TextTrail (host : Host) (mark : Mark) (back : List ℕ) : Type 0 where
   pub mark_is : MarkIs mark back
-  pub outside : (host_inside host ≡ Quoted → ⊥) → is_inside back ≡ false
+  pub outside : ReadsMetadata (host_inside host) → is_inside back ≡ false
 
 -- inside `$(` or `%(`
 pub record NameTrail (opened named spaced : Bool) (back : List ℕ) : Type 0 where
@@ -186,6 +187,8 @@ Trail (arg_ended heads function args) back = ItemsTrail false false false back
 Trail (arg_wanted heads function args) back = ItemsTrail false false false back
 Trail (separator_wanted heads) back = ItemsTrail false false false back
 Trail (separator_ended heads pieces) back = ItemsTrail false false false back
+Trail (property_opened parts) back = NameTrail false false false back
+Trail _ back = Unit {0}
 
 -- the kinds
 pub kind_inside : (b : ℕ) (back : List ℕ) → is_first 64 back ≡ false

@@ -25,7 +25,13 @@ use Rattle.msb_expression.specs.declared.faults.ExprFault.TheVariants.{
   Memory,
 }
 use Rattle.msb_expression.specs.declared.sorts.Kind.TheVariants.{Name, Transform, Nested}
-use Rattle.msb_expression.specs.declared.sorts.Sort.TheVariants.{Greater, Space}
+use Rattle.msb_expression.specs.declared.sorts.Sort.TheVariants.{
+  Letter,
+  Digit,
+  Dash,
+  Greater,
+  Space,
+}
 use Rattle.msb_expression.specs.Grammar.{IsName}
 use Rattle.msb_expression.specs.declared.expression.Part.{Part}
 use Rattle.msb_expression.specs.declared.sorts.Sort.{Sort}
@@ -36,6 +42,9 @@ use Rattle.msb_expression.specs.Machine.{
   early,
   first_sort,
   is_name_sort,
+  Host,
+  Named,
+  dot_step,
   Mode,
   go,
   stop,
@@ -75,10 +84,28 @@ pub record Wants (wanted : Sort) (mode next : Mode) : Type 0 where
       → step_of mode sort byte ≡ stop Transform
   pub ends : finish mode ≡ early
 
+-- spaces and a name may stand there, and no other byte; a mode grows by each byte of the name
+pub record TakesName (mode : Mode) (named : List ℕ → Mode) : Type 0 where
+  pub stays : step_of mode Space 32 ≡ go mode
+  pub opens : (byte : ℕ) → step_of mode Letter byte ≡ go (named (byte ∷ []))
+  pub at_letter : (name : List ℕ) (byte : ℕ)
+      → step_of (named name) Letter byte ≡ go (named (name ++ byte ∷ []))
+  pub at_digit : (name : List ℕ) (byte : ℕ)
+      → step_of (named name) Digit byte ≡ go (named (name ++ byte ∷ []))
+  pub at_dash : (name : List ℕ) (byte : ℕ)
+      → step_of (named name) Dash byte ≡ go (named (name ++ byte ∷ []))
+  pub stops : (sort : Sort) (byte : ℕ) → (sort ≡ Space → ⊥) → (sort ≡ Letter → ⊥)
+      → step_of mode sort byte ≡ stop Name
+  pub ends : finish mode ≡ early
+
 -- what was read of a text, to its end
 abbrev pub Reads : List ℕ → Result (List Part) ExprFault → Type 0
 Reads bytes (Ok parts) = run bytes begin ≡ done parts
 Reads bytes (Err fault) = Refuses bytes fault (run bytes begin)
+
+-- no `.` may follow such a name
+abbrev pub TakesNoDot : Host → Named → Type 0
+TakesNoDot host which = (name : List ℕ) → dot_step host which name ≡ stop Name
 
 -- a name stands from this place to another
 pub record IsNameAt (bytes : List ℕ) (start : ℕ) (name : List ℕ) (end : ℕ) : Type 0 where

@@ -1,5 +1,6 @@
--- The texts of a project file as expressions ("MSBuild properties", "MSBuild items", "Item
--- metadata", "MSBuild transforms", "Item functions").
+-- The texts of a project file as expressions ("MSBuild properties", "Property functions", "MSBuild
+-- items",
+-- "Item metadata", "MSBuild transforms", "Item functions").
 use Rattle.std.specs.Prelude.{
   ◌≡◌,
   ℕ,
@@ -12,20 +13,31 @@ use Rattle.std.specs.Prelude.{
   IsTrue,
   nat_le,
   ◌==◌,
+  ◌⊎◌,
   List,
   [],
   ◌∷◌,
   ◌++◌,
   length,
+  reverse,
   Option,
   Some,
   None,
+  IsSome,
   codes,
 }
+use Rattle.std.specs.Str.{str_to_ascii_lowercase}
 use Rattle.msb_expression.specs.declared.starts.Inside.{Inside}
-use Rattle.msb_expression.specs.declared.starts.Inside.TheVariants.{Whole, Transform, Quoted}
+use Rattle.msb_expression.specs.declared.starts.Inside.TheVariants.{Whole, Transform, Quoted, Loose}
 use Rattle.msb_expression.specs.declared.expression.Part.{Part}
-use Rattle.msb_expression.specs.declared.expression.Part.TheVariants.{Plain, Prop, Meta, Items}
+use Rattle.msb_expression.specs.declared.expression.Part.TheVariants.{
+  Plain,
+  Prop,
+  Func,
+  Meta,
+  Items,
+}
+use Rattle.msb_expression.specs.declared.expression.Call.{Call as PropertyCall}
 use Rattle.msb_expression.specs.declared.expression.Step.{Step}
 use Rattle.msb_expression.specs.declared.expression.Step.TheVariants.{Transform as Transforms, Call}
 use Rattle.msb_expression.specs.declared.expression.Piece.{Piece}
@@ -70,17 +82,30 @@ opens mark [] = false
 opens mark (b ∷ []) = false
 opens mark (b ∷ c ∷ bs) = (b == mark) && (c == 40)
 
--- no plain text: a reference begins, in a transform also an `@(`, which can't stand there
+-- an argument of a property function without quotes has no quote, `(`, `@` or `%`
+abbrev pub is_quotable : ℕ → Bool
+is_quotable b = b == 39 || (b == 40 || (b == 64 || b == 37))
+
+abbrev pub begins_quotable : List ℕ → Bool
+begins_quotable [] = false
+begins_quotable (b ∷ bs) = is_quotable b
+
+-- no plain text: a reference begins, in a transform also an `@(`, which can't stand there, and what
+-- can't stand in an
+-- argument without quotes
 abbrev pub begins_reference : Inside → List ℕ → Bool
 begins_reference Whole bs = opens 36 bs || (opens 37 bs || opens 64 bs)
 begins_reference Transform bs = opens 36 bs || (opens 37 bs || opens 64 bs)
 begins_reference Quoted bs = opens 36 bs
+begins_reference Loose bs = opens 36 bs || begins_quotable bs
 
--- no plain text: the quote that ends a text between quotes
+-- no plain text: the quote that ends a text between quotes, or the `,` or `)` that ends an argument
+-- without quotes
 abbrev pub is_end_quote : Inside → ℕ → Bool
 is_end_quote Whole b = false
 is_end_quote Transform b = b == 39
 is_end_quote Quoted b = b == 39
+is_end_quote Loose b = b == 44 || b == 41
 
 -- every other character is plain
 abbrev pub IsPlain : Inside → List ℕ → Type 0
@@ -155,10 +180,116 @@ abbrev pub IsSeparator : List ℕ → Option (List Piece) → Type 0
 IsSeparator text None = text ≡ []
 IsSeparator text (Some pieces) = IsListed text pieces
 
+-- white space around an argument without quotes: a space, a tab, or the end of a line
+abbrev pub is_blank : ℕ → Bool
+is_blank b = b == 32 || (b == 9 || (b == 13 || b == 10))
+
+abbrev pub begins_blank : List ℕ → Bool
+begins_blank [] = false
+begins_blank (b ∷ bs) = is_blank b
+
+abbrev pub without_front : List ℕ → List ℕ
+without_front [] = []
+without_front (b ∷ bs) = elim (is_blank b) [ true ↦ without_front bs | false ↦ b ∷ bs ]
+
+abbrev pub without_end : List ℕ → List ℕ
+without_end text = reverse (without_front (reverse text))
+
+abbrev pub cut_front : Bool → List ℕ → List ℕ
+cut_front true text = without_front text
+cut_front false text = text
+
+abbrev pub cut_end : Bool → List ℕ → List ℕ
+cut_end true text = without_end text
+cut_end false text = text
+
+abbrev pub plain_pieces : List ℕ → List Piece
+plain_pieces [] = []
+plain_pieces (b ∷ bs) = PlainPiece (b ∷ bs) ∷ []
+
+-- a piece without the white space at its front, or at its end
+abbrev pub cut_piece : (front end : Bool) → Piece → List Piece
+cut_piece front end (PlainPiece plain) = plain_pieces (cut_end end (cut_front front plain))
+cut_piece front end (PropPiece name) = PropPiece name ∷ []
+cut_piece front end (MetaPiece name) = MetaPiece name ∷ []
+
+abbrev pub cut_pieces : (front : Bool) → List Piece → List Piece
+cut_pieces front [] = []
+cut_pieces front (piece ∷ []) = cut_piece front true piece
+cut_pieces front (piece ∷ next ∷ pieces) =
+    cut_piece front false piece ++ cut_pieces false (next ∷ pieces)
+
+-- without the white space around them
+abbrev pub trimmed_pieces : List Piece → List Piece
+trimmed_pieces pieces = cut_pieces true pieces
+
+abbrev pub begins_space : List ℕ → Bool
+begins_space [] = false
+begins_space (b ∷ bs) = b == 32
+
+-- one or more characters without quotes, and without the white space around them
+abbrev pub IsLoose : List ℕ → List Piece → Type 0
+IsLoose text pieces =
+    (spaces : List ℕ) × (inner : List ℕ) × (read : List Piece) × (0 < length text)
+    × IsSpaces spaces × (begins_space inner ≡ false) × Joins (IsPiece Loose) inner read
+    × Apart is_plain_piece read
+    × (trimmed_pieces read ≡ pieces) × (text ≡ spaces ++ inner)
+
+-- a quoted text between spaces, or a text without quotes
+abbrev pub IsArgument : List ℕ → List Piece → Type 0
+IsArgument text pieces =
+    ((quoted : List ℕ) × (after : List ℕ) × IsQuoted Quoted quoted pieces × IsSpaces after
+    × (text ≡ quoted ++ after))
+    ⊎ IsLoose text pieces
+
+abbrev pub IsNextArgument : List ℕ → List Piece → Type 0
+IsNextArgument text pieces =
+    (argument : List ℕ) × IsArgument argument pieces × (text ≡ codes "," ++ argument)
+
+-- none, which spaces are too, or arguments parted by `,`
+abbrev pub IsArguments : List ℕ → List (List Piece) → Type 0
+IsArguments text [] = IsSpaces text
+IsArguments text (arg ∷ args) =
+    (first : List ℕ) × (others : List ℕ) × IsArgument first arg × Joins IsNextArgument others args
+    × (IsSpaces text → ⊥) × (text ≡ first ++ others)
+
+-- nothing, or `(` arguments `)`
+abbrev pub IsParenthesized : List ℕ → Option (List (List Piece)) → Type 0
+IsParenthesized text None = text ≡ []
+IsParenthesized text (Some args) =
+    (inner : List ℕ) × (after : List ℕ) × IsArguments inner args × IsSpaces after
+    × (text ≡ codes "(" ++ inner ++ codes ")" ++ after)
+
+-- a call of a property function
+abbrev pub IsCall : List ℕ → PropertyCall → Type 0
+IsCall text call =
+    (named : List ℕ) × (rest : List ℕ) × IsNamed named call.name × IsParenthesized rest call.args
+    × (text ≡ named ++ rest)
+
+abbrev pub IsNextCall : List ℕ → PropertyCall → Type 0
+IsNextCall text call = (called : List ℕ) × IsCall called call × (text ≡ codes "." ++ called)
+
+-- a property's name and at least one call; or `[MSBuild]::`, in whatever case, and calls, of which
+-- the first has parentheses
+abbrev pub IsFunction : List ℕ → Option (List ℕ) → List PropertyCall → Type 0
+IsFunction text (Some name) calls =
+    (named : List ℕ) × (called : List ℕ) × IsNamed named name × Joins IsNextCall called calls
+    × (0 < length calls)
+    × (text ≡ named ++ called)
+IsFunction text None [] = ⊥
+IsFunction text None (call ∷ calls) =
+    (head : List ℕ) × (first : List ℕ) × (others : List ℕ)
+    × (str_to_ascii_lowercase head ≡ codes "[msbuild]::")
+    × IsCall first call × IsSome call.args × Joins IsNextCall others calls
+    × (text ≡ head ++ first ++ others)
+
 abbrev pub IsPart : List ℕ → Part → Type 0
 IsPart text (Plain plain) = IsPlainText Whole plain × (text ≡ plain)
 IsPart text (Prop name) = (named : List ℕ) × IsNamed named name
     × (text ≡ codes "$(" ++ named ++ codes ")")
+IsPart text (Func subject calls) =
+    (function : List ℕ) × IsFunction function subject calls
+    × (text ≡ codes "$(" ++ function ++ codes ")")
 IsPart text (Meta None name) = (named : List ℕ) × IsNamed named name
     × (text ≡ codes "%(" ++ named ++ codes ")")
 IsPart text (Meta (Some kind) name) =
@@ -173,6 +304,7 @@ IsPart text (Items kind steps separator) =
 abbrev pub is_plain : Part → Bool
 is_plain (Plain plain) = true
 is_plain (Prop name) = false
+is_plain (Func subject calls) = false
 is_plain (Meta kind name) = false
 is_plain (Items kind steps separator) = false
 

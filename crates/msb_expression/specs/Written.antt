@@ -2,7 +2,14 @@
 use Rattle.std.specs.Prelude.{ℕ, List, [], ◌∷◌, ◌++◌, Option, Some, None, codes}
 use Rattle.std.specs.List.{flat_map}
 use Rattle.msb_expression.specs.declared.expression.Part.{Part}
-use Rattle.msb_expression.specs.declared.expression.Part.TheVariants.{Plain, Prop, Meta, Items}
+use Rattle.msb_expression.specs.declared.expression.Part.TheVariants.{
+  Plain,
+  Prop,
+  Func,
+  Meta,
+  Items,
+}
+use Rattle.msb_expression.specs.declared.expression.Call.{Call as PropertyCall}
 use Rattle.msb_expression.specs.declared.expression.Step.{Step}
 use Rattle.msb_expression.specs.declared.expression.Step.TheVariants.{Transform, Call}
 use Rattle.msb_expression.specs.declared.expression.Piece.{Piece}
@@ -27,6 +34,26 @@ abbrev pub args_text : List (List Piece) → List ℕ
 args_text [] = []
 args_text (arg ∷ args) = quoted_text arg ++ flat_map listed_text args
 
+-- a call of a property function, whose arguments are written in quotes
+abbrev pub parenthesized_text : Option (List (List Piece)) → List ℕ
+parenthesized_text None = []
+parenthesized_text (Some args) = codes "(" ++ args_text args ++ codes ")"
+
+abbrev pub call_text : PropertyCall → List ℕ
+call_text call = call.name ++ parenthesized_text call.args
+
+abbrev pub dotted_text : PropertyCall → List ℕ
+dotted_text call = codes "." ++ call_text call
+
+-- behind `::` the first call has no `.` before it
+abbrev pub build_calls_text : List PropertyCall → List ℕ
+build_calls_text [] = []
+build_calls_text (call ∷ calls) = call_text call ++ flat_map dotted_text calls
+
+abbrev pub function_text : Option (List ℕ) → List PropertyCall → List ℕ
+function_text (Some name) calls = codes "$(" ++ name ++ flat_map dotted_text calls ++ codes ")"
+function_text None calls = codes "$([MSBuild]::" ++ build_calls_text calls ++ codes ")"
+
 abbrev pub step_text : Step → List ℕ
 step_text (Transform pieces) = codes "->" ++ quoted_text pieces
 step_text (Call function args) = codes "->" ++ function ++ codes "(" ++ args_text args ++ codes ")"
@@ -38,6 +65,7 @@ separator_text (Some pieces) = listed_text pieces
 abbrev pub part_text : Part → List ℕ
 part_text (Plain plain) = plain
 part_text (Prop name) = codes "$(" ++ name ++ codes ")"
+part_text (Func subject calls) = function_text subject calls
 part_text (Meta None name) = codes "%(" ++ name ++ codes ")"
 part_text (Meta (Some kind) name) = codes "%(" ++ kind ++ codes "." ++ name ++ codes ")"
 part_text (Items kind steps separator) = codes

@@ -18,6 +18,9 @@ pub enum Part {
     Plain(Word),
     /// `$(Name)`
     Prop(Word),
+    /// `$(Name.Function('argument'))`, or `$([MSBuild]::Function('argument'))`, with at least one
+    /// call
+    Func(Option<Word>, Calls),
     /// `%(Name)` or `%(Type.Name)`
     Meta(Option<Word>, Word),
     /// `@(Type steps, 'separator')`
@@ -30,9 +33,23 @@ impl Drop for Part {
         match self {
             Part::Plain(_) => {}
             Part::Prop(_) => {}
+            Part::Func(_, _) => {}
             Part::Meta(_, _) => {}
             Part::Items(_, _, _) => {}
         }
+    }
+}
+
+/// The call of a property function, with its arguments, or without parentheses.
+pub struct Call {
+    pub name: Word,
+    pub args: Option<Args>,
+}
+
+// A drop that is written out is proved here alone.
+impl Drop for Call {
+    fn drop(self) {
+        let Call { name: _, args: _ } = self;
     }
 }
 
@@ -83,3 +100,6 @@ pub type Steps = List<Step>;
 pub type Pieces = List<Piece>;
 
 pub type Args = List<Pieces>;
+
+/// Calls, each of what the one before it gives.
+pub type Calls = List<Call>;

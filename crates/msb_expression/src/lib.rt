@@ -5,9 +5,11 @@
 //! allows.
 #![tactic(auto)]
 
+mod calls;
 mod expression;
 mod faults;
 mod list;
+mod loose;
 mod names;
 mod parsing;
 mod pieces;
@@ -18,7 +20,7 @@ mod steps;
 mod word;
 mod writing;
 
-pub use expression::{Args, Expr, Part, Parts, Piece, Pieces, Step, Steps};
+pub use expression::{Args, Call, Calls, Expr, Part, Parts, Piece, Pieces, Step, Steps};
 pub use faults::{ExprFault, NoRoom};
 pub use list::List;
 pub use parsing::parse;

@@ -14,7 +14,7 @@ ghost use Rattle.std.specs.Prelude.{
   drop,
 };
 ghost use Rattle.std.specs.Str.{IsCharBoundary};
-ghost use Rattle.msb_expression.specs.Grammar.{Every, is_name_byte};
+ghost use Rattle.msb_expression.specs.Grammar.{Every, IsSpaces, is_name_byte};
 ghost use Rattle.msb_expression.specs.Machine.{
   Host,
   Named,
@@ -33,7 +33,7 @@ ghost use Rattle.msb_expression.specs.Machine.{
 };
 ghost use Rattle.msb_expression.specs.declared.expression.Part.{Part};
 ghost use Rattle.msb_expression.specs.declared.sorts.Sort.TheVariants.{Space, Letter};
-ghost use Rattle.msb_expression.specs.Answers.{Leads, IsNameAt, EndsType};
+ghost use Rattle.msb_expression.specs.Answers.{Leads, TakesName, IsNameAt, EndsType};
 
 use crate::sorts::{Kind, Sort, refusal, sort_at};
 use crate::{ExprFault, NoRoom, Word};
@@ -47,6 +47,7 @@ pub(crate) fn spaces_end(text: &str, at: usize) -> usize
     ensures over { (mode : Mode) → step_of mode Space 32 ≡ go mode
         → run (drop at text.now) mode ≡ run (drop result text.now) mode }
     ensures no_space { first_sort (drop result text.now) ≡ Space → ⊥ }
+    ensures spaces { IsSpaces (take (result - at) (drop at text.now)) }
 {
     let mut end = at;
     while let Sort::Space = sort_at(text, end) {
@@ -132,6 +133,8 @@ pub(crate) fn name(alloc: Global, text: &str, at: usize) -> Result<(Word, usize)
     ensures leads { (host : Host) (which : Named)
         → Leads text.now result (run (drop at text.now) (name_opened host which))
         (λ name rest. run rest (in_name host which name)) }
+    ensures takes { (mode : Mode) (named : List ℕ → Mode) → TakesName mode named
+        → Leads text.now result (run (drop at text.now) mode) (λ name rest. run rest (named name)) }
     ensures after { IfOk result (λ found. at < found.1) }
     ensures within { IfOk result (λ found. found.1 ≤ length text.now) }
     ensures over { IfOk result (λ found. is_name_sort (first_sort (drop found.1 text.now))

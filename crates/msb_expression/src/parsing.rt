@@ -23,17 +23,18 @@ ghost use Rattle.msb_expression.specs.Refusals.{IsRefusal};
 ghost use Rattle.msb_expression.specs.Answers.{Leads, Reads};
 ghost use Rattle.msb_expression.specs.Reading.{IsRead, reading};
 
+use crate::calls::property;
 use crate::names::piece_of;
-use crate::references::{any_metadata, closed_name};
+use crate::references::any_metadata;
 use crate::starts::{Inside, Start, plain_end, start_at};
 use crate::steps::items;
 use crate::{Expr, ExprFault, Part, Parts};
 use std::alloc::Global;
 
 /// Reads a text of a project file as an expression: plain text with the references `$(Property)`,
-/// `%(Metadata)` and `@(Items)` ("MSBuild properties", "Item metadata", "MSBuild items", "MSBuild
-/// transforms" and "Item functions" in the MSBuild documentation). A refusal has the place of its
-/// byte in the text.
+/// `%(Metadata)` and `@(Items)` ("MSBuild properties", "Property functions", "Item metadata",
+/// "MSBuild items", "MSBuild transforms" and "Item functions" in the MSBuild documentation). A
+/// refusal has the place of its byte in the text.
 pub fn parse(alloc: Global, text: &str) -> Result<Expr, ExprFault>
     // What is read is a reading, and the only one.
     ensures found { IfOk result (λ expr. IsReading text.now expr.parts) }
@@ -78,16 +79,13 @@ fn part(alloc: Global, text: &str, at: usize) -> Result<(Part, usize), ExprFault
     ensures cut { IfOk result (λ found. IsCharBoundary text.now found.1) }
 {
     match start_at(text, at, Inside::Whole) {
-        Start::Property => {
-            let (name, end) = closed_name(alloc, text, at + 2)?;
-            Ok((Part::Prop(name), end))
-        }
+        Start::Property => property(alloc, text, at + 2),
         Start::Metadata => any_metadata(alloc, text, at + 2),
         Start::Items => items(alloc, text, at + 2),
         Start::Plain => {
             let end = plain_end(text, at, Inside::Whole);
             Ok((Part::Plain(piece_of(alloc, text, at, end)?), end))
         }
-        Start::End | Start::Quote => unreachable!(),
+        _ => unreachable!(),
     }
 }

@@ -11,8 +11,8 @@ ghost use Rattle.msb_expression.specs.Machine.{
   start_of,
 };
 ghost use Rattle.msb_expression.specs.declared.expression.Piece.{Piece};
-ghost use Rattle.msb_expression.specs.declared.starts.Inside.TheVariants.{Whole};
-ghost use Rattle.msb_expression.specs.declared.starts.Start.TheVariants.{Quote};
+ghost use Rattle.msb_expression.specs.declared.starts.Inside.TheVariants.{Whole, Loose};
+ghost use Rattle.msb_expression.specs.declared.starts.Start.TheVariants.{Quote, Stop};
 ghost use Rattle.msb_expression.specs.Answers.{Leads};
 
 use crate::names::piece_of;
@@ -32,6 +32,7 @@ pub(crate) fn pieces(
     requires within { at ≤ length text.now }
     requires cut { IsCharBoundary text.now at }
     requires not_whole { inside ≡ Whole → ⊥ }
+    requires not_loose { inside ≡ Loose → ⊥ }
     ensures leads { (place : Place) → place_inside place ≡ inside
         → Leads text.now result (run (drop at text.now) (in_text (inner place []) [] unmarked))
         (λ pieces rest. run rest (left place pieces)) }
@@ -53,11 +54,17 @@ pub(crate) fn pieces(
 }
 
 /// The piece at `at`, where no quote stands, and what comes behind it.
-fn piece(alloc: Global, text: &str, at: usize, inside: Inside) -> Result<(Piece, usize), ExprFault>
+pub(crate) fn piece(
+    alloc: Global,
+    text: &str,
+    at: usize,
+    inside: Inside,
+) -> Result<(Piece, usize), ExprFault>
     requires within { at ≤ length text.now }
     requires cut { IsCharBoundary text.now at }
     requires not_whole { inside ≡ Whole → ⊥ }
     requires no_quote { start_of inside (drop at text.now) ≡ Quote → ⊥ }
+    requires no_stop { start_of inside (drop at text.now) ≡ Stop → ⊥ }
     ensures leads { (place : Place) (pieces : List Piece) → place_inside place ≡ inside
         → Leads text.now result (run (drop at text.now) (in_text (inner place pieces) [] unmarked))
         (λ piece rest. run rest (in_text (inner place (pieces ++ piece ∷ [])) [] unmarked)) }
@@ -68,6 +75,8 @@ fn piece(alloc: Global, text: &str, at: usize, inside: Inside) -> Result<(Piece,
     match start_at(text, at, inside) {
         Start::End => Err(ExprFault::Unclosed(text.len() as u64)),
         Start::Quote => unreachable!(),
+        Start::Stop => unreachable!(),
+        Start::Bad => Err(refusal(text, at, Kind::Name)),
         Start::Property => {
             let (name, end) = closed_name(alloc, text, at + 2)?;
             Ok((Piece::Prop(name), end))

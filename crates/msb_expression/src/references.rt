@@ -13,12 +13,11 @@ ghost use Rattle.msb_expression.specs.Machine.{
   qualified,
   unmarked,
   referred,
-  is_metadata,
   Place,
 };
 ghost use Rattle.msb_expression.specs.declared.expression.Part.{Part};
 ghost use Rattle.msb_expression.specs.declared.expression.Piece.{Piece};
-ghost use Rattle.msb_expression.specs.Answers.{Leads};
+ghost use Rattle.msb_expression.specs.Answers.{Leads, TakesNoDot};
 
 use crate::names::{name, spaces_end};
 use crate::sorts::{Kind, Sort, refusal, sort_at};
@@ -28,7 +27,7 @@ use std::alloc::Global;
 /// The name at `at` and its `)`, and what comes behind them.
 pub(crate) fn closed_name(alloc: Global, text: &str, at: usize) -> Result<(Word, usize), ExprFault>
     requires { at ≤ length text.now }
-    ensures leads { (host : Host) (which : Named) → is_metadata which ≡ false
+    ensures leads { (host : Host) (which : Named) → TakesNoDot host which
         → Leads text.now result (run (drop at text.now) (name_opened host which))
         (λ name rest. run rest (in_text (referred host which name) [] unmarked)) }
     ensures after { IfOk result (λ found. at < found.1) }

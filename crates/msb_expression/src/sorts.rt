@@ -21,6 +21,7 @@ pub(crate) enum Sort {
     Dollar,
     Percent,
     At,
+    Bracket,
     Other,
 }
 
@@ -30,6 +31,13 @@ impl Sort {
         ensures { result ≡ machine.is_name_sort self }
     {
         matches!(self, Sort::Letter | Sort::Digit | Sort::Dash)
+    }
+
+    /// Whether such a byte ends an argument without quotes.
+    pub(crate) fn ends_argument(self) -> bool
+        ensures { result ≡ machine.ends_argument self }
+    {
+        matches!(self, Sort::Comma | Sort::Close)
     }
 }
 
@@ -50,6 +58,7 @@ fn sort_of(byte: u8) -> Sort
         b'$' => Sort::Dollar,
         b'%' => Sort::Percent,
         b'@' => Sort::At,
+        b'[' => Sort::Bracket,
         _ => Sort::Other,
     }
 }

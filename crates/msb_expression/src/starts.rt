@@ -14,12 +14,14 @@ ghost use Rattle.msb_expression.specs.declared.starts.Start.TheVariants.{Plain};
 
 use crate::sorts::{Sort, sort_at};
 
-/// What text it is: a whole one, a transform, or a separator or an argument.
+/// What text it is: a whole one, a transform, a separator or an argument between quotes, or an
+/// argument without them.
 #[derive(Clone, Copy)]
 pub(crate) enum Inside {
     Whole,
     Transform,
     Quoted,
+    Loose,
 }
 
 impl Inside {
@@ -29,6 +31,7 @@ impl Inside {
         match self {
             Inside::Whole => Start::Plain,
             Inside::Transform | Inside::Quoted => Start::Quote,
+            Inside::Loose => Start::Bad,
         }
     }
 
@@ -38,6 +41,7 @@ impl Inside {
         match self {
             Inside::Whole | Inside::Transform => Start::Metadata,
             Inside::Quoted => Start::Plain,
+            Inside::Loose => Start::Bad,
         }
     }
 
@@ -47,6 +51,27 @@ impl Inside {
         match self {
             Inside::Whole | Inside::Transform => Start::Items,
             Inside::Quoted => Start::Plain,
+            Inside::Loose => Start::Bad,
+        }
+    }
+
+    /// What begins there, which can't stand in an argument without quotes.
+    fn bad_if_loose(self, here: Start) -> Start
+        ensures { result ≡ machine.bad_if_loose self here }
+    {
+        match self {
+            Inside::Whole | Inside::Transform | Inside::Quoted => here,
+            Inside::Loose => Start::Bad,
+        }
+    }
+
+    /// A `,` or a `)`.
+    fn part(self) -> Start
+        ensures { result ≡ machine.part_start self }
+    {
+        match self {
+            Inside::Whole | Inside::Transform | Inside::Quoted => Start::Plain,
+            Inside::Loose => Start::Stop,
         }
     }
 }
@@ -59,6 +84,10 @@ pub(crate) enum Start {
     Property,
     Metadata,
     Items,
+    /// The end of an argument without quotes.
+    Stop,
+    /// A byte that can't stand there.
+    Bad,
     Plain,
 }
 
@@ -83,8 +112,11 @@ pub(crate) fn start_at(text: &str, at: usize, inside: Inside) -> Start
         Sort::End => Start::End,
         Sort::Quote => inside.quote(),
         Sort::Dollar => Start::Property.if_opened(text, at + 1),
-        Sort::Percent => inside.metadata().if_opened(text, at + 1),
-        Sort::At => inside.items().if_opened(text, at + 1),
+        Sort::Percent => inside.bad_if_loose(inside.metadata().if_opened(text, at + 1)),
+        Sort::At => inside.bad_if_loose(inside.items().if_opened(text, at + 1)),
+        Sort::Open => inside.bad_if_loose(Start::Plain),
+        Sort::Comma => inside.part(),
+        Sort::Close => inside.part(),
         _ => Start::Plain,
     }
 }

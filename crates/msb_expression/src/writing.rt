@@ -6,13 +6,18 @@ ghost use Rattle.msb_expression.specs.Written.{
   quoted_text,
   listed_text,
   args_text,
+  parenthesized_text,
+  call_text,
+  dotted_text,
+  build_calls_text,
+  function_text,
   step_text,
   separator_text,
   part_text,
   text_of,
 };
 
-use crate::{Expr, NoRoom, Part, Piece, Pieces, Step, Word};
+use crate::{Args, Call, Expr, NoRoom, Part, Piece, Pieces, Step, Word};
 use std::alloc::Global;
 
 impl Expr {
@@ -56,6 +61,7 @@ fn push_part(word: &mut Word, part: &Part) -> Result<(), NoRoom>
     match part {
         Part::Plain(plain) => word.push_str(plain.as_str()),
         Part::Prop(name) => push_reference(word, "$(", name),
+        Part::Func(subject, calls) => push_function(word, subject, calls.as_slice()),
         Part::Meta(None, name) => push_reference(word, "%(", name),
         Part::Meta(Some(kind), name) => {
             word.push_str("%(")?;
@@ -70,6 +76,77 @@ fn push_part(word: &mut Word, part: &Part) -> Result<(), NoRoom>
             word.push_str(")")
         }
     }
+}
+
+fn push_function(word: &mut Word, subject: &Option<Word>, calls: &[Call]) -> Result<(), NoRoom>
+    ensures { OnOk result (word.new ≡ word.old ++ function_text subject.now calls.now) }
+{
+    match subject {
+        Some(name) => {
+            word.push_str("$(")?;
+            word.push_str(name.as_str())?;
+            push_calls(word, calls)?;
+            word.push_str(")")
+        }
+        None => {
+            word.push_str("$([MSBuild]::")?;
+            push_build_calls(word, calls)?;
+            word.push_str(")")
+        }
+    }
+}
+
+/// The calls behind `::`, of which the first has no `.` before it.
+fn push_build_calls(word: &mut Word, calls: &[Call]) -> Result<(), NoRoom>
+    ensures { OnOk result (word.new ≡ word.old ++ build_calls_text calls.now) }
+{
+    match calls {
+        [] => Ok(()),
+        [first, others @ ..] => {
+            push_call(word, first)?;
+            push_calls(word, others)
+        }
+    }
+}
+
+fn push_calls(word: &mut Word, calls: &[Call]) -> Result<(), NoRoom>
+    ensures { OnOk result (word.new ≡ word.old ++ flat_map dotted_text calls.now) }
+{
+    for call in calls {
+        push_dotted(word, call)?;
+    }
+    Ok(())
+}
+
+fn push_dotted(word: &mut Word, call: &Call) -> Result<(), NoRoom>
+    ensures { OnOk result (word.new ≡ word.old ++ dotted_text call.now) }
+{
+    word.push_str(".")?;
+    push_call(word, call)
+}
+
+fn push_call(word: &mut Word, call: &Call) -> Result<(), NoRoom>
+    ensures { OnOk result (word.new ≡ word.old ++ call_text call.now) }
+{
+    word.push_str(call.name.as_str())?;
+    push_parenthesized(word, &call.args)
+}
+
+fn push_parenthesized(word: &mut Word, args: &Option<Args>) -> Result<(), NoRoom>
+    ensures { OnOk result (word.new ≡ word.old ++ parenthesized_text args.now) }
+{
+    match args {
+        None => Ok(()),
+        Some(args) => push_in_parentheses(word, args.as_slice()),
+    }
+}
+
+fn push_in_parentheses(word: &mut Word, args: &[Pieces]) -> Result<(), NoRoom>
+    ensures { OnOk result (word.new ≡ word.old ++ (codes "(" ++ args_text args.now ++ codes ")")) }
+{
+    word.push_str("(")?;
+    push_args(word, args)?;
+    word.push_str(")")
 }
 
 /// The name behind what begins its reference, with a `)`.

@@ -31,7 +31,7 @@ use Rattle.msb_laws.specs.Traverse.{traverse}
 use Rattle.msb_values.specs.Keys.{key_if, key_of}
 use Rattle.msb_values.specs.Lists.{list_of}
 use Rattle.msb_values.specs.Names.{bad_place, is_target_byte}
-use Rattle.msb_expand.specs.Reserved.{is_reserved}
+use Rattle.msb_reserved.specs.Reserved.{is_reserved}
 
 -- one or more entries
 abbrev pub if_some : List (List ℕ) → Option (List (List ℕ))

@@ -11,7 +11,7 @@ ghost use Rattle.msb_words.specs.Values.{
 
 use crate::WordFault;
 use crate::entries::entries_in;
-use msb_expand::is_reserved;
+use msb_reserved::is_reserved;
 use msb_values::{Name, Named, Pairs, Text};
 use std::alloc::Global;
 

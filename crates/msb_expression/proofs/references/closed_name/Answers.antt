@@ -22,7 +22,7 @@ returns-in_default c = record {
       ∙ run-name_ended host which c.in_ok-name.name c.args.text.now _ _ c.in_ok-name.ensures.over
       (c.spaces_end-end.ensures.over (name_ended host which c.in_ok-name.name) refl)
       ∙ name_ended_stops host which c.in_ok-name.name _ c.spaces_end-end.ensures.no_space
-      (λ e. c.in_default.not-Close (c.sort_at.ensures ∙ e)) (λ e. m))
+      (λ e. c.in_default.not-Close (c.sort_at.ensures ∙ e)) (λ e. m c.in_ok-name.name))
       c.refusal.ensures;
   after = tt;
   within = tt;

@@ -1,0 +1,7 @@
+use Rattle.std.proofs.Common.{◌≡◌, ◌++◌, ◌==◌, drop}
+use Rattle.msb_expression.specs.Grammar.{cut_pieces, trimmed_pieces}
+use Rattle.msb_expression.proofs.loose.trimmed.Given as goal
+
+abbrev pub invariant-loop-at : goal.invariant-loop-at
+invariant-loop-at l =
+    l.kept ++ cut_pieces (l.at == 0) (drop l.at l.pieces) ≡ trimmed_pieces l.pieces

@@ -1,0 +1,3 @@
+pub mod Containing
+pub mod NumberLaws
+pub mod Replacing
