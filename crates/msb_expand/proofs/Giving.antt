@@ -7,6 +7,8 @@ use Rattle.msb_expand.specs.declared.faults.ExpandFault.TheVariants.{
   ItemsHere,
   MetadataHere,
   UnknownFunction,
+  BadArgument,
+  Overflow,
   TooLong,
   MixedList,
   BadPath,
@@ -26,6 +28,8 @@ pub and_then_stops : {X Y : Type 0} (e : ExpandFault) (a : Result X ExpandFault)
 and_then_stops ItemsHere a next given = ap (λ x. and_then x next) given
 and_then_stops MetadataHere a next given = ap (λ x. and_then x next) given
 and_then_stops (UnknownFunction name) a next given = ap (λ x. and_then x next) given
+and_then_stops (BadArgument name) a next given = ap (λ x. and_then x next) given
+and_then_stops (Overflow name) a next given = ap (λ x. and_then x next) given
 and_then_stops TooLong a next given = ap (λ x. and_then x next) given
 and_then_stops MixedList a next given = ap (λ x. and_then x next) given
 and_then_stops (BadPath ident) a next given = ap (λ x. and_then x next) given
@@ -37,6 +41,8 @@ pub map_ok_stops : {X Y : Type 0} (e : ExpandFault) (f : X → Y) (a : Result X 
 map_ok_stops ItemsHere f a given = ap (map_ok f) given
 map_ok_stops MetadataHere f a given = ap (map_ok f) given
 map_ok_stops (UnknownFunction name) f a given = ap (map_ok f) given
+map_ok_stops (BadArgument name) f a given = ap (map_ok f) given
+map_ok_stops (Overflow name) f a given = ap (map_ok f) given
 map_ok_stops TooLong f a given = ap (map_ok f) given
 map_ok_stops MixedList f a given = ap (map_ok f) given
 map_ok_stops (BadPath ident) f a given = ap (map_ok f) given
@@ -56,6 +62,8 @@ pub map_ok_stopped : {X Y : Type 0} (e : ExpandFault) (f : X → Y) (a : Result 
 map_ok_stopped ItemsHere f a given = unmapped f ItemsHere a given
 map_ok_stopped MetadataHere f a given = unmapped f MetadataHere a given
 map_ok_stopped (UnknownFunction name) f a given = unmapped f (UnknownFunction name) a given
+map_ok_stopped (BadArgument name) f a given = unmapped f (BadArgument name) a given
+map_ok_stopped (Overflow name) f a given = unmapped f (Overflow name) a given
 map_ok_stopped TooLong f a given = unmapped f TooLong a given
 map_ok_stopped MixedList f a given = unmapped f MixedList a given
 map_ok_stopped (BadPath ident) f a given = unmapped f (BadPath ident) a given

@@ -1,4 +1,3 @@
-pub mod Folders
 pub mod PutEntries
 pub mod Overlays
 pub mod Distinct
@@ -10,3 +9,4 @@ pub mod Growing
 pub mod Uncut
 pub mod Cuts
 pub mod Listing
+pub mod Calling

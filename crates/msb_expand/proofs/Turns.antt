@@ -22,6 +22,8 @@ use Rattle.msb_expand.specs.declared.faults.ExpandFault.TheVariants.{
   ItemsHere,
   MetadataHere,
   UnknownFunction,
+  BadArgument,
+  Overflow,
   TooLong,
   MixedList,
   BadPath,
@@ -38,6 +40,8 @@ pub passed_on : {U W : Type 0} (e : ExpandFault) (step : Result U ExpandFault)
 passed_on ItemsHere step whole same is = same _ is
 passed_on MetadataHere step whole same is = same _ is
 passed_on (UnknownFunction name) step whole same is = same _ is
+passed_on (BadArgument name) step whole same is = same _ is
+passed_on (Overflow name) step whole same is = same _ is
 passed_on TooLong step whole same is = same _ is
 passed_on MixedList step whole same is = same _ is
 passed_on (BadPath ident) step whole same is = same _ is

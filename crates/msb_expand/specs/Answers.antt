@@ -6,6 +6,8 @@ use Rattle.msb_expand.specs.declared.faults.ExpandFault.TheVariants.{
   ItemsHere,
   MetadataHere,
   UnknownFunction,
+  BadArgument,
+  Overflow,
   TooLong,
   MixedList,
   BadPath,
@@ -18,6 +20,8 @@ Gives (Ok value) answer = answer ≡ Ok value
 Gives (Err ItemsHere) answer = answer ≡ Err ItemsHere
 Gives (Err MetadataHere) answer = answer ≡ Err MetadataHere
 Gives (Err (UnknownFunction name)) answer = answer ≡ Err (UnknownFunction name)
+Gives (Err (BadArgument name)) answer = answer ≡ Err (BadArgument name)
+Gives (Err (Overflow name)) answer = answer ≡ Err (Overflow name)
 Gives (Err TooLong) answer = answer ≡ Err TooLong
 Gives (Err MixedList) answer = answer ≡ Err MixedList
 Gives (Err (BadPath ident)) answer = answer ≡ Err (BadPath ident)

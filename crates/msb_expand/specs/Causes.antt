@@ -14,6 +14,8 @@ use Rattle.msb_expand.specs.declared.faults.ExpandFault.TheVariants.{
   ItemsHere,
   MetadataHere,
   UnknownFunction,
+  BadArgument,
+  Overflow,
   TooLong,
   MixedList,
   BadPath,
@@ -32,6 +34,8 @@ abbrev pub cause_of : ExpandFault → Cause
 cause_of ItemsHere = cause.ItemsHere
 cause_of MetadataHere = cause.MetadataHere
 cause_of (UnknownFunction name) = cause.UnknownFunction name
+cause_of (BadArgument name) = cause.BadArgument name
+cause_of (Overflow name) = cause.Overflow name
 cause_of TooLong = cause.TooLong
 cause_of MixedList = cause.MixedList
 cause_of (BadPath ident) = cause.BadPath ident

@@ -3,10 +3,12 @@ pub mod Limits
 pub mod Scenes
 pub mod Reserved
 pub mod Metadata
+pub mod Computed
 pub mod Functions
 pub mod Tokens
 pub mod Values
 pub mod Answers
+pub mod Calls
 pub mod Causes
 pub mod CowTexts
 pub mod Seen

@@ -1,72 +1,17 @@
--- The properties that the engine itself sets. (MSBuild reserved and well-known properties)
-use Rattle.std.specs.Prelude.{
-  ℕ,
-  List,
-  [],
-  ◌∷◌,
-  Option,
-  Some,
-  None,
-  Bool,
-  is_some,
-  codes,
-  if◌then◌else◌,
-}
-use Rattle.std.specs.List.{list_any, before_last}
-use Rattle.msb_paths.specs.Segments.{is_slash}
-use Rattle.msb_paths.specs.Parts.{file_of, relative_dir, filename, extension}
+-- The values of properties in a scene. (MSBuild reserved and well-known properties)
+use Rattle.std.specs.Prelude.{ℕ, List, [], Option, Some, None}
 use Rattle.msb_values.specs.Escapes.{escaped}
 use Rattle.msb_values.specs.Pairs.{value_at}
-use Rattle.msb_expand.specs.declared.reserved.Reserved.{Reserved}
-use Rattle.msb_expand.specs.declared.reserved.Reserved.TheVariants.{
-  ProjectDirectory,
-  ProjectFile,
-  ProjectName,
-  ProjectExtension,
-  ProjectFullPath,
-  ThisFile,
-  ThisFileName,
-  ThisFileFullPath,
-  ThisFileDirectory,
-}
 use Rattle.msb_values.specs.Keys.{key_of}
+pub use Rattle.msb_reserved.specs.Reserved.{
+  folder_of,
+  from_root,
+  reserved,
+  is_reserved,
+  reserved_value,
+}
+use Rattle.msb_reserved.specs.declared.reserved.Reserved.{Reserved}
 use Rattle.msb_expand.specs.Scenes.{Scene}
-
--- the folder of a file, which is empty at the root of the store
-abbrev pub folder_of : List ℕ → List ℕ
-folder_of path = if list_any is_slash path then before_last is_slash path else []
-
--- from the root of the store
-abbrev pub from_root : List ℕ → List ℕ
-from_root path = 47 ∷ path
-
--- the names
-abbrev pub reserved : List (List ℕ × Reserved)
-reserved =
-    (codes "msbuildprojectdirectory", ProjectDirectory) ∷
-    (codes "msbuildprojectfile", ProjectFile) ∷
-    (codes "msbuildprojectname", ProjectName) ∷
-    (codes "msbuildprojectextension", ProjectExtension) ∷
-    (codes "msbuildprojectfullpath", ProjectFullPath) ∷
-    (codes "msbuildthisfile", ThisFile) ∷
-    (codes "msbuildthisfilename", ThisFileName) ∷
-    (codes "msbuildthisfilefullpath", ThisFileFullPath) ∷
-    (codes "msbuildthisfiledirectory", ThisFileDirectory) ∷ []
-
-abbrev pub is_reserved : List ℕ → Bool
-is_reserved name = is_some (value_at name reserved)
-
--- by the project's file and the file of the element
-abbrev pub reserved_value : List ℕ → List ℕ → Reserved → List ℕ
-reserved_value project file ProjectDirectory = from_root (folder_of project)
-reserved_value project file ProjectFile = file_of project
-reserved_value project file ProjectName = filename project
-reserved_value project file ProjectExtension = extension project
-reserved_value project file ProjectFullPath = from_root project
-reserved_value project file ThisFile = file_of file
-reserved_value project file ThisFileName = filename file
-reserved_value project file ThisFileFullPath = from_root file
-reserved_value project file ThisFileDirectory = from_root (relative_dir file)
 
 -- the engine's value, else the project's, else empty
 abbrev pub value_or : Scene → Option Reserved → Option (List ℕ) → List ℕ

@@ -7,6 +7,8 @@ use Rattle.msb_expand.specs.declared.faults.ExpandFault.TheVariants.{
   ItemsHere,
   MetadataHere,
   UnknownFunction,
+  BadArgument,
+  Overflow,
   TooLong,
   MixedList,
   BadPath,
@@ -30,6 +32,8 @@ Takes (Ok taken) tokens = tokens ≡ taken_tokens taken
 Takes (Err ItemsHere) tokens = tokens ≡ faulty ItemsHere ∷ []
 Takes (Err MetadataHere) tokens = tokens ≡ faulty MetadataHere ∷ []
 Takes (Err (UnknownFunction name)) tokens = tokens ≡ faulty (UnknownFunction name) ∷ []
+Takes (Err (BadArgument name)) tokens = tokens ≡ faulty (BadArgument name) ∷ []
+Takes (Err (Overflow name)) tokens = tokens ≡ faulty (Overflow name) ∷ []
 Takes (Err TooLong) tokens = tokens ≡ faulty TooLong ∷ []
 Takes (Err MixedList) tokens = tokens ≡ faulty MixedList ∷ []
 Takes (Err (BadPath ident)) tokens = tokens ≡ faulty (BadPath ident) ∷ []

@@ -35,7 +35,13 @@ use Rattle.msb_expression.specs.declared.expression.Piece.TheVariants.{
 use Rattle.msb_expression.specs.declared.expression.Step.{Step}
 use Rattle.msb_expression.specs.declared.expression.Step.TheVariants.{Transform, Call}
 use Rattle.msb_expression.specs.declared.expression.Part.{Part}
-use Rattle.msb_expression.specs.declared.expression.Part.TheVariants.{Plain, Prop, Meta, Items}
+use Rattle.msb_expression.specs.declared.expression.Part.TheVariants.{
+  Plain,
+  Prop,
+  Func,
+  Meta,
+  Items,
+}
 use Rattle.msb_expand.specs.declared.faults.ExpandFault.{ExpandFault}
 use Rattle.msb_expand.specs.declared.faults.ExpandFault.TheVariants.{ItemsHere, MetadataHere, Expr}
 use Rattle.msb_expand.specs.declared.lens.Use.{Use}
@@ -48,6 +54,7 @@ use Rattle.msb_expand.specs.declared.lens.Use.TheVariants.{
 }
 use Rattle.msb_expand.specs.declared.lens.Bucket.{Bucket}
 use Rattle.msb_values.specs.Keys.{key_of}
+use Rattle.msb_expand.specs.Calls.{calls_text}
 use Rattle.msb_expand.specs.Scenes.{Scene, defaults_at, with_defaults}
 use Rattle.msb_expand.specs.Reserved.{property_of}
 use Rattle.msb_expand.specs.Metadata.{metadata_of, text_or_none}
@@ -173,6 +180,7 @@ metadata_token Batched scene qualifier name = token_if (bucket_value scene.bucke
 abbrev pub part_tokens : Scene → Part → List Token
 part_tokens scene (Plain text) = written text ∷ []
 part_tokens scene (Prop name) = property_tokens scene.usage (property_of scene name)
+part_tokens scene (Func subject calls) = token_of (calls_text scene subject calls) ∷ []
 part_tokens scene (Meta qualifier name) = metadata_token scene.usage scene qualifier name ∷ []
 part_tokens scene (Items kind steps separator) = items_token scene.usage scene kind steps separator
     ∷ []

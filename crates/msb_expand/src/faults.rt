@@ -12,8 +12,14 @@ pub enum ExpandFault {
     ItemsHere,
     /// A metadata reference stands where none may, or is qualified by another type than the item's.
     MetadataHere,
-    /// No item function has this name, as it is written, and this number of arguments.
+    /// No item function has this name, as it is written, and this number of arguments, or no
+    /// property function has this name and form.
     UnknownFunction(Text),
+    /// An argument of this property function, as it is written, is none that it takes, or their
+    /// number is wrong.
+    BadArgument(Text),
+    /// A result or an argument of this property function is outside 64 bits.
+    Overflow(Text),
     /// The text, or the identities of the list with one byte more for each, have over 4 MiB.
     TooLong,
     /// An entry of a list has an item reference beside other characters.
@@ -43,6 +49,8 @@ impl From<ExpandFault> for Cause {
             ExpandFault::ItemsHere => Cause::ItemsHere,
             ExpandFault::MetadataHere => Cause::MetadataHere,
             ExpandFault::UnknownFunction(name) => Cause::UnknownFunction(name),
+            ExpandFault::BadArgument(name) => Cause::BadArgument(name),
+            ExpandFault::Overflow(name) => Cause::Overflow(name),
             ExpandFault::TooLong => Cause::TooLong,
             ExpandFault::MixedList => Cause::MixedList,
             ExpandFault::BadPath(ident) => Cause::BadPath(ident),

@@ -5,7 +5,7 @@ ghost use Rattle.msb_expand.specs.declared.faults.ExpandFault.TheVariants.{BadPa
 ghost use Rattle.msb_expand.specs.Answers.{Gives};
 ghost use Rattle.msb_expand.specs.Metadata.{path_of, full_path, directory};
 
-use crate::{ExpandFault, parts};
+use crate::ExpandFault;
 use msb_paths::{NormalFault, Word, normal_path};
 use msb_values::{NoMemory, Text, escape, unescape};
 use std::alloc::Global;
@@ -22,7 +22,7 @@ pub(crate) fn relative_dir(alloc: Global, ident: &str) -> Result<Text, NoMemory>
     ensures { IfOk result (λ text. text ≡ escaped (part.relative_dir (unescaped ident.now))) }
 {
     let plain = unescape(alloc, ident)?;
-    let folder = parts::relative_dir(alloc, plain.as_str())?;
+    let folder = msb_reserved::relative_dir(alloc, plain.as_str())?;
     escape(alloc, folder.as_str())
 }
 
@@ -30,7 +30,7 @@ pub(crate) fn filename(alloc: Global, ident: &str) -> Result<Text, NoMemory>
     ensures { IfOk result (λ text. text ≡ escaped (part.filename (unescaped ident.now))) }
 {
     let plain = unescape(alloc, ident)?;
-    let name = parts::filename(alloc, plain.as_str())?;
+    let name = msb_reserved::filename(alloc, plain.as_str())?;
     escape(alloc, name.as_str())
 }
 
@@ -38,7 +38,7 @@ pub(crate) fn extension(alloc: Global, ident: &str) -> Result<Text, NoMemory>
     ensures { IfOk result (λ text. text ≡ escaped (part.extension (unescaped ident.now))) }
 {
     let plain = unescape(alloc, ident)?;
-    let extension = parts::extension(alloc, plain.as_str())?;
+    let extension = msb_reserved::extension(alloc, plain.as_str())?;
     escape(alloc, extension.as_str())
 }
 
@@ -48,7 +48,7 @@ pub(crate) fn full_path(alloc: Global, project: &str, ident: &str) -> Result<Tex
 {
     let plain = unescape(alloc, ident)?;
     let path = path_of(alloc, project, plain.as_str())?;
-    let full = parts::from_root(alloc, path.as_str())?;
+    let full = msb_reserved::from_root(alloc, path.as_str())?;
     Ok(escape(alloc, full.as_str())?)
 }
 
@@ -58,7 +58,7 @@ pub(crate) fn directory(alloc: Global, project: &str, ident: &str) -> Result<Tex
 {
     let plain = unescape(alloc, ident)?;
     let path = path_of(alloc, project, plain.as_str())?;
-    let folder = parts::relative_dir(alloc, path.as_str())?;
+    let folder = msb_reserved::relative_dir(alloc, path.as_str())?;
     Ok(escape(alloc, folder.as_str())?)
 }
 
@@ -66,7 +66,7 @@ pub(crate) fn directory(alloc: Global, project: &str, ident: &str) -> Result<Tex
 fn path_of(alloc: Global, project: &str, ident: &str) -> Result<Word, ExpandFault>
     ensures { Gives result (path_of project.now ident.now) }
 {
-    match normal_path(alloc, parts::folder_of(project), ident) {
+    match normal_path(alloc, msb_reserved::folder_of(project), ident) {
         Ok(path) => Ok(path),
         Err(NormalFault::AboveRoot | NormalFault::Empty | NormalFault::ControlCharacter) => {
             Err(bad_path(alloc, ident)?)

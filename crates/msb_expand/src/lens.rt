@@ -9,7 +9,7 @@ ghost use Rattle.msb_expand.specs.Scenes.{
 };
 ghost use Rattle.msb_expand.specs.Reserved.{folder_of};
 
-use crate::parts::folder_of;
+use msb_reserved::folder_of;
 use msb_values::{Item, List, Lists, Name, Scope, SharedItems, Text};
 
 /// Where an expression stands, which says what its references are.

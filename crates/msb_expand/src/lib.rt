@@ -5,6 +5,7 @@
 #![tactic(auto)]
 
 mod batched;
+mod calls;
 mod entry;
 mod expansion;
 mod faults;
@@ -20,11 +21,9 @@ mod limits;
 mod lists;
 mod open_entry;
 mod own;
-mod parts;
 mod properties;
 mod reading;
 mod references;
-mod reserved;
 mod seen;
 mod steps;
 mod texts;
@@ -38,7 +37,6 @@ pub use expansion::{entries, list, text};
 pub use faults::{ExpandFault, expression_cause};
 pub use item_metadata::{metadata, with_defaults};
 pub use lens::{Bucket, Lens, Use};
-pub use parts::folder_of;
-pub use reserved::is_reserved;
+pub use msb_reserved::{folder_of, is_reserved};
 pub use well_known::{WellKnown, is_well_known};
 pub use written::{expand_entries, expand_list, expand_names, expand_text};

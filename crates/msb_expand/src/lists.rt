@@ -101,7 +101,7 @@ fn read_again_part<'a>(
             steps,
             separator.as_ref(),
         ),
-        Part::Plain(_) | Part::Prop(_) | Part::Meta(_, _) => {
+        Part::Plain(_) | Part::Prop(_) | Part::Func(_, _) | Part::Meta(_, _) => {
             reading.push_text(alloc, part.text(alloc)?.as_str())
         }
     }

@@ -5,7 +5,7 @@ ghost use Rattle.msb_expand.specs.Metadata.{text_or_none};
 ghost use Rattle.msb_expand.specs.CowTexts.{cow_text};
 
 use crate::Lens;
-use crate::reserved::Reserved;
+use msb_reserved::Reserved;
 use msb_values::{Name, NoMemory, Text};
 use std::alloc::Global;
 

@@ -106,7 +106,7 @@ fn push_again_part(
             steps,
             separator.as_ref(),
         ),
-        Part::Plain(_) | Part::Prop(_) | Part::Meta(_, _) => {
+        Part::Plain(_) | Part::Prop(_) | Part::Func(_, _) | Part::Meta(_, _) => {
             grow(text, part.text(alloc)?.as_str())
         }
     }

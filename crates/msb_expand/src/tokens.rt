@@ -5,9 +5,11 @@ ghost use Rattle.msb_expand.specs.declared.faults.ExpandFault.TheVariants.{Memor
 ghost use Rattle.msb_expand.specs.Answers.{GivesAs};
 ghost use Rattle.msb_expand.specs.Scenes.{scene_of};
 ghost use Rattle.msb_expand.specs.Again.{read_again};
+ghost use Rattle.msb_expand.specs.Calls.{calls_text};
 ghost use Rattle.msb_expand.specs.Reserved.{property_of};
 ghost use Rattle.msb_expand.specs.Taken.{Takes};
 ghost use Rattle.msb_expand.specs.Tokens.{
+  token_of,
   part_tokens,
   property_tokens,
   metadata_token,
@@ -15,11 +17,12 @@ ghost use Rattle.msb_expand.specs.Tokens.{
 };
 
 use crate::batched::bucket_token;
+use crate::calls::calls_text;
 use crate::filled::kept_text;
 use crate::own::{default_token, own_token};
 use crate::properties::{CowText, property};
 use crate::{ExpandFault, Lens, Use};
-use msb_expression::{Expr, ExprFault, NoRoom, Part, Pieces, Steps, Word, parse};
+use msb_expression::{Call, Expr, ExprFault, NoRoom, Part, Pieces, Steps, Word, parse};
 use std::alloc::Global;
 
 /// An item reference that has a value.
@@ -62,9 +65,23 @@ pub(crate) fn part_token<'a, 'e>(
     match part {
         Part::Plain(text) => Ok(Token::Plain(text.as_str())),
         Part::Prop(name) => property_token(alloc, lens, name.as_str()),
+        Part::Func(subject, calls) => calls_token(alloc, lens, subject, calls.as_slice()),
         Part::Meta(qualifier, name) => metadata_token(alloc, lens, part, qualifier, name),
         Part::Items(kind, steps, separator) => items_token(alloc, lens, kind, steps, separator),
     }
+}
+
+fn calls_token<'a, 'e>(
+    alloc: Global,
+    lens: &Lens<'a>,
+    subject: &'e Option<Word>,
+    calls: &'e [Call],
+) -> Result<Token<'a, 'e>, ExpandFault>
+    ensures { Takes result
+        (token_of (calls_text (scene_of lens.now) subject.now calls.now) ∷ []) }
+{
+    let value = calls_text(alloc, lens, subject, calls)?;
+    Ok(Token::Value(CowText::Owned(value)))
 }
 
 fn property_token<'a, 'e>(

@@ -29,6 +29,8 @@ use Rattle.msb_values.specs.declared.cause.Cause.TheVariants.{
   Reserved,
   NoList,
   NoValue,
+  BadArgument,
+  Overflow,
   Memory,
 }
 
@@ -59,6 +61,8 @@ label_of ImportDepth = codes "22 ImportDepth"
 label_of (Reserved name) = codes "23 Reserved"
 label_of (NoList name) = codes "24 NoList"
 label_of (NoValue kind ident name) = codes "25 NoValue"
+label_of (BadArgument function) = codes "26 BadArgument"
+label_of (Overflow function) = codes "27 Overflow"
 label_of Memory = codes "Memory"
 
 -- a detail behind the others
@@ -80,6 +84,8 @@ details_of (BadPath text) = detail text
 details_of (MissingImport path) = detail path
 details_of (Reserved name) = detail name
 details_of (NoList name) = detail name
+details_of (BadArgument function) = detail function
+details_of (Overflow function) = detail function
 details_of (NoValue kind ident name) = detail kind ++ detail ident ++ detail name
 details_of _ = []
 

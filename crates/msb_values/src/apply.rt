@@ -9,8 +9,10 @@ ghost use Rattle.msb_values.specs.Pairs.{changed_at};
 ghost use Rattle.msb_values.specs.Changes.{applied, with_added, without_named, with_metadata_on};
 
 use crate::changed_items::{with_metadata_on, without_named};
+use crate::name_map::NameMap;
 use crate::{Change, Copied, Item, List, Lists, Name, NoMemory, Pairs, Scope, SharedItems, Text};
 use std::alloc::Global;
+use std::sync::Arc;
 
 impl Scope {
     /// Does what a target's body changed; where there is no memory, the scope stays as it was.
@@ -103,6 +105,21 @@ fn append(alloc: Global, lists: &mut Lists, kind: &Name, more: List<Item>) -> Re
     ensures ok { OnOk result (lists.new ≡ changed_at kind.now (λ items. items ++ more) lists.old) }
     ensures err { OnErr result (lists.new ≡ lists.old) }
 {
+    match &mut lists.shared {
+        Some(entries) => append_own(alloc, Arc::make_mut(entries)?, kind, more),
+        None => Ok(()),
+    }
+}
+
+fn append_own(
+    alloc: Global,
+    lists: &mut NameMap<SharedItems>,
+    kind: &Name,
+    more: List<Item>,
+) -> Result<(), NoMemory>
+    ensures ok { OnOk result (lists.new ≡ changed_at kind.now (λ items. items ++ more) lists.old) }
+    ensures err { OnErr result (lists.new ≡ lists.old) }
+{
     let mut items = lists.replace(kind, SharedItems::none());
     let appended = items.append(alloc, more);
     lists.replace(kind, items);
@@ -122,7 +139,7 @@ fn remove_items(
         None => Ok(()),
         Some(items) => {
             let kept = without_named(alloc, items.as_slice(), texts.as_slice())?;
-            lists.replace(kind, SharedItems::of(alloc, kept)?);
+            lists.replace(kind, SharedItems::of(alloc, kept)?)?;
             Ok(())
         }
     }
@@ -143,7 +160,7 @@ fn set_metadata(
         None => Ok(()),
         Some(items) => {
             let changed = with_metadata_on(alloc, items.as_slice(), given.as_slice(), pairs)?;
-            lists.replace(kind, SharedItems::of(alloc, changed)?);
+            lists.replace(kind, SharedItems::of(alloc, changed)?)?;
             Ok(())
         }
     }

@@ -36,7 +36,8 @@ pub enum Cause {
     ItemsHere,
     /// 12: a metadata reference where none may stand.
     MetadataHere,
-    /// 13: no item function has this name and number of arguments.
+    /// 13: no item function has this name and number of arguments, or no property function this
+    /// name and form.
     UnknownFunction(Text),
     /// 14: an expansion that is too long.
     TooLong,
@@ -62,6 +63,10 @@ pub enum Cause {
     NoList(Text),
     /// 25: an item of this type and identity has no value of this metadata.
     NoValue(Text, Text, Text),
+    /// 26: an argument of this property function that it does not take, or a wrong number of them.
+    BadArgument(Text),
+    /// 27: a result or an argument of this property function outside 64 bits.
+    Overflow(Text),
     /// Want of memory, which is not printed.
     Memory,
 }
@@ -94,6 +99,8 @@ impl Drop for Cause {
             Cause::MissingImport(_) => {}
             Cause::Reserved(_) => {}
             Cause::NoList(_) => {}
+            Cause::BadArgument(_) => {}
+            Cause::Overflow(_) => {}
             Cause::BothAttributes(_, _) => {}
             Cause::NotNumbers(_, _) => {}
             Cause::NoValue(_, _, _) => {}
@@ -143,6 +150,8 @@ impl Cause {
             Cause::Reserved(_) => "23 Reserved",
             Cause::NoList(_) => "24 NoList",
             Cause::NoValue(_, _, _) => "25 NoValue",
+            Cause::BadArgument(_) => "26 BadArgument",
+            Cause::Overflow(_) => "27 Overflow",
             Cause::Memory => "Memory",
         }
     }
@@ -163,7 +172,9 @@ impl Cause {
             | Cause::BadPath(text)
             | Cause::MissingImport(text)
             | Cause::Reserved(text)
-            | Cause::NoList(text) => push_text(shown, text),
+            | Cause::NoList(text)
+            | Cause::BadArgument(text)
+            | Cause::Overflow(text) => push_text(shown, text),
             Cause::BothAttributes(first, second) | Cause::NotNumbers(first, second) => {
                 push_text(shown, first)?;
                 push_text(shown, second)

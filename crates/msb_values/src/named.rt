@@ -10,25 +10,37 @@ ghost use Rattle.std.specs.Prelude.{
   unwrap_or,
 };
 ghost use Rattle.std.specs.Ordering.{nat_cmp};
+ghost use Rattle.std.specs.Arc.{arc_value};
 ghost use Rattle.std.specs.BTreeMap.{insert_entry};
 ghost use Rattle.std.specs.Cmp.Lexicographic.{slice_cmp};
 ghost use Rattle.msb_values.specs.Pairs.{value_at, AreRising, changed_at, without_name, all_put};
 
-use crate::{Copied, Name, NoMemory, SharedItems, Text};
+use crate::name_map::NameMap;
+use crate::{Copied, EqualClones, Name, NoMemory, SharedItems, Text};
 use std::alloc::{AllocError, Global};
-use std::collections::{BTreeMap, btree_map};
+use std::collections::btree_map;
 use std::marker::Model;
-use std::mem;
+use std::sync::Arc;
 
 /// What each of some names has: each name once, in byte order of the names.
+///
+/// Copies share the names and what they have until one of them is changed, in any threads.
 pub struct Named<T> {
-    pub(crate) map: BTreeMap<Name, T>,
+    alloc: Global,
+    /// None where no name has been given anything, which takes no memory.
+    pub(crate) shared: Option<Arc<NameMap<T>>>,
+    /// Empty: it stands for the entries where there are none to share.
+    none: NameMap<T>,
 }
 
 // A drop that is written out is proved here alone.
 impl<T: Drop> Drop for Named<T> {
     fn drop(self) {
-        let Named { map: _ } = self;
+        let Named {
+            alloc: _,
+            shared: _,
+            none: _,
+        } = self;
     }
 }
 
@@ -42,11 +54,15 @@ pub type Lists = Named<SharedItems>;
 pub type Defaults = Named<Pairs>;
 
 impl<T> Model for Named<T> {
-    ghost use Rattle.std.specs.Prelude.{ℕ, List};
+    ghost use Rattle.std.specs.Prelude.{◌≡◌, ℕ, List, []};
+    ghost use Rattle.std.specs.Arc.{arc_value};
+    ghost use Rattle.std.specs.Option.{option_map_or};
 
     ghost Value = { List (List ℕ × T) };
 
-    ghost view = { λ p. p.map.entries };
+    ghost view = { λ p. option_map_or arc_value p.shared [] };
+
+    ghost invariant = { λ p. p.none ≡ [] };
 }
 
 impl<T> Named<T> {
@@ -54,45 +70,56 @@ impl<T> Named<T> {
         ensures { result ≡ [] }
     {
         Named {
-            map: BTreeMap::new(alloc),
+            alloc,
+            shared: None,
+            none: NameMap::new(alloc),
+        }
+    }
+
+    pub(crate) fn entries(&self) -> &NameMap<T>
+        ensures { result.now ≡ self.now }
+    {
+        match &self.shared {
+            Some(entries) => entries,
+            None => &self.none,
         }
     }
 
     pub fn len(&self) -> usize
         ensures { result ≡ length self.now }
     {
-        self.map.len()
+        self.entries().len()
     }
 
     pub fn is_empty(&self) -> bool
         ensures { result ≡ (length self.now == 0) }
     {
-        self.map.len() == 0
+        self.entries().len() == 0
     }
 
     /// The names are distinct, each above the one before it in byte order.
     pub fn names_rise(&self)
         ensures { AreRising self.now }
     {
-        let _ = self.map.len();
+        self.entries().names_rise();
     }
 
     /// What a name has, if it is there.
     pub fn get(&self, name: &Name) -> Option<&T>
         ensures { option_copied result ≡ value_at name.now self.now }
     {
-        self.map.get(name)
+        self.entries().get(name)
     }
 
     /// The names with what they have, in byte order of the names.
     pub fn iter(&self) -> btree_map::Iter<'_, Name, T>
         ensures { result ≡ self.now }
     {
-        self.map.iter()
+        self.entries().iter()
     }
 }
 
-impl<T: Drop> Named<T> {
+impl<T: EqualClones + Drop> Named<T> {
     /// The names with these values; the last value of a name holds.
     pub fn of(alloc: Global, entries: Vec<(Name, T)>) -> Result<Named<T>, NoMemory>
         ensures { IfOk result (λ pairs. pairs ≡ all_put [] entries.items) }
@@ -109,80 +136,86 @@ impl<T: Drop> Named<T> {
         ensures ok { OnOk result (self.new ≡ insert_entry (slice_cmp nat_cmp) self.old name value) }
         ensures err { OnErr result (self.new ≡ self.old) }
     {
-        self.map.insert(name, value)?;
-        Ok(())
+        match &mut self.shared {
+            Some(entries) => insert(entries, name, value),
+            None => {
+                let mut entries = NameMap::new(self.alloc);
+                entries.insert(name, value)?;
+                self.shared = Some(Arc::new(self.alloc, entries)?);
+                Ok(())
+            }
+        }
     }
 
     /// Puts a value in the place of what a name has, and gives that back; where the name isn't
-    /// there, the value comes back.
-    pub fn replace(&mut self, name: &Name, value: T) -> T
-        ensures had { result ≡ unwrap_or (value_at name.now self.old) value }
+    /// there, the value comes back. Where there is no memory, nothing changes.
+    pub fn replace(&mut self, name: &Name, value: T) -> Result<T, NoMemory>
+        ensures had { IfOk result (λ held. held ≡ unwrap_or (value_at name.now self.old) value) }
 
         // An insert at the name makes the same of it as of what was there before.
         ensures inserted { (next : T) → insert_entry (slice_cmp nat_cmp) self.new name.now next
             ≡ insert_entry (slice_cmp nat_cmp) self.old name.now next }
-        ensures left { self.new ≡ changed_at name.now (λ _. value) self.old }
+        ensures left { OnOk result (self.new ≡ changed_at name.now (λ _. value) self.old) }
+        ensures err { OnErr result (self.new ≡ self.old) }
     {
-        match self.map.get_mut(name) {
-            Some(held) => mem::replace(held, value),
-            None => value,
+        match &mut self.shared {
+            Some(entries) => Ok(Arc::make_mut(entries)?.replace(name, value)),
+            None => Ok(value),
         }
     }
 
-    /// Takes a name away with what it has, if it is there. This takes no memory.
-    pub fn take(&mut self, name: &Name) -> Option<T>
-        ensures had { result ≡ value_at name.now self.old }
-        ensures left { self.new ≡ without_name name.now self.old }
+    /// Takes a name away with what it has, if it is there. Where there is no memory, nothing
+    /// changes.
+    pub fn take(&mut self, name: &Name) -> Result<Option<T>, NoMemory>
+        ensures had { IfOk result (λ held. held ≡ value_at name.now self.old) }
+        ensures left { OnOk result (self.new ≡ without_name name.now self.old) }
 
         // An insert at the name makes the same of what is left as of what was there before.
         ensures inserted { (next : T) → insert_entry (slice_cmp nat_cmp) self.new name.now next
             ≡ insert_entry (slice_cmp nat_cmp) self.old name.now next }
+        ensures err { OnErr result (self.new ≡ self.old) }
     {
-        self.names_rise();
-        self.map.remove(name)
-    }
-
-    /// The names with what they have, in byte order of the names.
-    pub fn into_entries(self) -> btree_map::IntoIter<Name, T>
-        ensures { result ≡ self }
-    {
-        let Named { map } = self;
-        map.into_iter()
+        match &mut self.shared {
+            Some(entries) => Ok(Arc::make_mut(entries)?.take(name)),
+            None => Ok(None),
+        }
     }
 }
 
-impl Copied for Named<Text> {
-    fn copy(&self) -> Result<Named<Text>, NoMemory> {
-        Ok(Named {
-            map: self.map.clone()?,
-        })
+fn insert<T: EqualClones + Drop>(
+    entries: &mut Arc<NameMap<T>>,
+    name: Name,
+    value: T,
+) -> Result<(), NoMemory>
+    ensures ok { OnOk result (arc_value entries.new
+        ≡ insert_entry (slice_cmp nat_cmp) (arc_value entries.old) name value) }
+    ensures err { OnErr result (arc_value entries.new ≡ arc_value entries.old) }
+{
+    Arc::make_mut(entries)?.insert(name, value)
+}
+
+impl<T: Drop> Copied for Named<T> {
+    fn copy(&self) -> Result<Named<T>, NoMemory> {
+        match &self.shared {
+            Some(entries) => Ok(Named {
+                alloc: self.alloc,
+                shared: Some(Arc::try_clone(entries)?),
+                none: NameMap::new(self.alloc),
+            }),
+            None => Ok(Named::new(self.alloc)),
+        }
     }
 }
 
-impl Copied for Named<SharedItems> {
-    fn copy(&self) -> Result<Named<SharedItems>, NoMemory> {
-        Ok(Named {
-            map: self.map.clone()?,
-        })
-    }
-}
-
-impl Copied for Named<Named<Text>> {
-    fn copy(&self) -> Result<Named<Named<Text>>, NoMemory> {
-        Ok(Named {
-            map: self.map.clone()?,
-        })
-    }
-}
-
-impl Clone for Named<Text> {
+impl<T: Drop> Clone for Named<T> {
     ghost use Rattle.std.specs.Prelude.{◌≡◌};
 
     ghost is_clone = { λ a b. b ≡ a };
 
-    fn clone(&self) -> Result<Named<Text>, AllocError> {
-        Ok(Named {
-            map: self.map.clone()?,
-        })
+    fn clone(&self) -> Result<Named<T>, AllocError> {
+        match self.copy() {
+            Ok(copied) => Ok(copied),
+            Err(NoMemory) => Err(AllocError),
+        }
     }
 }

@@ -17,7 +17,7 @@ impl<T: PartialEq> PartialEq for Named<T> {
         (on_per (λ p. p.1) T.laws)) };
 
     fn eq(&self, other: &Named<T>) -> bool {
-        self.map == other.map
+        self.entries().map == other.entries().map
     }
 }
 
@@ -42,7 +42,7 @@ impl<T: PartialOrd> PartialOrd for Named<T> {
         (then_po (on_po (λ p. p.0) texts_po) (on_po (λ p. p.1) T.PartialOrd.laws)) };
 
     fn partial_cmp(&self, other: &Named<T>) -> Option<Ordering> {
-        self.map.partial_cmp(&other.map)
+        self.entries().map.partial_cmp(&other.entries().map)
     }
 }
 
@@ -71,7 +71,7 @@ impl<T: Ord> Ord for Named<T> {
         lists_ties (λ p q. ordering_then (slice_cmp nat_cmp p.0 q.0) (T' p.1 q.1)) (λ p q. both_tied _ _ (slice_cmp nat_cmp p.0 q.0) (T' p.1 q.1) (texts_ties p.0 q.0) (T.matches_eq p.1 q.1)) };
 
     fn cmp(&self, other: &Named<T>) -> Ordering {
-        self.map.cmp(&other.map)
+        self.entries().map.cmp(&other.entries().map)
     }
 }
 
@@ -90,6 +90,6 @@ impl<T: Hash> Hash for Named<T> {
         (on_Alike (λ p. p.1) {F = T.hash_input} (record { fed = T.respects_eq })))).fed };
 
     fn hash<H: Hasher>(&self, state: &mut H) {
-        self.map.hash(state);
+        self.entries().map.hash(state);
     }
 }

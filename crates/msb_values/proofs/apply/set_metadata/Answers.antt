@@ -11,12 +11,12 @@ returns-in-None-clause-ok c =
     (changed-absent c.args.kind.now (with_metadata_on c.args.given.now c.args.pairs.now)
     c.args.lists.now none)
 
-pub returns-in_ok-of-in-Some-clause-ok : goal.returns-in_ok-of-in-Some-clause-ok
-returns-in_ok-of-in-Some-clause-ok c =
+pub returns-in_ok-replace-in-Some-clause-ok : goal.returns-in_ok-replace-in-Some-clause-ok
+returns-in_ok-replace-in-Some-clause-ok c =
     let kind = c.args.kind.now in
     let old = c.args.lists.now in
     let has = sym c.get.ensures ∙ ap option_copied c.in-Some.is in
-    c.replace.ensures.left
+    c.in_ok-replace-in-Some.ensures.left
     ∙ ap (λ items. changed_at kind (λ _. items) old)
     (c.in_ok-of-in-Some.ensures ∙ c.in_ok-changed-in-Some.ensures
     ∙ ap (λ given. with_metadata_on given c.args.pairs.now c.as_slice.result.now)

@@ -5,7 +5,7 @@ use Rattle.std.specs.Map.{remove_entry}
 use Rattle.std.specs.Ordering.{nat_cmp}
 use Rattle.msb_values.specs.Pairs.{value_at, without_name}
 use Rattle.msb_values.proofs.Lookups.{lookup-value_at, removed-without, insert-removed}
-use Rattle.msb_values.proofs.named.Named.take.Goals as goal
+use Rattle.msb_values.proofs.name_map.NameMap.take.Goals as goal
 
 pub returns-clause-had : goal.returns-clause-had
 returns-clause-had g c =

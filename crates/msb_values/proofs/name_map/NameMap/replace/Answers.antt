@@ -6,8 +6,8 @@ use Rattle.std.specs.List.Sorted.{IsStrictlySortedBy}
 use Rattle.std.specs.Ordering.{nat_cmp}
 use Rattle.msb_values.specs.Pairs.{value_at, changed_at}
 use Rattle.msb_values.proofs.Lookups.{lookup-value_at, insert-set, set-changed, changed-absent}
-use Rattle.msb_values.proofs.named.Named.replace.Goals as goal
-use Rattle.msb_values.proofs.named.Named.replace.Goals.{in-Some, in-None}
+use Rattle.msb_values.proofs.name_map.NameMap.replace.Goals as goal
+use Rattle.msb_values.proofs.name_map.NameMap.replace.Goals.{in-Some, in-None}
 
 pub returns-clause-had : goal.returns-clause-had
 returns-clause-had g c =

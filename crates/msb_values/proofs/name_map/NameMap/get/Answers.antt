@@ -1,7 +1,7 @@
 use Rattle.std.proofs.Common.{◌∙◌, ap}
 use Rattle.msb_values.specs.Pairs.{value_at}
 use Rattle.msb_values.proofs.Lookups.{lookup-value_at}
-use Rattle.msb_values.proofs.named.Named.get.Goals as goal
+use Rattle.msb_values.proofs.name_map.NameMap.get.Goals as goal
 
 pub returns : goal.returns
 returns g c =

@@ -2,7 +2,7 @@ use Rattle.std.proofs.Common.{◌∙◌, ◌++◌, ap}
 use Rattle.std.proofs.lemmas.Result.{on_ok_weaker, on_err_weaker}
 use Rattle.msb_values.specs.Pairs.{changed_at}
 use Rattle.msb_values.proofs.Lookups.{changed-by, changed-twice, changed-same}
-use Rattle.msb_values.proofs.apply.append.Goals as goal
+use Rattle.msb_values.proofs.apply.append_own.Goals as goal
 
 pub returns-clause-ok : goal.returns-clause-ok
 returns-clause-ok c =
