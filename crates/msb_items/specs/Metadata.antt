@@ -19,16 +19,14 @@ use Rattle.std.specs.Prelude.{
   Ok,
   Err,
   codes,
-  is_some,
 }
 use Rattle.std.specs.List.{list_any}
 use Rattle.std.specs.Str.{bytes_eq}
 use Rattle.msb_laws.specs.Results.{and_then, map_ok}
-use Rattle.msb_values.specs.Pairs.{value_at}
 use Rattle.msb_values.specs.declared.cause.Cause.TheVariants.{Reserved}
 use Rattle.msb_elements.specs.Nodes.{name_of, attributes_of, inner_text}
+use Rattle.msb_expand.specs.Computed.{is_computed}
 use Rattle.msb_expand.specs.Keys.{key_of}
-use Rattle.msb_expand.specs.Metadata.{well_known}
 use Rattle.build_world.specs.declared.fault.EvalFault.{EvalFault}
 use Rattle.build_world.specs.Elements.{At, children_of, attribute_of, fault_of}
 use Rattle.msb_items.specs.Places.{Place, holds_at, text_at}
@@ -73,17 +71,6 @@ item_attributes = codes "Include" ∷ codes "Exclude" ∷ codes "Remove" ∷ cod
 abbrev pub target_attributes : List (List ℕ)
 target_attributes = codes "KeepDuplicates" ∷ codes "KeepMetadata" ∷ codes "RemoveMetadata"
     ∷ item_attributes
-
--- well-known metadata are computed, and these are as well in other builds
-abbrev pub left_out : List (List ℕ)
-left_out = codes "modifiedtime" ∷ codes "createdtime" ∷ codes "accessedtime"
-    ∷ codes "definingprojectfullpath"
-    ∷ codes "definingprojectdirectory" ∷ codes "definingprojectname"
-    ∷ codes "definingprojectextension" ∷ []
-
-abbrev pub is_computed : List ℕ → Bool
-is_computed name = elim (is_some (value_at name well_known))
-    [ true ↦ true | false ↦ is_one_of left_out name ]
 
 abbrev pub value_unless : Bool → Place → WrittenMetadata → List ℕ
     → Result (Option (List ℕ × List ℕ)) EvalFault

@@ -6,14 +6,14 @@ use Rattle.std.specs.List.{filter_map}
 use Rattle.std.specs.Ordering.{nat_cmp}
 use Rattle.msb_laws.specs.Results.{map_ok}
 use Rattle.msb_values.specs.Keys.{key_of}
+use Rattle.msb_values.specs.Lists.{list_of}
 use Rattle.msb_values.specs.Pairs.{value_at, without_name}
 use Rattle.msb_values.specs.declared.item.Item.{Item}
-use Rattle.msb_expand.specs.declared.entry.Entry.{Entry}
 use Rattle.build_world.specs.declared.fault.EvalFault.{EvalFault}
 use Rattle.build_world.specs.Elements.{At, attribute_of}
 use Rattle.msb_items.specs.declared.transfer.Transfer.{Transfer}
 use Rattle.msb_items.specs.declared.transfer.Transfer.TheVariants.{All, Only, Without}
-use Rattle.msb_items.specs.Places.{Place, entries_at}
+use Rattle.msb_items.specs.Places.{Place, text_at}
 
 -- a metadata, if there is one
 abbrev pub with_value : List ℕ → Option (List ℕ) → List (List ℕ × List ℕ) → List (List ℕ × List ℕ)
@@ -36,19 +36,25 @@ transferred (Only names) item = with_meta item (only_named names item.meta)
 transferred (Without names) item = with_meta item (none_named names item.meta)
 
 -- the names that the entries of a list are; an entry that is no name names nothing
-abbrev pub metadata_names : List Entry → List (List ℕ)
-metadata_names entries = filter_map (λ entry. key_of entry.item.ident) entries
+abbrev pub metadata_names : List (List ℕ) → List (List ℕ)
+metadata_names entries = filter_map key_of entries
 
 -- a KeepMetadata without entries keeps all
-abbrev pub only_entries : List Entry → Transfer
+abbrev pub only_entries : List (List ℕ) → Transfer
 only_entries [] = All
 only_entries (entry ∷ entries) = Only (metadata_names (entry ∷ entries))
 
+-- what an expanded text says is cut at each `;`
+abbrev pub only_listed : List ℕ → Transfer
+only_listed text = only_entries (list_of text)
+
+abbrev pub without_listed : List ℕ → Transfer
+without_listed text = Without (metadata_names (list_of text))
+
 -- one of the two may stand on an element
 abbrev pub transfer_by : Place → At → Option (List ℕ) → Option (List ℕ) → Result Transfer EvalFault
-transfer_by p e (Some keep) remove = map_ok only_entries (entries_at p e keep)
-transfer_by p e None (Some remove) = map_ok (λ entries. Without (metadata_names entries))
-    (entries_at p e remove)
+transfer_by p e (Some keep) remove = map_ok only_listed (text_at p e keep)
+transfer_by p e None (Some remove) = map_ok without_listed (text_at p e remove)
 transfer_by p e None None = Ok All
 
 abbrev pub transfer_at : Place → At → Result Transfer EvalFault

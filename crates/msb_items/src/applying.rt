@@ -57,11 +57,11 @@ fn remove_items(
 ) -> Result<(), NoMemory>
     ensures { OnOk result (lists.new ≡ changed_at kind.now (without_named texts.now) lists.old) }
 {
-    let shared = lists.replace(kind, SharedItems::none());
+    let shared = lists.replace(kind, SharedItems::none())?;
     let items = shared.into_list(alloc)?;
     let kept = without_named(alloc, items.into_vec(), texts)?;
     let kept = SharedItems::of(alloc, List::from(kept))?;
-    lists.replace(kind, kept);
+    lists.replace(kind, kept)?;
     Ok(())
 }
 
@@ -98,11 +98,11 @@ fn set_metadata(
     ensures { OnOk result
         (lists.new ≡ changed_at kind.now (with_metadata_on given.now pairs.now) lists.old) }
 {
-    let shared = lists.replace(kind, SharedItems::none());
+    let shared = lists.replace(kind, SharedItems::none())?;
     let items = shared.into_list(alloc)?;
     let changed = with_metadata_on(alloc, items.into_vec(), given, pairs)?;
     let changed = SharedItems::of(alloc, List::from(changed))?;
-    lists.replace(kind, changed);
+    lists.replace(kind, changed)?;
     Ok(())
 }
 

@@ -205,7 +205,7 @@ fn set_default(
 ) -> Result<(), NoMemory>
     ensures { OnOk result (scope.new ≡ with_default scope.old kind.now (Some (name, text))) }
 {
-    let mut pairs = scope.defaults.replace(kind, Pairs::new(alloc));
+    let mut pairs = scope.defaults.replace(kind, Pairs::new(alloc))?;
     pairs.insert(name, text)?;
     scope.defaults.insert(kind.copy()?, pairs)
 }

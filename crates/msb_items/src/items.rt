@@ -242,7 +242,7 @@ fn remove_named(
 {
     let list = scope
         .items
-        .replace(kind, SharedItems::none())
+        .replace(kind, SharedItems::none())?
         .into_list(alloc)?;
     let kept = unnamed(alloc, project, names, list.into_vec())?;
     put_list(alloc, scope, kind, List::from(kept))
@@ -281,7 +281,7 @@ fn replace_in(
 {
     let list = scope
         .items
-        .replace(kind, SharedItems::none())
+        .replace(kind, SharedItems::none())?
         .into_list(alloc)?;
     let mut items = list.into_vec();
     put_all(&mut items, replacements);
@@ -324,7 +324,7 @@ fn append(alloc: Global, scope: &mut Scope, kind: &Name, new: Vec<Item>) -> Resu
     ensures { OnOk result
         (scope.new ≡ with_list scope.old kind.now (list_of scope.old kind.now ++ new.items)) }
 {
-    let mut items = scope.items.replace(kind, SharedItems::none());
+    let mut items = scope.items.replace(kind, SharedItems::none())?;
     items.append(alloc, List::from(new))?;
     scope.items.insert(kind.copy()?, items)
 }

@@ -5,13 +5,12 @@ ghost use Rattle.build_world.specs.Answers.{GivesFault};
 ghost use Rattle.build_world.specs.Elements.{children_of, fault_of, seen_element};
 ghost use Rattle.msb_values.specs.Caused.{UnlessMemory};
 ghost use Rattle.msb_values.specs.declared.cause.Cause.TheVariants.{Reserved};
+ghost use Rattle.msb_expand.specs.Computed.{is_computed, left_out};
 ghost use Rattle.msb_expand.specs.Keys.{key_of};
 ghost use Rattle.msb_items.specs.Metadata.{
   attribute_metadata,
   child_metadata,
-  is_computed,
   is_one_of,
-  left_out,
   metadata_on,
   metadata_value,
   value_unless,

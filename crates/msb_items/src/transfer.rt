@@ -4,24 +4,23 @@ ghost use Rattle.msb_values.specs.Keys.{key_of};
 ghost use Rattle.msb_values.specs.Pairs.{value_at};
 ghost use Rattle.build_world.specs.Answers.{GivesFault};
 ghost use Rattle.build_world.specs.Elements.{seen_element};
-ghost use Rattle.msb_items.specs.Places.{entries_at};
+ghost use Rattle.msb_items.specs.Places.{text_at};
 ghost use Rattle.msb_items.specs.Seen.{place_of};
-ghost use Rattle.msb_items.specs.declared.transfer.Transfer.TheVariants.{Without};
 ghost use Rattle.msb_items.specs.Transfers.{
   metadata_names,
   none_named,
-  only_entries,
+  only_listed,
   only_named,
   transfer_at,
   transferred,
   with_value,
+  without_listed,
 };
 
 use crate::place::Place;
 use build_world::{EvalFault, PlacedElement};
-use msb_expand::Entry;
 use msb_paths::Present;
-use msb_values::{Copied, Item, List, Name, NoMemory, Pairs};
+use msb_values::{Copied, Item, List, Name, NoMemory, Pairs, Text, split_list};
 use std::alloc::Global;
 
 /// Which metadata of its source a copied item keeps. (Item element.)
@@ -82,10 +81,7 @@ impl Transfer {
                 item.meta = only_named(alloc, names.as_slice(), &item.meta)?;
                 Ok(())
             }
-            Transfer::Without(names) => {
-                take_named(&mut item.meta, names.as_slice());
-                Ok(())
-            }
+            Transfer::Without(names) => { take_named(&mut item.meta, names.as_slice()) }
         }
     }
 }
@@ -97,17 +93,24 @@ fn only<F: Present>(
     keep: &str,
 ) -> Result<Transfer, EvalFault>
     ensures { GivesFault (λ transfer. transfer) result
-        (map_ok only_entries
-        (entries_at (place_of F.files place.now) (seen_element element.now) keep.now)) }
+        (map_ok only_listed
+        (text_at (place_of F.files place.now) (seen_element element.now) keep.now)) }
 {
-    let entries = place.entries(alloc, element, keep)?;
+    let text = place.text(alloc, element, keep)?;
+    match only_listed(alloc, text.as_str()) {
+        Ok(transfer) => Ok(transfer),
+        Err(NoMemory) => Err(EvalFault::memory(alloc)),
+    }
+}
+
+fn only_listed(alloc: Global, text: &str) -> Result<Transfer, NoMemory>
+    ensures { IfOk result (λ transfer. transfer ≡ only_listed text.now) }
+{
+    let entries = split_list(alloc, text)?;
     if entries.is_empty() {
         return Ok(Transfer::All);
     }
-    match metadata_names(alloc, entries.as_slice()) {
-        Ok(names) => Ok(Transfer::Only(names)),
-        Err(_) => Err(EvalFault::memory(alloc)),
-    }
+    Ok(Transfer::Only(metadata_names(alloc, entries.as_slice())?))
 }
 
 fn without<F: Present>(
@@ -117,23 +120,30 @@ fn without<F: Present>(
     remove: &str,
 ) -> Result<Transfer, EvalFault>
     ensures { GivesFault (λ transfer. transfer) result
-        (map_ok (λ entries. Without (metadata_names entries))
-        (entries_at (place_of F.files place.now) (seen_element element.now) remove.now)) }
+        (map_ok without_listed
+        (text_at (place_of F.files place.now) (seen_element element.now) remove.now)) }
 {
-    let entries = place.entries(alloc, element, remove)?;
-    match metadata_names(alloc, entries.as_slice()) {
-        Ok(names) => Ok(Transfer::Without(names)),
-        Err(_) => Err(EvalFault::memory(alloc)),
+    let text = place.text(alloc, element, remove)?;
+    match without_listed(alloc, text.as_str()) {
+        Ok(transfer) => Ok(transfer),
+        Err(NoMemory) => Err(EvalFault::memory(alloc)),
     }
 }
 
+fn without_listed(alloc: Global, text: &str) -> Result<Transfer, NoMemory>
+    ensures { IfOk result (λ transfer. transfer ≡ without_listed text.now) }
+{
+    let entries = split_list(alloc, text)?;
+    Ok(Transfer::Without(metadata_names(alloc, entries.as_slice())?))
+}
+
 /// The names that the entries of a list are.
-fn metadata_names(alloc: Global, entries: &[Entry]) -> Result<List<Name>, NoMemory>
+fn metadata_names(alloc: Global, entries: &[Text]) -> Result<List<Name>, NoMemory>
     ensures { IfOk result (λ names. names ≡ metadata_names entries.now) }
 {
     let mut names = List::new(alloc);
     for entry in entries {
-        push_name(alloc, &mut names, entry.item.ident.as_str())?;
+        push_name(alloc, &mut names, entry.as_str())?;
     }
     Ok(names)
 }
@@ -168,10 +178,11 @@ fn keep(kept: &mut Pairs, name: &Name, meta: &Pairs) -> Result<(), NoMemory>
 }
 
 /// Takes the metadata of these names away.
-fn take_named(meta: &mut Pairs, names: &[Name])
-    ensures { meta.new ≡ none_named names.now meta.old }
+fn take_named(meta: &mut Pairs, names: &[Name]) -> Result<(), NoMemory>
+    ensures { OnOk result (meta.new ≡ none_named names.now meta.old) }
 {
     for name in names {
-        meta.take(name);
+        meta.take(name)?;
     }
+    Ok(())
 }

@@ -54,7 +54,7 @@ fn items_after(
     let mut alone = no_scope(alloc);
     alone.items.insert(kind.copy()?, items)?;
     alone.apply(alloc, change)?;
-    match alone.items.take(kind) {
+    match alone.items.take(kind)? {
         Some(items) => Ok(items),
         None => Ok(SharedItems::none()),
     }

@@ -18,7 +18,6 @@ use Rattle.std.specs.Prelude.{
 use Rattle.msb_laws.specs.Results.{map_ok}
 use Rattle.msb_values.specs.Escapes.{unescaped}
 use Rattle.msb_values.specs.Keys.{key_of}
-use Rattle.msb_values.specs.Pairs as pairs
 use Rattle.msb_values.specs.declared.item.Item.{Item}
 use Rattle.msb_elements.specs.Nodes.{attributes_of}
 use Rattle.msb_expand.specs.Functions.{plain_item}
@@ -30,6 +29,7 @@ use Rattle.msb_items.specs.Batched.{joined_ok, element_buckets}
 use Rattle.msb_items.specs.Metadata.{is_one_of}
 use Rattle.msb_items.specs.Places.{Place, scene_in, text_at}
 use Rattle.task_trait.specs.Escaping.{handed_item}
+use Rattle.task_trait.specs.Rows.{takes_list}
 use Rattle.task_trait.specs.declared.tools.Param.{Param}
 
 -- the attributes of a task element that have no meaning, and those that are no parameters
@@ -42,32 +42,6 @@ task_attributes = codes "Condition" ∷ codes "ContinueOnError" ∷ ignored_attr
 -- the buckets of a task element (MSBuild batching)
 abbrev pub task_buckets : Place → At → Result (List Bucket) EvalFault
 task_buckets p e = element_buckets (scene_in p e.file) ignored_attributes e None
-
--- the parameters of the built-in tasks that are lists of items; all others of these tasks are texts
--- (MSBuild task reference)
-abbrev pub list_parameters : List (List ℕ × List (List ℕ))
-list_parameters =
-    (codes "copy", codes "destinationfiles" ∷ codes "sourcefiles" ∷ []) ∷
-    (codes "createitem", codes "additionalmetadata" ∷ codes "exclude" ∷ codes "include" ∷ []) ∷
-    (codes "createproperty", codes "value" ∷ []) ∷
-    (codes "delete", codes "files" ∷ []) ∷
-    (codes "error", []) ∷
-    (codes "message", []) ∷ (
-      codes "msbuild",
-      codes "projects" ∷ codes "properties" ∷ codes "removeproperties"
-          ∷ codes "targets" ∷ [],
-    ) ∷
-    (codes "readlinesfromfile", []) ∷
-    (codes "warning", []) ∷
-    (codes "writelinestofile", codes "lines" ∷ []) ∷ []
-
--- every parameter of any other task is a list
-abbrev pub takes_list_by : Option (List (List ℕ)) → List ℕ → Bool
-takes_list_by (Some lists) name = is_one_of lists name
-takes_list_by None name = true
-
-abbrev pub takes_list : (task name : List ℕ) → Bool
-takes_list task name = takes_list_by (pairs.value_at task list_parameters) name
 
 -- the items of a list
 abbrev pub list_at : Place → At → List ℕ → Result (List Item) EvalFault

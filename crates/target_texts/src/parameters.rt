@@ -13,19 +13,19 @@ ghost use Rattle.target_texts.specs.Parameters.{
   param_named,
   param_of,
   params_at,
-  takes_list,
   task_attributes,
   task_buckets,
   text_items,
 };
 ghost use Rattle.target_texts.specs.Seen.{seen_place};
+ghost use Rattle.task_trait.specs.Rows.{takes_list};
 
 use crate::place::Place;
 use build_world::{EvalFault, PlacedElement};
 use msb_expand::Bucket;
 use msb_values::{Item, List, Name, NoMemory, Pairs, Text, unescape};
 use std::alloc::Global;
-use task_trait::{Param, handed_items};
+use task_trait::{Param, handed_items, takes_list};
 
 /// A task element in a target, with what its texts see. (Task element.)
 #[derive(Clone, Copy)]
@@ -216,23 +216,4 @@ fn plain_item(alloc: Global, ident: Text) -> Result<Item, NoMemory>
         recursive: Text::of(alloc, "")?,
         meta: Pairs::new(alloc),
     })
-}
-
-// Whether the task of this name takes this parameter as a list of items. (MSBuild task reference.)
-fn takes_list(task: &str, name: &str) -> bool
-    ensures { result ≡ takes_list task.now name.now }
-{
-    match task {
-        "copy" => matches!(name, "destinationfiles" | "sourcefiles"),
-        "createitem" => matches!(name, "additionalmetadata" | "exclude" | "include"),
-        "createproperty" => name == "value",
-        "delete" => name == "files",
-        "error" | "message" | "readlinesfromfile" | "warning" => false,
-        "msbuild" => matches!(
-            name,
-            "projects" | "properties" | "removeproperties" | "targets"
-        ),
-        "writelinestofile" => name == "lines",
-        _ => true,
-    }
 }

@@ -58,7 +58,6 @@ use Rattle.task_kit.specs.Copies.{
   output_copied,
   all_copied,
   copied_to,
-  copy_parameters,
   copy,
   named_at,
   all_below,
@@ -304,7 +303,7 @@ to-alike v skip n m (source ∷ sources) to =
 copy-alike : (dir : List ℕ) (v : View) (params : List Param) (n m : ℕ) →
     Lifted (copy dir v params n) (copy dir v params m)
 copy-alike dir v params n m =
-    unless-lift (check_known copy_parameters params) _ _
+    unless-lift (check_known (codes "copy") params) _ _
     (and-lift (all_ok (named_at dir) (items_of (codes "destinationfiles") params)) _ _ (λ named.
     and-lift (all_below dir (text_of (codes "destinationfolder") params)
     (items_of (codes "sourcefiles") params)) _ _ (λ below.
@@ -349,7 +348,7 @@ lines-alike v file path overwrite lines n m =
 write-alike : (dir : List ℕ) (v : View) (params : List Param) (n m : ℕ) →
     Lifted (write_lines dir v params n) (write_lines dir v params m)
 write-alike dir v params n m =
-    unless-lift (check_known (codes "file" ∷ codes "lines" ∷ codes "overwrite" ∷ []) params) _ _
+    unless-lift (check_known (codes "writelinestofile") params) _ _
     (and-lift (needed_text (codes "file") params) _ _ (λ file.
     and-lift (path_in dir (codes "file") file) _ _ (λ path.
     map-lift (truth_at (codes "overwrite") params) _ _

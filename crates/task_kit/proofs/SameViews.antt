@@ -54,7 +54,6 @@ use Rattle.task_kit.specs.Copies.{
   output_copied,
   all_copied,
   copied_to,
-  copy_parameters,
   copy,
   named_at,
   all_below,
@@ -143,7 +142,7 @@ module _ (v u : View) (seen-same : (path : List ℕ) → content v path ≡ cont
   copy-same : (dir : List ℕ) (params : List Param) (written : ℕ) →
       copy dir v params written ≡ copy dir u params written
   copy-same dir params written =
-      ap (unless (check_known copy_parameters params))
+      ap (unless (check_known (codes "copy") params))
       (and-same (all_ok (named_at dir) (items_of (codes "destinationfiles") params)) _ _ (λ named.
       and-same (all_below dir (text_of (codes "destinationfolder") params)
       (items_of (codes "sourcefiles") params)) _ _ (λ below.
@@ -169,7 +168,7 @@ module _ (v u : View) (seen-same : (path : List ℕ) → content v path ≡ cont
   write-same : (dir : List ℕ) (params : List Param) (written : ℕ) →
       write_lines dir v params written ≡ write_lines dir u params written
   write-same dir params written =
-      ap (unless (check_known (codes "file" ∷ codes "lines" ∷ codes "overwrite" ∷ []) params))
+      ap (unless (check_known (codes "writelinestofile") params))
       (and-same (needed_text (codes "file") params) _ _ (λ file.
       and-same (path_in dir (codes "file") file) _ _ (λ path.
       map-same (λ overwrite. output_written v file path overwrite
@@ -186,8 +185,7 @@ module _ (v u : View) (seen-same : (path : List ℕ) → content v path ≡ cont
   create-same : (dir : List ℕ) (params : List Param) →
       create_item dir v params ≡ create_item dir u params
   create-same dir params =
-      ap (unless (check_known (codes "additionalmetadata" ∷ codes "exclude" ∷ codes "include"
-      ∷ []) params))
+      ap (unless (check_known (codes "createitem") params))
       (and-same (needed_items (codes "include") params) _ _ (λ entries.
       and-same (all_ok metadata_in (items_of (codes "additionalmetadata") params)) _ _ (λ metadata.
       ap (λ ps. map_ok (λ items. succeeded (include_output (map (with_metadata metadata) items)
@@ -198,7 +196,7 @@ module _ (v u : View) (seen-same : (path : List ℕ) → content v path ≡ cont
   read-same : (dir : List ℕ) (params : List Param) →
       read_lines dir v params ≡ read_lines dir u params
   read-same dir params =
-      ap (unless (check_known (codes "file" ∷ []) params))
+      ap (unless (check_known (codes "readlinesfromfile") params))
       (and-same (needed_text (codes "file") params) _ _ (λ file.
       and-same (path_in dir (codes "file") file) _ _ (λ path.
       ap (lines_read file) (seen-same path))))
@@ -218,7 +216,7 @@ module _ (v u : View) (seen-same : (path : List ℕ) → content v path ≡ cont
 
   delete-same : (dir : List ℕ) (params : List Param) → delete dir v params ≡ delete dir u params
   delete-same dir params =
-      ap (unless (check_known (codes "files" ∷ []) params))
+      ap (unless (check_known (codes "delete") params))
       (and-same (needed_items (codes "files") params) _ _ (λ items.
       map-same (output_removed v items) (output_removed u items) (all_ok (path_at dir) items)
       (λ paths. ap (λ acts. record {

@@ -129,15 +129,11 @@ copied_to view skip written (source ∷ sources) destinations =
     map_ok (all_copied view skip written (source ∷ sources))
     (and_then destinations (counted (length (source ∷ sources))))
 
-abbrev pub copy_parameters : List (List ℕ)
-copy_parameters = codes "destinationfiles" ∷ codes "destinationfolder" ∷ codes "skipunchangedfiles"
-    ∷ codes "sourcefiles" ∷ []
-
 abbrev pub copy : List ℕ → View → List Param → ℕ → Result TaskOutput Failure
 copy dir view params written =
     let items = items_of (codes "sourcefiles") params in
     let folder = text_of (codes "destinationfolder") params in
-    unless (check_known copy_parameters params)
+    unless (check_known (codes "copy") params)
     (and_then (all_ok (named_at dir) (items_of (codes "destinationfiles") params)) (λ named.
     and_then (all_below dir folder items) (λ below.
     and_then (truth_at (codes "skipunchangedfiles") params) (λ skip.

@@ -35,13 +35,13 @@ use Rattle.msb_glob.specs.Match.{fits_path}
 use Rattle.msb_glob.specs.Parsed.{Reading, parsed, is_pattern, with_slashes}
 use Rattle.msb_glob.specs.declared.errors.GlobFault.{GlobFault}
 use Rattle.msb_glob.specs.declared.expansion.Match.{Match}
+use Rattle.msb_expand.specs.Computed.{is_computed}
 use Rattle.msb_files.specs.Views.{View, paths}
 use Rattle.task_trait.specs.Params.{items_of, check_known, unless, needed_items, or_bad, pair_of}
 use Rattle.task_trait.specs.declared.failures.Failure.{Failure}
 use Rattle.task_trait.specs.declared.failures.Failure.TheVariants.{BadParameter}
 use Rattle.task_trait.specs.declared.tools.Param.{Param}
 use Rattle.task_trait.specs.declared.tools.TaskOutput.{TaskOutput}
-use Rattle.task_kit.specs.Computed.{is_computed}
 use Rattle.task_kit.specs.Made.{succeeded}
 
 -- an entry comes without escapes, so a `%` in a pattern stands for itself
@@ -130,8 +130,7 @@ include_output items = record { name = codes "include"; items = items }
 
 abbrev pub create_item : List ℕ → View → List Param → Result TaskOutput Failure
 create_item dir view params =
-    unless
-    (check_known (codes "additionalmetadata" ∷ codes "exclude" ∷ codes "include" ∷ []) params)
+    unless (check_known (codes "createitem") params)
     (and_then (needed_items (codes "include") params) (λ entries.
     and_then (all_ok metadata_in (items_of (codes "additionalmetadata") params)) (λ metadata.
     map_ok (λ items. succeeded (include_output (map (with_metadata metadata) items) ∷ []))

@@ -7,5 +7,4 @@ pub mod Lines
 pub mod Included
 pub mod Removed
 pub mod Read
-pub mod Computed
 pub mod Foreign

@@ -57,7 +57,7 @@ output_written view file path overwrite lines written =
 
 abbrev pub write_lines : List ℕ → View → List Param → ℕ → Result TaskOutput Failure
 write_lines dir view params written =
-    unless (check_known (codes "file" ∷ codes "lines" ∷ codes "overwrite" ∷ []) params)
+    unless (check_known (codes "writelinestofile") params)
     (and_then (needed_text (codes "file") params) (λ file.
     and_then (path_in dir (codes "file") file) (λ path.
     map_ok

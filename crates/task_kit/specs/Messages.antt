@@ -49,23 +49,23 @@ message_note text false = Message text
 -- Message: a note of its Text, by its Importance
 abbrev pub message : List Param → Result TaskOutput Failure
 message params =
-    unless (check_known (codes "importance" ∷ codes "text" ∷ []) params)
+    unless (check_known (codes "message") params)
     (map_ok (λ low. said (message_note (text_of (codes "text") params) low))
     (or_bad (codes "importance") (is_low (text_of (codes "importance") params))))
 
 -- Warning: a warning of its Text
 abbrev pub warning : List Param → Result TaskOutput Failure
-warning params = unless (check_known (codes "text" ∷ []) params)
+warning params = unless (check_known (codes "warning") params)
     (Ok (said (Warning (text_of (codes "text") params))))
 
 -- Error: it fails, with its Text
 abbrev pub error : List Param → Result TaskOutput Failure
-error params = unless (check_known (codes "text" ∷ []) params)
+error params = unless (check_known (codes "error") params)
     (Err (Raised (text_of (codes "text") params)))
 
 -- CreateProperty: its Value
 abbrev pub create_property : List Param → Result TaskOutput Failure
 create_property params =
-    unless (check_known (codes "value" ∷ []) params)
+    unless (check_known (codes "createproperty") params)
     (Ok
     (succeeded (record { name = codes "value"; items = items_of (codes "value") params } ∷ [])))

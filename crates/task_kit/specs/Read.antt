@@ -46,7 +46,7 @@ lines_read file (Some bytes) =
 
 abbrev pub read_lines : List ℕ → View → List Param → Result TaskOutput Failure
 read_lines dir view params =
-    unless (check_known (codes "file" ∷ []) params)
+    unless (check_known (codes "readlinesfromfile") params)
     (and_then (needed_text (codes "file") params) (λ file.
     and_then (path_in dir (codes "file") file) (λ path.
     lines_read file (content view path))))

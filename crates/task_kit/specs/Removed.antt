@@ -62,7 +62,7 @@ output_removed view items paths = record {
 
 abbrev pub delete : List ℕ → View → List Param → Result TaskOutput Failure
 delete dir view params =
-    unless (check_known (codes "files" ∷ []) params)
+    unless (check_known (codes "delete") params)
     (and_then (needed_items (codes "files") params) (λ items.
     map_ok (output_removed view items) (all_ok (path_at dir) items)))
 

@@ -81,16 +81,7 @@ pub(crate) fn copy(
 ) -> Result<TaskOutput, Failure>
     ensures { Gives result (copy dir.now view.now params.now written) }
 {
-    check_known(
-        alloc,
-        params,
-        &[
-            "destinationfiles",
-            "destinationfolder",
-            "skipunchangedfiles",
-            "sourcefiles",
-        ],
-    )?;
+    check_known(alloc, "copy", params)?;
     let items = items_of(params, "sourcefiles");
     let folder = text_of(params, "destinationfolder");
     let named = all_named(alloc, dir, items_of(params, "destinationfiles"))?;

@@ -4,10 +4,10 @@ ghost use Rattle.std.specs.Str.{bytes_eq};
 ghost use Rattle.msb_laws.specs.Results.{all_ok, map_ok};
 ghost use Rattle.msb_values.specs.Changes.{with_metadata};
 ghost use Rattle.msb_values.specs.Pairs.{all_put};
+ghost use Rattle.msb_expand.specs.Computed.{is_computed, left_out};
 ghost use Rattle.msb_files.specs.Views.{paths};
 ghost use Rattle.task_trait.specs.Answers.{Gives, GivesAs};
 ghost use Rattle.task_kit.specs.Made.{succeeded};
-ghost use Rattle.task_kit.specs.Computed.{is_computed, left_out};
 ghost use Rattle.task_kit.specs.Included.{
   create_item,
   include_output,
@@ -40,7 +40,7 @@ pub(crate) fn create_item(
 ) -> Result<TaskOutput, Failure>
     ensures { Gives result (create_item dir.now view.now params.now) }
 {
-    check_known(alloc, params, &["additionalmetadata", "exclude", "include"])?;
+    check_known(alloc, "createitem", params)?;
     let entries = needed_items(alloc, params, "include")?;
     let metadata = all_metadata(alloc, items_of(params, "additionalmetadata"))?;
     let items = items_created(alloc, dir, view, entries, items_of(params, "exclude"))?;

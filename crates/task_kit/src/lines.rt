@@ -36,7 +36,7 @@ pub(crate) fn write_lines(
 ) -> Result<TaskOutput, Failure>
     ensures { Gives result (write_lines dir.now view.now params.now written) }
 {
-    check_known(alloc, params, &["file", "lines", "overwrite"])?;
+    check_known(alloc, "writelinestofile", params)?;
     let file = needed_text(alloc, params, "file")?;
     let path = path_in(alloc, dir, "file", file)?;
     let writing = Writing {

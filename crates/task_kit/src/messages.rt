@@ -19,7 +19,7 @@ use task_trait::{Failure, Param, TaskOutput, bad, check_known, items_of, text_of
 pub(crate) fn message(alloc: Global, params: &[Param]) -> Result<TaskOutput, Failure>
     ensures { Gives result (message params.now) }
 {
-    check_known(alloc, params, &["importance", "text"])?;
+    check_known(alloc, "message", params)?;
     match is_low(text_of(params, "importance")) {
         Some(low) => Ok(said(alloc, message_note(alloc, text_of(params, "text"), low)?)?),
         None => Err(bad(alloc, "importance")),
@@ -54,7 +54,7 @@ fn message_note(alloc: Global, text: &str, low: bool) -> Result<Note, NoMemory>
 pub(crate) fn warning(alloc: Global, params: &[Param]) -> Result<TaskOutput, Failure>
     ensures { Gives result (warning params.now) }
 {
-    check_known(alloc, params, &["text"])?;
+    check_known(alloc, "warning", params)?;
     let text = Text::of(alloc, text_of(params, "text"))?;
     Ok(said(alloc, Note::Warning(text))?)
 }
@@ -63,7 +63,7 @@ pub(crate) fn warning(alloc: Global, params: &[Param]) -> Result<TaskOutput, Fai
 pub(crate) fn error(alloc: Global, params: &[Param]) -> Result<TaskOutput, Failure>
     ensures { Gives result (error params.now) }
 {
-    check_known(alloc, params, &["text"])?;
+    check_known(alloc, "error", params)?;
     Err(Failure::Raised(Text::of(alloc, text_of(params, "text"))?))
 }
 
@@ -71,7 +71,7 @@ pub(crate) fn error(alloc: Global, params: &[Param]) -> Result<TaskOutput, Failu
 pub(crate) fn create_property(alloc: Global, params: &[Param]) -> Result<TaskOutput, Failure>
     ensures { Gives result (create_property params.now) }
 {
-    check_known(alloc, params, &["value"])?;
+    check_known(alloc, "createproperty", params)?;
     let items = List::of(alloc, items_of(params, "value"))?;
     let mut outputs = List::new(alloc);
     outputs.push(output(alloc, "value", items)?)?;

@@ -21,7 +21,7 @@ pub(crate) fn read_lines(
 ) -> Result<TaskOutput, Failure>
     ensures { Gives result (read_lines dir.now view.now params.now) }
 {
-    check_known(alloc, params, &["file"])?;
+    check_known(alloc, "readlinesfromfile", params)?;
     let file = needed_text(alloc, params, "file")?;
     let path = path_in(alloc, dir, "file", file)?;
     lines_read(alloc, file, view.content(path.as_str()))

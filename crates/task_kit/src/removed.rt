@@ -27,7 +27,7 @@ pub(crate) fn delete(
 ) -> Result<TaskOutput, Failure>
     ensures { Gives result (delete dir.now view.now params.now) }
 {
-    check_known(alloc, params, &["files"])?;
+    check_known(alloc, "delete", params)?;
     let items = needed_items(alloc, params, "files")?;
     let paths = all_paths(alloc, dir, items)?;
     Ok(output_removed(alloc, view, items, paths.into_vec())?)

@@ -23,12 +23,6 @@ use Rattle.task_msbuild.specs.declared.project.Project.{Project}
 use Rattle.task_msbuild.specs.declared.parameters.Parameters.{Parameters}
 use Rattle.task_msbuild.specs.GlobalProperties.{additional_of, properties_of, removed_of}
 
-abbrev pub known : List (List ℕ)
-known =
-    codes "buildinparallel" ∷ codes "projects" ∷ codes "properties" ∷ codes "removeproperties"
-    ∷ codes "runeachtargetseparately" ∷
-    codes "skipnonexistentprojects" ∷ codes "stoponfirstfailure" ∷ codes "targets" ∷ []
-
 -- a project item, with the properties of its metadata AdditionalProperties
 abbrev pub project_item : Item → Option ProjectItem
 project_item item = option_map (λ additional. record { text = item.ident; additional = additional })
@@ -88,5 +82,5 @@ values_of dir params items =
 -- a parameter that the task does not have comes first, and then Projects, which must be given
 abbrev pub parameters_of : List ℕ → List Param → Result Parameters Failure
 parameters_of dir params =
-    unless (check_known known params)
+    unless (check_known (codes "msbuild") params)
     (and_then (needed_items (codes "projects") params) (values_of dir params))

@@ -145,7 +145,7 @@ fn shared_globals(globals: &Pairs, parameters: &Parameters) -> Result<Pairs, NoM
         globals.now) }
 {
     let mut shared = globals.copy()?;
-    remove_all(&mut shared, parameters.removed.as_slice());
+    remove_all(&mut shared, parameters.removed.as_slice())?;
     put_all(&mut shared, parameters.properties.as_slice())?;
     Ok(shared)
 }

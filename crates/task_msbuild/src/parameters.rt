@@ -55,20 +55,7 @@ impl Parameters {
     pub(crate) fn read(alloc: Global, dir: &str, params: &[Param]) -> Result<Parameters, Failure>
         ensures { Gives result (parameters_of dir.now params.now) }
     {
-        check_known(
-            alloc,
-            params,
-            &[
-                "buildinparallel",
-                "projects",
-                "properties",
-                "removeproperties",
-                "runeachtargetseparately",
-                "skipnonexistentprojects",
-                "stoponfirstfailure",
-                "targets",
-            ],
-        )?;
+        check_known(alloc, "msbuild", params)?;
         let items = needed_items(alloc, params, "projects")?;
         Parameters::of(alloc, dir, params, items)
     }

@@ -78,12 +78,13 @@ pub(crate) fn names(alloc: Global, entries: &[Text]) -> Result<Option<List<Name>
 }
 
 /// Takes away the properties of these names.
-pub(crate) fn remove_all(globals: &mut Pairs, names: &[Name])
-    ensures { globals.new ≡ without_names names.now globals.old }
+pub(crate) fn remove_all(globals: &mut Pairs, names: &[Name]) -> Result<(), NoMemory>
+    ensures { OnOk result (globals.new ≡ without_names names.now globals.old) }
 {
     for name in names {
-        globals.take(name);
+        globals.take(name)?;
     }
+    Ok(())
 }
 
 /// Puts these properties in, each in its turn.

@@ -4,7 +4,6 @@ use Rattle.std.specs.Prelude.{ℕ, List, [], map}
 use Rattle.msb_values.specs.Escapes.{escaped, unescaped}
 use Rattle.msb_values.specs.Pairs.{all_put}
 use Rattle.msb_values.specs.declared.item.Item.{Item}
-use Rattle.task_trait.specs.declared.tools.Param.{Param}
 
 -- a change of an item's texts: its identity and the values of its metadata, and not its
 -- RecursiveDir, which no task sees
@@ -21,6 +20,3 @@ handed_item item = with_texts unescaped item
 
 abbrev pub taken_item : Item → Item
 taken_item item = with_texts escaped item
-
-abbrev pub handed_param : Param → Param
-handed_param param = record { name = param.name; items = map handed_item param.items }

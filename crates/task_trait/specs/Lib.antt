@@ -1,5 +1,6 @@
 pub mod Tools
 pub mod Failures
 pub mod Answers
+pub mod Rows
 pub mod Params
 pub mod Escaping

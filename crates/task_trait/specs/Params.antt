@@ -28,6 +28,7 @@ use Rattle.std.specs.Str.{bytes_eq}
 use Rattle.msb_values.specs.Keys.{key_of}
 use Rattle.msb_values.specs.Truths.{truth_of}
 use Rattle.msb_values.specs.declared.item.Item.{Item}
+use Rattle.task_trait.specs.Rows.{is_known}
 use Rattle.task_trait.specs.declared.failures.Failure.{Failure}
 use Rattle.task_trait.specs.declared.failures.Failure.TheVariants.{
   MissingParameter,
@@ -65,16 +66,15 @@ lesser None name = name
 lesser (Some other) name = if is_lt (slice_cmp nat_cmp name other) then name else other
 
 -- the least name so far that a task does not have
-abbrev pub least_unknown : List (List ℕ) → Option (List ℕ) → List ℕ → Option (List ℕ)
-least_unknown known least name = if list_any (bytes_eq name) known then least else Some
-    (lesser least name)
+abbrev pub least_unknown : (task : List ℕ) → Option (List ℕ) → List ℕ → Option (List ℕ)
+least_unknown task least name = if is_known task name then least else Some (lesser least name)
 
 -- of the parameters that a task does not have, the first in byte order of names
-abbrev pub first_unknown : List (List ℕ) → List Param → Option (List ℕ)
-first_unknown known params = fold (least_unknown known) None (map (λ param. param.name) params)
+abbrev pub first_unknown : (task : List ℕ) → List Param → Option (List ℕ)
+first_unknown task params = fold (least_unknown task) None (map (λ param. param.name) params)
 
-abbrev pub check_known : List (List ℕ) → List Param → Option Failure
-check_known known params = option_map UnknownParameter (first_unknown known params)
+abbrev pub check_known : (task : List ℕ) → List Param → Option Failure
+check_known task params = option_map UnknownParameter (first_unknown task params)
 
 -- a failed check comes before all that follows
 abbrev pub unless : {T : Type 0} → Option Failure → Result T Failure → Result T Failure

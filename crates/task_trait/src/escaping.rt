@@ -1,28 +1,12 @@
 ghost use Rattle.std.specs.Prelude.{◌≡◌, [], map, IfOk};
 ghost use Rattle.msb_values.specs.Escapes.{escaped, unescaped};
 ghost use Rattle.msb_values.specs.Pairs.{all_put};
-ghost use Rattle.task_trait.specs.Escaping.{handed_item, handed_param, taken_item};
+ghost use Rattle.task_trait.specs.Escaping.{handed_item, taken_item};
 
-use crate::Param;
 use msb_values::{Copied, Item, List, NoMemory, Pairs, escape, unescape};
 use std::alloc::Global;
 
-/// The parameters as a task is handed them: every text without its escapes. (MSBuild special
-/// characters.)
-pub fn handed(alloc: Global, params: &[Param]) -> Result<List<Param>, NoMemory>
-    ensures { IfOk result (λ handed. handed ≡ map handed_param params.now) }
-{
-    let mut handed = List::new(alloc);
-    for param in params {
-        handed.push(Param {
-            name: param.name.copy()?,
-            items: handed_items(alloc, param.items.as_slice())?,
-        })?;
-    }
-    Ok(handed)
-}
-
-/// Items as a task is handed them.
+/// Items as a task is handed them: every text without its escapes. (MSBuild special characters.)
 pub fn handed_items(alloc: Global, items: &[Item]) -> Result<List<Item>, NoMemory>
     ensures { IfOk result (λ handed. handed ≡ map handed_item items.now) }
 {

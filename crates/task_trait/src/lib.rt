@@ -7,13 +7,15 @@
 mod escaping;
 mod failures;
 mod params;
+mod rows;
 mod tools;
 
-pub use escaping::{handed, handed_items, taken_items};
+pub use escaping::{handed_items, taken_items};
 pub use failures::Failure;
 pub use params::{
     bad, check_known, items_of, needed_items, needed_text, pair_of, text_of, truth_at,
 };
+pub use rows::takes_list;
 pub use tools::{
     Counted, CountedTools, FileIn, NoTools, Param, TaskOutput, ToolAnswer, ToolInput, Tools,
 };

@@ -1,6 +1,4 @@
-ghost use Rattle.std.specs.Prelude.{◌≡◌, map, Some, option_map, IfOk, option_copied};
-ghost use Rattle.std.specs.List.{list_any};
-ghost use Rattle.std.specs.Str.{bytes_eq};
+ghost use Rattle.std.specs.Prelude.{◌≡◌, Some, option_map, IfOk, option_copied};
 ghost use Rattle.task_trait.specs.Answers.{Checks, Gives, GivesAs, UnlessMemory};
 ghost use Rattle.task_trait.specs.declared.failures.Failure.TheVariants.{BadParameter};
 ghost use Rattle.task_trait.specs.Params.{
@@ -19,6 +17,7 @@ ghost use Rattle.task_trait.specs.Params.{
   with_key,
 };
 
+use crate::rows::is_known;
 use crate::{Failure, Param};
 use msb_values::{Item, Name, NoMemory, Text, truth_of};
 use std::alloc::Global;
@@ -50,43 +49,36 @@ pub fn text_of<'a>(params: &'a [Param], name: &str) -> &'a str
     }
 }
 
-/// Refuses parameters that the task does not have: the first of them in byte order of names.
-pub fn check_known(alloc: Global, params: &[Param], known: &[&str]) -> Result<(), Failure>
-    ensures { Checks result (check_known (map (λ name. name.now) known.now) params.now) }
+/// Refuses parameters that a built-in task of this name does not have: the first of them in byte
+/// order of names.
+pub fn check_known(alloc: Global, task: &str, params: &[Param]) -> Result<(), Failure>
+    ensures { Checks result (check_known task.now params.now) }
 {
-    match first_unknown(params, known) {
+    match first_unknown(task, params) {
         Some(name) => Err(Failure::UnknownParameter(Text::of(alloc, name)?)),
         None => Ok(()),
     }
 }
 
-fn first_unknown<'a>(params: &'a [Param], known: &[&str]) -> Option<&'a str>
-    ensures { option_copied result ≡ first_unknown (map (λ name. name.now) known.now) params.now }
+fn first_unknown<'a>(task: &str, params: &'a [Param]) -> Option<&'a str>
+    ensures { option_copied result ≡ first_unknown task.now params.now }
 {
     let mut least = None;
     for param in params {
-        least = least_unknown(known, least, param.name.key());
+        least = least_unknown(task, least, param.name.key());
     }
     least
 }
 
 /// The least name so far that is not known.
-#[tactic(auto, using(crate::proofs::Finding::any_of_map))]
-fn least_unknown<'a>(known: &[&str], least: Option<&'a str>, name: &'a str) -> Option<&'a str>
-    ensures { option_copied result ≡ least_unknown (map (λ name. name.now) known.now)
-        (option_copied least.entry) name.now }
+fn least_unknown<'a>(task: &str, least: Option<&'a str>, name: &'a str) -> Option<&'a str>
+    ensures { option_copied result ≡ least_unknown task.now (option_copied least.entry) name.now }
 {
-    if has(known, name) {
+    if is_known(task, name) {
         least
     } else {
         Some(lesser(least, name))
     }
-}
-
-fn has(known: &[&str], name: &str) -> bool
-    ensures { result ≡ list_any (λ one. bytes_eq name.now one.now) known.now }
-{
-    known.iter().any(|one| name == *one)
 }
 
 fn lesser<'a>(least: Option<&'a str>, name: &'a str) -> &'a str

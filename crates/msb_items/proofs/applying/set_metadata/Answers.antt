@@ -6,10 +6,10 @@ use Rattle.msb_items.proofs.applying.set_metadata.Goals as goal
 pub returns : goal.returns
 returns c =
     let change = with_metadata_on c.args.given.now c.args.pairs.now in
-    put_back c.args.kind.now change c.args.lists.now _ _ c.none.result c.replace-shared.result
+    put_back c.args.kind.now change c.args.lists.now _ _ c.none.result c.in_ok-shared.shared
     c.in_ok-changed-2.changed
-    c.replace-shared.ensures.left
-    c.replace-shared.ensures.had
+    c.in_ok-shared.ensures.left
+    c.in_ok-shared.ensures.had
     (c.in_ok-changed-2.ensures ∙ c.from.ensures ∙ c.in_ok-changed.ensures
     ∙ ap change c.into_vec.ensures ∙ ap change c.in_ok-items.ensures)
-    c.replace.ensures.left
+    c.in_ok-replace.ensures.left

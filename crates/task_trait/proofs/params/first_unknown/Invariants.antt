@@ -4,6 +4,5 @@ use Rattle.task_trait.proofs.params.first_unknown.Given as goal
 
 abbrev pub invariant-loop-param : goal.invariant-loop-param
 invariant-loop-param l =
-    let known = map (λ name. name.now) l.known in
-    fold (least_unknown known) (option_copied l.least)
-    (map (λ param. param.name) (drop l.param-index l.params)) ≡ first_unknown known l.params
+    fold (least_unknown l.task) (option_copied l.least)
+    (map (λ param. param.name) (drop l.param-index l.params)) ≡ first_unknown l.task l.params
