@@ -38,7 +38,7 @@ pub fn build_on_one<W: Walker>(
     ensures place { W.Fits place.new (W.world walk) }
     ensures lent { W.lent place.new ≡ W.lent place.old }
 {
-    let mut core = Core::new(alloc, key, walk)?;
+    let mut core = Core::boxed(alloc, key, walk)?;
     build_alone(&mut core, place);
     Outcome::of(alloc, &core, low)
 }

@@ -39,7 +39,7 @@ where
     ensures nodes { IfOk result (λ o. ∥ IsOutcomeOn (W.world walk) (vec_len places) low o ∥₁) }
     ensures status { IfOk result (λ o. IsCompletion o.status ⊎ IsRefusal o.status) }
 {
-    let core = Core::new(alloc, key, walk)?;
+    let core = Core::boxed(alloc, key, walk)?;
     let built = build_with(rt, alloc, core, places)?;
     Outcome::of(alloc, &built, low)
 }

@@ -14,6 +14,7 @@ pub mod NeedsOfRuns
 pub mod ForeignJournals
 pub mod RunPaths
 pub mod ParentsAndChildren
+pub mod PlainRequests
 pub mod OpenRequests
 pub mod HistoriesGoOn
 pub mod NothingRefused

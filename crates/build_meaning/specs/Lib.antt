@@ -8,6 +8,7 @@ pub mod History
 pub mod Lists
 pub mod Meaning
 pub mod Orderly
+pub mod Plain
 pub mod Progress
 pub mod SharedRun
 pub mod SoFar

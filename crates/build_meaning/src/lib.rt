@@ -9,6 +9,7 @@
 mod event;
 mod histories;
 mod meanings;
+mod plain;
 mod steady;
 mod worked;
 
@@ -21,6 +22,7 @@ pub use histories::{
 pub use meanings::{
     building_is_replaying, derivation_is_the_meaning, replaying_is_merging, single_is_steady,
 };
+pub use plain::plain_requests_give_alike;
 pub use steady::{
     any_order_agrees, done_is_complete, ends_are_determined, every_request_stands,
     nothing_is_refused,

@@ -31,6 +31,7 @@ use Rattle.result_cache.specs.contracts.request.RequestResult as RequestResult
 use Rattle.result_cache.specs.contracts.run.RunId as RunId
 use Rattle.build_meaning.specs.contracts.event.Event as Event
 use Rattle.build_scheduler.specs.contracts.instances.Instances as Instances
+use Rattle.build_scheduler.specs.contracts.kept.InstanceEnd as InstanceEnd
 use Rattle.build_scheduler.specs.contracts.kept.Kept as Kept
 use Rattle.build_scheduler.specs.contracts.kept.KeptEnds as KeptEnds
 use Rattle.build_scheduler.specs.contracts.log.Log as Log
@@ -140,15 +141,23 @@ some-send S s =
 Kept-send : (W : RattleType) → IsSend W → IsSend (Kept.the_row W)
 Kept-send W s =
     recorded_send _ _ _ (Kept.the_type W).to_one (struct_send (Struct.shape (Kept.the_type W))
-    (search sendable, (told-send, (s, tt))))
+    (search sendable, (told-send, (s, (search sendable, (search sendable, tt))))))
+
+instance-send : (W : RattleType) → IsSend W → IsSend (InstanceEnd.the_row W)
+instance-send W s =
+    recorded_send _ _ _ (InstanceEnd.the_type W).to_one
+    (struct_send (Struct.shape (InstanceEnd.the_type W)) (
+      search sendable,
+      (
+        enum_send (Enum.shape (Option.the_type (Kept.the_row W))) (tt, ((Kept-send W s, tt), tt)),
+        tt,
+      ),
+    ))
 
 ends-send : (W : RattleType) → IsSend W → IsSend (KeptEnds.the_field W).row
 ends-send W s = struct_send (Struct.shape (KeptEnds.the_type W)) (
   search (owned, sendable) depth 20,
-  (
-    search (owned, sendable) depth 20,
-    (Vec-send (Option.the_row (Kept.the_row W)) (some-send (Kept.the_row W) (Kept-send W s)), tt),
-  ),
+  (Vec-send (InstanceEnd.the_row W) (instance-send W s), tt),
 )
 
 module _ (S V K P : RattleType) (g : TableRule.Ghosts P.Denot S.Denot V.Denot K.Denot)

@@ -21,6 +21,7 @@ use Rattle.msb_values.specs.contracts.item.Item as Item
 use Rattle.msb_values.specs.contracts.key.InstanceKey as InstanceKey
 use Rattle.msb_values.specs.contracts.list.List as Entries
 use Rattle.msb_values.specs.contracts.name.Name as Name
+use Rattle.msb_values.specs.contracts.name_map.NameMap as NameMap
 use Rattle.msb_values.specs.contracts.named.Named as Named
 use Rattle.msb_values.specs.contracts.note.Note as Note
 use Rattle.msb_values.specs.contracts.put.Put as Put
@@ -64,20 +65,26 @@ Entries-send T s = search (owned, sendable) depth 20
 Entries-sync : (T : RattleType) → IsSync T → IsSync (Entries.the_row T)
 Entries-sync T s = search (owned, sendable) depth 20
 
-Named-send : (T : RattleType) → IsSend T → IsSend (Named.the_row T)
-Named-send T s = search (Name-send, owned, maps, sendable) depth 20
+NameMap-send : (T : RattleType) → IsSend T → IsSend (NameMap.the_row T)
+NameMap-send T s = search (Name-send, owned, maps, sendable) depth 20
 
-Named-sync : (T : RattleType) → IsSync T → IsSync (Named.the_row T)
-Named-sync T s = search (Name-sync, owned, maps, sendable) depth 20
+NameMap-sync : (T : RattleType) → IsSync T → IsSync (NameMap.the_row T)
+NameMap-sync T s = search (Name-sync, owned, maps, sendable) depth 20
+
+Named-send : (T : RattleType) → IsSend T → IsSync T → IsSend (Named.the_row T)
+Named-send T s y = search (NameMap-send, NameMap-sync, owned, sendable) depth 20
+
+Named-sync : (T : RattleType) → IsSend T → IsSync T → IsSync (Named.the_row T)
+Named-sync T s y = search (NameMap-send, NameMap-sync, owned, sendable) depth 20
 
 -- a struct or an enum as a field, by its own fields, and alone
 pub key-send : IsSend InstanceKey.the_field.row
 key-send = struct_send (Struct.shape InstanceKey.the_type)
-    (Text-send, (Named-send Text.the_row Text-send, tt))
+    (Text-send, (Named-send Text.the_row Text-send Text-sync, tt))
 
 key-sync : IsSync InstanceKey.the_field.row
 key-sync = struct_sync (Struct.shape InstanceKey.the_type)
-    (Text-sync, (Named-sync Text.the_row Text-sync, tt))
+    (Text-sync, (Named-sync Text.the_row Text-send Text-sync, tt))
 
 pub InstanceKey-send : IsSend InstanceKey.the_row
 InstanceKey-send = recorded_send _ _ _ InstanceKey.the_type.to_one key-send
@@ -107,11 +114,11 @@ RequestKey-send = recorded_send _ _ _ RequestKey.the_type.to_one request-send
 
 item-send : IsSend Item.the_field.row
 item-send = struct_send (Struct.shape Item.the_type)
-    (Text-send, (Text-send, (Named-send Text.the_row Text-send, tt)))
+    (Text-send, (Text-send, (Named-send Text.the_row Text-send Text-sync, tt)))
 
 item-sync : IsSync Item.the_field.row
 item-sync = struct_sync (Struct.shape Item.the_type)
-    (Text-sync, (Text-sync, (Named-sync Text.the_row Text-sync, tt)))
+    (Text-sync, (Text-sync, (Named-sync Text.the_row Text-send Text-sync, tt)))
 
 Item-send : IsSend Item.the_row
 Item-send = recorded_send _ _ _ Item.the_type.to_one item-send
@@ -159,7 +166,7 @@ Change-send = recorded_send _ _ _ Change.the_type.to_one (enum_send (Enum.shape 
       (
         (
           Name-send,
-          (Entries-send Item.the_row Item-send, (Named-send Text.the_row Text-send, tt)),
+          (Entries-send Item.the_row Item-send, (Named-send Text.the_row Text-send Text-sync, tt)),
         ),
         tt,
       ),
@@ -177,7 +184,7 @@ Change-sync = recorded_sync _ _ _ Change.the_type.to_one (enum_sync (Enum.shape 
       (
         (
           Name-sync,
-          (Entries-sync Item.the_row Item-sync, (Named-sync Text.the_row Text-sync, tt)),
+          (Entries-sync Item.the_row Item-sync, (Named-sync Text.the_row Text-send Text-sync, tt)),
         ),
         tt,
       ),

@@ -5,15 +5,8 @@ use Rattle.std.proofs.Common.{
   ◌≤◌,
   ◌+◌,
   ℕ,
-  zero,
-  suc,
-  true,
-  false,
   List,
-  [],
-  ◌∷◌,
   length,
-  get_or,
   Option,
   None,
   Some,
@@ -27,17 +20,16 @@ use Rattle.std.proofs.Common.{
 use Rattle.std.proofs.Math.Bridge.{le_prop}
 use Rattle.std.proofs.Math.Logic.{∥∥₁_elim}
 use Rattle.std.proofs.lemmas.List.{length-map}
-use Rattle.std.specs.Prelude.{slice_get}
 use Rattle.msb_laws.specs.Asking.{and_then}
 use Rattle.result_cache.specs.declared.run.RunId.{RunId}
 use Rattle.result_cache.specs.Table.{TableRuns, found, request_of}
-use Rattle.build_meaning.specs.Lists.{at, Paired}
+use Rattle.build_meaning.specs.Lists.{at}
 use Rattle.build_meaning.specs.World.{World}
 use Rattle.build_meaning.specs.Walk.{wants}
 use Rattle.build_meaning.specs.State.{walking, State}
 use Rattle.build_meaning.specs.Cycle.{IsChain}
 use Rattle.build_meaning.specs.Step.{waiting}
-use Rattle.build_meaning.proofs.PairedLists.{Paired-length, Paired-some}
+use Rattle.build_meaning.proofs.PairedLists.{Paired-length}
 use Rattle.build_scheduler.specs.declared.slot.Calls.{Calls}
 use Rattle.build_scheduler.specs.declared.slot.Origin.{Origin}
 use Rattle.build_scheduler.specs.declared.slot.Slot.{Slot}
@@ -52,16 +44,14 @@ use Rattle.build_scheduler.specs.declared.slot.End.{End}
 use Rattle.build_scheduler.specs.Calls.{HasParent}
 use Rattle.build_scheduler.specs.Claims.{ClosesCycle}
 use Rattle.build_scheduler.specs.Dependents.{caller_at}
-use Rattle.build_scheduler.specs.Free.{AreFree, IsFree, NeedsNothing}
+use Rattle.build_scheduler.specs.Free.{NeedsNothing}
 use Rattle.build_scheduler.specs.Log.{Logged}
 use Rattle.build_scheduler.specs.Numbers.{Numbered}
 use Rattle.build_scheduler.specs.Own.{Seen}
-use Rattle.build_scheduler.specs.Shown.{Shown, Indexed, IsWaiting}
-use Rattle.build_scheduler.specs.Slots.{making_of, result_at, ShowsSlot}
-use Rattle.build_scheduler.proofs.CallResults.{told-length}
+use Rattle.build_scheduler.specs.Shown.{Shown, Indexed}
+use Rattle.build_scheduler.specs.Slots.{making_of, ShowsSlot}
 use Rattle.build_scheduler.proofs.ClosingCycles.{calls-within, free-open}
 use Rattle.build_scheduler.proofs.HistoryFacts.{one_state}
-use Rattle.build_scheduler.proofs.Looking.{parent-caller}
 use Rattle.build_scheduler.proofs.Waiting.{begun-there}
 
 module _ {W P I A : Type 0} (seen : W → Seen P I A) (w : World P I A) {log : Logged}

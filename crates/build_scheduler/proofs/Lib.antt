@@ -14,6 +14,7 @@ pub mod HandedBack
 pub mod HistoryFacts
 pub mod InstanceCounts
 pub mod KeptLists
+pub mod LeftRuns
 pub mod LogRoom
 pub mod Looking
 pub mod ManyUses
@@ -30,6 +31,7 @@ pub mod Repeating
 pub mod Retiring
 pub mod RisingNumbers
 pub mod Rooms
+pub mod Served
 pub mod SlotNumbers
 pub mod SlotsStay
 pub mod Stopping

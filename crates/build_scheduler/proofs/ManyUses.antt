@@ -6,7 +6,6 @@ use Rattle.std.proofs.Common.{
   [],
   ◌∷◌,
   ◌++◌,
-  Option,
   None,
   Some,
   refl,
@@ -16,9 +15,7 @@ use Rattle.std.proofs.Common.{
   subst,
   append-nil,
 }
-use Rattle.msb_laws.specs.Asking.{and_then}
 use Rattle.result_cache.specs.declared.run.RunId.{RunId}
-use Rattle.result_cache.specs.declared.record.Record.{Record}
 use Rattle.result_cache.specs.Replay.{replay}
 use Rattle.result_cache.specs.Same.{same_run}
 use Rattle.result_cache.specs.Table.{found}
@@ -26,7 +23,7 @@ use Rattle.result_cache.proofs.RunTests.{and_then-some}
 use Rattle.build_meaning.specs.declared.event.Event.{Event}
 use Rattle.build_meaning.specs.declared.event.Event.TheVariants.{Claim}
 use Rattle.build_meaning.specs.declared.event.ClaimKind.TheVariants.{Use}
-use Rattle.build_meaning.specs.Lists.{at, put}
+use Rattle.build_meaning.specs.Lists.{at}
 use Rattle.build_meaning.specs.World.{World}
 use Rattle.build_meaning.specs.Walk.{gives, wants}
 use Rattle.build_meaning.specs.State.{
@@ -50,7 +47,6 @@ use Rattle.build_meaning.proofs.ListPlaces.{at-put_same, at-put_else}
 use Rattle.build_meaning.proofs.RetiredRequests.{none-before}
 use Rattle.build_history.specs.Repeated.{uses_of_all}
 use Rattle.build_history.specs.Uses.{RunUse, uses_of, body_of, new_uses, and_on, uses_from, uses_in}
-use Rattle.build_scheduler.specs.declared.walker.Answer.{Answer}
 use Rattle.build_scheduler.specs.declared.slot.Slot.{Slot}
 use Rattle.build_scheduler.specs.declared.slot.Slot.TheVariants.{Ready, Assigned}
 use Rattle.build_scheduler.specs.Behind.{AreBehind}

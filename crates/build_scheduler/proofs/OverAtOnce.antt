@@ -29,17 +29,20 @@ use Rattle.std.proofs.Common.{
 use Rattle.std.proofs.Math.Bridge.{le_prop}
 use Rattle.std.proofs.Math.Logic.{∥∥₁_elim, ∥∥₁_map, ∥∥₁_map₂, ∥∥₁_prop}
 use Rattle.std.proofs.lemmas.List.{length-append, length-map}
-use Rattle.std.specs.Prelude.{is_some}
+use Rattle.std.proofs.Props.{props}
+use Rattle.std.specs.Prelude.{IsSome, is_some}
 use Rattle.msb_laws.specs.Asking.{and_then}
 use Rattle.result_cache.specs.declared.run.RunId.{RunId}
 use Rattle.result_cache.specs.declared.request.RequestResult.{RequestResult}
 use Rattle.result_cache.specs.Exact.{key-exact}
 use Rattle.result_cache.specs.Same.{same_key}
 use Rattle.result_cache.specs.Journal.{Journal}
+use Rattle.result_cache.specs.Replay.{replay_all}
 use Rattle.result_cache.specs.Table.{Records, TableRuns}
 use Rattle.build_meaning.specs.declared.event.Event.{Event}
 use Rattle.build_meaning.specs.declared.event.Event.TheVariants.{Assign, Done}
 use Rattle.build_meaning.specs.Lists.{at}
+use Rattle.build_meaning.specs.Plain.{IsPlain}
 use Rattle.build_meaning.specs.World.{World}
 use Rattle.build_meaning.specs.Walk.{gives}
 use Rattle.build_meaning.specs.ByTable.{request_by}
@@ -47,7 +50,7 @@ use Rattle.build_meaning.specs.SoFar.{result_of}
 use Rattle.build_meaning.specs.State.{walking, State}
 use Rattle.build_meaning.specs.History.{IsHistory}
 use Rattle.build_meaning.proofs.ListPlaces.{at-less}
-use Rattle.build_meaning.proofs.PairedLists.{Paired-length}
+use Rattle.build_meaning.proofs.PairedLists.{Paired-length, Paired-some}
 use Rattle.build_meaning.proofs.ParentsAndChildren.{same_some}
 use Rattle.build_history.specs.Repeated.{uses_of_all}
 use Rattle.build_scheduler.specs.declared.walker.Ask.{Ask}
@@ -58,22 +61,34 @@ use Rattle.build_scheduler.specs.declared.walker.Ask.TheVariants.{
   Done as IsOver,
 }
 use Rattle.build_scheduler.specs.declared.kept.Kept.{Kept}
+use Rattle.build_scheduler.specs.declared.kept.KeptEnds.{KeptEnds}
 use Rattle.build_scheduler.specs.declared.repeat.AtOnce.{AtOnce}
 use Rattle.build_scheduler.specs.declared.slot.Origin.{Origin}
 use Rattle.build_scheduler.specs.declared.slot.Slot.{Slot}
+use Rattle.build_scheduler.specs.declared.slot.Slot.TheVariants.{
+  Ready,
+  Assigned,
+  Waiting,
+  Calling,
+  Done as Over,
+}
 use Rattle.build_scheduler.specs.declared.slot.End.{End}
 use Rattle.build_scheduler.specs.Kept.{
   AreKept,
   BeganWithNothing,
   EndsAlike,
   IsAtOnce,
+  IsCalled,
+  IsCome,
   IsKept,
+  IsReadyWalk,
   IsRepeat,
+  LeavesJournal,
   Serves,
   repeats,
   used_in,
 }
-use Rattle.build_scheduler.specs.KeptEnds.{IsAmong, IsEntered}
+use Rattle.build_scheduler.specs.KeptEnds.{IsPut, kept_for}
 use Rattle.build_scheduler.specs.Log.{Logged}
 use Rattle.build_scheduler.specs.Own.{Seen, Asks, IsOwn}
 use Rattle.build_scheduler.specs.Position.{HasEnded, ask_of}
@@ -81,7 +96,9 @@ use Rattle.build_scheduler.specs.Ready.{IsReady}
 use Rattle.build_scheduler.specs.Shown.{AreNested, Shown}
 use Rattle.build_scheduler.specs.Slots.{making_of, origin_of, owed, owed_by, ShowsSlot}
 use Rattle.build_scheduler.proofs.Ending.{none-root}
+use Rattle.build_meaning.proofs.EventsKeepLawful.{some-is}
 use Rattle.build_scheduler.proofs.HistoryFacts.{one_state}
+use Rattle.build_scheduler.proofs.KeptLists.{for-among}
 use Rattle.build_scheduler.proofs.OneRequest.{owed-at}
 use Rattle.build_scheduler.proofs.Repeating.{
   Alike_end,
@@ -140,6 +157,43 @@ all-events events first before after id node rest f b a =
     (b ∙ ap (λ es. es ++ Assign id node ∷ uses_of_all id rest) f)
     ∙ done-last events id node (uses_of_all id rest))
 
+-- the journal that is left, by the walk in the slot
+module _ {W P I A : Type 0} (seen : W → Seen P I A) (table : Records) where
+  by-own : (slot : Option (Slot W)) (own : W) → IsReadyWalk slot own → (runs : List RunId)
+      (last : Journal) → LeavesJournal seen table slot runs last →
+      replay_all table (drop (length (seen own).position.runs) runs) (seen own).position.journal
+      ≡ Some last
+  by-own None own h runs last l = absurd h
+  by-own (Some (Ready walk answer)) own h runs last l =
+      subst (λ v. replay_all table (drop (length (seen v).position.runs) runs)
+      (seen v).position.journal ≡ Some last) h l
+  by-own (Some (Assigned node)) own h runs last l = absurd h
+  by-own (Some (Waiting walk by)) own h runs last l = absurd h
+  by-own (Some (Calling calls)) own h runs last l = absurd h
+  by-own (Some Over) own h runs last l = absurd h
+
+  to-own : (slot : Option (Slot W)) (own : W) → IsReadyWalk slot own → (runs : List RunId)
+      (last : Journal) →
+      replay_all table (drop (length (seen own).position.runs) runs) (seen own).position.journal
+      ≡ Some last → LeavesJournal seen table slot runs last
+  to-own None own h runs last l = absurd h
+  to-own (Some (Ready walk answer)) own h runs last l =
+      subst (λ v. replay_all table (drop (length (seen v).position.runs) runs)
+      (seen v).position.journal ≡ Some last) (sym h) l
+  to-own (Some (Assigned node)) own h runs last l = absurd h
+  to-own (Some (Waiting walk by)) own h runs last l = absurd h
+  to-own (Some (Calling calls)) own h runs last l = absurd h
+  to-own (Some Over) own h runs last l = absurd h
+
+  one-journal : (slot : Option (Slot W)) (runs : List RunId) (j k : Journal) →
+      LeavesJournal seen table slot runs j → LeavesJournal seen table slot runs k → j ≡ k
+  one-journal None runs j k a b = absurd a
+  one-journal (Some (Ready walk answer)) runs j k a b = some-is j k (sym a ∙ b)
+  one-journal (Some (Assigned node)) runs j k a b = absurd a
+  one-journal (Some (Waiting walk by)) runs j k a b = absurd a
+  one-journal (Some (Calling calls)) runs j k a b = absurd a
+  one-journal (Some Over) runs j k a b = absurd a
+
 module _ {W P I A : Type 0} (seen : W → Seen P I A) (w : World P I A) {log : Logged}
     {origins : List Origin} {slots : List (Slot W)} {making : List (Option RunId)}
     {table : TableRuns} {end : Option End}
@@ -176,58 +230,61 @@ module _ {W P I A : Type 0} (seen : W → Seen P I A) (w : World P I A) {log : L
       let b : length origins ≡ length x.state.requests =
       ap length x.asked ∙ length-map x.state.requests origin_of in omega arith)
 
-  -- an end of the same key serves a request that is in no body and began with nothing as well
-  pub serves-so : (all : List (Option (Kept W))) (id : ℕ) (kept : Kept W)
-      (body : Option RunId) (other mine : Origin) → BeganWithNothing seen slots origins id →
-      IsAmong all kept → id < length origins → kept.id < length origins →
-      body ≡ get_or making id body → other ≡ get_or origins kept.id other →
-      mine ≡ get_or origins id mine → body ≡ None → same_key other.key mine.key ≡ true →
-      Serves seen slots origins making all id kept
-  serves-so all id kept body other mine b among l k body_is other_is mine_is free same =
-      let here : at origins id ≡ Some mine = at-get origins id mine l ∙ ap Some (sym mine_is) in
-      let one : mine ≡ b.origin = same_some (at origins id) mine b.origin here b.own in
-      record {
-        begins = b;
-        free = at-get making id body (body-there id l) ∙ ap Some (sym body_is ∙ free);
-        there = among;
-        other = other;
-        whose = at-get origins kept.id other k ∙ ap Some (sym other_is);
-        same = (key-exact other.key mine.key).0 same ∙ ap (λ (o : Origin). o.key) one;
-      }
-
   -- what is kept of a request that is over
-  pub kept-new : (all after : List (Option (Kept W))) (id : ℕ) (walk : W) (told : RequestResult)
+  pub kept-new : (before after : KeptEnds W) (id : ℕ) (walk : W) (told : RequestResult)
       (kept : Kept W) → ∥ IsOwn w log.events table.finished id (seen walk) ∥₁ →
-      ask_of (seen walk).position ≡ IsOver told → BeganWithNothing seen slots origins id →
+      ask_of (seen walk).position ≡ IsOver told → IsCalled origins id →
       kept.id ≡ id → kept.result ≡ told → seen kept.walk ≡ record {
         world = (seen walk).world;
         position = (seen walk).position;
         asked = 1;
         learnt = [];
-      } → IsEntered all after kept → ∥ AreKept seen w table.finished origins all ∥₁ →
-      ∥ AreKept seen w table.finished origins after ∥₁
-  kept-new all after id walk told kept own over b same_id same_result same_walk entered each =
+      } → (kept.from_nothing ≡ true → BeganWithNothing seen slots origins id) →
+      (kept.plain ≡ true → (o : Origin) → at origins id ≡ Some o →
+      IsPlain (seen walk).world o.key) → IsPut before after kept →
+      ∥ AreKept seen w table.finished origins before.instances.items ∥₁ →
+      ∥ AreKept seen w table.finished origins after.instances.items ∥₁
+  kept-new before after id walk told kept own over called same_id same_result same_walk nothing
+      plain entered each =
       ∥∥₁_elim shown ∥∥₁_prop (λ x. ∥∥₁_map₂ own each (λ o k.
-      kept-put seen w table.finished origins all after kept entered
-      (kept-of seen w x id walk told o over b kept same_id same_result same_walk) k))
+      kept-put seen w table.finished origins before after kept entered
+      (kept-of seen w x id walk told o over called kept same_id same_result same_walk nothing
+      plain) k))
 
-  pub kept-there : (all : List (Option (Kept W))) (kept : Kept W) →
-      ∥ AreKept seen w table.finished origins all ∥₁ → IsAmong all kept →
-      kept.id < length origins
-  kept-there all kept each among = ∥∥₁_elim each (λ p q. le_prop p q) (λ k.
-      let v = k kept among in at-less origins kept.id v.origin v.whose)
+  pub kept-there : (ends : KeptEnds W) (id : ℕ) (kept : Kept W) →
+      ∥ AreKept seen w table.finished origins ends.instances.items ∥₁ →
+      kept_for ends id ≡ Some kept → kept.id < length origins
+  kept-there ends id kept each h = ∥∥₁_elim each (λ p q. le_prop p q) (λ k.
+      let v = k kept (for-among ends id kept h) in at-less origins kept.id v.origin v.whose)
 
-  module _ (all : List (Option (Kept W))) (id : ℕ) (kept : Kept W)
-      (each : ∥ AreKept seen w table.finished origins all ∥₁)
+  -- the walk of a ready request is of this world
+  own-world : (x : Shown seen w log origins slots making table end) (id : ℕ) (own : W) →
+      IsReadyWalk (at slots id) own → (seen own).world ≡ w
+  own-world x id own h = go (at slots id) refl h
+    where
+      go : (slot : Option (Slot W)) → at slots id ≡ slot → IsReadyWalk slot own →
+          (seen own).world ≡ w
+      go None e h = absurd h
+      go (Some (Ready walk answer)) e h =
+          let y = Paired-some (ShowsSlot w x.state (length log.events) seen) slots
+          x.state.requests id (Ready walk answer) x.each e in
+          subst (λ v. (seen v).world ≡ w) h y.1.goes.world
+      go (Some (Assigned node)) e h = absurd h
+      go (Some (Waiting walk by)) e h = absurd h
+      go (Some (Calling calls)) e h = absurd h
+      go (Some Over) e h = absurd h
+
+  module _ (ends : KeptEnds W) (id : ℕ) (kept : Kept W)
+      (each : ∥ AreKept seen w table.finished origins ends.instances.items ∥₁)
       (ready : ∥ IsReady w log.events id ∥₁)
-      (s : Serves seen slots origins making all id kept) where
+      (s : Serves seen slots origins making ends id kept) where
     abbrev Served : Type 0
     Served = (x : Shown seen w log origins slots making table end)
         × Alike_end seen w x id kept × IsKept seen w table.finished origins kept
 
     served : ∥ Served ∥₁
     served = ∥∥₁_elim shown ∥∥₁_prop (λ x. ∥∥₁_map₂ ready each (λ r k.
-        (x, alike-end seen w x id r all k kept s, k kept s.there)))
+        (x, alike-end seen w x id r ends k kept s, k kept (for-among ends id kept s.there))))
 
     pub used-few : used_in seen (at slots id) ≤ length kept.result.runs
     used-few = ∥∥₁_elim served (λ p q. le_prop p q) (λ v.
@@ -246,41 +303,116 @@ module _ {W P I A : Type 0} (seen : W → Seen P I A) (w : World P I A) {log : L
 
     other-than_root : id ≡ 0 → ⊥
     other-than_root e = ∥∥₁_elim shown (λ p q. absurd p) (λ x.
-        let root : s.begins.origin.parent ≡ None = none-root origins s.begins.origin x.rooted
-        (subst (λ n. at origins n ≡ Some s.begins.origin) e s.begins.own) in
-        let a : Some s.begins.caller ≡ None = sym s.begins.called ∙ root in cc)
+        let c = s.called in
+        let root : c.origin.parent ≡ None = none-root origins c.origin x.rooted
+        (subst (λ n. at origins n ≡ Some c.origin) e c.own) in
+        let a : Some c.caller ≡ None = sym c.by ∙ root in cc)
 
-    -- it comes to that end with the names of the runs that are left
-    pub comes : (end : AtOnce W) →
-        end.claims.items ≡ drop (used_in seen (at slots id)) kept.result.runs →
-        end.told ≡ kept.result → seen end.walk ≡ record {
+    -- the runs that are left to its own walk may be replayed
+    pub may-replay : (own : W) → IsReadyWalk (at slots id) own →
+        IsSome (replay_all table.finished
+        (drop (length (seen own).position.runs) (seen kept.walk).position.runs)
+        (seen own).position.journal)
+    may-replay own h = ∥∥₁_elim served (hlevel props) (λ v.
+        let runs : (seen kept.walk).position.runs ≡ kept.result.runs =
+        ap (λ (u : Seen P I A). u.position.runs) v.2.walk in
+        let leaves : LeavesJournal seen table.finished (at slots id) kept.result.runs v.1.last =
+        subst (λ records. LeavesJournal seen records (at slots id) kept.result.runs v.1.last)
+        (sym v.0.finished) v.1.leaves in
+        ap (λ (rs : List RunId). is_some (replay_all table.finished
+        (drop (length (seen own).position.runs) rs) (seen own).position.journal)) runs
+        ∙ ap is_some
+        (by-own seen table.finished (at slots id) own h kept.result.runs v.1.last leaves))
+
+    -- a copy of the kept walk, where both began with nothing
+    pub come-copied : (walk : W) → kept.from_nothing ≡ true →
+        BeganWithNothing seen slots origins id → seen walk ≡ record {
           world = (seen kept.walk).world;
           position = (seen kept.walk).position;
           asked = 1;
           learnt = [];
-        } → ∥ IsAtOnce seen w table.finished log.events id end ∥₁
-    comes end is_names same_told same_walk = ∥∥₁_map served (λ v.
+        } → ∥ IsCome seen table.finished (at slots id) kept walk ∥₁
+    come-copied walk n b same_walk = ∥∥₁_map served (λ v.
+        let journal : (seen walk).position.journal ≡ (seen kept.walk).position.journal =
+        ap (λ (u : Seen P I A). u.position.journal) same_walk in
+        record {
+          leaves = subst (λ j. LeavesJournal seen table.finished (at slots id) kept.result.runs j)
+              (v.1.same n b ∙ sym journal)
+              (subst (λ records. LeavesJournal seen records (at slots id) kept.result.runs
+              v.1.last) (sym v.0.finished) v.1.leaves);
+          stands = same_walk ∙ (λ i. record {
+            world = (seen kept.walk).world;
+            position = record {
+              journal = sym journal i;
+              runs = (seen kept.walk).position.runs;
+              place = (seen kept.walk).position.place;
+            };
+            asked = 1;
+            learnt = [];
+          });
+        })
+
+    -- its own walk, with the records that were left to it
+    pub come-replayed : (own walk : W) → IsReadyWalk (at slots id) own →
+        (seen walk).world ≡ (seen own).world →
+        replay_all table.finished
+        (drop (length (seen own).position.runs) (seen kept.walk).position.runs)
+        (seen own).position.journal ≡ Some (seen walk).position.journal →
+        (seen walk).position.runs ≡ (seen kept.walk).position.runs →
+        (seen walk).position.place ≡ (seen kept.walk).position.place →
+        (seen walk).asked ≡ 1 → (seen walk).learnt ≡ [] →
+        ∥ IsCome seen table.finished (at slots id) kept walk ∥₁
+    come-replayed own walk h world journal runs place asked learnt = ∥∥₁_map served (λ v.
+        let its : (seen kept.walk).position.runs ≡ kept.result.runs =
+        ap (λ (u : Seen P I A). u.position.runs) v.2.walk in
+        let kept_world : (seen kept.walk).world ≡ w =
+        ap (λ (u : Seen P I A). u.world) v.2.walk in
+        let same_world : (seen walk).world ≡ (seen kept.walk).world =
+        world ∙ (own-world v.0 id own h ∙ sym kept_world) in
+        record {
+          leaves = to-own seen table.finished (at slots id) own h kept.result.runs
+              (seen walk).position.journal
+              (ap (λ (rs : List RunId). replay_all table.finished
+              (drop (length (seen own).position.runs) rs) (seen own).position.journal) (sym its)
+              ∙ journal);
+          stands = λ i. record {
+            world = same_world i;
+            position = record {
+              journal = (seen walk).position.journal;
+              runs = runs i;
+              place = place i;
+            };
+            asked = asked i;
+            learnt = learnt i;
+          };
+        })
+
+    -- it comes to that end with the names of the runs that are left
+    pub comes : (end : AtOnce W) →
+        end.claims.items ≡ drop (used_in seen (at slots id)) kept.result.runs →
+        end.told ≡ kept.result →
+        ∥ IsCome seen table.finished (at slots id) kept end.walk ∥₁ →
+        ∥ IsAtOnce seen w table.finished log.events id end ∥₁
+    comes end is_names same_told come = ∥∥₁_map₂ served come (λ v m.
         let x = v.0 in
         let a = v.1 in
         let k = v.2 in
-        let last : Journal = (seen kept.walk).position.journal in
-        let same : Some (kept.result, last) ≡ Some (end.told, last) =
-        ap (λ (r : RequestResult). Some (r, last)) (sym same_told) in
+        let last : (seen end.walk).position.journal ≡ a.last =
+        one-journal seen table.finished (at slots id) kept.result.runs
+        (seen end.walk).position.journal a.last
+        m.leaves (subst (λ records. LeavesJournal seen records (at slots id) kept.result.runs
+        a.last) (sym x.finished) a.leaves) in
+        let same : Some (kept.result, a.last) ≡ Some (end.told, a.last) =
+        ap (λ (r : RequestResult). Some (r, a.last)) (sym same_told) in
         let runs : end.told.runs ≡ kept.result.runs =
         ap (λ (r : RequestResult). r.runs) same_told in
-        let placed_last : Seen P I A → Seen P I A = λ u. record {
+        let from_kept : Seen P I A → Seen P I A = λ u. record {
           world = u.world;
           position = record {
-            journal = last;
+            journal = (seen end.walk).position.journal;
             runs = u.position.runs;
             place = u.position.place;
           };
-          asked = 1;
-          learnt = [];
-        } in
-        let by_runs : List RunId → Seen P I A = λ rs. record {
-          world = w;
-          position = record { journal = last; runs = rs; place = walking (gives k.reply) };
           asked = 1;
           learnt = [];
         } in
@@ -292,15 +424,26 @@ module _ {W P I A : Type 0} (seen : W → Seen P I A) (w : World P I A) {log : L
           there = a.there;
           between = a.between;
           called = other-than_root;
-          last = last;
+          first = a.first;
+          last = a.last;
+          begun = a.begun;
           told = a.told ∙ same;
-          by_key = ap (λ records. request_by w records [] a.request.origin.key) x.finished
+          by_key = ap (λ records. request_by w records a.first a.request.origin.key) x.finished
               ∙ (a.by_key ∙ same);
           left = runs ∙ (a.left ∙ ap (λ rs. a.request.runs ++ rs)
               (sym (rest-named seen w x id kept end.claims.items a is_names)));
           reply = k.reply;
           result = ap (result_of k.reply) runs ∙ (k.result ∙ sym same_told);
-          stands = same_walk ∙ (ap placed_last k.walk ∙ ap by_runs (sym runs));
+          stands = m.stands ∙ (ap from_kept k.walk ∙ (λ i. record {
+            world = w;
+            position = record {
+              journal = last i;
+              runs = sym runs i;
+              place = walking (gives k.reply);
+            };
+            asked = 1;
+            learnt = [];
+          }));
         })
 
 -- the walk and the result of a request that is over at once
@@ -375,6 +518,8 @@ module _ {W P I A : Type 0} (seen : W → Seen P I A) (w : World P I A) (before 
       request = a.request;
       history = a.history;
       there = a.there;
+      first = a.first;
+      begun = a.begun;
       result = how.told;
       last = a.last;
       told = a.by_key;

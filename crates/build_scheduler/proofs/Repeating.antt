@@ -6,19 +6,18 @@ use Rattle.std.proofs.Common.{
   ◌<◌,
   ◌+◌,
   ◌==◌,
+  ◌⊎◌,
   inl,
   inr,
   ℕ,
   zero,
   suc,
   true,
-  false,
   List,
   [],
   ◌∷◌,
   ◌++◌,
   length,
-  map,
   drop,
   Option,
   None,
@@ -43,8 +42,9 @@ use Rattle.result_cache.specs.Replay.{replay, replay_all}
 use Rattle.result_cache.specs.Table.{FinishedRun, Records, TableRuns, found}
 use Rattle.result_cache.proofs.RunTests.{and_then-some}
 use Rattle.build_meaning.specs.declared.event.Event.{Event}
-use Rattle.build_meaning.specs.declared.event.Event.TheVariants.{Assign, Done}
+use Rattle.build_meaning.specs.declared.event.Event.TheVariants.{Assign}
 use Rattle.build_meaning.specs.Lists.{at, put, Paired}
+use Rattle.build_meaning.specs.Plain.{IsPlain}
 use Rattle.build_meaning.specs.World.{World}
 use Rattle.build_meaning.specs.Walk.{Walk, Reply, gives, wants}
 use Rattle.build_meaning.specs.SoFar.{
@@ -75,11 +75,13 @@ use Rattle.build_meaning.specs.State.{
 }
 use Rattle.build_meaning.specs.Step.{assign_at, only_if, step_of, step, after_all}
 use Rattle.build_meaning.specs.History.{IsHistory}
-use Rattle.build_meaning.proofs.EventsKeepLawful.{some-is}
+use Rattle.build_meaning.proofs.EventsKeepLawful.{all-lawful, some-is, start-lawful}
+use Rattle.build_meaning.proofs.LawfulStates.{LawfulJournal}
+use Rattle.build_meaning.proofs.PlainRequests.{plain_requests_give_alike}
 use Rattle.build_meaning.proofs.ListPlaces.{at-put_same, at-front, map-at}
 use Rattle.build_meaning.proofs.OpenRequests.{ids_in, told_in, kin_of, kins-at, at-kins}
 use Rattle.build_meaning.proofs.ParentsAndChildren.{Kin, same_some}
-use Rattle.build_history.specs.Began.{AwaitsCall}
+use Rattle.build_history.specs.Began.{AwaitsCall, GivesJournal}
 use Rattle.build_history.specs.Repeated.{LeadsOn, EndsAs, EndsByRecords, uses_of_all}
 use Rattle.build_history.proofs.ToldByTable.{
   calls_go_by_the_table,
@@ -89,8 +91,9 @@ use Rattle.build_history.proofs.ToldByTable.{
 use Rattle.build_scheduler.specs.declared.walker.Ask.TheVariants.{Done as IsOver}
 use Rattle.build_scheduler.specs.declared.walker.Answer.{Answer}
 use Rattle.build_scheduler.specs.declared.walker.Answer.TheVariants.{First, Go, Use, Results}
+use Rattle.build_scheduler.specs.declared.kept.InstanceEnd.{InstanceEnd}
 use Rattle.build_scheduler.specs.declared.kept.Kept.{Kept}
-use Rattle.build_scheduler.specs.declared.slot.Calls.{Calls}
+use Rattle.build_scheduler.specs.declared.kept.KeptEnds.{KeptEnds}
 use Rattle.build_scheduler.specs.declared.slot.Origin.{Origin}
 use Rattle.build_scheduler.specs.declared.slot.Slot.{Slot}
 use Rattle.build_scheduler.specs.declared.slot.Slot.TheVariants.{
@@ -107,14 +110,14 @@ use Rattle.build_scheduler.specs.Kept.{
   BeganWithNothing,
   EndsAlike,
   IsKept,
-  IsRepeat,
+  IsCalled,
   KnowsNothing,
+  LeavesJournal,
   Serves,
-  repeats,
   used_in,
   uses_one,
 }
-use Rattle.build_scheduler.specs.KeptEnds.{AreFewer, IsAmong, IsEntered}
+use Rattle.build_scheduler.specs.KeptEnds.{AreFewer, IsAmong, IsPut}
 use Rattle.build_scheduler.specs.Log.{Logged}
 use Rattle.build_scheduler.specs.Own.{Seen, placed, IsWith, IsOwn}
 use Rattle.build_scheduler.specs.Position.{Position, after_run, ask_of, answered, stopped_in}
@@ -125,7 +128,6 @@ use Rattle.build_scheduler.specs.Slots.{
   making_of,
   run_in,
   run_at,
-  result_in,
   owed,
   owed_in,
   owed_by,
@@ -133,6 +135,8 @@ use Rattle.build_scheduler.specs.Slots.{
   ShowsSlot,
 }
 use Rattle.build_scheduler.proofs.HistoryFacts.{kindred, one_state}
+use Rattle.build_scheduler.proofs.KeptLists.{for-among, put-among}
+use Rattle.build_scheduler.proofs.LeftRuns.{drop-front, left-before, runs-left}
 use Rattle.build_scheduler.proofs.ManyUses.{behind-many}
 use Rattle.build_scheduler.proofs.OneRequest.{
   map-put,
@@ -142,7 +146,7 @@ use Rattle.build_scheduler.proofs.OneRequest.{
   ends-put,
   later-same,
 }
-use Rattle.build_scheduler.proofs.OwnWalks.{There, there-of, Gives, gives-of}
+use Rattle.build_scheduler.proofs.OwnWalks.{there-of, gives-of}
 use Rattle.build_scheduler.proofs.SlotsStay.{
   paired-other,
   paired-puts,
@@ -162,10 +166,6 @@ drop-drop (suc n) more [] =
 drop-drop (suc n) more (x ∷ xs) =
     drop-drop n more xs
     ∙ ap (λ k. drop k (x ∷ xs)) (let e : suc (n + more) ≡ suc n + more = omega arith in e)
-
-drop-front : {X : Type 0} (xs ys : List X) → drop (length xs) (xs ++ ys) ≡ ys
-drop-front [] ys = refl
-drop-front (x ∷ xs) ys = drop-front xs ys
 
 same-reply : (a b : Reply) (runs : List RunId) → result_of a runs ≡ result_of b runs → a ≡ b
 same-reply a b runs h = λ i. record {
@@ -482,54 +482,90 @@ module _ {W P I A : Type 0} (seen : W → Seen P I A) (w : World P I A) {log : L
       same_some (at origins id) o (origin_of q) h
       (ap (λ os. at os id) x.asked ∙ map-at origin_of x.state.requests id q e)
 
-  -- what the table tells of a request that began with nothing
-  tells : (id : ℕ) (q : RequestState P I A) → at x.state.requests id ≡ Some q →
-      (kin_of q).reply ≡ None →
-      (b : BeganWithNothing seen slots origins id) →
-      EndsAs w x.state.table [] b.origin.key q.journal q.runs q.status
-  tells id q e unanswered b =
-      let o : b.origin ≡ origin_of q = own-origin id q e b.origin b.own in
-      let parent : q.origin.parent ≡ Some b.caller =
-      ap (λ (a : Origin). a.parent) (sym o) ∙ b.called in
-      let k = kindred w log.events x.state x.history in
-      let u = k.family.up id (kin_of q) (kins-at x.state.requests id q e) unanswered b.caller
-      parent in
-      let c = at-kins x.state.requests b.caller u.0 u.2 in
-      let calls = awaits-of c.0.status id u.1 (ap (λ (a : Kin). a.calls) c.2 ∙ u.3) u.4 in
-      let s = paired-other (ShowsSlot w x.state (length log.events) seen) slots x.state.requests
-      b.caller c.0 x.each c.1 in
-      let nothing : c.0.journal ≡ [] =
-      nothing-known s.0 c.0 s.1 (subst (KnowsNothing seen) s.2 b.nothing) in
-      let law = calls_go_by_the_table w log.events x.state x.history b.caller id c.0 q c.1 calls e
-      in
-      subst (λ key. EndsAs w x.state.table [] key q.journal q.runs q.status)
-      (ap (λ (a : Origin). a.key) (sym o))
-      (subst (λ j. EndsAs w x.state.table j q.origin.key q.journal q.runs q.status) nothing law)
+  -- a request that another one calls, and what the table tells of it by that one's journal
+  pub record Told (id : ℕ) (q : RequestState P I A) (c : IsCalled origins id) : Type 0 where
+    pub by : RequestState P I A
+    pub slot : Slot W
+    pub there : at x.state.requests c.caller ≡ Some by
+    pub at_slot : at slots c.caller ≡ Some slot
+    pub shows : ShowsSlot w x.state (length log.events) seen slot by
+    pub law : EndsAs w x.state.table by.journal q.origin.key q.journal q.runs q.status
+    pub parent : q.origin.parent ≡ Some c.caller
 
-  -- a request that is over, and began with nothing, is kept
+  tells : (id : ℕ) (q : RequestState P I A) → at x.state.requests id ≡ Some q →
+      (kin_of q).reply ≡ None → (c : IsCalled origins id) → Told id q c
+  tells id q e unanswered c =
+      let o : c.origin ≡ origin_of q = own-origin id q e c.origin c.own in
+      let parent : q.origin.parent ≡ Some c.caller =
+      ap (λ (a : Origin). a.parent) (sym o) ∙ c.by in
+      let k = kindred w log.events x.state x.history in
+      let u = k.family.up id (kin_of q) (kins-at x.state.requests id q e) unanswered c.caller
+      parent in
+      let v = at-kins x.state.requests c.caller u.0 u.2 in
+      let calls = awaits-of v.0.status id u.1 (ap (λ (a : Kin). a.calls) v.2 ∙ u.3) u.4 in
+      let s = paired-other (ShowsSlot w x.state (length log.events) seen) slots x.state.requests
+      c.caller v.0 x.each v.1 in
+      record {
+        by = v.0;
+        slot = s.0;
+        there = v.1;
+        at_slot = s.2;
+        shows = s.1;
+        law = calls_go_by_the_table w log.events x.state x.history c.caller id v.0 q v.1 calls e;
+        parent = parent;
+      }
+
+  begun-so : (id : ℕ) (q : RequestState P I A) (c : IsCalled origins id) (t : Told id q c) →
+      GivesJournal x.state q.origin.parent t.by.journal
+  begun-so id q c t =
+      subst (λ parent. GivesJournal x.state parent t.by.journal) (sym t.parent)
+      (t.by, t.there, refl)
+
+  -- where it began with nothing, that journal is empty
+  empty-so : (id : ℕ) (q : RequestState P I A) (c : IsCalled origins id) (t : Told id q c) →
+      BeganWithNothing seen slots origins id → t.by.journal ≡ []
+  empty-so id q c t b =
+      let o : b.origin ≡ c.origin = same_some (at origins id) b.origin c.origin b.own c.own in
+      let callers : Some b.caller ≡ Some c.caller =
+      sym b.called ∙ (ap (λ (a : Origin). a.parent) o ∙ c.by) in
+      let same : b.caller ≡ c.caller = some-is b.caller c.caller callers in
+      nothing-known t.slot t.by t.shows
+      (subst (KnowsNothing seen) t.at_slot
+      (subst (λ n. KnowsNothing seen (at slots n)) same b.nothing))
+
+  -- a request that is over is kept
   pub kept-of : (id : ℕ) (walk : W) (told : RequestResult) →
       IsOwn w log.events table.finished id (seen walk) →
-      ask_of (seen walk).position ≡ IsOver told → BeganWithNothing seen slots origins id →
+      ask_of (seen walk).position ≡ IsOver told → (c : IsCalled origins id) →
       (kept : Kept W) → kept.id ≡ id →
       kept.result ≡ told → seen kept.walk ≡ record
       { world = (seen walk).world; position = (seen walk).position; asked = 1; learnt = [] } →
-      IsKept seen w table.finished origins kept
-  kept-of id walk told own over b kept same_id same_result same_walk =
+      (kept.from_nothing ≡ true → BeganWithNothing seen slots origins id) →
+      (kept.plain ≡ true → (o : Origin) → at origins id ≡ Some o →
+      IsPlain (seen walk).world o.key) → IsKept seen w table.finished origins kept
+  kept-of id walk told own over c kept same_id same_result same_walk nothing plain =
       let p : Position P I A = (seen walk).position in
       let t = there-of seen w x id p own.stands in
       let g = gives-of p.runs p.place told over in
-      let law = tells id (placed t.origin p (assigned t.node)) t.at_state refl b in
-      let leads : LeadsOn w x.state.table [] b.origin.key p.journal p.runs
+      let q : RequestState P I A = placed t.origin p (assigned t.node) in
+      let law = tells id q t.at_state refl c in
+      let o : c.origin ≡ origin_of q = own-origin id q t.at_state c.origin c.own in
+      let first : Journal = law.by.journal in
+      let leads : LeadsOn w x.state.table first t.origin.key p.journal p.runs
       (walking (gives g.reply)) =
-      subst (LeadsOn w x.state.table [] b.origin.key p.journal p.runs) g.is law in
+      subst (LeadsOn w x.state.table first t.origin.key p.journal p.runs) g.is law.law in
       let runs : p.runs ≡ kept.result.runs =
       ap (λ (r : RequestResult). r.runs) (g.told_is ∙ sym same_result) in
       record {
-        origin = b.origin;
-        whose = subst (λ n. at origins n ≡ Some b.origin) (sym same_id) b.own;
+        origin = c.origin;
+        whose = subst (λ n. at origins n ≡ Some c.origin) (sym same_id) c.own;
+        first = first;
         last = p.journal;
-        told = ap (λ records. request_by w records [] b.origin.key) x.finished
-            ∙ (leads ∙ ap (λ r. Some (r, p.journal)) (g.told_is ∙ sym same_result));
+        told = ap (λ (a : Origin). request_by w table.finished first a.key) o
+            ∙ (ap (λ records. request_by w records first t.origin.key) x.finished
+            ∙ (leads ∙ ap (λ r. Some (r, p.journal)) (g.told_is ∙ sym same_result)));
+        nothing = λ n. empty-so id q c law (nothing n);
+        plain = λ n. subst (λ v. IsPlain v c.origin.key) own.world (plain n c.origin c.own);
         reply = g.reply;
         result = ap (result_of g.reply) (sym runs) ∙ (g.told_is ∙ sym same_result);
         walk = same_walk ∙ (λ i. record {
@@ -608,19 +644,62 @@ module _ {W P I A : Type 0} (seen : W → Seen P I A) (w : World P I A) {log : L
           in-body runs v.run v.go (after f.0 g.0) next
           (some-is (stopped_in runs v.run v.go (after f.0 g.0)) next g.2) pl
 
+  -- what the table tells of a request with the key of that end
+  record Serving (kept : Kept W) (key : RequestKey) (first : Journal) : Type 0 where
+    pub last : Journal
+    pub told : request_by w x.state.table first key ≡ Some (kept.result, last)
+    pub same : kept.from_nothing ≡ true → first ≡ [] → last ≡ (seen kept.walk).position.journal
+
+  serving : (kept : Kept W) (k : IsKept seen w table.finished origins kept) (first : Journal) →
+      ((kept.plain ≡ true) ⊎ ((kept.from_nothing ≡ true) × (first ≡ []))) →
+      Serving kept k.origin.key first
+  serving kept k first either =
+      let its : request_by w x.state.table k.first k.origin.key ≡ Some (kept.result, k.last) =
+      ap (λ records. request_by w records k.first k.origin.key) (sym x.finished) ∙ k.told in
+      let last : k.last ≡ (seen kept.walk).position.journal =
+      ap (λ (u : Seen P I A). u.position.journal) (sym k.walk) in
+      let with_nothing : kept.from_nothing ≡ true → first ≡ [] →
+      request_by w x.state.table first k.origin.key ≡ Some (kept.result, k.last) =
+      λ n none. ap (λ j. request_by w x.state.table j k.origin.key) (none ∙ sym (k.nothing n))
+      ∙ its in
+      elim either [
+        | inl plain ↦
+            let y = plain_requests_give_alike w log.events x.state x.history k.origin.key
+            (k.plain plain) k.first first k.last kept.result its in
+            record {
+              last = y.0;
+              told = y.1;
+              same = λ n none.
+                  let e : Some (kept.result, y.0) ≡ Some (kept.result, k.last) =
+                  sym y.1 ∙ with_nothing n none in
+                  ap (λ (z : RequestResult × Journal). z.1)
+                  (some-is (kept.result, y.0) (kept.result, k.last) e) ∙ last;
+            }
+        | inr nothing ↦ record {
+          last = k.last;
+          told = with_nothing nothing.0 nothing.1;
+          same = λ n none. last;
+        }
+      ]
+
   -- a ready request that another one serves comes to the same end
   pub record Alike_end (id : ℕ) (kept : Kept W) : Type 0 where
     pub request : RequestState P I A
     pub walk : Walk P I A
     pub there : at x.state.requests id ≡ Some request
     pub between : request.status ≡ ready (walking walk)
+    pub first : Journal
+    pub last : Journal
+    pub begun : GivesJournal x.state request.origin.parent first
     pub told : walk_by w x.state.table walk request.journal
-        request.runs ≡ Some (kept.result, (seen kept.walk).position.journal)
-    pub by_key : request_by w x.state.table []
-        request.origin.key ≡ Some (kept.result, (seen kept.walk).position.journal)
+        request.runs ≡ Some (kept.result, last)
+    pub by_key : request_by w x.state.table first request.origin.key ≡ Some (kept.result, last)
     pub used : used_in seen (at slots id) ≡ length request.runs
     pub rest : List RunId
     pub left : kept.result.runs ≡ request.runs ++ rest
+    pub leaves : LeavesJournal seen x.state.table (at slots id) kept.result.runs last
+    pub same : kept.from_nothing ≡ true → BeganWithNothing seen slots origins id →
+        last ≡ (seen kept.walk).position.journal
 
   ready-slot : (slot : Slot W) (q : RequestState P I A) (place : Place P I A) →
       ShowsSlot w x.state (length log.events) seen slot q → q.status ≡ ready place →
@@ -634,8 +713,33 @@ module _ {W P I A : Type 0} (seen : W → Seen P I A) (w : World P I A) {log : L
   ready-slot (Calling calls) q place s st = absurd (let a = sym st ∙ s.is in cc)
   ready-slot Over q place s st = absurd (let a : ready place ≡ done s.result = sym st ∙ s.is in cc)
 
-  pub alike-end : (id : ℕ) → IsReady w log.events id → (all : List (Option (Kept W))) →
-      AreKept seen w table.finished origins all → (kept : Kept W) →
+  leaves-so : (id : ℕ) (walk : W) (answer : Answer) (q : RequestState P I A) (y : Walk P I A)
+      (last : Journal) (result : RequestResult) (rest : List RunId) →
+      at x.state.requests id ≡ Some q →
+      ShowsReady w x.state (length log.events) (seen walk) answer q →
+      q.status ≡ ready (walking y) → result.runs ≡ q.runs ++ rest →
+      replay_all x.state.table rest q.journal ≡ Some last →
+      LeavesJournal seen x.state.table (Some (Ready walk answer)) result.runs last
+  leaves-so id walk answer q y last result rest e r st runs_so replays =
+      let l = all-lawful w log.events (start w) x.state (start-lawful w) x.history in
+      let place : r.position.place ≡ walking y =
+      (let h : ready r.position.place ≡ ready (walking y) = sym
+      (ap (λ (a : RequestState P I A). a.status) r.is) ∙ st in cc) in
+      let runs : q.runs ≡ r.position.runs = ap (λ (a : RequestState P I A). a.runs) r.is in
+      let journal : q.journal ≡ r.position.journal =
+      ap (λ (a : RequestState P I A). a.journal) r.is in
+      let lawful : LawfulJournal x.state.table r.position.journal r.position.runs =
+      subst (λ j. LawfulJournal x.state.table j r.position.runs) journal
+      (subst (λ rs. LawfulJournal x.state.table q.journal rs) runs (l.each id q e).journal) in
+      left-before w x.state.table l.once l.ordered (seen walk).position answer r.position y
+      result.runs rest last place r.goes.goes (record {
+        runs = runs_so ∙ ap (λ rs. rs ++ rest) runs;
+        replays_so = ap (replay_all x.state.table rest) (sym journal) ∙ replays;
+        lawful = lawful;
+      })
+
+  pub alike-end : (id : ℕ) → IsReady w log.events id → (all : KeptEnds W) →
+      AreKept seen w table.finished origins all.instances.items → (kept : Kept W) →
       Serves seen slots origins making all id kept → Alike_end id kept
   alike-end id r all each kept s =
       let q : RequestState P I A = r.request in
@@ -650,44 +754,42 @@ module _ {W P I A : Type 0} (seen : W → Seen P I A) (w : World P I A) {log : L
       (ap (λ os. at os id) x.bodies ∙ map-at making_of x.state.requests id q e) s.free in
       let v = between-of r.place free in
       let st : q.status ≡ ready (walking v.0) = r.is ∙ ap ready v.1 in
-      let b = s.begins in
-      let law : request_by w x.state.table [] b.origin.key ≡ walk_by w x.state.table v.0 q.journal
-      q.runs =
-      subst (EndsAs w x.state.table [] b.origin.key q.journal q.runs) st
-      (tells id q e (ap told_in r.is) b) in
-      let k = each kept s.there in
-      let whose : k.origin ≡ s.other =
-      same_some (at origins kept.id) k.origin s.other k.whose s.whose in
-      let keys : k.origin.key ≡ b.origin.key = ap (λ (o : Origin). o.key) whose ∙ s.same in
-      let last : k.last ≡ (seen kept.walk).position.journal =
-      ap (λ (u : Seen P I A). u.position.journal) (sym k.walk) in
-      let told : walk_by w x.state.table v.0 q.journal
-      q.runs ≡ Some (kept.result, (seen kept.walk).position.journal) =
-      sym law ∙ (ap (λ key. request_by w x.state.table [] key) (sym keys)
-      ∙ (ap (λ records. request_by w records [] k.origin.key) (sym x.finished)
-      ∙ (k.told ∙ ap (λ j. Some (kept.result, j)) last))) in
-      let n : RequestState P I A =
-      record {
-        origin = q.origin;
-        journal = q.journal;
-        runs = q.runs;
-        status = assigned 0
-            (walking v.0);
-      } in
-      let ends = requests_end_by_the_table w (with_request x.state id n) id 0 n v.0 kept.result
-      (seen kept.walk).position.journal (at-put_same x.state.requests id q n e) refl told in
+      let told = tells id q e (ap told_in r.is) s.called in
+      let first : Journal = told.by.journal in
+      let law : request_by w x.state.table first q.origin.key ≡ walk_by w x.state.table v.0
+      q.journal q.runs =
+      subst (EndsAs w x.state.table first q.origin.key q.journal q.runs) st told.law in
+      let k = each kept (for-among all id kept s.there) in
+      let whose : k.origin ≡ s.one_key.its =
+      same_some (at origins kept.id) k.origin s.one_key.its k.whose s.one_key.whose in
+      let mine : s.one_key.mine ≡ origin_of q = own-origin id q e s.one_key.mine s.one_key.own in
+      let keys : k.origin.key ≡ q.origin.key =
+      ap (λ (o : Origin). o.key) whose ∙ (s.one_key.same ∙ ap (λ (o : Origin). o.key) mine) in
+      let m = serving kept k first (elim s.alike [
+        | inl plain ↦ inl plain
+        | inr both ↦ inr (both.0, empty-so id q s.called told both.1)
+      ]) in
+      let by_key : request_by w x.state.table first q.origin.key ≡ Some (kept.result, m.last) =
+      ap (λ key. request_by w x.state.table first key) (sym keys) ∙ m.told in
+      let ends_so = runs-left w x.state.table v.0 q.journal m.last q.runs kept.result
+      (sym law ∙ by_key) in
       record {
         request = q;
         walk = v.0;
         there = e;
         between = st;
-        told = told;
-        by_key = subst (λ key. request_by w x.state.table []
-            key ≡ Some (kept.result, (seen kept.walk).position.journal))
-            (ap (λ (o : Origin). o.key) (own-origin id q e b.origin b.own)) (law ∙ told);
+        first = first;
+        last = m.last;
+        begun = begun-so id q s.called told;
+        told = sym law ∙ by_key;
+        by_key = by_key;
         used = ap (used_in seen) (y.2 ∙ ap Some z.2) ∙ used-so id z.0 z.1 q v.0 z.3 st;
-        rest = ends.rest;
-        left = ends.runs_so;
+        rest = ends_so.0;
+        left = ends_so.1;
+        leaves = subst (λ slot. LeavesJournal seen x.state.table slot kept.result.runs m.last)
+            (sym (y.2 ∙ ap Some z.2))
+            (leaves-so id z.0 z.1 q v.0 m.last kept.result ends_so.0 e z.3 st ends_so.1 ends_so.2);
+        same = λ n b. m.same n (empty-so id q s.called told b);
       }
 
   -- the names of the runs that are left
@@ -700,15 +802,18 @@ module _ {W P I A : Type 0} (seen : W → Seen P I A) (w : World P I A) {log : L
 -- what is kept stays as it is told
 module _ {W P I A : Type 0} (seen : W → Seen P I A) (w : World P I A) where
   kept-stays : (table records : Records) (origins more : List Origin) →
-      ((key : RequestKey) (r : RequestResult) (j : Journal) →
-      request_by w table [] key ≡ Some (r, j) → request_by w records [] key ≡ Some (r, j)) →
+      ((first : Journal) (key : RequestKey) (r : RequestResult) (j : Journal) →
+      request_by w table first key ≡ Some (r, j) → request_by w records first key ≡ Some (r, j)) →
       ((n : ℕ) (o : Origin) → at origins n ≡ Some o → at more n ≡ Some o) → (kept : Kept W) →
       IsKept seen w table origins kept → IsKept seen w records more kept
   kept-stays table records origins more f g kept k = record {
     origin = k.origin;
     whose = g kept.id k.origin k.whose;
+    first = k.first;
     last = k.last;
-    told = f k.origin.key kept.result k.last k.told;
+    told = f k.first k.origin.key kept.result k.last k.told;
+    nothing = k.nothing;
+    plain = k.plain;
     reply = k.reply;
     result = k.result;
     walk = k.walk;
@@ -716,27 +821,27 @@ module _ {W P I A : Type 0} (seen : W → Seen P I A) (w : World P I A) where
 
   -- where a run is finished
   pub kept-finished : (table : Records) (run : FinishedRun) (records : Records)
-      (origins : List Origin) (all : List (Option (Kept W))) → records ≡ run ∷ table →
+      (origins : List Origin) (all : List (InstanceEnd W)) → records ≡ run ∷ table →
       found table run.run ≡ None →
       AreKept seen w table origins all → AreKept seen w records origins all
   kept-finished table run records origins all is n each kept i =
       subst (λ rs. IsKept seen w rs origins kept) (sym is)
       (kept-stays table (run ∷ table) origins origins
-      (λ key r j. what_the_table_tells_stays w table run n [] key r j) (λ m o h. h) kept
+      (λ first key r j. what_the_table_tells_stays w table run n first key r j) (λ m o h. h) kept
       (each kept i))
 
   -- where there are more requests, and no more is kept
   pub kept-entered : (table : Records) (origins behind new : List Origin)
-      (all after : List (Option (Kept W))) → new ≡ origins ++ behind → AreFewer all after →
+      (all after : List (InstanceEnd W)) → new ≡ origins ++ behind → AreFewer all after →
       AreKept seen w table origins all → AreKept seen w table new after
   kept-entered table origins behind new all after is fewer each kept i =
       subst (λ os. IsKept seen w table os kept) (sym is)
-      (kept-stays table table origins (origins ++ behind) (λ key r j h. h)
+      (kept-stays table table origins (origins ++ behind) (λ first key r j h. h)
       (λ m o h. at-front origins behind m o h) kept (each kept (fewer kept i)))
 
   -- where the table, the requests and what is kept are the same
   pub kept-alike : {table records : Records} {origins more : List Origin}
-      {all after : List (Option (Kept W))} →
+      {all after : List (InstanceEnd W)} →
       records ≡ table → more ≡ origins → after ≡ all → ∥ AreKept seen w table origins all ∥₁ →
       ∥ AreKept seen w records more after ∥₁
   kept-alike {table} {records} {origins} {more} {all} {after} t o e each =
@@ -745,23 +850,30 @@ module _ {W P I A : Type 0} (seen : W → Seen P I A) (w : World P I A) where
       (subst (λ es. ∥ AreKept seen w table origins es ∥₁) (sym e) each))
 
   -- where no more is kept
-  pub kept-fewer : (table : Records) (origins : List Origin) (all after : List (Option (Kept W))) →
+  pub kept-fewer : (table : Records) (origins : List Origin) (all after : List (InstanceEnd W)) →
       AreFewer all after → AreKept seen w table origins all → AreKept seen w table origins after
   kept-fewer table origins all after fewer each kept i = each kept (fewer kept i)
 
-  pub kept-put : (table : Records) (origins : List Origin) (all after : List (Option (Kept W)))
-      (new : Kept W) → IsEntered all after new → IsKept seen w table origins new →
-      AreKept seen w table origins all → AreKept seen w table origins after
-  kept-put table origins all after new entered is each kept i = elim (entered kept i) [
-    | inl same ↦ subst (IsKept seen w table origins) (sym same) is
-    | inr old ↦ each kept old
-  ]
+  pub kept-put : (table : Records) (origins : List Origin) (before after : KeptEnds W)
+      (new : Kept W) → IsPut before after new → IsKept seen w table origins new →
+      AreKept seen w table origins before.instances.items →
+      AreKept seen w table origins after.instances.items
+  kept-put table origins before after new entered is each kept i =
+      elim (put-among before after new kept entered i) [
+        | inl same ↦ subst (IsKept seen w table origins) (sym same) is
+        | inr old ↦ each kept old
+      ]
 
-pub none-kept : {W : Type 0} (all : List (Option (Kept W))) (kept : Kept W) →
-    all ≡ None ∷ [] → IsAmong all kept → ⊥
-none-kept {W = W} all kept e (place, h) =
-    go place (subst (λ (xs : List (Option (Kept W))). at xs place ≡ Some (Some kept)) e h)
+pub none-kept : {W : Type 0} (all : List (InstanceEnd W)) (kept : Kept W) →
+    all ≡ record { open_requests = 1; kept = None } ∷ [] → IsAmong all kept → ⊥
+none-kept {W = W} all kept e (place, x, h, k) =
+    go place (subst (λ (xs : List (InstanceEnd W)). at xs place ≡ Some x) e h)
   where
-    go : (place : ℕ) → at {X = Option (Kept W)} (None ∷ []) place ≡ Some (Some kept) → ⊥
-    go zero h = let c : None ≡ Some kept = some-is None (Some kept) h in absurd (cc)
+    first : InstanceEnd W
+    first = record { open_requests = 1; kept = None }
+
+    go : (place : ℕ) → at (first ∷ []) place ≡ Some x → ⊥
+    go zero h =
+        let c : None ≡ Some kept = ap (λ (y : InstanceEnd W). y.kept) (some-is first x h) ∙ k in
+        absurd (cc)
     go (suc n) h = absurd (cc)

@@ -1,20 +1,40 @@
 //! Ends of requests that are kept for other requests of the same keys. (MSBuild task: a target is
 //! run once.)
 
-ghost use Rattle.std.specs.Prelude.{◌≡◌, [], ◌∷◌, None, IfOk, IfSome, OnErr, OnOk};
-ghost use Rattle.build_scheduler.specs.KeptEnds.{AreFewer, IsAmong, IsEntered};
+ghost use Rattle.std.specs.Prelude.{
+  ◌≡◌,
+  ◌↔◌,
+  [],
+  ◌∷◌,
+  IfOk,
+  IsSome,
+  IsTrue,
+  None,
+  option_copied,
+};
+ghost use Rattle.build_meaning.specs.Lists.{at};
+ghost use Rattle.build_scheduler.specs.KeptEnds.{
+  AreFewer,
+  IsPut,
+  IsWanted,
+  instance_of,
+  kept_for,
+};
 
 use crate::instances::Instances;
 use msb_values::NoMemory;
 use result_cache::{RequestKey, RequestResult};
 use std::alloc::Global;
 
-/// The end of a request that began with nothing, for others of its key: its number, its result and
-/// its walk, which is over.
+/// The end of a request, for others of its key: its number, its result and its walk, which is over.
 pub struct Kept<W> {
     pub id: u64,
     pub result: RequestResult,
     pub walk: W,
+    /// Whether it began with an empty journal: then those that do end with the same journal, too.
+    pub from_nothing: bool,
+    /// Whether requests of its key are plain: then all of them have the same result.
+    pub plain: bool,
 }
 
 // A drop that is written out is proved here alone.
@@ -24,18 +44,55 @@ impl<W: Drop> Drop for Kept<W> {
             id: _,
             result: _,
             walk: _,
+            from_nothing: _,
+            plain: _,
         } = self;
+    }
+}
+
+/// How one of the requests of an instance has ended, while another one is not done.
+pub struct InstanceEnd<W> {
+    /// How many requests of the instance are not done.
+    pub(crate) open_requests: usize,
+    pub(crate) kept: Option<Kept<W>>,
+}
+
+// A drop that is written out is proved here alone.
+impl<W: Drop> Drop for InstanceEnd<W> {
+    fn drop(self) {
+        let InstanceEnd {
+            open_requests: _,
+            kept: _,
+        } = self;
+    }
+}
+
+impl<W: Drop> InstanceEnd<W> {
+    ghost use Rattle.build_scheduler.specs.KeptEnds.{IsNoOther};
+
+    // One more request.
+    fn open(&mut self)
+        ensures { self.new.kept ≡ self.old.kept }
+    {
+        self.open_requests = self.open_requests.saturating_add(1);
+    }
+
+    // One of the requests is over. Where it was the last one, nothing is kept for others.
+    fn close(&mut self)
+        ensures { IsNoOther self.old self.new }
+    {
+        self.open_requests = self.open_requests.saturating_sub(1);
+        if self.open_requests == 0 {
+            self.kept = None;
+        }
     }
 }
 
 /// For each instance how one of its requests has ended, while another one is not done.
 pub struct KeptEnds<W> {
     /// For each request the place of its instance.
-    places: Vec<usize>,
-    /// For each instance how many of its requests are not done.
-    open_requests: Vec<usize>,
-    /// For each instance.
-    pub(crate) ends: Vec<Option<Kept<W>>>,
+    pub(crate) places: Vec<usize>,
+    pub(crate) instances: Vec<InstanceEnd<W>>,
 }
 
 // A drop that is written out is proved here alone.
@@ -43,8 +100,7 @@ impl<W: Drop> Drop for KeptEnds<W> {
     fn drop(self) {
         let KeptEnds {
             places: _,
-            open_requests: _,
-            ends: _,
+            instances: _,
         } = self;
     }
 }
@@ -52,34 +108,32 @@ impl<W: Drop> Drop for KeptEnds<W> {
 impl<W: Drop> KeptEnds<W> {
     /// Nothing is kept for the root's instance.
     pub(crate) fn new(alloc: Global) -> Result<KeptEnds<W>, NoMemory>
-        ensures { IfOk result (λ kept. kept.ends.items ≡ None ∷ []) }
+        ensures { IfOk result (λ kept. kept.instances.items
+            ≡ record { open_requests = 1; kept = None } ∷ []) }
     {
         let mut places = Vec::new(alloc);
         places.push(0)?;
-        let mut open_requests = Vec::new(alloc);
-        open_requests.push(1)?;
-        let mut ends = Vec::new(alloc);
-        ends.push(None)?;
-        Ok(KeptEnds {
-            places,
-            open_requests,
-            ends,
-        })
+        let mut instances = Vec::new(alloc);
+        instances.push(InstanceEnd {
+            open_requests: 1,
+            kept: None,
+        })?;
+        Ok(KeptEnds { places, instances })
     }
 
     /// Takes room for so many more requests.
     pub(crate) fn reserve(&mut self, more: usize) -> Result<(), NoMemory>
-        ensures { self.new.ends.items ≡ self.old.ends.items }
+        ensures places { self.new.places.items ≡ self.old.places.items }
+        ensures instances { self.new.instances.items ≡ self.old.instances.items }
     {
         self.places.reserve(more)?;
-        self.open_requests.reserve(more)?;
-        self.ends.reserve(more)?;
+        self.instances.reserve(more)?;
         Ok(())
     }
 
     /// Counts new requests, for which room was taken. This takes no memory.
     pub(crate) fn count(&mut self, instances: &Instances, calls: &[RequestKey])
-        ensures { AreFewer self.old.ends.items self.new.ends.items }
+        ensures { AreFewer self.old.instances.items self.new.instances.items }
     {
         for call in calls {
             self.count_one(instances, call);
@@ -87,7 +141,7 @@ impl<W: Drop> KeptEnds<W> {
     }
 
     fn count_one(&mut self, instances: &Instances, call: &RequestKey)
-        ensures { AreFewer self.old.ends.items self.new.ends.items }
+        ensures { AreFewer self.old.instances.items self.new.instances.items }
     {
         if let Some(place) = instances.place(&call.instance) {
             self.count_at(place);
@@ -96,107 +150,88 @@ impl<W: Drop> KeptEnds<W> {
 
     // A request of the instance at a place, which is new where nothing stands there.
     fn count_at(&mut self, place: usize)
-        ensures { AreFewer self.old.ends.items self.new.ends.items }
+        ensures { AreFewer self.old.instances.items self.new.instances.items }
     {
         let _ = self.places.push(place);
-        match self.open_requests.get_mut(place) {
-            Some(count) => *count = count.saturating_add(1),
+        match self.instances.get_mut(place) {
+            Some(instance) => instance.open(),
             None => self.enter(),
         }
     }
 
     // An instance that is new, with one request.
     fn enter(&mut self)
-        ensures { AreFewer self.old.ends.items self.new.ends.items }
+        ensures { AreFewer self.old.instances.items self.new.instances.items }
     {
-        let _ = self.open_requests.push(1);
-        let _ = self.push_none();
+        let _ = self.push_new();
     }
 
-    fn push_none(&mut self) -> Result<(), NoMemory>
-        ensures { AreFewer self.old.ends.items self.new.ends.items }
+    fn push_new(&mut self) -> Result<(), NoMemory>
+        ensures { AreFewer self.old.instances.items self.new.instances.items }
     {
-        self.ends.push(None)?;
+        self.instances.push(InstanceEnd {
+            open_requests: 1,
+            kept: None,
+        })?;
         Ok(())
     }
 
     /// Counts a request that is over. Where it was the last of its instance, nothing is kept for
     /// others. This takes no memory.
     pub(crate) fn count_done(&mut self, id: u64)
-        ensures { AreFewer self.old.ends.items self.new.ends.items }
+        ensures { AreFewer self.old.instances.items self.new.instances.items }
     {
         if let Some(place) = self.place(id) {
-            if self.is_last(place) {
-                self.forget(place);
-            }
+            self.close_at(place);
         }
     }
 
-    // A request of the instance at a place is over: whether none is left.
-    fn is_last(&mut self, place: usize) -> bool
-        ensures { self.new.ends.items ≡ self.old.ends.items }
+    fn close_at(&mut self, place: usize)
+        ensures { AreFewer self.old.instances.items self.new.instances.items }
     {
-        match self.open_requests.get_mut(place) {
-            Some(count) => {
-                *count = count.saturating_sub(1);
-                *count == 0
-            }
-            None => true,
-        }
-    }
-
-    fn forget(&mut self, place: usize)
-        ensures { AreFewer self.old.ends.items self.new.ends.items }
-    {
-        if let Some(end) = self.ends.get_mut(place) {
-            *end = None;
+        if let Some(instance) = self.instances.get_mut(place) {
+            instance.close();
         }
     }
 
     /// Whether another request of its instance is not done.
-    pub(crate) fn is_wanted(&self, id: u64) -> bool {
-        match self.place(id) {
-            Some(place) => self.open_at(place) > 1,
+    pub(crate) fn is_wanted(&self, id: u64) -> bool
+        ensures { IsTrue result ↔ IsWanted self.now id }
+    {
+        match self.instance(id) {
+            Some(instance) => instance.open_requests > 1,
             None => false,
         }
     }
 
     /// What is kept for the instance of a request.
     pub(crate) fn find(&self, id: u64) -> Option<&Kept<W>>
-        ensures { IfSome result (λ kept. IsAmong self.now.ends.items kept.now) }
+        ensures { option_copied result ≡ kept_for self.now id }
     {
-        let place = self.place(id)?;
-        self.ends.get(place)?.as_ref()
+        self.instance(id)?.kept.as_ref()
     }
 
     /// Keeps this for the instance of its request.
     pub(crate) fn put(&mut self, kept: Kept<W>)
-        ensures { IsEntered self.old.ends.items self.new.ends.items kept }
+        requires { IsSome (instance_of self.old kept.id) }
+        ensures { IsPut self.old self.new kept }
     {
-        if let Some(place) = self.place(kept.id) {
-            self.put_at(place, kept);
-        }
+        let place = self.places[kept.id as usize];
+        self.instances[place].kept = Some(kept);
     }
 
-    fn put_at(&mut self, place: usize, kept: Kept<W>)
-        ensures { IsEntered self.old.ends.items self.new.ends.items kept }
+    fn instance(&self, id: u64) -> Option<&InstanceEnd<W>>
+        ensures { option_copied result ≡ instance_of self.now id }
     {
-        if let Some(end) = self.ends.get_mut(place) {
-            *end = Some(kept);
-        }
+        self.instances.get(self.place(id)?)
     }
 
-    fn place(&self, id: u64) -> Option<usize> {
+    fn place(&self, id: u64) -> Option<usize>
+        ensures { result ≡ at self.now.places.items id }
+    {
         match self.places.get(id as usize) {
             Some(place) => Some(*place),
             None => None,
-        }
-    }
-
-    fn open_at(&self, place: usize) -> usize {
-        match self.open_requests.get(place) {
-            Some(count) => *count,
-            None => 0,
         }
     }
 }

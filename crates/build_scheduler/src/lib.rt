@@ -2,6 +2,7 @@
 //! are finished. (MSBuild task; Building projects in parallel.)
 #![tactic(auto)]
 
+mod boxed;
 mod children;
 mod claim;
 mod cycle;
@@ -20,6 +21,7 @@ mod scheduler;
 mod slot;
 mod walker;
 
+pub use boxed::Boxed;
 pub use build_meaning::{ClaimKind, Event};
 pub use claim::Claimed;
 pub use request::RequestFault;

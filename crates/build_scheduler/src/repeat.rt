@@ -8,13 +8,19 @@ ghost use Rattle.std.specs.Prelude.{
   ◌<◌,
   ◌++◌,
   ◌∷◌,
+  ◌↔◌,
+  ◌⊎◌,
   [],
   None,
   Some,
+  IfNone,
   IfOk,
   IfSome,
+  IsSome,
+  IsTrue,
   OnErr,
   OnOk,
+  OnSome,
   drop,
   length,
   map,
@@ -23,22 +29,35 @@ ghost use Rattle.std.specs.Prelude.{
 ghost use Rattle.build_meaning.specs.declared.event.Event.TheVariants.{Assign};
 ghost use Rattle.build_meaning.specs.History.{AreOfNodes};
 ghost use Rattle.build_meaning.specs.Lists.{at};
+ghost use Rattle.build_meaning.specs.Plain.{IsPlain};
 ghost use Rattle.build_history.specs.Repeated.{uses_of_all};
 ghost use Rattle.result_cache.specs.declared.request.RequestResult.{RequestResult as Told};
+ghost use Rattle.build_scheduler.specs.declared.slot.Origin.{Origin};
 ghost use Rattle.build_scheduler.specs.declared.walker.Ask.TheVariants.{Done as IsOver};
 ghost use Rattle.build_scheduler.specs.Kept.{
   BeganWithNothing,
   EndsAlike,
+  HaveOneKey,
+  IsAlike,
   IsAtOnce,
+  IsCalled,
+  IsCome,
+  IsEndOf,
+  IsKeeping,
+  IsKnownPlain,
+  IsReadyWalk,
   IsRepeat,
   IsRepeated,
+  IsServed,
   KnowsNothing,
+  MayServe,
   Serves,
   used_in,
   uses_one,
 };
+ghost use Rattle.build_scheduler.specs.KeptEnds.{IsWanted};
 ghost use Rattle.build_scheduler.specs.Own.{IsOwn, seen_by};
-ghost use Rattle.build_scheduler.specs.Position.{ask_of};
+ghost use Rattle.build_scheduler.specs.Position.{HasEnded, ask_of};
 ghost use Rattle.build_scheduler.specs.Ready.{IsReady};
 ghost use Rattle.build_scheduler.specs.Shown.{is_ready};
 
@@ -82,9 +101,9 @@ impl<W: Drop> AtOnce<W> {
 }
 
 impl<W: Walker> Core<W> {
-    /// Keeps how a request ends that is with a node and asks to be over, where it began with
-    /// nothing and another request of its instance is not done. Where there is no memory, nothing
-    /// is kept. (MSBuild task: a target is run once.)
+    /// Keeps how a request ends that is with a node and asks to be over, exactly where another
+    /// request of its instance is not done, and this one began with nothing or is plain. Where
+    /// there is no memory, nothing changes. (MSBuild task: a target is run once.)
     pub fn keep(&mut self, id: u64, walk: &W, told: &RequestResult) -> Result<(), NoMemory>
         requires own { ∥ IsOwn (W.world_of self.old.world) self.old.history.events
             self.old.table.finished id (seen_by W.world W.position W.asked W.learnt walk.now) ∥₁ }
@@ -93,23 +112,63 @@ impl<W: Walker> Core<W> {
         ensures history { self.new.history ≡ self.old.history }
         ensures table { self.new.table ≡ self.old.table }
         ensures end { self.new.end ≡ self.old.end }
+        ensures keeps { OnOk result (IsKeeping (seen_by W.world W.position W.asked W.learnt)
+            self.old.slots.items self.old.origins.items self.old.kept self.new.kept id walk.now
+            (W.plain_for walk.now) told.now) }
+        ensures err { OnErr result (self.new.kept ≡ self.old.kept) }
     {
-        if !self.is_wanted(id) {
-            return Ok(());
+        if let Some(kept) = self.end_of(id, walk, told)? {
+            self.kept.put(kept);
         }
-        let kept = Kept {
-            id,
-            result: told.copy()?,
-            walk: walk.ended()?,
-        };
-        self.kept.put(kept);
         Ok(())
     }
 
-    /// Ends a ready request at once where another one has the same key and is over, and both began
-    /// with nothing: it is assigned, uses the records of the runs that are left to it, and is done
-    /// with the same result. Else the answer is false. After that, and where there is no memory, no
-    /// event has come. (MSBuild task: a target is run once.)
+    /// How a request ends that is with a node and asks to be over, where that may serve others.
+    fn end_of(&self, id: u64, walk: &W, told: &RequestResult) -> Result<Option<Kept<W>>, NoMemory>
+        requires there { id < length self.now.origins.items }
+        requires asked { 0 < W.asked walk.now }
+        requires over { HasEnded (ask_of (W.position walk.now)) }
+        ensures none { IfOk result (λ end. IfNone end
+            (MayServe (seen_by W.world W.position W.asked W.learnt) self.now.slots.items
+            self.now.origins.items self.now.kept id (W.plain_for walk.now) → ⊥)) }
+        ensures serves { IfOk result (λ end. OnSome end
+            (MayServe (seen_by W.world W.position W.asked W.learnt) self.now.slots.items
+            self.now.origins.items self.now.kept id (W.plain_for walk.now))) }
+        ensures is { IfOk result (λ end. IfSome end (λ end.
+            IsEndOf (seen_by W.world W.position W.asked W.learnt) self.now.slots.items
+            self.now.origins.items id walk.now (W.plain_for walk.now) told.now end)) }
+        ensures plain { IfOk result (λ end. IfSome end (λ end. end.plain ≡ true →
+            (origin : Origin) → at self.now.origins.items id ≡ Some origin →
+            IsPlain (W.world walk.now) origin.key)) }
+    {
+        let from_nothing = self.began_with_nothing(id);
+        let plain = self.is_plain(id, walk);
+        if !self.may_serve(id, from_nothing, plain) {
+            return Ok(None);
+        }
+        Ok(Some(Kept {
+            id,
+            result: told.copy()?,
+            walk: walk.ended()?,
+            from_nothing,
+            plain,
+        }))
+    }
+
+    /// Whether the end of a request that began so, or whose key is plain, may serve others.
+    fn may_serve(&self, id: u64, from_nothing: bool, plain: bool) -> bool
+        requires there { id < length self.now.origins.items }
+        ensures { IsTrue result ↔ (((from_nothing ≡ true) ⊎ (plain ≡ true))
+            × IsCalled self.now.origins.items id × IsWanted self.now.kept id) }
+    {
+        (from_nothing || plain) && self.is_called(id) && self.kept.is_wanted(id)
+    }
+
+    /// Ends a ready request at once, exactly where it is called and in no body, and an end of its
+    /// key is kept that is plain, or that began with nothing as it did itself: it is assigned, uses
+    /// the records of the runs that are left to it, and is done with the same result. Else the
+    /// answer is false. After that, and where there is no memory, no event has come. (MSBuild task:
+    /// a target is run once.)
     pub fn repeat(&mut self, id: u64, node: u32) -> Result<bool, NoMemory>
         requires running { self.old.end ≡ None }
         requires ready { ∥ IsReady (W.world_of self.old.world) self.old.history.events id ∥₁ }
@@ -120,6 +179,9 @@ impl<W: Walker> Core<W> {
         ensures repeated { IfOk result (λ repeated. IsRepeated (W.world_of self.old.world)
             self.old.table.finished self.old.history.events self.new.history.events id node
             repeated) }
+        ensures exact { IfOk result (λ repeated. IsTrue repeated
+            ↔ IsServed (seen_by W.world W.position W.asked W.learnt) self.old.slots.items
+            self.old.origins.items self.old.making.items self.old.kept id) }
         ensures err { OnErr result (self.new.history.events ≡ self.old.history.events) }
     {
         match self.end_for(id)? {
@@ -134,9 +196,12 @@ impl<W: Walker> Core<W> {
     /// How a ready request ends that is over at once, if it is one.
     fn end_for(&self, id: u64) -> Result<Option<AtOnce<W>>, NoMemory>
         requires ready { ∥ IsReady (W.world_of self.now.world) self.now.history.events id ∥₁ }
-        ensures { IfOk result (λ end. IfSome end (λ end.
+        ensures so { IfOk result (λ end. IfSome end (λ end.
             ∥ IsAtOnce (seen_by W.world W.position W.asked W.learnt) (W.world_of self.now.world)
             self.now.table.finished self.now.history.events id end ∥₁)) }
+        ensures exact { IfOk result (λ end. IsSome end
+            ↔ IsServed (seen_by W.world W.position W.asked W.learnt) self.now.slots.items
+            self.now.origins.items self.now.making.items self.now.kept id) }
     {
         let Some(kept) = self.kept_for(id) else {
             return Ok(None);
@@ -146,8 +211,24 @@ impl<W: Walker> Core<W> {
         Ok(Some(AtOnce {
             claims: names(alloc, left)?,
             told: kept.result.copy()?,
-            walk: kept.walk.ended()?,
+            walk: self.walk_at(id, kept)?,
         }))
+    }
+
+    /// The walk of a ready request, come to the end that is kept for it. Where both began with
+    /// nothing, it has the kept journal.
+    fn walk_at(&self, id: u64, kept: &Kept<W>) -> Result<W, NoMemory>
+        requires ready { ∥ IsReady (W.world_of self.now.world) self.now.history.events id ∥₁ }
+        requires serves { Serves (seen_by W.world W.position W.asked W.learnt)
+            self.now.slots.items self.now.origins.items self.now.making.items self.now.kept
+            id kept.now }
+        ensures { IfOk result (λ walk. ∥ IsCome (seen_by W.world W.position W.asked W.learnt)
+            self.now.table.finished (at self.now.slots.items id) kept.now walk ∥₁) }
+    {
+        if kept.from_nothing && self.began_with_nothing(id) {
+            return Ok(kept.walk.ended()?);
+        }
+        Ok(ready_walk(&self.slots, id).ended_as(&kept.walk, &self.table)?)
     }
 
     /// Ends a ready request at once. Where there is no memory, no event has come.
@@ -171,23 +252,51 @@ impl<W: Walker> Core<W> {
         Ok(())
     }
 
-    /// How a request has ended that serves this one.
+    /// How a request has ended that serves this one, if one does.
     fn kept_for(&self, id: u64) -> Option<&Kept<W>>
         requires there { id < length self.now.origins.items }
-        ensures { IfSome result (λ kept. Serves (seen_by W.world W.position W.asked W.learnt)
-            self.now.slots.items self.now.origins.items self.now.making.items
-            self.now.kept.ends.items
+        ensures so { IfSome result (λ kept. Serves (seen_by W.world W.position W.asked W.learnt)
+            self.now.slots.items self.now.origins.items self.now.making.items self.now.kept
             id kept.now) }
+        ensures exact { IfNone result (IsServed (seen_by W.world W.position W.asked W.learnt)
+            self.now.slots.items self.now.origins.items self.now.making.items self.now.kept
+            id → ⊥) }
     {
-        if self.making[id as usize].is_some() || !self.began_with_nothing(id) {
+        if !self.is_called(id) || self.making[id as usize].is_some() {
             return None;
         }
         let kept = self.kept.find(id)?;
-        if self.origins[kept.id as usize].key == self.origins[id as usize].key {
+        if self.has_key_of(id, kept.id) && self.is_alike(id, kept) {
             Some(kept)
         } else {
             None
         }
+    }
+
+    /// Whether a request is called by another one: all are but the root.
+    fn is_called(&self, id: u64) -> bool
+        requires there { id < length self.now.origins.items }
+        ensures { IsTrue result ↔ IsCalled self.now.origins.items id }
+    {
+        self.origins[id as usize].parent.is_some()
+    }
+
+    /// Whether two requests have one key.
+    fn has_key_of(&self, id: u64, other: u64) -> bool
+        requires there { id < length self.now.origins.items }
+        requires other { other < length self.now.origins.items }
+        ensures { IsTrue result ↔ HaveOneKey self.now.origins.items id other }
+    {
+        self.origins[id as usize].key == self.origins[other as usize].key
+    }
+
+    /// Whether an end is plain, or its request began with nothing as this one does.
+    fn is_alike(&self, id: u64, kept: &Kept<W>) -> bool
+        requires there { id < length self.now.origins.items }
+        ensures { IsTrue result ↔ IsAlike (seen_by W.world W.position W.asked W.learnt)
+            self.now.slots.items self.now.origins.items id kept.now }
+    {
+        kept.plain || (kept.from_nothing && self.began_with_nothing(id))
     }
 
     /// Assigns a ready request, which uses the records of these runs and then asks for nothing but
@@ -209,20 +318,22 @@ impl<W: Walker> Core<W> {
         walk
     }
 
-    /// Whether another request may be served by the end of this one.
-    fn is_wanted(&self, id: u64) -> bool
+    /// Whether its walk knows that requests of its key are plain.
+    fn is_plain(&self, id: u64, walk: &W) -> bool
         requires there { id < length self.now.origins.items }
-        ensures { result ≡ true → BeganWithNothing (seen_by W.world W.position W.asked W.learnt)
-            self.now.slots.items self.now.origins.items id }
+        ensures exact { IsTrue result
+            ↔ IsKnownPlain (W.plain_for walk.now) self.now.origins.items id }
+        ensures plain { result ≡ true → (origin : Origin) →
+            at self.now.origins.items id ≡ Some origin → IsPlain (W.world walk.now) origin.key }
     {
-        self.kept.is_wanted(id) && self.began_with_nothing(id)
+        walk.is_plain(&self.origins[id as usize].key)
     }
 
     /// Whether a request that is not over is called and began with an empty journal, which its
     /// caller has.
     fn began_with_nothing(&self, id: u64) -> bool
         requires there { id < length self.now.origins.items }
-        ensures { result ≡ true → BeganWithNothing (seen_by W.world W.position W.asked W.learnt)
+        ensures { IsTrue result ↔ BeganWithNothing (seen_by W.world W.position W.asked W.learnt)
             self.now.slots.items self.now.origins.items id }
     {
         match self.origins[id as usize].parent {
@@ -234,12 +345,23 @@ impl<W: Walker> Core<W> {
 
 /// Whether the journal of a caller is empty.
 fn knows_nothing<W: Walker>(slot: &Slot<W>) -> bool
-    ensures { result ≡ true →
-        KnowsNothing (seen_by W.world W.position W.asked W.learnt) (Some slot.now) }
+    ensures { IsTrue result
+        ↔ KnowsNothing (seen_by W.world W.position W.asked W.learnt) (Some slot.now) }
 {
     match slot {
         Slot::Calling(calls) => calls.walk.knows_nothing(),
         _ => false,
+    }
+}
+
+/// The walk of a ready request.
+fn ready_walk<W: Walker>(slots: &Vec<Slot<W>>, id: u64) -> &W
+    requires { is_ready (at slots.now.items id) ≡ true }
+    ensures { IsReadyWalk (at slots.now.items id) result.now }
+{
+    match &slots[id as usize] {
+        Slot::Ready(walk, _) => walk,
+        _ => unreachable!(),
     }
 }
 

@@ -71,7 +71,7 @@ pub struct Core<W: Walker> {
     ghost nested: { ∥ AreNested origins.items ∥₁ },
     ghost stops: { ∥ ShowsStop (W.world_of world) history.events end ∥₁ },
     ghost kept_so: { ∥ AreKept (seen_by W.world W.position W.asked W.learnt) (W.world_of world)
-        table.finished origins.items kept.ends.items ∥₁ },
+        table.finished origins.items kept.instances.items ∥₁ },
     ghost behind: { ∥ AreBehind (seen_by W.world W.position W.asked W.learnt) (W.world_of world)
         history.events slots.items ∥₁ },
 }

@@ -5,8 +5,10 @@ ghost use Rattle.std.specs.Prelude.{
   ◌<◌,
   ◌++◌,
   ℕ,
+  Bool,
   List,
   [],
+  drop,
   length,
   true,
   IfOk,
@@ -18,8 +20,10 @@ ghost use Rattle.std.specs.Prelude.{
   Some,
 };
 ghost use mathlib.Core.List.{IsPrefix};
+ghost use Rattle.result_cache.specs.declared.request.RequestKey.{RequestKey as Key};
 ghost use Rattle.result_cache.specs.Replay.{replay_all};
 ghost use Rattle.result_cache.specs.Table.{Records};
+ghost use Rattle.build_meaning.specs.Plain.{IsPlain};
 ghost use Rattle.build_meaning.specs.World.{World};
 ghost use Rattle.build_meaning.specs.SoFar.{ToolUse};
 ghost use Rattle.build_scheduler.specs.Position.{
@@ -114,6 +118,9 @@ pub trait Walker: Sized + Drop {
     /// advanced since it was made or put back.
     ghost earlier: { Self → Option (Position Self.Site Self.Input Self.Output × ℕ) };
 
+    /// Of which keys it knows that their requests are plain.
+    ghost plain_for: { Self → Key → Bool };
+
     /// The tools that were used at a place, in order.
     ghost used: { Self.Place → List (ToolUse Self.Input) };
 
@@ -155,7 +162,8 @@ pub trait Walker: Sized + Drop {
 
     /// Whether its journal is empty. This takes no memory.
     fn knows_nothing(&self) -> bool
-        ensures { result ≡ true → (Self.position self.now).journal ≡ [] };
+        ensures nothing { result ≡ true → (Self.position self.now).journal ≡ [] }
+        ensures exact { (Self.position self.now).journal ≡ [] → result ≡ true };
 
     /// How many runs it has made or used. This takes no memory.
     fn runs_used(&self) -> usize
@@ -170,6 +178,33 @@ pub trait Walker: Sized + Drop {
         ensures asked { IfOk result (λ ended. Self.asked ended ≡ 1) }
         ensures learnt { IfOk result (λ ended. Self.learnt ended ≡ []) }
         ensures earlier { IfOk result (λ ended. Self.earlier ended ≡ None) };
+
+    /// A walk that is over as that one is, from where this one stands: it has replayed the records
+    /// of the runs that are left to it. It has learnt nothing.
+    fn ended_as(&self, end: &Self, table: &Table) -> Result<Self, NoMemory>
+        requires asked { 0 < Self.asked end.now }
+        requires over { HasEnded (ask_of (Self.position end.now)) }
+        requires replays { IsSome (replay_all table.now.finished
+            (drop (length (Self.position self.now).runs) (Self.position end.now).runs)
+            (Self.position self.now).journal) }
+        ensures world { IfOk result (λ ended. Self.world ended ≡ Self.world self.now) }
+        ensures journal { IfOk result (λ ended. replay_all table.now.finished
+            (drop (length (Self.position self.now).runs) (Self.position end.now).runs)
+            (Self.position self.now).journal ≡ Some (Self.position ended).journal) }
+        ensures runs { IfOk result
+            (λ ended. (Self.position ended).runs ≡ (Self.position end.now).runs) }
+        ensures place { IfOk result
+            (λ ended. (Self.position ended).place ≡ (Self.position end.now).place) }
+        ensures asked { IfOk result (λ ended. Self.asked ended ≡ 1) }
+        ensures learnt { IfOk result (λ ended. Self.learnt ended ≡ []) }
+        ensures earlier { IfOk result (λ ended. Self.earlier ended ≡ None) };
+
+    /// Whether what a request of this key asks between its runs is told by the records that it
+    /// uses, and by nothing else of its journal, as far as this walk knows. This takes no memory.
+    /// (MSBuild conditions, Exists.)
+    fn is_plain(&self, key: &RequestKey) -> bool
+        ensures so { result ≡ Self.plain_for self.now key.now }
+        ensures plain { result ≡ true → IsPlain (Self.world self.now) key.now };
 
     /// Learns the records that an answer needs, through all levels of calls: the answer then takes
     /// the walk where it would by the whole table. Where there is no memory, the walk is as it was.

@@ -58,6 +58,8 @@ impl<W: Walker> Walker for Refusing<W> {
 
     ghost Fits = { W.Fits };
 
+    ghost plain_for = { λ refusing. W.plain_for refusing.walk };
+
     ghost fits_once = { W.fits_once };
 
     fn origin(&self) -> W::Origin {
@@ -89,6 +91,17 @@ impl<W: Walker> Walker for Refusing<W> {
             walk: self.walk.ended()?,
             refuses: false,
         })
+    }
+
+    fn ended_as(&self, end: &Refusing<W>, table: &Table) -> Result<Refusing<W>, NoMemory> {
+        Ok(Refusing {
+            walk: self.walk.ended_as(&end.walk, table)?,
+            refuses: false,
+        })
+    }
+
+    fn is_plain(&self, key: &RequestKey) -> bool {
+        self.walk.is_plain(key)
     }
 
     fn learn(&mut self, table: &Table, answer: &Answer) -> Result<(), NoMemory> {

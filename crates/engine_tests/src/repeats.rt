@@ -25,27 +25,83 @@ const CALLER: &str = r#"{"e":"Project","c":[{"e":"Target","a":{"Name":"T"},"c":[
 const CALLED: &str = r#"{"e":"Project","a":{"DefaultTargets":"A;B"},"c":[
 {"e":"Target","a":{"Name":"A"}},{"e":"Target","a":{"Name":"B"}}]}"#;
 
+/// A project that calls two others at once.
+const TWO_CALLERS: &str = r#"{"e":"Project","c":[{"e":"Target","a":{"Name":"T"},"c":[
+{"e":"MSBuild","a":{"Projects":"p2;p3","BuildInParallel":"true"}}]}]}"#;
+
+/// A project that writes a file before it calls another project.
+const WRITES_ONE: &str = r#"{"e":"Project","c":[{"e":"Target","a":{"Name":"T"},"c":[
+{"e":"WriteLinesToFile","a":{"File":"one.txt","Lines":"one"}},
+{"e":"MSBuild","a":{"Projects":"p1"}}]}]}"#;
+
+/// The same with another file.
+const WRITES_TWO: &str = r#"{"e":"Project","c":[{"e":"Target","a":{"Name":"T"},"c":[
+{"e":"WriteLinesToFile","a":{"File":"two.txt","Lines":"two"}},
+{"e":"MSBuild","a":{"Projects":"p1"}}]}]}"#;
+
+/// A project with two targets, the second one where a file is there.
+const SEES_A_FILE: &str = r#"{"e":"Project","a":{"DefaultTargets":"A;B"},"c":[
+{"e":"Target","a":{"Name":"A"}},
+{"e":"Target","a":{"Name":"B","Condition":"Exists('two.txt')"}}]}"#;
+
 /// More turns than the build has.
-const TURNS: usize = 100;
+const TURNS: usize = 200;
 
 #[test]
 fn the_first_request_of_a_key_is_not_over_at_once(rt: HostRuntime) -> Result<(), Fail> {
-    let steps = tried(rt.alloc(), 1)?;
+    let steps = tried(rt.alloc(), &[("p0", CALLER), ("p1", CALLED)], 1)?;
     is_text(&rt, steps.as_bytes(), "false\n", "the first request");
     Ok(())
 }
 
 #[test]
 fn the_second_request_of_a_key_is_over_at_once(rt: HostRuntime) -> Result<(), Fail> {
-    let steps = tried(rt.alloc(), 2)?;
+    let steps = tried(rt.alloc(), &[("p0", CALLER), ("p1", CALLED)], 2)?;
     let want = "assign 2 5\nclaim 2 a use\nclaim 2 b use\ndone 2\ntrue\n";
     is_text(&rt, steps.as_bytes(), want, "the second request");
     Ok(())
 }
 
+#[test]
+fn a_plain_request_is_over_at_once_whatever_its_caller_has_done(
+    rt: HostRuntime,
+) -> Result<(), Fail> {
+    let steps = tried(rt.alloc(), &called_by_two(CALLED), 4)?;
+    let want = "assign 4 5\nclaim 4 a use\nclaim 4 b use\ndone 4\ntrue\n";
+    is_text(
+        &rt,
+        steps.as_bytes(),
+        want,
+        "the second request of another caller",
+    );
+    Ok(())
+}
+
+#[test]
+fn a_request_that_sees_files_is_not_over_at_once(rt: HostRuntime) -> Result<(), Fail> {
+    let steps = tried(rt.alloc(), &called_by_two(SEES_A_FILE), 4)?;
+    is_text(
+        &rt,
+        steps.as_bytes(),
+        "false\n",
+        "a request whose target asks for a file",
+    );
+    Ok(())
+}
+
+/// A project that two others call, each of which has written a file of its own.
+fn called_by_two(called: &str) -> [(&str, &str); 4] {
+    [
+        ("p0", TWO_CALLERS),
+        ("p1", called),
+        ("p2", WRITES_ONE),
+        ("p3", WRITES_TWO),
+    ]
+}
+
 /// The steps of the call that tries to end this request at once, and what it answers.
-fn tried(alloc: Global, id: u64) -> Result<String, Fail> {
-    let world = world(alloc, tree(alloc, &[("p0", CALLER), ("p1", CALLED)])?)?;
+fn tried(alloc: Global, files: &[(&str, &str)], id: u64) -> Result<String, Fail> {
+    let world = world(alloc, tree(alloc, files)?)?;
     let tools = Gate::new();
     let mut counted = Counted::new(alloc, &tools)?;
     Ok(tried_in(alloc, &world, &mut counted, id)?)

@@ -303,7 +303,10 @@ module _ (T : RattleType) (s : IsSend T) where
           key.the_field_send,
           (
             journal.the_send,
-            (shared.the_send RunRef.the_row run_ref.the_send run_ref.the_sync, (stage-send, tt)),
+            (
+              shared.the_send RunRef.the_row run_ref.the_send run_ref.the_sync,
+              (stage-send, (search sendable, tt)),
+            ),
           ),
         ),
       ),

@@ -83,6 +83,20 @@ module _ {T : Type 0} (calls : T → List (List ℕ × ToolInput)) (w : Given) (
       ∙ ap (λ (place : Place Site ToolInput ToolAnswer).
       record { journal = journal; runs = runs; place = place }) (ended_place stage begun over)
 
+  -- wherever it is told, it stands there
+  pub ended_place_as : (given : Given) (k : RequestKey) (j : Journal) (stage ended : Stage T) →
+      ended ≡ ended_stage stage → has_begun stage ≡ true →
+      HasEnded (ask_of (position_of calls w key journal runs stage)) →
+      place_of calls given k j ended ≡ place_of calls w key journal stage
+  ended_place_as given k j stage ended is begun over =
+      ap (place_of calls given k j) is ∙ (anywhere stage ∙ ended_place stage begun over)
+    where
+      anywhere : (s : Stage T) → place_of calls given k j (ended_stage s)
+          ≡ place_of calls w key journal (ended_stage s)
+      anywhere Begins = refl
+      anywhere (Visits v) = refl
+      anywhere (Over reply) = refl
+
 -- it is of no other instance, and something was answered
 pub ended_own : {T : Type 0} (key : InstanceKey) (stage : Stage T) →
     instance_in key (ended_stage stage) ≡ key

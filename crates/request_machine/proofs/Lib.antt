@@ -16,3 +16,5 @@ pub mod WalksAnswered
 pub mod Crossing
 pub mod OtherWorlds
 pub mod Ending
+pub mod FilesSeen
+pub mod PlainProjects

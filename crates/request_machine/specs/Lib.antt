@@ -10,6 +10,8 @@ pub mod Sites
 pub mod WorldSets
 pub mod SuitsOnce
 pub mod Visited
+pub mod ConditionFiles
+pub mod Plain
 pub mod Positions
 pub mod Begun
 pub mod Following

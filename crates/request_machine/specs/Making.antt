@@ -53,9 +53,9 @@ IsWaiting (Some halt) results = IsStopped halt.1 results
 module _ {T : Type 0} (answer : List ℕ → ToolInput → ToolAnswer)
     (calls : T → List (List ℕ × ToolInput)) (w : Given) (run : RunId) (target : Option UsedTarget)
   where
-    -- A body goes on from here, with what it has done to files, called and used, and stops where the
-    -- definition says. The second tools have been called as the first ones were, and then as the body
-    -- says.
+    -- A body goes on from here, with what it has done to files, called and used, and stops where
+    -- the definition says. The second tools have been called as the first ones were, and then as
+    -- the body says.
     pub record Steps (b : Tree ToolInput ToolAnswer) (so_far : SoFar ToolInput)
         (before after : Journal) (old new : T) (step : Step T) : Type 0 where
       pub uses : List (List ℕ × ToolInput)

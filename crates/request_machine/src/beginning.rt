@@ -1,17 +1,19 @@
-ghost use Rattle.std.specs.Prelude.{◌≡◌, ◌≢◌, ◌++◌, IfOk, Some, codes};
+ghost use Rattle.std.specs.Prelude.{◌≡◌, ◌≢◌, ◌++◌, IfOk, Some, codes, not, true};
 ghost use Rattle.msb_values.specs.declared.cause.Cause.TheVariants.{Memory};
 ghost use Rattle.build_world.specs.Faults.{fault_text};
 ghost use Rattle.build_world.specs.Instances.{seen_instance};
 ghost use Rattle.msb_instance.specs.Kept.{AreEvaluated};
 ghost use Rattle.request_machine.specs.Requests.{failed, has_no_targets, unevaluated};
+ghost use Rattle.request_machine.specs.Plain.{is_plain, project_asks};
 ghost use Rattle.request_machine.specs.Walk.{walk_in};
-ghost use Rattle.request_machine.specs.Worlds.{bodies_of, project_of, walk_of};
+ghost use Rattle.request_machine.specs.Worlds.{bodies_of, instances_of, project_of, walk_of};
 ghost use Rattle.request_machine.specs.Begun.{IsReady, StandsAt, StandsBy};
 ghost use Rattle.target_order.specs.declared.visits.Asked.TheVariants.{Body as ForBody};
 ghost use Rattle.request_machine.specs.declared.stage.Stage.TheVariants.{Over};
 ghost use Rattle.request_machine.specs.declared.visit.At.TheVariants.{Wanted};
 
 use crate::moment::Moment;
+use crate::plain::project_asks;
 use crate::project::Project;
 use crate::reply::Reply;
 use crate::returned::all_targets;
@@ -28,6 +30,14 @@ use result_cache::{RequestKey, RunId};
 use std::alloc::Global;
 use target_order::{OrderAnswer, OrderWalk};
 
+/// Where a request stands that has begun, and whether it is plain: what it asks between its runs is
+/// told by the records that it uses, and by nothing else of its journal.
+#[derive(Drop)]
+pub struct Beginning<T> {
+    pub stage: Stage<T>,
+    pub plain: bool,
+}
+
 /// Where a request stands when it begins: its project is evaluated, and the order is answered until
 /// it wants the run of a target, or the request is over. (How MSBuild builds projects, evaluation
 /// phase; Target build order.)
@@ -37,36 +47,68 @@ pub fn begin<T>(
     instances: &mut Instances,
     key: &RequestKey,
     journal: &Journal,
-) -> Result<Stage<T>, NoMemory>
+) -> Result<Beginning<T>, NoMemory>
     requires { AreEvaluated world.now.tree.files instances.old }
-    ensures stands { IfOk result (StandsAt world.now key.now journal.now
-        (walk_of world.now key.now journal.now)) }
+    ensures stands { IfOk result (λ begun. StandsAt world.now key.now journal.now
+        (walk_of world.now key.now journal.now) begun.stage) }
+    ensures plain { IfOk result
+        (λ begun. begun.plain ≡ is_plain (instances_of world.now.tree.files key.now)) }
     ensures kept { AreEvaluated world.now.tree.files instances.new }
 {
     if world.tree.find(key.instance.path.as_str()).is_none() {
         return not_found(alloc, key.instance.path.as_str());
     }
     match instances.get(alloc, &world.tree, &key.instance) {
-        Ok(instance) => begin_visit(alloc, world, key, journal, instance),
+        Ok(instance) => begin_evaluated(alloc, world, key, journal, instance),
         Err(fault) => refused(alloc, &fault),
     }
 }
 
-fn not_found<T>(alloc: Global, path: &str) -> Result<Stage<T>, NoMemory>
-    ensures { IfOk result (λ stage. stage ≡ Over (unevaluated (path.now ++ codes ": not found"))) }
+fn not_found<T>(alloc: Global, path: &str) -> Result<Beginning<T>, NoMemory>
+    ensures told { IfOk result
+        (λ begun. begun.stage ≡ Over (unevaluated (path.now ++ codes ": not found"))) }
+    ensures plain { IfOk result (λ begun. begun.plain ≡ true) }
 {
     let text = Text::from(format!(in alloc; "{path}: not found")?);
-    Ok(Stage::Over(Reply::unevaluated(alloc, text)))
+    Ok(Beginning {
+        stage: Stage::Over(Reply::unevaluated(alloc, text)),
+        plain: true,
+    })
 }
 
-fn refused<T>(alloc: Global, fault: &EvalFault) -> Result<Stage<T>, NoMemory>
-    ensures told { IfOk result (λ stage. stage ≡ Over (unevaluated (fault_text fault.now))) }
+fn refused<T>(alloc: Global, fault: &EvalFault) -> Result<Beginning<T>, NoMemory>
+    ensures told { IfOk result
+        (λ begun. begun.stage ≡ Over (unevaluated (fault_text fault.now))) }
+    ensures plain { IfOk result (λ begun. begun.plain ≡ true) }
     ensures cause { IfOk result (λ _. fault.now.cause ≢ Memory) }
 {
     if let Cause::Memory = fault.cause {
         return Err(NoMemory);
     }
-    Ok(Stage::Over(Reply::unevaluated(alloc, fault.shown(alloc)?)))
+    let text = fault.shown(alloc)?;
+    Ok(Beginning {
+        stage: Stage::Over(Reply::unevaluated(alloc, text)),
+        plain: true,
+    })
+}
+
+fn begin_evaluated<T>(
+    alloc: Global,
+    world: &World,
+    key: &RequestKey,
+    journal: &Journal,
+    instance: InstanceRef,
+) -> Result<Beginning<T>, NoMemory>
+    ensures stands { IfOk result (λ begun.
+        let p = project_of world.now key.now (seen_instance instance) in
+        StandsAt world.now key.now journal.now
+        (walk_in p key.now (bodies_of world.now p) journal.now) begun.stage) }
+    ensures plain { IfOk result
+        (λ begun. begun.plain ≡ not (project_asks (seen_instance instance))) }
+{
+    let plain = !project_asks(alloc, instance.get())?;
+    let stage = begin_visit(alloc, world, key, journal, instance)?;
+    Ok(Beginning { stage, plain })
 }
 
 fn begin_visit<T>(

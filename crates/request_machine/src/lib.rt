@@ -4,6 +4,7 @@
 //! What a request does is one tree, `walk_of` in `specs/Worlds.antt`.
 #![tactic(auto)]
 
+mod asking;
 mod beginning;
 mod following;
 mod former;
@@ -12,6 +13,7 @@ mod log;
 mod making;
 mod moment;
 mod on_error;
+mod plain;
 mod project;
 mod reply;
 mod request;
@@ -28,6 +30,8 @@ mod visit;
 mod visiting;
 mod walk;
 
+pub use asking::conditions_see_files_by_exists;
+pub use plain::plain_projects_ask_alike;
 pub use root::root_key;
 pub use site::Site;
 pub use walk::{Walk, WorldRef};

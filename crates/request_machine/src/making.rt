@@ -81,7 +81,8 @@ impl<'a> Making<'a> {
             Fits (standing_in self.now.world.now self.now.run.now target body) results.now) }
         ensures goes { IfOk result
             (λ step.
-            IfSome (target_named (seen_instance self.now.instance.now).targets self.now.run.now.target)
+            IfSome (target_named (seen_instance self.now.instance.now).targets
+            self.now.run.now.target)
             (λ target.
             Plays T.answer T.calls self.now.world.now self.now.run.now target
             (standing_in self.now.world.now self.now.run.now target body) results.now journal.old

@@ -1,7 +1,8 @@
-ghost use Rattle.std.specs.Prelude.{◌≡◌};
+ghost use Rattle.std.specs.Prelude.{◌≡◌, drop, true};
 ghost use Rattle.request_machine.specs.Begun.{instance_in};
+ghost use Rattle.request_machine.specs.Plain.{IsPlainProject};
 
-use crate::beginning::begin;
+use crate::beginning::{Beginning, begin};
 use crate::following::{After, Follow};
 use crate::former::{Former, replace_body};
 use crate::making::Step;
@@ -31,7 +32,10 @@ pub struct Request<'a, T> {
     /// The runs that it has made or used, in order.
     pub runs: SharedList<RunRef>,
     pub stage: Stage<T>,
+    /// Whether its project is known to be plain.
+    pub plain: bool,
     ghost own_run: { instance_in key.instance stage ≡ key.instance },
+    ghost known: { plain ≡ true → IsPlainProject world.now.tree.files key },
 }
 
 // A drop that is written out is proved here alone.
@@ -44,6 +48,7 @@ impl<'a, T> Drop for Request<'a, T> {
             journal: _,
             runs: _,
             stage: _,
+            plain: _,
         } = self;
     }
 }
@@ -59,6 +64,7 @@ pub struct Advanced<T> {
 #[derive(Drop)]
 struct Begun<T> {
     stage: Stage<T>,
+    plain: bool,
     ask: Ask,
 }
 
@@ -69,8 +75,19 @@ struct Halted<T> {
     journal: Journal,
 }
 
+// The entries behind the first ones of this number.
+fn behind(runs: &[RunRef], count: usize) -> &[RunRef]
+    ensures { result.now ≡ drop count runs.now }
+{
+    match runs.get(count..) {
+        Some(left) => left,
+        None => &[],
+    }
+}
+
 impl<'a, T> Request<'a, T> {
-    ghost use Rattle.std.specs.Prelude.{◌++◌, ◌∷◌, [], IfOk};
+    ghost use Rattle.std.specs.Prelude.{◌++◌, ◌∷◌, [], Some, IfOk, IsSome, length};
+    ghost use Rattle.result_cache.specs.Replay.{replay_all};
     ghost use Rattle.build_world.specs.Instances.{seen_instance};
     ghost use Rattle.msb_instance.specs.Kept.{AreEvaluated};
     ghost use Rattle.request_machine.specs.Answered.{HasMade, HasRecord};
@@ -79,7 +96,8 @@ impl<'a, T> Request<'a, T> {
     ghost use Rattle.request_machine.specs.Following.{Follows};
     ghost use Rattle.request_machine.specs.Taken.{ComesAfter, IsAfter};
     ghost use Rattle.request_machine.specs.declared.stage.Stage.TheVariants.{Begins};
-    ghost use Rattle.request_machine.specs.Worlds.{project_of, walk_of};
+    ghost use Rattle.request_machine.specs.Plain.{is_plain};
+    ghost use Rattle.request_machine.specs.Worlds.{instances_of, project_of, walk_of};
 
     /// A request that begins with this journal.
     pub fn new(alloc: Global, world: &'a World, key: RequestKey, journal: Journal) -> Request<'a, T>
@@ -96,6 +114,7 @@ impl<'a, T> Request<'a, T> {
             journal,
             runs: SharedList::new(alloc),
             stage: Stage::Begins,
+            plain: false,
         }
     }
 
@@ -115,6 +134,35 @@ impl<'a, T> Request<'a, T> {
             journal: self.journal.copy()?,
             runs: self.runs.copy()?,
             stage,
+            plain: self.plain,
+        })
+    }
+
+    /// A request that is over as that one is, from where this one stands: it has replayed the
+    /// records of the runs that are left to it.
+    pub fn ended_as(&self, end: &Request<'a, T>, table: &Table) -> Result<Request<'a, T>, NoMemory>
+        requires replays { IsSome (replay_all table.now.finished
+            (drop (length self.now.runs) end.now.runs) self.now.journal) }
+        ensures world { IfOk result (λ ended. ended.world.now ≡ self.now.world.now) }
+        ensures key { IfOk result (λ ended. ended.key ≡ self.now.key) }
+        ensures journal { IfOk result (λ ended. replay_all table.now.finished
+            (drop (length self.now.runs) end.now.runs) self.now.journal ≡ Some ended.journal) }
+        ensures runs { IfOk result (λ ended. ended.runs ≡ end.now.runs) }
+        ensures stage { IfOk result (λ ended. ended.stage ≡ ended_stage end.now.stage) }
+    {
+        let runs = end.runs.to_list(self.alloc)?;
+        let mut journal = self.journal.copy()?;
+        let left = behind(runs.as_slice(), self.runs.len());
+        journal.replay_all(self.alloc, table, left)?;
+        let stage = end.stage.ended(self.alloc)?;
+        Ok(Request {
+            alloc: self.alloc,
+            world: self.world,
+            key: self.key.copy()?,
+            journal,
+            runs: end.runs.copy()?,
+            stage,
+            plain: self.plain,
         })
     }
 
@@ -130,21 +178,30 @@ impl<'a, T> Request<'a, T> {
             journal,
             runs,
             stage: _,
+            plain: _,
         } = self;
         Replayed { runs, journal }
     }
 
-    // Where it stands when it begins in a world, and what it asks then.
+    // Where it stands when it begins in a world, whether it is plain, and what it asks then.
     fn begun(&self, world: &World, instances: &mut Instances) -> Result<Begun<T>, NoMemory>
         requires { AreEvaluated world.now.tree.files instances.old }
         ensures stands { IfOk result (λ begun. StandsAt world.now self.now.key self.now.journal
             (walk_of world.now self.now.key self.now.journal) begun.stage) }
+        ensures plain { IfOk result
+            (λ begun. begun.plain ≡ is_plain (instances_of world.now.tree.files self.now.key)) }
         ensures asks { IfOk result (λ begun. AsksAt self.now.runs begun.stage begun.ask) }
         ensures kept { AreEvaluated world.now.tree.files instances.new }
     {
-        let stage = begin(self.alloc, world, instances, &self.key, &self.journal)?;
+        let Beginning { stage, plain } = begin(
+            self.alloc,
+            world,
+            instances,
+            &self.key,
+            &self.journal,
+        )?;
         let ask = stage.ask(self.alloc, &self.runs)?;
-        Ok(Begun { stage, ask })
+        Ok(Begun { stage, plain, ask })
     }
 
     // What comes after its run.
@@ -322,9 +379,10 @@ impl<'a, T: CountedTools + 'a> Request<'a, T> {
             (λ advanced. Replaces T.calls self.old self.new advanced.former) }
         ensures err { OnErr result (self.new ≡ self.old) }
     {
-        let Begun { stage, ask } = self.begun(world, instances)?;
+        let Begun { stage, plain, ask } = self.begun(world, instances)?;
         self.world = world;
         self.stage = stage;
+        self.plain = plain;
         Ok(Advanced {
             ask,
             former: Former::Begins,

@@ -32,7 +32,8 @@ impl<T: CountedTools> Visit<T> {
         journal: &mut Journal,
     ) -> Result<Step<T>, NoMemory>
         ensures goes { IfOk result
-            (let target = target_named (seen_instance self.now.instance).targets self.now.run.target in
+            (let target = target_named (seen_instance self.now.instance).targets
+            self.now.run.target in
             Steps T.answer T.calls world.now self.now.run target
             (body_if world.now self.now.run target self.now.standing.scope journal.old) nothing_yet
             journal.old journal.new tools.old tools.new) }
@@ -70,7 +71,8 @@ impl<T: CountedTools> Visit<T> {
             (target_named (seen_instance self.now.instance).targets self.now.run.target)
             self.now.at) results.now }
         ensures goes { IfOk result
-            (let target = target_named (seen_instance self.now.instance).targets self.now.run.target in
+            (let target = target_named (seen_instance self.now.instance).targets
+            self.now.run.target in
             GoesOnFrom T.answer T.calls world.now self.now.run target
             (halt_at T.calls world.now self.now.run target self.now.at) results.now journal.old
             journal.new tools.old tools.new) }

@@ -119,7 +119,8 @@ impl<'a, T: CountedTools> Walk<'a, T> {
 }
 
 impl<'a, T: CountedTools + 'a> Walker for Walk<'a, T> {
-    ghost use Rattle.std.specs.Prelude.{◌≡◌};
+    ghost use Rattle.std.specs.Prelude.{◌≡◌, ◌&&◌};
+    ghost use Rattle.result_cache.specs.Same.{same_key};
     ghost use Rattle.request_machine.specs.Sites.{Suits};
     ghost use Rattle.request_machine.specs.SuitsOnce.{suits-once};
     ghost use Rattle.request_machine.specs.Walk.{Site};
@@ -162,6 +163,8 @@ impl<'a, T: CountedTools + 'a> Walker for Walk<'a, T> {
 
     ghost Fits = { λ site. Suits T.answer site.world.now site.instances };
 
+    ghost plain_for = { λ walk key. walk.request.plain && same_key walk.request.key key };
+
     ghost fits_once = { λ site. suits-once T.answer site.world.now site.instances };
 
     fn origin(&self) -> WorldRef<'a> {
@@ -200,6 +203,20 @@ impl<'a, T: CountedTools + 'a> Walker for Walk<'a, T> {
             before: None,
             replayed: None,
         })
+    }
+
+    fn ended_as(&self, end: &Walk<'a, T>, table: &Table) -> Result<Walk<'a, T>, NoMemory> {
+        Ok(Walk {
+            request: self.request.ended_as(&end.request, table)?,
+            learnt: Table::new(self.request.alloc),
+            asked: 1,
+            before: None,
+            replayed: None,
+        })
+    }
+
+    fn is_plain(&self, key: &RequestKey) -> bool {
+        self.request.plain && self.request.key == *key
     }
 
     // All records are learnt at once: a copy of a table shares them.

@@ -4,7 +4,7 @@ use Rattle.build_meaning.specs.Lists.{at}
 use Rattle.build_scheduler.specs.Kept.{used_in}
 use Rattle.build_scheduler.specs.Own.{seen_by}
 use Rattle.build_scheduler.proofs.Assigning.{listed-there}
-use Rattle.build_scheduler.proofs.OverAtOnce.{comes, ready-there, used-few, walk-asked, walk-over}
+use Rattle.build_scheduler.proofs.OverAtOnce.{comes, ready-there, used-few}
 use Rattle.build_scheduler.proofs.scheduler.Core.end_for.Goals as goal
 
 pub kept_for-requires : goal.kept_for-requires
@@ -30,40 +30,18 @@ left_of-left-requires-clause-few g c =
     let seen = seen_by m.world m.position m.asked m.learnt in
     subst (λ (runs : List RunId). used_in seen (at self.slots.items c.args.id) ≤ length runs)
     (sym c.as_slice.ensures) (used-few seen (m.world_of self.world) self.legal
-    self.kept.ends.items c.args.id c.in-Some.kept.now self.kept_so c.requires.ready
-    c.in-Some.ensures)
+    self.kept c.args.id c.in-Some.kept.now self.kept_so c.requires.ready c.in-Some.ensures.so)
 
-pub ended-requires-clause-asked : goal.ended-requires-clause-asked
-ended-requires-clause-asked g c =
-    let m = g.W.Walker in
-    let self = c.args.self.now in
-    walk-asked (seen_by m.world m.position m.asked m.learnt) (m.world_of self.world) self.legal
-    self.kept.ends.items c.args.id c.in-Some.kept.now self.kept_so c.requires.ready
-    c.in-Some.ensures
-
-pub ended-requires-clause-over : goal.ended-requires-clause-over
-ended-requires-clause-over g c =
-    let m = g.W.Walker in
-    let self = c.args.self.now in
-    walk-over (seen_by m.world m.position m.asked m.learnt) (m.world_of self.world) self.legal
-    self.kept.ends.items c.args.id c.in-Some.kept.now self.kept_so c.requires.ready
-    c.in-Some.ensures
-
-pub returns : goal.returns
-returns g c =
+pub returns-clause-so : goal.returns-clause-so
+returns-clause-so g c =
     let m = g.W.Walker in
     let self = c.args.self.now in
     let seen = seen_by m.world m.position m.asked m.learnt in
-    comes seen (m.world_of self.world) self.legal self.kept.ends.items c.args.id
-    c.in-Some.kept.now self.kept_so c.requires.ready c.in-Some.ensures (record {
+    comes seen (m.world_of self.world) self.legal self.kept c.args.id
+    c.in-Some.kept.now self.kept_so c.requires.ready c.in-Some.ensures.so (record {
       claims = c.in_ok-names.field-0;
       told = c.in_ok-copy.field-0;
-      walk = c.in_ok-ended.field-0;
+      walk = c.in_ok-walk_at.field-0;
     }) (c.in_ok-names.ensures ∙ (c.left_of-left.ensures
     ∙ ap (drop (used_in seen (at self.slots.items c.args.id))) c.as_slice.ensures))
-    c.in_ok-copy.ensures (λ i. record {
-      world = c.in_ok-ended.ensures.world i;
-      position = c.in_ok-ended.ensures.position i;
-      asked = c.in_ok-ended.ensures.asked i;
-      learnt = c.in_ok-ended.ensures.learnt i;
-    })
+    c.in_ok-copy.ensures c.in_ok-walk_at.ensures

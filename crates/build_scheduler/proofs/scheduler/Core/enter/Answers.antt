@@ -103,8 +103,8 @@ invariant_of-self-in-Ok g c =
           c.requires.children e.origins v);
       stops = ∣ none-stops w _ c.requires.running ∣₁;
       kept_so = ∥∥₁_map self.kept_so (ends-entered seen w self.table.finished self.origins.items
-          c.args.children.origins.items c.enter_all.new.origins.items self.kept.ends.items
-          c.count.new.self.ends.items e.origins c.count.ensures);
+          c.args.children.origins.items c.enter_all.new.origins.items self.kept.instances.items
+          c.count.new.self.instances.items e.origins c.count.ensures);
       behind = behind-event seen w (Request c.args.id c.args.calls) self.legal legal
           c.push.ensures.events (kept-entered e.slots) self.behind;
     }

@@ -1,30 +1,43 @@
-use Rattle.std.proofs.Common.{refl, subst, sym}
+use Rattle.std.proofs.Common.{◌≡◌, Some, subst, sym, true}
 use Rattle.std.proofs.Math.Bridge.{le_prop}
 use Rattle.std.proofs.Math.Logic.{∥∥₁_elim}
+use Rattle.std.specs.Prelude.{IfSome, OnSome}
+use Rattle.build_meaning.specs.Lists.{at}
+use Rattle.build_meaning.specs.Plain.{IsPlain}
+use Rattle.build_scheduler.specs.declared.slot.Origin.{Origin}
+use Rattle.build_scheduler.specs.Kept.{IsEndOf, MayServe}
 use Rattle.build_scheduler.specs.Own.{seen_by}
 use Rattle.build_scheduler.specs.Position.{HasEnded}
 use Rattle.build_scheduler.proofs.OverAtOnce.{kept-new, own-there}
 use Rattle.build_scheduler.proofs.scheduler.Core.keep.Goals as goal
 
-pub is_wanted-requires : goal.is_wanted-requires
-is_wanted-requires g c =
+pub end_of-requires-clause-there : goal.end_of-requires-clause-there
+end_of-requires-clause-there g c =
     let m = g.W.Walker in
     let self = c.args.self.now in
-    record {
-      there = own-there (seen_by m.world m.position m.asked m.learnt) (m.world_of self.world)
-          self.legal c.args.id c.args.walk.now c.requires.own;
-    }
+    own-there (seen_by m.world m.position m.asked m.learnt) (m.world_of self.world) self.legal
+    c.args.id c.args.walk.now c.requires.own
 
-pub ended-requires-clause-asked : goal.ended-requires-clause-asked
-ended-requires-clause-asked g c = ∥∥₁_elim c.requires.own (λ p q. le_prop p q) (λ o. o.asked)
+pub end_of-requires-clause-asked : goal.end_of-requires-clause-asked
+end_of-requires-clause-asked g c = ∥∥₁_elim c.requires.own (λ p q. le_prop p q) (λ o. o.asked)
 
-pub ended-requires-clause-over : goal.ended-requires-clause-over
-ended-requires-clause-over g c = subst HasEnded (sym c.requires.asks) tt
+pub end_of-requires-clause-over : goal.end_of-requires-clause-over
+end_of-requires-clause-over g c = subst HasEnded (sym c.requires.asks) tt
 
 pub invariant_of-self : goal.invariant_of-self
 invariant_of-self g c =
     let m = g.W.Walker in
     let self = c.args.self.now in
+    let seen = seen_by m.world m.position m.asked m.learnt in
+    let walk = c.args.walk.now in
+    let ensures = c.in_ok-kept.ensures in
+    let is = subst (λ o. IfSome o (λ end. IsEndOf seen self.slots.items self.origins.items
+    c.args.id walk (m.plain_for walk) c.args.told.now end)) c.in-Some.is ensures.is in
+    let serves = subst (λ o. OnSome o (MayServe seen self.slots.items self.origins.items self.kept
+    c.args.id (m.plain_for walk))) c.in-Some.is ensures.serves in
+    let plain = subst (λ o. IfSome o (λ end. end.plain ≡ true → (origin : Origin) →
+    at self.origins.items c.args.id ≡ Some origin → IsPlain (m.world walk) origin.key))
+    c.in-Some.is ensures.plain in
     record {
       legal = self.legal;
       indexed = self.indexed;
@@ -33,18 +46,25 @@ invariant_of-self g c =
       few = self.few;
       nested = self.nested;
       stops = self.stops;
-      kept_so = kept-new (seen_by m.world m.position m.asked m.learnt) (m.world_of self.world)
-          self.legal self.kept.ends.items c.put.new.self.ends.items c.args.id c.args.walk.now
-          c.args.told.now (record {
-            id = c.args.id;
-            result = c.in_ok-copy.field-0;
-            walk = c.in_ok-ended.field-0;
-          }) c.requires.own c.requires.asks
-          (c.if-not-is_wanted.ensures refl) refl c.in_ok-copy.ensures (λ i. record {
-            world = c.in_ok-ended.ensures.world i;
-            position = c.in_ok-ended.ensures.position i;
-            asked = c.in_ok-ended.ensures.asked i;
-            learnt = c.in_ok-ended.ensures.learnt i;
-          }) c.put.ensures self.kept_so;
+      kept_so = kept-new seen (m.world_of self.world) self.legal self.kept c.put.new.self
+          c.args.id walk c.args.told.now c.in-Some.kept c.requires.own c.requires.asks
+          serves.called is.whose is.result is.stands (λ n. is.nothing.0 n) plain c.put.ensures
+          self.kept_so;
       behind = self.behind;
+    }
+
+pub returns-in-Some-clause-keeps : goal.returns-in-Some-clause-keeps
+returns-in-Some-clause-keeps g c =
+    let m = g.W.Walker in
+    let self = c.args.self.now in
+    let seen = seen_by m.world m.position m.asked m.learnt in
+    let walk = c.args.walk.now in
+    let ensures = c.in_ok-kept.ensures in
+    let is = subst (λ o. IfSome o (λ end. IsEndOf seen self.slots.items self.origins.items
+    c.args.id walk (m.plain_for walk) c.args.told.now end)) c.in-Some.is ensures.is in
+    let serves = subst (λ o. OnSome o (MayServe seen self.slots.items self.origins.items self.kept
+    c.args.id (m.plain_for walk))) c.in-Some.is ensures.serves in
+    record {
+      kept = λ m. (c.in-Some.kept, is, c.put.ensures);
+      same = λ n. absurd (n serves);
     }

@@ -1,4 +1,4 @@
-use Rattle.std.proofs.Common.{◌∙◌, Some, ap, arith, refl, subst, sym}
+use Rattle.std.proofs.Common.{◌∙◌, Some, ap, arith, subst, sym}
 use Rattle.build_scheduler.specs.Free.{AreFree, NeedsNothing}
 use Rattle.build_scheduler.specs.Own.{seen_by}
 use Rattle.build_scheduler.proofs.FreeCalls.{bodies-there, calls-there, needs-other}

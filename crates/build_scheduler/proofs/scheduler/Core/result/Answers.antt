@@ -84,7 +84,7 @@ invariant_of-self g c =
           let made = c.args.made in
           ∥∥₁_elim self.legal ∥∥₁_prop (λ x. ∥∥₁_map₂ c.requires.asks self.kept_so (λ a each.
           kept-finished seen w self.table.finished (record { run = c.args.run.now; made = made })
-          c.finish.new.self.finished self.origins.items self.kept.ends.items
+          c.finish.new.self.finished self.origins.items self.kept.instances.items
           c.finish.ensures.finished
           (finish-new seen w self.history self.history c.args.id c.args.run.now made a x) each));
       behind = behind-event (seen_by m.world m.position m.asked m.learnt) (m.world_of self.world)

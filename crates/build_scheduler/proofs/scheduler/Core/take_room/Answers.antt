@@ -81,7 +81,7 @@ invariant_of-self-in-Break-branch-4 g c =
       few = self.few;
       nested = subst (λ os. ∥ AreNested os ∥₁) (sym r.origins) self.nested;
       stops = self.stops;
-      kept_so = kept-alike seen w refl r.origins c.reserve-2.ensures self.kept_so;
+      kept_so = kept-alike seen w refl r.origins c.reserve-2.ensures.instances self.kept_so;
       behind = behind-same seen w {events = self.history.events} refl r.slots self.behind;
     }
 
@@ -108,7 +108,7 @@ invariant_of-self-2 g c =
       few = self.few;
       nested = subst (λ os. ∥ AreNested os ∥₁) (sym r.origins) self.nested;
       stops = room-stops w self.end c.reserve-3.ensures.events self.stops;
-      kept_so = kept-alike seen w refl r.origins c.reserve-2.ensures self.kept_so;
+      kept_so = kept-alike seen w refl r.origins c.reserve-2.ensures.instances self.kept_so;
       behind = behind-same seen w c.reserve-3.ensures.events r.slots self.behind;
     }
 

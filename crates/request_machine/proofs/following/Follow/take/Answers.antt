@@ -6,11 +6,13 @@ use Rattle.request_machine.proofs.following.Follow.take.Goals as goal
 pub returns-in-Wants : goal.returns-in-Wants
 returns-in-Wants g c =
     let f = c.args.self in
+    let old = c.args.stage.now in
+    let new = c.want.new.stage in
     record {
       taken = subst
           (λ stand.
-          TakenOn c.args.stage.now (record { standing = f.standing; order = f.order; stand = stand })
-          c.want.new.stage) (sym c.in-Wants.is) c.want.ensures.taken;
+          TakenOn old (record { standing = f.standing; order = f.order; stand = stand }) new)
+          (sym c.in-Wants.is) c.want.ensures.taken;
       before = c.want.ensures.before;
     }
 

@@ -46,6 +46,7 @@ invariant_of-request-in-Visit g c =
     record {
       own_run = shown_own c.put_back.new.stage (visit_before r.stage c.in-Visit.visit)
           r.key.instance c.put_back.ensures fits;
+      known = r.known;
     }
 
 pub returns-in-Visit-clause-stands : goal.returns-in-Visit-clause-stands

@@ -14,7 +14,12 @@ use Rattle.request_machine.proofs.PutBack.{unbegun_is}
 use Rattle.request_machine.proofs.request.Request.begin.Goals as goal
 
 pub invariant_of-self : goal.invariant_of-self
-invariant_of-self g c = record { own_run = c.in_ok-stage.ensures.stands.own }
+invariant_of-self g c =
+    let e = c.in_ok-stage.ensures in
+    record {
+      own_run = e.stands.own;
+      known = λ plain. sym e.plain ∙ plain;
+    }
 
 pub returns : goal.returns
 returns g c =

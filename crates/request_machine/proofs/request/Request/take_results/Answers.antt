@@ -91,6 +91,7 @@ invariant_of-self g c =
       own_run = shown_own c.replace_body-at.new.stage (Some (seen_visit n)) key.instance
           (c.replace_body-at.ensures.now ∙ ap (λ s. body_before s step.at) visits.1) ∣
           (v.asks_body, resumed.own, own) ∣₁;
+      known = r.known;
     }
 
 pub returns : goal.returns

@@ -35,6 +35,7 @@ invariant_of-self g c =
       own_run = after_own r.world.now r.key table r.journal r.runs r.stage
           c.take-visit.new.stage c.in_ok-follow.field-0 r.own_run c.requires
           c.take-visit.ensures.taken;
+      known = r.known;
     }
 
 pub returns : goal.returns
