@@ -1,12 +1,13 @@
 #!/usr/bin/env python3
 """Runs bench/compare.py on small sets: each program has to write the outputs of each set, and once.
-Runs bench/checks.py on small diamonds, each of which has to be steady, with its number of bodies.
+Runs bench/checks.py on small diamonds, each of which has to be steady, with its number of bodies,
+and bench/imports.py on two projects, which have to print the property that they import.
 
 usage: tests/benchmarks.py PROGRAM
 
 The scripts themselves look at the outputs of each build and at the text of each check, and end with
 a status above 0 where one is not as it should be. The last line is `N passed, M failed`: so many
-shapes of sets were tried.
+shapes of sets and other scripts were tried.
 """
 
 import re
@@ -57,12 +58,25 @@ def check(program: str) -> str:
     return ""
 
 
+def imports(program: str) -> str:
+    """What is wrong with the sets that import properties, or nothing."""
+    with tempfile.TemporaryDirectory() as folder:
+        words = [TOP / "bench" / "imports.py", program, "--sizes", "2", "--rounds", "1",
+                 "--folder", folder]
+        ran = subprocess.run([sys.executable, "-B", *words], stdin=subprocess.DEVNULL, text=True,
+                             stdout=subprocess.PIPE, stderr=subprocess.STDOUT, timeout=SECONDS)
+    if ran.returncode or ran.stdout.count("\n") != 4:
+        return f"status {ran.returncode}\n{ran.stdout}"
+    return ""
+
+
 def main() -> int:
     if len(sys.argv) != 2:
         print("usage: tests/benchmarks.py PROGRAM", file=sys.stderr)
         return 2
     wrong = {shape: compare(sys.argv[1], shape) for shape in SHAPES}
     wrong["checks of diamonds"] = check(sys.argv[1])
+    wrong["imports"] = imports(sys.argv[1])
     for shape, told in wrong.items():
         if told:
             print(f"FAIL {shape}: {told}")
