@@ -1,6 +1,7 @@
 -- When two builds have come to the same: the same files, and records that say the same to the
 -- requests that use them. (Incremental builds)
-use Rattle.std.specs.Prelude.{ℕ, ◌≡◌, List, Option, None, Some, unwrap_or}
+use Rattle.std.specs.Prelude.{ℕ, ◌≡◌, Option, None, Some, unwrap_or}
+use Rattle.msb_laws.specs.Words.{Text, Path}
 use Rattle.msb_values.specs.Acts.{act_path}
 use Rattle.msb_values.specs.declared.act.Act.{Act}
 use Rattle.result_cache.specs.declared.run.RunId.{RunId}
@@ -10,7 +11,7 @@ use Rattle.result_cache.specs.Journal.{Journal, acted, record_of, content}
 use Rattle.build_meaning.specs.Walk.{Outcome}
 
 -- the bytes of the file at a path: what the last act on it left, else what the tree has
-abbrev pub seen : (List ℕ → Option (List ℕ)) → Journal → List ℕ → Option (List ℕ)
+abbrev pub seen : (Path → Option Text) → Journal → Path → Option Text
 seen files journal path = unwrap_or (content journal path) (files path)
 
 -- What others see of a run: whether it succeeded, the items that it returns and what it changes.
@@ -35,9 +36,9 @@ AlikeFound (Some first) (Some second) = AlikeRecords first second
 
 -- Each path has one content by both journals over the files, the same runs have ended in them, and
 -- the first journal has acts on such paths alone as may be acted on.
-pub record AlikeJournals (files : List ℕ → Option (List ℕ)) (MayAct : List ℕ → Type 0)
+pub record AlikeJournals (files : Path → Option Text) (MayAct : Path → Type 0)
     (first second : Journal) : Type 0 where
-  pub same : (path : List ℕ) → seen files first path ≡ seen files second path
+  pub same : (path : Path) → seen files first path ≡ seen files second path
   pub records : (run : RunId) → AlikeFound (record_of first run) (record_of second run)
   pub only : (run : RunId) (number : ℕ) (act : Act) →
       In (acted run number act) first → MayAct (act_path act)

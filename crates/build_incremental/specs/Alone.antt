@@ -1,6 +1,7 @@
 -- What a body does that calls no request. (Target element)
-use Rattle.std.specs.Prelude.{ℕ, ◌≡◌, ◌⊎◌, List, [], ◌∷◌, ◌++◌, length, Option, None, Some}
+use Rattle.std.specs.Prelude.{◌≡◌, ◌⊎◌, List, [], ◌∷◌, ◌++◌, length, Option, None, Some}
 use Rattle.std.specs.Str.{bytes_eq}
+use Rattle.msb_laws.specs.Words.{Text, Name, Path}
 use Rattle.msb_values.specs.Acts.{act_path, act_bytes}
 use Rattle.msb_values.specs.declared.act.Act.{Act}
 use Rattle.result_cache.specs.declared.run.RunId.{RunId}
@@ -13,7 +14,7 @@ use Rattle.build_incremental.specs.Alike.{seen}
 
 -- its outcome and its acts on files, the newest first, before those that the run has done already;
 -- none where it calls a request
-abbrev pub alone : {I A : Type 0} → (List ℕ → I → A) → RunId → Body I A → Journal → List Act →
+abbrev pub alone : {I A : Type 0} → (Name → I → A) → RunId → Body I A → Journal → List Act →
     Option (Outcome × List Act)
 alone tools run (makes outcome) journal acts = Some (outcome, acts)
 alone tools run (does act go) journal acts =
@@ -30,7 +31,7 @@ segments_of (act ∷ older) = segments_of older ++ File act ∷ []
 
 -- what the last act on a path leaves there, which is nothing where it removes the file; none where
 -- no act is on the path. The newest act stands first.
-abbrev pub last_bytes : List Act → List ℕ → Option (Option (List ℕ))
+abbrev pub last_bytes : List Act → Path → Option (Option Text)
 last_bytes [] path = None
 last_bytes (act ∷ older) path =
     this_or (bytes_eq (act_path act) path) (last_bytes older path) (act_bytes act)
@@ -38,9 +39,9 @@ last_bytes (act ∷ older) path =
 -- Of what a whole run does, a part of it leaves out nothing but what was so: a path on which both
 -- act is left the same, one on which the whole alone acts was before as the whole leaves it, and
 -- the part acts on no other path.
-pub record LacksOnly (files : List ℕ → Option (List ℕ)) (before : Journal) (part whole : List Act)
+pub record LacksOnly (files : Path → Option Text) (before : Journal) (part whole : List Act)
     : Type 0 where
-  pub acted : (path : List ℕ) →
+  pub acted : (path : Path) →
       (last_bytes part path ≡ None) ⊎ (last_bytes part path ≡ last_bytes whole path)
-  pub left_out : (path : List ℕ) (left : Option (List ℕ)) → last_bytes part path ≡ None →
+  pub left_out : (path : Path) (left : Option Text) → last_bytes part path ≡ None →
       last_bytes whole path ≡ Some left → seen files before path ≡ left

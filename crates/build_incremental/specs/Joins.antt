@@ -1,5 +1,6 @@
 -- Calls made at once that write or remove one path. (MSBuild task: BuildInParallel)
 use Rattle.std.specs.Prelude.{ℕ, ◌≡◌, false, List}
+use Rattle.msb_laws.specs.Words.{Path}
 use Rattle.msb_values.specs.Acts.{act_path}
 use Rattle.msb_values.specs.declared.act.Act.{Act}
 use Rattle.result_cache.specs.declared.run.RunId.{RunId}
@@ -8,7 +9,7 @@ use Rattle.result_cache.specs.Journal.{Journal, acted, act_of, has}
 use Rattle.build_meaning.specs.Meaning.{Demanded, joined}
 
 -- the run has acted on the path after the earlier journal
-pub record ActedSince (earlier later : Journal) (run : RunId) (path : List ℕ) : Type 0 where
+pub record ActedSince (earlier later : Journal) (run : RunId) (path : Path) : Type 0 where
   pub number : ℕ
   pub act : Act
   pub there : In (acted run number act) later
@@ -18,7 +19,7 @@ pub record ActedSince (earlier later : Journal) (run : RunId) (path : List ℕ) 
 -- where what was joined so far and what is joined next have acted on a path since the caller's
 -- journal, all their acts on it are of one run
 abbrev pub IsOfOneRun : Journal → Journal → Journal → Type 0
-IsOfOneRun caller so_far next = (path : List ℕ) (run other : RunId) →
+IsOfOneRun caller so_far next = (path : Path) (run other : RunId) →
     ActedSince caller so_far run path → ActedSince caller next other path → run ≡ other
 
 -- so of each join that a meaning contains

@@ -1,6 +1,7 @@
 -- Two worlds side by side: what the second does, the first does alike, but that it may leave out
 -- acts that leave what is there. (Incremental builds)
 use Rattle.std.specs.Prelude.{ℕ, ◌≡◌, false, List, [], Option, Some}
+use Rattle.msb_laws.specs.Words.{Text, Name, Path}
 use Rattle.msb_values.specs.Acts.{act_path}
 use Rattle.msb_values.specs.declared.act.Act.{Act}
 use Rattle.result_cache.specs.declared.run.RunId.{RunId}
@@ -31,7 +32,7 @@ abbrev pub HasNotActed : RunId → Journal → Type 0
 HasNotActed run journal = (number : ℕ) → has (act_of run number) journal ≡ false
 
 -- W are the paths on which the first world may act.
-module _ (files : List ℕ → Option (List ℕ)) (W : List ℕ → Type 0) {I A : Type 0} where
+module _ (files : Path → Option Text) (W : Path → Type 0) {I A : Type 0} where
   -- two bodies do the same step by step and come to the same, as long as their journals are alike
   abbrev pub AlikeBodies : Body I A → Body I A → Type 0
   AlikeBodies (makes o) (makes p) = o ≡ p
@@ -50,7 +51,7 @@ module _ (files : List ℕ → Option (List ℕ)) (W : List ℕ → Type 0) {I A
   -- The bodies of a run, of which the second one makes this record, and S is said of the record
   -- that the first one makes. They go step by step to one record. Or both call nothing, come to
   -- outcomes that are alike, and the first lacks only what was there.
-  pub data AlikeRuns (tools : List ℕ → I → A) (run : RunId) (j k : Journal) (b c : Body I A)
+  pub data AlikeRuns (tools : Name → I → A) (run : RunId) (j k : Journal) (b c : Body I A)
       (made : Record) (S : Record → Type 0) : Type 0 where
     step_by_step : AlikeBodies b c →
         ((act : Act) → In (File act) made.segments → W (act_path act)) → S made →
@@ -65,7 +66,7 @@ module _ (files : List ℕ → Option (List ℕ)) (W : List ℕ → Type 0) {I A
   -- as Q says and the run has no act yet, and then the first one is as Q' says; and the requests go
   -- on alike by alike records and journals.
   abbrev pub AlikeWalks : {P : Type 0} → (P → RunId → Journal → Record → Type 0) →
-      (P → RunId → Journal → Record → Type 0) → (List ℕ → I → A) →
+      (P → RunId → Journal → Record → Type 0) → (Name → I → A) →
       Walk P I A → Walk P I A → Journal → Journal → Type 0
   AlikeWalks Q' Q tools (gives reply) (gives other) j k = reply ≡ other
   AlikeWalks Q' Q tools (wants p r b go) (wants q s c to) j k =

@@ -4,7 +4,8 @@
 //! code, and its contract is what is proved. The law speaks of any two worlds.
 #![tactic(auto)]
 
-ghost use Rattle.std.specs.Prelude.{◌≡◌, ℕ, Bool, IsTrue, List, Option, Some};
+ghost use Rattle.std.specs.Prelude.{◌≡◌, Bool, IsTrue, Option, Some};
+ghost use Rattle.msb_laws.specs.Words.{Text, Path};
 ghost use Rattle.result_cache.specs.declared.request.RequestKey.{RequestKey};
 ghost use Rattle.result_cache.specs.declared.request.RequestResult.{RequestResult};
 ghost use Rattle.result_cache.specs.Lists.{In};
@@ -24,7 +25,7 @@ ghost use Rattle.build_incremental.specs.SideBySide.{SideBySide, IsAny};
 /// not that it has a meaning and not that it is steady: it has a meaning then, which asks for the
 /// same requests.
 pub fn worlds_go_alike<P, I, A>()
-    ensures { (files : List ℕ → Option (List ℕ)) (may_act : List ℕ → Bool)
+    ensures { (files : Path → Option Text) (may_act : Path → Bool)
         (first second : World P I A) (out : Given P I RequestResult) →
         meaning second ≡ Some out → IsSteady out.demand → AreOfOneRun out.demand →
         SideBySide files (λ path. IsTrue (may_act path)) IsAny (IsBuilt out.demand) first second →

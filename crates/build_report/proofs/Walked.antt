@@ -26,8 +26,7 @@ entry_written f xs i x before after all here is so_far =
     let rest : drop i xs ≡ x ∷ drop (i + 1) xs = rw (
       add-one,
       drop-cons xs i x (slice_get_within xs i x here),
-      get_or_from_slice_get xs i x x
-          here,
+      get_or_from_slice_get xs i x x here,
     ) refl in
     ap (λ t. t ++ flat_map f (drop (i + 1) xs)) is
     ∙ (append_assoc before (f x) _ ∙ (sym (ap (λ ys. before ++ flat_map f ys) rest) ∙ so_far))

@@ -14,7 +14,7 @@ use std::alloc::Global;
 /// root request, the items that it returns, and how the build ended.
 ///
 /// (MSBuild command-line reference; Message task; Incremental builds.)
-pub fn shown(
+pub fn show_build(
     alloc: Global,
     root: &RequestResult,
     journal: &Journal,
@@ -55,6 +55,6 @@ fn push_entry(
     match entry {
         JView::Wrote(_, _, _, _) => Ok(()),
         JView::Removed(_, _, _) => Ok(()),
-        JView::Ended(run, made) => push_run(alloc, shown, run, made, low),
+        JView::Ended(run, record) => push_run(alloc, shown, run, record, low),
     }
 }

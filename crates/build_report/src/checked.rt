@@ -18,7 +18,7 @@ use std::alloc::Global;
 /// What is printed of a set of projects that is whole and steady: how many bodies a check has made.
 ///
 /// (This engine's own action.)
-pub fn shown_steady(alloc: Global, bodies: u32) -> Result<Text8, NoMemory>
+pub fn show_steady(alloc: Global, bodies: u32) -> Result<Text8, NoMemory>
     ensures { IfOk result (λ t. t ≡ steady_text bodies) }
 {
     let text = format!(in alloc; "steady\nbodies {bodies}\n")?;
@@ -29,7 +29,7 @@ pub fn shown_steady(alloc: Global, bodies: u32) -> Result<Text8, NoMemory>
 /// those of low importance.
 ///
 /// (This engine's own action.)
-pub fn shown_differs(
+pub fn show_differs(
     alloc: Global,
     run: &RunId,
     first: &Record,
@@ -48,7 +48,7 @@ pub fn shown_differs(
 /// What is printed of a run that is wanted in its own body.
 ///
 /// (This engine's own action.)
-pub fn shown_circular_run(alloc: Global, run: &RunId) -> Result<Text8, NoMemory>
+pub fn show_circular_run(alloc: Global, run: &RunId) -> Result<Text8, NoMemory>
     ensures { IfOk result (λ t. t ≡ circular_run_text run.now) }
 {
     let mut shown = String::from_str(alloc, "not whole: circular ")?;
@@ -60,7 +60,7 @@ pub fn shown_circular_run(alloc: Global, run: &RunId) -> Result<Text8, NoMemory>
 /// What is printed of an instance whose request is nested too deep.
 ///
 /// (This engine's own action.)
-pub fn shown_deep_instance(alloc: Global, key: &InstanceKey) -> Result<Text8, NoMemory>
+pub fn show_deep_instance(alloc: Global, key: &InstanceKey) -> Result<Text8, NoMemory>
     ensures { IfOk result (λ t. t ≡ deep_instance_text key.now) }
 {
     let mut shown = String::new(alloc);
@@ -72,7 +72,7 @@ pub fn shown_deep_instance(alloc: Global, key: &InstanceKey) -> Result<Text8, No
 /// What is printed of the instance that is one too many.
 ///
 /// (This engine's own action.)
-pub fn shown_crowding_instance(alloc: Global, key: &InstanceKey) -> Result<Text8, NoMemory>
+pub fn show_crowding_instance(alloc: Global, key: &InstanceKey) -> Result<Text8, NoMemory>
     ensures { IfOk result (λ t. t ≡ crowding_instance_text key.now) }
 {
     let mut shown = String::new(alloc);
@@ -84,20 +84,20 @@ pub fn shown_crowding_instance(alloc: Global, key: &InstanceKey) -> Result<Text8
 /// What is printed of a check that has made as many bodies as it makes.
 ///
 /// (This engine's own action.)
-pub fn shown_spent(alloc: Global, bodies: u32) -> Result<Text8, NoMemory>
+pub fn show_spent(alloc: Global, bodies: u32) -> Result<Text8, NoMemory>
     ensures { IfOk result (λ t. t ≡ spent_text bodies) }
 {
     let text = format!(in alloc; "spent {bodies}\n")?;
     Ok(Text8::from(text.into_bytes()))
 }
 
-fn push_body(shown: &mut String, which: &str, made: &Record) -> Result<(), NoMemory>
+fn push_body(shown: &mut String, which: &str, record: &Record) -> Result<(), NoMemory>
     ensures { OnOk result (string_bytes shown.new ≡ string_bytes shown.old
-        ++ body_lines which.now made.now) }
+        ++ body_lines which.now record.now) }
 {
     shown.push_str(which)?;
     shown.push(' ')?;
-    push_decisions(shown, made.decisions.as_slice())?;
+    push_decisions(shown, record.decisions.as_slice())?;
     shown.push('\n')?;
-    push_notes(shown, made.notes.as_slice(), false)
+    push_notes(shown, record.notes.as_slice(), false)
 }

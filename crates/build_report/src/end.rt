@@ -20,7 +20,7 @@ pub fn push_end(alloc: Global, shown: &mut String, root: &RequestResult) -> Resu
 {
     push_error(shown, &root.error)?;
     push_returned(alloc, shown, root.returned.as_slice())?;
-    Ok(shown.push_str(last(root.ok))?)
+    Ok(shown.push_str(last_line(root.ok))?)
 }
 
 fn push_error(shown: &mut String, error: &Option<Text>) -> Result<(), NoMemory>
@@ -37,13 +37,13 @@ fn push_returned(alloc: Global, shown: &mut String, returned: &[Returned]) -> Re
     ensures { OnOk result (string_bytes shown.new
         ≡ string_bytes shown.old ++ returned_lines (items_returned returned.now)) }
 {
-    let count = count(returned)?;
+    let count = count_items(returned)?;
     write!(shown, "returned {count}\n")?;
     push_lists(alloc, shown, returned)
 }
 
 /// How many items the targets have returned.
-fn count(returned: &[Returned]) -> Result<usize, NoMemory>
+fn count_items(returned: &[Returned]) -> Result<usize, NoMemory>
     ensures { IfOk result (λ n. n ≡ length (items_returned returned.now)) }
 {
     let mut count: usize = 0;
@@ -74,7 +74,7 @@ fn push_items(alloc: Global, shown: &mut String, items: &[Item]) -> Result<(), N
     Ok(())
 }
 
-fn last(ok: bool) -> &'static str
+fn last_line(ok: bool) -> &'static str
     ensures { result.now ≡ last_line ok }
 {
     if ok {

@@ -24,7 +24,7 @@ use std::alloc::Global;
 ///
 /// Properties and types stand in byte order of their names, values and identities are unescaped.
 /// (MSBuild command-line reference; MSBuild properties; MSBuild items.)
-pub fn shown_eval(alloc: Global, scope: &Scope, duplicates: &List<Text>) -> Result<Text8, NoMemory>
+pub fn show_eval(alloc: Global, scope: &Scope, duplicates: &List<Text>) -> Result<Text8, NoMemory>
     ensures { IfOk result (λ t. t ≡ eval_text scope.now duplicates.now) }
 {
     let mut shown = String::new(alloc);

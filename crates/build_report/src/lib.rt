@@ -14,11 +14,11 @@ mod refused;
 mod run;
 mod targets;
 
-pub use build::shown;
+pub use build::show_build;
 pub use checked::{
-    shown_circular_run, shown_crowding_instance, shown_deep_instance, shown_differs, shown_spent,
-    shown_steady,
+    show_circular_run, show_crowding_instance, show_deep_instance, show_differs, show_spent,
+    show_steady,
 };
-pub use eval::shown_eval;
-pub use refused::{shown_circular, shown_too_deep, shown_too_many};
-pub use targets::shown_targets;
+pub use eval::show_eval;
+pub use refused::{show_circular, show_too_deep, show_too_many};
+pub use targets::show_targets;

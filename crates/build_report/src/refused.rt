@@ -18,7 +18,7 @@ use std::alloc::Global;
 /// claimed on.
 ///
 /// (MSBuild command-line reference; MSBuild task.)
-pub fn shown_circular(alloc: Global, runs: &List<RunId>) -> Result<Text8, NoMemory>
+pub fn show_circular(alloc: Global, runs: &List<RunId>) -> Result<Text8, NoMemory>
     ensures { IfOk result (λ t. t ≡ circular_text runs.now) }
 {
     let mut shown = String::from_str(alloc, "circular request\n")?;
@@ -30,7 +30,7 @@ pub fn shown_circular(alloc: Global, runs: &List<RunId>) -> Result<Text8, NoMemo
 /// this chain, of which each has called the next.
 ///
 /// (MSBuild command-line reference; MSBuild task.)
-pub fn shown_too_deep(alloc: Global, keys: &List<RequestKey>) -> Result<Text8, NoMemory>
+pub fn show_too_deep(alloc: Global, keys: &List<RequestKey>) -> Result<Text8, NoMemory>
     ensures { IfOk result (λ t. t ≡ too_deep_text keys.now) }
 {
     let mut shown = String::from_str(alloc, "too deep\n")?;
@@ -41,7 +41,7 @@ pub fn shown_too_deep(alloc: Global, keys: &List<RequestKey>) -> Result<Text8, N
 /// What is printed of a build of too many instances: the one that went past their number.
 ///
 /// (MSBuild command-line reference; MSBuild task.)
-pub fn shown_too_many(alloc: Global, key: &InstanceKey) -> Result<Text8, NoMemory>
+pub fn show_too_many(alloc: Global, key: &InstanceKey) -> Result<Text8, NoMemory>
     ensures { IfOk result (λ t. t ≡ too_many_text key.now) }
 {
     let mut shown = String::from_str(alloc, "too many instances\n")?;

@@ -13,17 +13,17 @@ pub fn push_run(
     alloc: Global,
     shown: &mut String,
     run: &RunId,
-    made: &Record,
+    record: &Record,
     low: bool,
 ) -> Result<(), NoMemory>
     ensures { OnOk result (string_bytes shown.new
-        ≡ string_bytes shown.old ++ run_lines low run.now made.now) }
+        ≡ string_bytes shown.old ++ run_lines low run.now record.now) }
 {
-    push_decided(alloc, shown, run, made.decisions.as_slice())?;
-    push_notes(shown, made.notes.as_slice(), low)
+    push_run_line(alloc, shown, run, record.decisions.as_slice())?;
+    push_notes(shown, record.notes.as_slice(), low)
 }
 
-fn push_decided(
+fn push_run_line(
     alloc: Global,
     shown: &mut String,
     run: &RunId,

@@ -10,7 +10,7 @@ use target_order::TargetRow;
 /// all in their order.
 ///
 /// (MSBuild command-line reference; Target build order.)
-pub fn shown_targets(
+pub fn show_targets(
     alloc: Global,
     rows: &List<TargetRow>,
     initial: &List<Name>,

@@ -17,6 +17,7 @@ use Rattle.std.specs.Prelude.{
 }
 use Rattle.std.specs.Option.{option_or}
 use Rattle.std.specs.Str.{bytes_eq}
+use Rattle.msb_laws.specs.Words.{Path, Text}
 use Rattle.msb_laws.specs.Faults.{Rose}
 use Rattle.msb_values.specs.Acts.{act_path, act_bytes}
 use Rattle.msb_values.specs.declared.act.Act.{Act}
@@ -44,18 +45,18 @@ AreDone (act ∷ acts) before after = (between : List File) × IsDone act before
     × AreDone acts between after
 
 -- what the last act of the list on a path leaves there, which is nothing where it removes the file
-abbrev pub last_bytes : List ℕ → List Act → Option (Option (List ℕ))
+abbrev pub last_bytes : Path → List Act → Option (Option Text)
 last_bytes path [] = None
 last_bytes path (act ∷ acts) = option_or (last_bytes path acts)
     (if bytes_eq (act_path act) path then Some (act_bytes act) else None)
 
 -- the bytes of the file at a path, if it is there
-abbrev pub bytes_there : List ℕ → List File → Option (List ℕ)
+abbrev pub bytes_there : Path → List File → Option Text
 bytes_there path files = option_map (λ f. f.bytes) (file_at path files)
 
 -- each path of the list has what the last act on it leaves there, and every other path is as it was
 abbrev pub HasContents : List Act → List File → List File → Type 0
-HasContents list before after = (path : List ℕ) → MatchOption (last_bytes path list)
+HasContents list before after = (path : Path) → MatchOption (last_bytes path list)
     (file_at path after ≡ file_at path before) (λ left. bytes_there path after ≡ left)
 
 -- those before a place were done, and the one there was or was not

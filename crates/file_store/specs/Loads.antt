@@ -15,6 +15,7 @@ use Rattle.std.specs.Prelude.{
   IfSome,
   IsSome,
 }
+use Rattle.msb_laws.specs.Words.{Path}
 use Rattle.msb_laws.specs.Faults.{Rose}
 use Rattle.file_store.specs.Failed.{Failures}
 use Rattle.file_store.specs.Files.{file_at}
@@ -40,7 +41,7 @@ OfListing None P = (listing : List Entry) × (are_listed_in_order listing ≡ tr
 OfListing (Some files) P = P (entries_of files)
 
 -- the listing is within the limits, and these are the paths of its files
-pub record IsLoaded (paths : List (List ℕ)) (listing : List Entry) : Type 0 where
+pub record IsLoaded (paths : List Path) (listing : List Entry) : Type 0 where
   pub within : limit_fault listing ≡ None
   pub paths_are : paths ≡ paths_in listing
 
@@ -53,7 +54,7 @@ AreAsListed (e ∷ es) [] = ⊥
 AreAsListed (e ∷ es) (f ∷ fs) = (f.path ≡ e.path) × (length f.bytes ≤ e.size) × AreAsListed es fs
 
 -- the listing is within the limits, and has a file at the path
-pub record IsLoading (path : List ℕ) (listing : List Entry) : Type 0 where
+pub record IsLoading (path : Path) (listing : List Entry) : Type 0 where
   pub within : limit_fault listing ≡ None
   pub listed : Contains (paths_in listing) path
 
@@ -84,7 +85,7 @@ IsOfKind before now (BadPath path) = Unit {0}
 IsOfKind before now Memory = Unit {0}
 
 -- the store's count has risen in the read of a path with P
-abbrev pub IsReadCaused : ℕ → ℕ → (List ℕ → Type 0) → LoadFault → Type 0
+abbrev pub IsReadCaused : ℕ → ℕ → (Path → Type 0) → LoadFault → Type 0
 IsReadCaused before now P Listing = ⊥
 IsReadCaused before now P (Reading path) = Rose before now × P path
 IsReadCaused before now P (Files number) = ⊥

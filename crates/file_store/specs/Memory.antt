@@ -13,6 +13,7 @@ use Rattle.std.specs.Prelude.{
   Bool,
   if◌then◌else◌,
 }
+use Rattle.msb_laws.specs.Words.{Path}
 use Rattle.file_store.specs.Failed.{Failures, counted}
 use Rattle.file_store.specs.declared.tree.File.{File}
 use Rattle.file_store.specs.declared.memory.MemStore.{MemStore}
@@ -25,7 +26,7 @@ abbrev pub failures_of : MemStore → Failures
 failures_of store = counted store.failed_listings store.failed_reads
 
 -- it holds these files, no call has come, and these are to fail
-pub record IsNewStore (tree : List File) (to_fail : List ℕ) (store : MemStore) : Type 0 where
+pub record IsNewStore (tree : List File) (to_fail : Path) (store : MemStore) : Type 0 where
   pub files : files_in store ≡ tree
   pub fail : store.fail.items ≡ to_fail
   pub calls : store.calls ≡ 0

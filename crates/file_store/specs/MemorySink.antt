@@ -5,7 +5,6 @@ use Rattle.std.specs.Prelude.{
   ◌+◌,
   ◌⊎◌,
   ℕ,
-  List,
   [],
   length,
   Option,
@@ -13,12 +12,13 @@ use Rattle.std.specs.Prelude.{
   Bool,
   if◌then◌else◌,
 }
+use Rattle.msb_laws.specs.Words.{Text}
 use Rattle.file_store.specs.Memory.{one_more}
 use Rattle.file_store.specs.declared.memory_sink.TheConstants.{ROOM}
 use Rattle.file_store.specs.declared.memory_sink.MemSink.{MemSink}
 
 -- the bytes that it holds
-abbrev pub bytes_in : MemSink → List ℕ
+abbrev pub bytes_in : MemSink → Text
 bytes_in sink = sink.bytes.items
 
 -- it has no bytes, no call has come, and this one is to fail
@@ -29,7 +29,7 @@ pub record IsNewSink (to_fail : Option ℕ) (sink : MemSink) : Type 0 where
   pub faults : sink.faults ≡ 0
 
 -- the call is the one that is to fail, or its piece doesn't fit
-abbrev pub IsRefused : MemSink → List ℕ → Type 0
+abbrev pub IsRefused : MemSink → Text → Type 0
 IsRefused sink piece = (sink.fail_at ≡ Some sink.calls)
     ⊎ (ROOM < length (bytes_in sink) + length piece)
 

@@ -19,7 +19,7 @@ pub(crate) type Found = BTreeMap<Text, (u64, u64)>;
 pub(crate) type Held = BTreeMap<String, Vec<u8>>;
 
 /// The path of a name in a folder.
-pub(crate) fn joined(alloc: Global, folder: &str, name: &str) -> io::Result<String> {
+pub(crate) fn join(alloc: Global, folder: &str, name: &str) -> io::Result<String> {
     let mut path = String::from_str(alloc, folder)?;
     if !folder.is_empty() && !folder.ends_with('/') {
         path.push('/')?;
@@ -51,7 +51,7 @@ fn list_one<R: Files>(
     left: &mut Vec<String>,
     found: &mut Found,
 ) -> io::Result<()> {
-    let whole = joined(rt.alloc(), folder, below)?;
+    let whole = join(rt.alloc(), folder, below)?;
     let names = match fs::read_dir(rt, whole.as_str()) {
         Err(error) if is_gone(&error) && !below.is_empty() => return Ok(()),
         names => names?,
@@ -61,7 +61,7 @@ fn list_one<R: Files>(
         if entry.file_name().starts_with(NEW) {
             continue;
         }
-        let path = joined(rt.alloc(), below, entry.file_name())?;
+        let path = join(rt.alloc(), below, entry.file_name())?;
         match entry.metadata() {
             Err(error) if is_gone(&error) => {}
             data => take_name(path, &data?, left, found)?,
@@ -153,7 +153,7 @@ fn read_file<R: Files>(
 ) -> io::Result<Vec<u8>>
     ensures { IfOk result (λ bytes. length bytes.items ≤ most) }
 {
-    let whole = joined(rt.alloc(), folder, path)?;
+    let whole = join(rt.alloc(), folder, path)?;
     let file = fs::open(rt, whole.as_str())?;
     let mut bytes = Vec::new(rt.alloc());
     file.take(most).read_to_end(&mut bytes)?;

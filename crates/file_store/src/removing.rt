@@ -1,6 +1,6 @@
 //! The removal of a file of a real folder. No contract says what a folder holds, so all here is
 //! trusted.
-use crate::listing::{is_gone, joined};
+use crate::listing::{is_gone, join};
 use msb_paths::is_normal;
 use std::alloc::Global;
 use std::io::ErrorKind;
@@ -24,7 +24,7 @@ fn unlink<R: Files>(rt: &(&R, Global), folder: &str, path: &str) -> io::Result<(
     if let Some((parents, _)) = path.rsplit_once('/') {
         refuse_links(rt, folder, parents)?;
     }
-    let whole = joined(rt.alloc(), folder, path)?;
+    let whole = join(rt.alloc(), folder, path)?;
     fs::remove_file(rt, whole.as_str())
 }
 
@@ -33,7 +33,7 @@ fn unlink<R: Files>(rt: &(&R, Global), folder: &str, path: &str) -> io::Result<(
 fn refuse_links<R: Files>(rt: &(&R, Global), folder: &str, parents: &str) -> io::Result<()> {
     let mut whole = String::from_str(rt.alloc(), folder)?;
     for name in parents.split('/') {
-        whole = joined(rt.alloc(), whole.as_str(), name)?;
+        whole = join(rt.alloc(), whole.as_str(), name)?;
         if fs::symlink_metadata(rt, whole.as_str())?.is_symlink() {
             return Err(io::Error::from(ErrorKind::InvalidInput));
         }

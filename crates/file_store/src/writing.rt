@@ -1,6 +1,6 @@
 //! The writing of a whole file into a real folder. No contract says what a folder holds, so all
 //! here is trusted.
-use crate::listing::joined;
+use crate::listing::join;
 use msb_paths::is_normal;
 use std::alloc::Global;
 use std::fs::{File, OpenFile, OpenOptions, Permissions};
@@ -24,7 +24,7 @@ pub(crate) fn write_file<R: Files>(
         return Err(io::Error::from(ErrorKind::InvalidInput));
     }
     let parent = make_folders(rt, folder, path)?;
-    let whole = joined(rt.alloc(), folder, path)?;
+    let whole = join(rt.alloc(), folder, path)?;
     let old = old_permissions(rt, whole.as_str())?;
     let (new, mut file) = new_file(rt, parent.as_str())?;
     let done = match fill(&mut file, old, bytes) {
@@ -45,7 +45,7 @@ fn make_folders<R: Files>(rt: &(&R, Global), folder: &str, path: &str) -> io::Re
         return Ok(whole);
     };
     for name in parents.split('/') {
-        whole = joined(rt.alloc(), whole.as_str(), name)?;
+        whole = join(rt.alloc(), whole.as_str(), name)?;
         make_folder(rt, whole.as_str())?;
     }
     Ok(whole)
@@ -77,7 +77,7 @@ fn old_permissions<R: Files>(rt: &(&R, Global), path: &str) -> io::Result<Option
 fn new_file<R: Files>(rt: &(&R, Global), parent: &str) -> io::Result<(String, R::File)> {
     for number in 0..u64::MAX {
         let name = format!(in rt.alloc(); "{NEW}{number}")?;
-        let path = joined(rt.alloc(), parent, name.as_str())?;
+        let path = join(rt.alloc(), parent, name.as_str())?;
         match File::create_new(rt, path.as_str()) {
             Err(error) if error.kind() == ErrorKind::AlreadyExists => {}
             made => return Ok((path, made?)),

@@ -35,12 +35,12 @@ impl Gate {
     }
 
     /// Whether the first call of `gate` has seen a second one.
-    pub fn met(&self) -> bool {
+    pub fn has_met(&self) -> bool {
         self.met.load(Ordering::SeqCst)
     }
 
     /// How often `tally` was called.
-    pub fn tallied(&self) -> u64 {
+    pub fn tally(&self) -> u64 {
         self.tallied.load(Ordering::SeqCst)
     }
 

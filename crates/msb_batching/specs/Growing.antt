@@ -1,7 +1,8 @@
 -- What is spoken of, as one part after another is read.
-use Rattle.std.specs.Prelude.{ℕ, List, [], fold, Option, option_to_list}
+use Rattle.std.specs.Prelude.{List, [], fold, Option, option_to_list}
 use Rattle.std.specs.List.{flat_map}
 use Rattle.std.specs.Str.{bytes_eq}
+use Rattle.msb_laws.specs.Words.{Name}
 use Rattle.indexmap.specs.IndexSet.{insert_all}
 use Rattle.msb_expression.specs.declared.expression.Expr.{Expr}
 use Rattle.msb_expression.specs.declared.expression.Part.{Part}
@@ -21,7 +22,7 @@ spoken_of m = record {
 abbrev pub nothing : Spoken
 nothing = record { references = []; named = []; qualified = []; mentioned = [] }
 
-abbrev pub with_named : Spoken → List (List ℕ) → Spoken
+abbrev pub with_named : Spoken → List Name → Spoken
 with_named s kinds = record {
   references = s.references;
   named = insert_all bytes_eq s.named kinds;
@@ -29,7 +30,7 @@ with_named s kinds = record {
   mentioned = insert_all bytes_eq s.mentioned kinds;
 }
 
-abbrev pub with_qualifiers : Spoken → List (List ℕ) → Spoken
+abbrev pub with_qualifiers : Spoken → List Name → Spoken
 with_qualifiers s kinds = record {
   references = s.references;
   named = s.named;
@@ -58,5 +59,5 @@ with_parts s parts = fold with_part s parts
 abbrev pub with_texts : Spoken → List Expr → Spoken
 with_texts s texts = fold (λ so_far text. with_parts so_far text.parts) s texts
 
-abbrev pub with_own : Spoken → Option (List ℕ) → Spoken
+abbrev pub with_own : Spoken → Option Name → Spoken
 with_own s own = with_named s (option_to_list own)

@@ -40,20 +40,20 @@ pub fn buckets(
     if let Some(name) = mentions.listless() {
         return Err(BatchFault::NoList(name.copy()?));
     }
-    batched(alloc, lens, &mentions)
+    batch(alloc, lens, &mentions)
 }
 
 /// The buckets of an element that speaks of this.
-fn batched(alloc: Global, lens: &Lens<'_>, mentions: &Mentions) -> Result<List<Bucket>, BatchFault>
+fn batch(alloc: Global, lens: &Lens<'_>, mentions: &Mentions) -> Result<List<Bucket>, BatchFault>
     ensures { Gives result (batched_value (scene_of lens.now) (spoken_of mentions.now)) }
 {
     let references = mentions.references.as_slice();
     let batches = batches(alloc, lens, mentions)?;
-    Ok(bucketed(alloc, references, batches)?)
+    Ok(bucket_batches(alloc, references, batches)?)
 }
 
 /// A bucket for each tuple of these lists' items, or one for the tuple whose values are empty.
-fn bucketed(
+fn bucket_batches(
     alloc: Global,
     references: &[Reference],
     batches: Vec<Batch>,
@@ -64,7 +64,7 @@ fn bucketed(
     let mut tuples = Tuples::new(alloc);
     let lists = tuples.number_lists(alloc, batches)?;
     let spelled = or_this(empty_tuple(alloc, references)?, tuples.spelled)?;
-    Ok(bucketed_by(alloc, references, &spelled, lists)?)
+    Ok(fill_buckets(alloc, references, &spelled, lists)?)
 }
 
 /// The tuples, or this one where there is none.
@@ -80,7 +80,7 @@ fn or_this(tuple: List<Text>, tuples: Vec<List<Text>>) -> Result<Vec<List<Text>>
 }
 
 /// A bucket for each of these tuples, with its items of each list.
-fn bucketed_by(
+fn fill_buckets(
     alloc: Global,
     references: &[Reference],
     tuples: &[List<Text>],

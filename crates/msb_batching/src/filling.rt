@@ -49,7 +49,7 @@ fn values(
     let mut values = List::new(alloc);
     for (reference, value) in references.iter().zip(tuple) {
         values.push((
-            copied(&reference.kind)?,
+            copy_kind(&reference.kind)?,
             reference.name.copy()?,
             value.copy()?,
         ))?;
@@ -57,7 +57,7 @@ fn values(
     Ok(values)
 }
 
-fn copied(kind: &Option<Name>) -> Result<Option<Name>, NoMemory>
+fn copy_kind(kind: &Option<Name>) -> Result<Option<Name>, NoMemory>
     ensures { IfOk result (λ copy. copy ≡ kind.now) }
 {
     match kind {

@@ -5,6 +5,8 @@ ghost use Rattle.std.specs.Prelude.{
   IfOk,
   OnOk,
   Some,
+  [],
+  ◌∷◌,
   map,
   option_copied,
   option_to_list,
@@ -191,10 +193,18 @@ impl Mentions {
             (option_to_list reference.kind)) }
     {
         if let Some(kind) = &reference.kind {
-            self.mentioned.insert(kind.copy()?)?;
-            self.qualified.insert(kind.copy()?)?;
+            self.add_qualifier(kind)?;
         }
         self.references.insert(reference)?;
+        Ok(())
+    }
+
+    fn add_qualifier(&mut self, kind: &Name) -> Result<(), NoMemory>
+        ensures { OnOk result (spoken_of self.new
+            ≡ with_qualifiers (spoken_of self.old) (kind.now ∷ [])) }
+    {
+        self.mentioned.insert(kind.copy()?)?;
+        self.qualified.insert(kind.copy()?)?;
         Ok(())
     }
 }

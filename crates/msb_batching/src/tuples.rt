@@ -50,7 +50,7 @@ impl Tuples {
         ensures number { IfOk result
             (λ n. n ≡ position_or_len (is_same_tuple tuple) (tuples_in self.old)) }
     {
-        let (number, is_new) = self.keys.insert_full(folded(alloc, tuple.as_slice())?)?;
+        let (number, is_new) = self.keys.insert_full(fold_texts(alloc, tuple.as_slice())?)?;
         self.spell_if(is_new, tuple)?;
         Ok(number)
     }
@@ -111,7 +111,7 @@ impl Tuples {
     }
 }
 
-fn folded(alloc: Global, texts: &[Text]) -> Result<Vec<Folded>, NoMemory>
+fn fold_texts(alloc: Global, texts: &[Text]) -> Result<Vec<Folded>, NoMemory>
     ensures { IfOk result (λ key. key.items ≡ map folded_bytes texts.now) }
 {
     let mut key = Vec::new(alloc);

@@ -1,5 +1,6 @@
 -- How an answer is the one that a definition gives, but for want of memory.
-use Rattle.std.specs.Prelude.{◌≡◌, ℕ, List, Result, Ok, Err}
+use Rattle.std.specs.Prelude.{◌≡◌, List, Result, Ok, Err}
+use Rattle.msb_laws.specs.Words.{Path}
 use Rattle.msb_expand.specs.Scenes.{scene_of}
 use Rattle.msb_expand.specs.declared.lens.Lens.{Lens}
 use Rattle.msb_condition.specs.declared.faults.CondFault.{CondFault}
@@ -21,5 +22,5 @@ Gives (Err (Expand fault)) answer = answer ≡ Err (Expand fault)
 Gives (Err Memory) answer = Unit {0}
 
 -- what a lens and the files of a view show
-abbrev pub view_of : Lens → List (List ℕ) → View
+abbrev pub view_of : Lens → List Path → View
 view_of lens files = record { scene = scene_of lens; folder = lens.dir.now; files = files }

@@ -1,4 +1,5 @@
--- The grammar of a condition's tokens, with room for so many nested `!` and `(`. (MSBuild conditions.)
+-- The grammar of a condition's tokens, with room for so many nested `!` and `(`.
+-- (MSBuild conditions.)
 --
 --   condition = [ or ]
 --   or        = and { "Or" and }
@@ -28,6 +29,7 @@ use Rattle.std.specs.Prelude.{
   if◌then◌else◌,
 }
 use Rattle.std.specs.Str.{str_eq_ignore_ascii_case}
+use Rattle.msb_laws.specs.Words.{Text}
 use Rattle.msb_expression.specs.declared.expression.Part.{Part}
 use Rattle.msb_expression.specs.declared.expression.Part.TheVariants.{Plain}
 use Rattle.msb_expression.specs.Reading.{reading}
@@ -57,7 +59,7 @@ use Rattle.msb_condition.specs.Trees.{
   truth,
 }
 
-abbrev pub function_of : List ℕ → Option Function
+abbrev pub function_of : Text → Option Function
 function_of word =
     if str_eq_ignore_ascii_case word (codes "Exists") then Some Exists else
     if str_eq_ignore_ascii_case word (codes "HasTrailingSlash") then Some HasTrailingSlash else None
@@ -66,7 +68,7 @@ abbrev pub of_parts : List Part → Operand
 of_parts parts = text (record { parts = parts })
 
 -- the text between the quotes
-abbrev pub inner_of : List ℕ → List ℕ
+abbrev pub inner_of : Text → Text
 inner_of bytes = take (length bytes - 2) (drop 1 bytes)
 
 -- `and` and `or` are no operands outside quotes
@@ -121,7 +123,7 @@ mutual
         → IsOperand room first left → sign.kind ≡ Compare comparison → IsOperand room second right
         → IsUnary room (first ++ sign ∷ second) (compared comparison left right)
 
-pub data IsCondition : List ℕ → Tree → Type 0 where
-  no_condition : {text : List ℕ} → tokens_of text ≡ [] → IsCondition text empty
-  a_condition : {text : List ℕ} {tree : Tree} → IsOr 64 (tokens_of text) tree
+pub data IsCondition : Text → Tree → Type 0 where
+  no_condition : {text : Text} → tokens_of text ≡ [] → IsCondition text empty
+  a_condition : {text : Text} {tree : Tree} → IsOr 64 (tokens_of text) tree
       → IsCondition text tree

@@ -16,6 +16,7 @@ use Rattle.std.specs.Prelude.{
   Ok,
   Err,
 }
+use Rattle.msb_laws.specs.Words.{Text}
 use Rattle.msb_expression.specs.declared.faults.ExprFault.{ExprFault}
 use Rattle.msb_expression.specs.declared.faults.ExprFault.TheVariants.{
   Unclosed,
@@ -48,32 +49,32 @@ use Rattle.msb_condition.specs.Tokens.{Token, is_and, is_or}
 use Rattle.msb_condition.specs.Trees.{Tree}
 
 -- what was found leads on to an outcome of the tokens that are left, or the fault is the outcome's
-abbrev pub Leads : {X : Type 0} → List ℕ → Result (X × ℕ) CondFault → Result Tree Refusal
+abbrev pub Leads : {X : Type 0} → Text → Result (X × ℕ) CondFault → Result Tree Refusal
     → (X → List Token → Result Tree Refusal) → Type 0
 Leads text (Ok found) outcome go_on = outcome ≡ go_on found.0 (tokens_at found.1 text)
 Leads text (Err fault) outcome go_on = IsRefused fault outcome
 
 -- the same where only a place was found
-abbrev pub GoesOn : List ℕ → Result ℕ CondFault → Result Tree Refusal
+abbrev pub GoesOn : Text → Result ℕ CondFault → Result Tree Refusal
     → (List Token → Result Tree Refusal) → Type 0
 GoesOn text (Ok place) outcome go_on = outcome ≡ go_on (tokens_at place text)
 GoesOn text (Err fault) outcome go_on = IsRefused fault outcome
 
 -- the machine over the tokens of a text that are left
-abbrev pub run_on : List ℕ → List Token → List Frame → State → Result Tree Refusal
+abbrev pub run_on : Text → List Token → List Frame → State → Result Tree Refusal
 run_on text tokens frames state = run (length text) tokens frames state
 
-abbrev pub run_at : List ℕ → ℕ → List Frame → State → Result Tree Refusal
+abbrev pub run_at : Text → ℕ → List Frame → State → Result Tree Refusal
 run_at text place frames state = run_on text (tokens_at place text) frames state
 
 -- and from a step on
-abbrev pub step_on : List ℕ → Next → List Token → Result Tree Refusal
+abbrev pub step_on : Text → Next → List Token → Result Tree Refusal
 step_on text next tokens = on next (run (length text) tokens)
 
-abbrev pub step_at : List ℕ → Next → ℕ → Result Tree Refusal
+abbrev pub step_at : Text → Next → ℕ → Result Tree Refusal
 step_at text next place = step_on text next (tokens_at place text)
 
-abbrev pub bytes_in : List ℕ → code.Token → List ℕ
+abbrev pub bytes_in : Text → code.Token → Text
 bytes_in text token = (token_in text token).bytes
 
 -- there is room for so many more `!` and `(`
@@ -91,7 +92,7 @@ abbrev pub takes_and : List Frame → Bool
 takes_and (or_of left ∷ frames) = true
 takes_and frames = takes_or frames
 
-abbrev pub is_word : (List ℕ → Bool) → Kind → List ℕ → Bool
+abbrev pub is_word : (Text → Bool) → Kind → Text → Bool
 is_word test Word bytes = test bytes
 is_word test _ bytes = false
 
@@ -118,8 +119,8 @@ abbrev pub starts_open : List Token → Bool
 starts_open [] = false
 starts_open (token ∷ tokens) = is_open token.kind
 
-pub record IsOpenAt (text : List ℕ) (at place end : ℕ) : Type 0 where
-  pub bytes : List ℕ
+pub record IsOpenAt (text : Text) (at place end : ℕ) : Type 0 where
+  pub bytes : Text
   pub next : tokens_at at text ≡ record { kind = Open; place = place; bytes = bytes }
       ∷ tokens_at end text
   pub order : place < end
@@ -127,19 +128,19 @@ pub record IsOpenAt (text : List ℕ) (at place end : ℕ) : Type 0 where
   pub within : end ≤ length text
 
 -- an `Or` or an `And` stands behind a place and ends at another
-pub record IsAt (test : List ℕ → Bool) (text : List ℕ) (at end : ℕ) : Type 0 where
+pub record IsAt (test : Text → Bool) (text : Text) (at end : ℕ) : Type 0 where
   pub place : ℕ
-  pub bytes : List ℕ
+  pub bytes : Text
   pub next : tokens_at at text ≡ record { kind = Word; place = place; bytes = bytes }
       ∷ tokens_at end text
   pub passes : test bytes ≡ true
   pub after : at < end
   pub within : end ≤ length text
 
-abbrev pub IsOrAt : List ℕ → ℕ → ℕ → Type 0
+abbrev pub IsOrAt : Text → ℕ → ℕ → Type 0
 IsOrAt = IsAt is_or
 
-abbrev pub IsAndAt : List ℕ → ℕ → ℕ → Type 0
+abbrev pub IsAndAt : Text → ℕ → ℕ → Type 0
 IsAndAt = IsAt is_and
 
 -- its place is such

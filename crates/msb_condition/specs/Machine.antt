@@ -22,6 +22,7 @@ use Rattle.std.specs.Prelude.{
   Err,
   if◌then◌else◌,
 }
+use Rattle.msb_laws.specs.Words.{Text}
 use Rattle.msb_expression.specs.declared.expression.Part.{Part}
 use Rattle.msb_expression.specs.declared.expression.Part.TheVariants.{Plain}
 use Rattle.msb_expression.specs.declared.faults.ExprFault.{ExprFault}
@@ -72,7 +73,7 @@ pub data Frame : Type 0 where
 -- word; an operand; a tree that no comparison can be a part of
 pub data State : Type 0 where
   wants : State
-  named : Function → (word : List ℕ) → State
+  named : Function → (word : Text) → State
   operand : Operand → State
   done : Tree → State
 
@@ -130,18 +131,18 @@ abbrev pub end_unended : ℕ → ℕ → Result (List Part) ExprFault → Next
 end_unended place size (Ok parts) = stop (syntax (place + size))
 end_unended place size (Err fault) = stop (inside (moved place fault))
 
-abbrev pub end_word : List Frame → List ℕ → Option Function → Next
+abbrev pub end_word : List Frame → Text → Option Function → Next
 end_word frames word None = end_operand frames (of_parts (Plain word ∷ []))
 end_word frames word (Some function) = go frames (named function word)
 
 -- `and` and `or` may go on as longer words, so the byte behind them is bad
-abbrev pub word_step : List Frame → ℕ → List ℕ → Next
+abbrev pub word_step : List Frame → ℕ → Text → Next
 word_step frames place word =
     if is_and word || is_or word then stop (syntax (place + length word)) else end_word frames word
     (function_of word)
 
 -- where an operand is wanted
-abbrev pub operand_step : List Frame → Kind → ℕ → List ℕ → Next
+abbrev pub operand_step : List Frame → Kind → ℕ → Text → Next
 operand_step frames Word place bytes = word_step frames place bytes
 operand_step frames Quoted place bytes = end_text frames (place + 1) (reading (inner_of bytes))
 operand_step frames Unended place bytes = end_unended (place + 1) (length bytes - 1)
@@ -160,13 +161,13 @@ abbrev pub nested_not_equal : List Frame → ℕ → Next
 nested_not_equal frames place = stop (syntax (if has_room frames then place + 1 else place))
 
 -- where a unary is wanted
-abbrev pub unary_step : List Frame → Kind → ℕ → List ℕ → Next
+abbrev pub unary_step : List Frame → Kind → ℕ → Text → Next
 unary_step frames Bang place bytes = nested frames not_of place
 unary_step frames (Compare NotEqual) place bytes = nested_not_equal frames place
 unary_step frames Open place bytes = nested frames group_of place
 unary_step frames kind place bytes = operand_step frames kind place bytes
 
-abbrev pub wants_step : List Frame → Kind → ℕ → List ℕ → Next
+abbrev pub wants_step : List Frame → Kind → ℕ → Text → Next
 wants_step frames kind place bytes = if wants_operand frames then operand_step frames kind place
     bytes else unary_step frames kind place bytes
 
@@ -183,7 +184,7 @@ end_group (group_of ∷ frames, tree) place = end_unary frames tree
 end_group (frames, tree) place = stop (syntax place)
 
 -- behind a whole tree
-abbrev pub tree_step : List Frame → Tree → Kind → ℕ → List ℕ → Next
+abbrev pub tree_step : List Frame → Tree → Kind → ℕ → Text → Next
 tree_step frames tree Word place bytes =
     if is_and bytes then go (and_of tree ∷ frames) wants else
     if is_or bytes then more_or (end_or frames tree) else stop (syntax (place + keyword_len bytes))
@@ -191,12 +192,12 @@ tree_step frames tree Close place bytes = end_group (end_or frames tree) place
 tree_step frames tree _ place bytes = stop (syntax place)
 
 -- the step behind what ended
-abbrev pub on_tree : Next → Kind → ℕ → List ℕ → Next
+abbrev pub on_tree : Next → Kind → ℕ → Text → Next
 on_tree (go frames (done tree)) kind place bytes = tree_step frames tree kind place bytes
 on_tree next kind place bytes = next
 
 -- behind an operand that a comparison may follow
-abbrev pub comparable_step : List Frame → Operand → Kind → ℕ → List ℕ → Next
+abbrev pub comparable_step : List Frame → Operand → Kind → ℕ → Text → Next
 comparable_step frames left (Compare comparison) place bytes = go
     (comparison_of comparison left ∷ frames) wants
 comparable_step frames left Equals place bytes = stop (syntax (place + 1))
@@ -210,23 +211,23 @@ call_step frames function inner Close place = end_operand frames (call function 
 call_step frames function inner _ place = stop (syntax place)
 
 -- behind an operand
-abbrev pub behind_step : List Frame → Operand → Kind → ℕ → List ℕ → Next
+abbrev pub behind_step : List Frame → Operand → Kind → ℕ → Text → Next
 behind_step (call_of function ∷ frames) inner kind place bytes = call_step frames function inner
     kind place
 behind_step frames left kind place bytes = comparable_step frames left kind place bytes
 
 -- behind an operand, or the tree that it ended
-abbrev pub on_operand : Next → Kind → ℕ → List ℕ → Next
+abbrev pub on_operand : Next → Kind → ℕ → Text → Next
 on_operand (go frames (operand left)) kind place bytes = behind_step frames left kind place bytes
 on_operand next kind place bytes = on_tree next kind place bytes
 
 -- behind the name of a function, which is a word where no `(` follows
-abbrev pub named_step : List Frame → Function → List ℕ → Kind → ℕ → List ℕ → Next
+abbrev pub named_step : List Frame → Function → Text → Kind → ℕ → Text → Next
 named_step frames function word Open place bytes = nested frames (call_of function) place
 named_step frames function word kind place bytes = on_operand
     (end_operand frames (of_parts (Plain word ∷ []))) kind place bytes
 
-abbrev pub step_of : List Frame → State → Kind → ℕ → List ℕ → Next
+abbrev pub step_of : List Frame → State → Kind → ℕ → Text → Next
 step_of frames wants kind place bytes = wants_step frames kind place bytes
 step_of frames (named function word) kind place bytes = named_step frames function word kind place
     bytes

@@ -1,5 +1,6 @@
 -- What a condition is read as: its tree, or its refusal. (MSBuild conditions.)
 use Rattle.std.specs.Prelude.{◌≡◌, ℕ, List, [], ◌∷◌, Result, Ok, Err, length}
+use Rattle.msb_laws.specs.Words.{Text}
 use Rattle.msb_condition.specs.declared.condition.Cond.{Cond}
 use Rattle.msb_condition.specs.declared.faults.CondFault.{CondFault}
 use Rattle.msb_condition.specs.declared.faults.CondFault.TheVariants.{
@@ -19,7 +20,7 @@ abbrev pub read_tokens : ℕ → List Token → Result Tree Refusal
 read_tokens len [] = Ok empty
 read_tokens len (token ∷ tokens) = run len (token ∷ tokens) [] wants
 
-abbrev pub condition_of : List ℕ → Result Tree Refusal
+abbrev pub condition_of : Text → Result Tree Refusal
 condition_of text = read_tokens (length text) (tokens_of text)
 
 -- the fault is the refusal, but for want of memory

@@ -1,6 +1,5 @@
 -- Whether a condition is true, from the left, or its first fault. (MSBuild conditions.)
 use Rattle.std.specs.Prelude.{
-  ℕ,
   Bool,
   true,
   false,
@@ -20,6 +19,7 @@ use Rattle.std.specs.Prelude.{
   Ok,
   Err,
 }
+use Rattle.msb_laws.specs.Words.{Text, Path}
 use Rattle.msb_paths.specs.Presence.{is_there}
 use Rattle.msb_paths.specs.Refused.{normal_path}
 use Rattle.msb_paths.specs.Segments.{is_separator}
@@ -66,45 +66,45 @@ use Rattle.msb_condition.specs.Trees.{
 -- what a condition sees: the scope, the folder that Exists starts from, and the paths of the files
 pub record View : Type 0 where
   pub scene : Scene
-  pub folder : List ℕ
-  pub files : List (List ℕ)
+  pub folder : Path
+  pub files : List Path
 
 -- a path of a file, or of a folder that a file lies below
-abbrev pub is_found : List (List ℕ) → Result (List ℕ) NormalFault → Bool
+abbrev pub is_found : List Path → Result Path NormalFault → Bool
 is_found files (Ok path) = is_there files path
 is_found files (Err fault) = false
 
-abbrev pub exists_in : (folder : List ℕ) (files : List (List ℕ)) → List ℕ → Bool
+abbrev pub exists_in : (folder : Path) (files : List Path) → Text → Bool
 exists_in folder files path = not (length path == 0) && is_found files (normal_path folder path)
 
 -- `/` or `\`
-abbrev pub has_trailing_slash : List ℕ → Bool
+abbrev pub has_trailing_slash : Text → Bool
 has_trailing_slash [] = false
 has_trailing_slash (b ∷ bs) = is_separator (slice_index (b ∷ bs) (length bs))
 
-abbrev pub function_result : View → Function → List ℕ → Bool
+abbrev pub function_result : View → Function → Text → Bool
 function_result view Exists path = exists_in view.folder view.files path
 function_result view HasTrailingSlash path = has_trailing_slash path
 
-abbrev pub shown : Bool → List ℕ
+abbrev pub shown : Bool → Text
 shown true = codes "true"
 shown false = codes "false"
 
-abbrev pub unescaped_text : Result (List ℕ) ExpandFault → Result (List ℕ) CondFault
+abbrev pub unescaped_text : Result Text ExpandFault → Result Text CondFault
 unescaped_text (Ok value) = Ok (unescaped value)
 unescaped_text (Err fault) = Err (Expand fault)
 
 -- an operand as a text, without its escapes
-abbrev pub operand_text : View → Operand → Result (List ℕ) CondFault
+abbrev pub operand_text : View → Operand → Result Text CondFault
 operand_text view (text expr) = unescaped_text (text_value view.scene expr.parts)
 operand_text view (call function inner) = map_ok
     (λ value. shown (function_result view function value)) (operand_text view inner)
 
-abbrev pub boolean_or_fault : List ℕ → Option Bool → Result Bool CondFault
+abbrev pub boolean_or_fault : Text → Option Bool → Result Bool CondFault
 boolean_or_fault value (Some b) = Ok b
 boolean_or_fault value None = Err (NotBoolean value)
 
-abbrev pub is_true : List ℕ → Result Bool CondFault
+abbrev pub is_true : Text → Result Bool CondFault
 is_true value = boolean_or_fault value (boolean_of value)
 
 abbrev pub same_bool : Bool → Bool → Bool
@@ -112,18 +112,18 @@ same_bool true b = b
 same_bool false b = not b
 
 -- equal as truth values, or else as texts without case
-abbrev pub same_values : List ℕ → List ℕ → Option Bool → Option Bool → Bool
+abbrev pub same_values : Text → Text → Option Bool → Option Bool → Bool
 same_values left right (Some a) (Some b) = same_bool a b
 same_values left right (Some a) None = is_same_text left right
 same_values left right None b = is_same_text left right
 
 -- equal as numbers, or else so
-abbrev pub same_or_equal : List ℕ → List ℕ → Option Number → Option Number → Bool
+abbrev pub same_or_equal : Text → Text → Option Number → Option Number → Bool
 same_or_equal left right (Some a) (Some b) = is_equal a b
 same_or_equal left right (Some a) None = same_values left right (boolean_of left) (boolean_of right)
 same_or_equal left right None b = same_values left right (boolean_of left) (boolean_of right)
 
-abbrev pub equal : List ℕ → List ℕ → Bool
+abbrev pub equal : Text → Text → Bool
 equal left right = same_or_equal left right (number_of left) (number_of right)
 
 abbrev pub in_order : Comparison → Number → Number → Bool
@@ -135,13 +135,13 @@ in_order Equal a b = is_equal a b
 in_order NotEqual a b = not (is_equal a b)
 
 -- the order comparisons need two numbers
-abbrev pub ordered : Comparison → List ℕ → List ℕ → Option Number → Option Number
+abbrev pub ordered : Comparison → Text → Text → Option Number → Option Number
     → Result Bool CondFault
 ordered comparison left right (Some a) (Some b) = Ok (in_order comparison a b)
 ordered comparison left right (Some a) None = Err (NotNumbers left right)
 ordered comparison left right None b = Err (NotNumbers left right)
 
-abbrev pub compare : Comparison → List ℕ → List ℕ → Result Bool CondFault
+abbrev pub compare : Comparison → Text → Text → Result Bool CondFault
 compare Equal left right = Ok (equal left right)
 compare NotEqual left right = Ok (not (equal left right))
 compare comparison left right = ordered comparison left right (number_of left) (number_of right)

@@ -1,5 +1,6 @@
 -- Whether a Condition holds, as it is written. (MSBuild conditions)
-use Rattle.std.specs.Prelude.{ℕ, List, Bool, true, Option, Some, None, Result, Ok, Err}
+use Rattle.std.specs.Prelude.{Bool, true, Option, Some, None, Result, Ok, Err}
+use Rattle.msb_laws.specs.Words.{Text}
 use Rattle.msb_values.specs.declared.cause.Cause.{Cause}
 use Rattle.msb_values.specs.declared.cause.Cause.TheVariants.{Syntax}
 use Rattle.msb_expand.specs.Causes.{expression_cause_of}
@@ -23,6 +24,6 @@ read_holds view (Ok tree) = or_cause (truth_of view tree)
 read_holds view (Err refusal) = Err (refusal_cause refusal)
 
 -- an absent Condition holds
-abbrev pub condition_holds : View → Option (List ℕ) → Result Bool Cause
+abbrev pub condition_holds : View → Option Text → Result Bool Cause
 condition_holds view None = Ok true
 condition_holds view (Some written) = read_holds view (condition_of written)

@@ -15,12 +15,12 @@ pub(crate) fn compare(comparison: Comparison, left: Text, right: Text) -> Result
     match comparison {
         Comparison::Equal => Ok(equal(left.as_str(), right.as_str())),
         Comparison::NotEqual => Ok(!equal(left.as_str(), right.as_str())),
-        _ => ordered(comparison, left, right),
+        _ => compare_numbers(comparison, left, right),
     }
 }
 
 /// Whether two texts are numbers in this order.
-fn ordered(comparison: Comparison, left: Text, right: Text) -> Result<bool, CondFault>
+fn compare_numbers(comparison: Comparison, left: Text, right: Text) -> Result<bool, CondFault>
     ensures { Gives result
         (ordered comparison left right (numbers.number_of left) (numbers.number_of right)) }
 {

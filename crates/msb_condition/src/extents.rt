@@ -71,12 +71,12 @@ fn behind_reference(depth: u64, byte: u8) -> Inside
     match byte {
         b'\'' => Inside::Quotes(depth),
         b'(' => Inside::Reference(depth + 1),
-        b')' => closed(depth),
+        b')' => close_reference(depth),
         _ => Inside::Reference(depth),
     }
 }
 
-fn closed(depth: u64) -> Inside
+fn close_reference(depth: u64) -> Inside
     ensures value { result ≡ extents.closed depth }
     ensures depth { depth_of result ≤ depth }
 {

@@ -338,14 +338,14 @@ fn comparison(
     ensures within { IfOk result (λ found. found.1 ≤ length text.now) }
 {
     match token_at(text, at) {
-        Some(token) => compared(alloc, text, left, at, token, room),
+        Some(token) => comparison_at(alloc, text, left, at, token, room),
         None => Ok((Cond::Truth(left), at)),
     }
 }
 
 /// What an operand is where a token follows it behind `at`: the left side of a comparison, or a
 /// truth value.
-fn compared(
+fn comparison_at(
     alloc: Global,
     text: &str,
     left: Operand,

@@ -73,7 +73,7 @@ pub(crate) fn number_of(text: &[u8]) -> Option<Number>
 fn hex_number(digits: &[u8]) -> Option<Number>
     ensures { result ≡ hex_number digits.now }
 {
-    match written(digits, 16, 16) {
+    match read_digits(digits, 16, 16) {
         Some(whole) => Some(Number::whole(false, whole)),
         None => None,
     }
@@ -107,7 +107,7 @@ fn point_at(text: &[u8]) -> usize
 fn whole_number(negative: bool, digits: &[u8]) -> Option<Number>
     ensures { result ≡ whole_number negative digits.now }
 {
-    match written(digits, 10, 18) {
+    match read_digits(digits, 10, 18) {
         Some(whole) => Some(Number::whole(negative, whole)),
         None => None,
     }
@@ -120,7 +120,7 @@ fn parted_number(negative: bool, before: &[u8], after: &[u8]) -> Option<Number>
     if before.len() + after.len() > 18 {
         return None;
     }
-    match (written(before, 10, 18), written(after, 10, 18)) {
+    match (read_digits(before, 10, 18), read_digits(after, 10, 18)) {
         (Some(whole), Some(fraction)) => Some(of_parts(negative, whole, fraction, after.len())),
         _ => None,
     }
@@ -141,7 +141,7 @@ fn of_parts(negative: bool, whole: u64, fraction: u64, digits: usize) -> Number
 }
 
 /// What the digits write, if they are from 1 to so many.
-fn written(digits: &[u8], radix: u32, most: usize) -> Option<u64>
+fn read_digits(digits: &[u8], radix: u32, most: usize) -> Option<u64>
     requires least_radix { 2 ≤ radix }
     requires most_radix { radix ≤ 36 }
     requires fits { radix ^ most ≤ 2 ^ 64 }

@@ -175,12 +175,12 @@ fn inside(start: usize, fault: ExprFault) -> CondFault
 {
     match fault {
         ExprFault::Memory => CondFault::Memory,
-        _ => CondFault::Expand(ExpandFault::Expr(moved(start as u64, fault))),
+        _ => CondFault::Expand(ExpandFault::Expr(move_fault(start as u64, fault))),
     }
 }
 
 /// A fault with its place counted from where the expression begins.
-fn moved(start: u64, fault: ExprFault) -> ExprFault
+fn move_fault(start: u64, fault: ExprFault) -> ExprFault
     requires { IsPlaced (λ place. start + place < 2 ^ 64) fault }
     ensures { result ≡ moved start fault }
 {
@@ -212,7 +212,7 @@ fn word(alloc: Global, text: &str, token: Token, room: u64) -> Result<(Operand, 
         return Err(syntax(token.end));
     }
     match function_of(word) {
-        Some(function) => named(alloc, text, token, function, room),
+        Some(function) => function_at(alloc, text, token, function, room),
         None => plain(alloc, word, token.end),
     }
 }
@@ -230,7 +230,7 @@ fn plain(alloc: Global, word: &str, end: usize) -> Result<(Operand, usize), Cond
 
 /// The operand that begins with the name of a function.
 #[cycle(operand)]
-fn named(
+fn function_at(
     alloc: Global,
     text: &str,
     token: Token,
@@ -293,12 +293,12 @@ fn call(
         return Err(syntax(start));
     }
     let (inner, end) = operand(alloc, text, at, room - 1)?;
-    let end = closed(text, end)?;
+    let end = closing_end(text, end)?;
     Ok((Operand::Call(function, Box::new(alloc, inner)?), end))
 }
 
 /// Where the `)` behind `at` ends.
-fn closed(text: &str, at: usize) -> Result<usize, CondFault>
+fn closing_end(text: &str, at: usize) -> Result<usize, CondFault>
     requires { at ≤ length text.now }
     ensures goes { (frames : List Frame) (function : Function) (inner : trees.Operand)
         → GoesOn text.now result (run_at text.now at (call_of function ∷ frames) (operand inner))

@@ -101,27 +101,27 @@ fn kind_of(byte: u8, rest: &[u8]) -> Kind
         b'\'' => quoted_kind(rest),
         b'(' => Kind::Open,
         b')' => Kind::Close,
-        b'!' => joined(b'=', Kind::Compare(Comparison::NotEqual), Kind::Bang, rest),
-        b'=' => joined(b'=', Kind::Compare(Comparison::Equal), Kind::Equals, rest),
-        b'<' => joined(
+        b'!' => choose_kind(b'=', Kind::Compare(Comparison::NotEqual), Kind::Bang, rest),
+        b'=' => choose_kind(b'=', Kind::Compare(Comparison::Equal), Kind::Equals, rest),
+        b'<' => choose_kind(
             b'=',
             Kind::Compare(Comparison::LessOrEqual),
             Kind::Compare(Comparison::Less),
             rest,
         ),
-        b'>' => joined(
+        b'>' => choose_kind(
             b'=',
             Kind::Compare(Comparison::GreaterOrEqual),
             Kind::Compare(Comparison::Greater),
             rest,
         ),
-        b'$' | b'%' | b'@' => joined(b'(', Kind::Reference, Kind::Sign, rest),
+        b'$' | b'%' | b'@' => choose_kind(b'(', Kind::Reference, Kind::Sign, rest),
         _ => Kind::Other,
     }
 }
 
 /// Of two kinds, the one that the next byte is a part of, or the other.
-fn joined(byte: u8, with_it: Kind, without: Kind, rest: &[u8]) -> Kind
+fn choose_kind(byte: u8, with_it: Kind, without: Kind, rest: &[u8]) -> Kind
     ensures { result ≡ joined byte with_it without rest.now }
 {
     match rest.first() {

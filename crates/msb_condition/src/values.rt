@@ -28,7 +28,7 @@ pub(crate) fn operand_text<F: Present>(
         Operand::Call(function, inner) => {
             let path = operand_text(alloc, lens, files, inner)?;
             let answer = function_result(alloc, lens, files, *function, path.as_str())?;
-            Ok(Text::of(alloc, shown(answer))?)
+            Ok(Text::of(alloc, show(answer))?)
         }
     }
 }
@@ -58,7 +58,7 @@ fn function_result<F: Present>(
     }
 }
 
-fn shown(value: bool) -> &'static str
+fn show(value: bool) -> &'static str
     ensures { result.now ≡ shown value }
 {
     if value { "true" } else { "false" }

@@ -24,6 +24,7 @@ use Rattle.std.specs.Prelude.{
 use Rattle.std.specs.Str.{bytes_eq, str_to_ascii_lowercase}
 use Rattle.std.specs.Borrow.{Bor}
 use Rattle.std.specs.List.{list_any}
+use Rattle.msb_laws.specs.Words.{Name, Text}
 use Rattle.msb_values.specs.Names.{is_name_byte, bad_place}
 use Rattle.msb_values.specs.Pairs.{value_at}
 use Rattle.msb_elements.specs.Trees.{Tree, no_element, element, Trees, no_trees, further}
@@ -39,7 +40,7 @@ use Rattle.msb_elements.specs.declared.errors.ReadFault.{ReadFault}
 use Rattle.msb_elements.specs.declared.errors.ReadFault.TheVariants as fault
 
 abbrev pub Pair : Type 0
-Pair = List ℕ × List ℕ
+Pair = Name × Text
 
 abbrev pub is_not_allowed : Role → Bool
 is_not_allowed NotAllowed = true
@@ -50,7 +51,7 @@ is_named Named = true
 is_named _ = false
 
 -- UnknownElement: an attribute that the row does not allow, or a text where it gives none
-abbrev pub has_not_allowed : Kind → List Pair → List ℕ → Bool
+abbrev pub has_not_allowed : Kind → List Pair → Text → Bool
 has_not_allowed kind attributes text = list_any (λ pair. is_not_allowed (role_of kind pair.0))
     attributes || (not (length text == 0) && not (row_of kind).text)
 
@@ -76,64 +77,64 @@ is_out_of_order Choose after last entries = begins_otherwise entries || after
 is_out_of_order OnError after last entries = false
 is_out_of_order _ after last entries = after
 
-abbrev pub has : List ℕ → List Pair → Bool
+abbrev pub has : Name → List Pair → Bool
 has name attributes = is_some (value_at name attributes)
 
-abbrev pub has_or_no : Option (List ℕ) → List Pair → Bool
+abbrev pub has_or_no : Option Name → List Pair → Bool
 has_or_no None attributes = true
 has_or_no (Some name) attributes = has name attributes
 
-abbrev pub first_name : List (List ℕ) → Option (List ℕ)
+abbrev pub first_name : List Name → Option Name
 first_name [] = None
 first_name (name ∷ names) = Some name
 
-abbrev pub first_unmet : List Need → List Pair → Option (List ℕ)
+abbrev pub first_unmet : List Need → List Pair → Option Name
 first_unmet [] attributes = None
 first_unmet (need ∷ needs) attributes =
     if has_or_no need.beside attributes && not (list_any (λ name. has name attributes) need.one_of)
     then first_name need.one_of else first_unmet needs attributes
 
 -- MissingAttribute: an attribute that the row needs, or the When of a Choose without children
-abbrev pub missing_in : Kind → List Pair → Trees → Option (List ℕ)
+abbrev pub missing_in : Kind → List Pair → Trees → Option Name
 missing_in Choose attributes no_trees = Some (codes "When")
 missing_in Choose attributes (further t ts) = None
 missing_in kind attributes entries = first_unmet (row_of kind).needs attributes
 
-abbrev pub is_clash : List Pair → List ℕ → List ℕ → Clash → Bool
+abbrev pub is_clash : List Pair → Name → Name → Clash → Bool
 is_clash attributes one other clash = bytes_eq one clash.first && bytes_eq other clash.second
     && not (is_some clash.unless && has_or_no clash.unless attributes)
 
 -- the name, in lower case
-abbrev pub is_same : List ℕ → List ℕ → Bool
+abbrev pub is_same : Name → Name → Bool
 is_same key name = bytes_eq (str_to_ascii_lowercase name) key
 
 -- two metadata or parameters of one name without case, or two that the row keeps apart
-abbrev pub apart_as : Role → Kind → List Pair → List ℕ → List ℕ → Bool
+abbrev pub apart_as : Role → Kind → List Pair → Name → Name → Bool
 apart_as Named kind attributes one other = is_named (role_of kind other)
     && is_same (str_to_ascii_lowercase one) other
 apart_as _ kind attributes one other = list_any (is_clash attributes one other)
     (row_of kind).clashes
 
-abbrev pub are_apart : Kind → List Pair → List ℕ → List ℕ → Bool
+abbrev pub are_apart : Kind → List Pair → Name → Name → Bool
 are_apart kind attributes one other = apart_as (role_of kind one) kind attributes one other
 
-abbrev pub first_other : (List ℕ → Bool) → List Pair → Option (List ℕ)
+abbrev pub first_other : (Name → Bool) → List Pair → Option Name
 first_other test [] = None
 first_other test (pair ∷ pairs) = if test pair.0 then Some pair.0 else first_other test pairs
 
 -- the first two names that may not stand together
-abbrev pub first_two : (List ℕ → List ℕ → Bool) → List Pair → Option (List ℕ × List ℕ)
+abbrev pub first_two : (Name → Name → Bool) → List Pair → Option (Name × Name)
 first_two apart [] = None
 first_two apart (pair ∷ pairs) = or_else
     (option_map (λ other. (pair.0, other)) (first_other (apart pair.0) pairs))
     (first_two apart pairs)
 
 -- BothAttributes: the first two attributes that may not stand together
-abbrev pub both_in : Kind → List Pair → Option (List ℕ × List ℕ)
+abbrev pub both_in : Kind → List Pair → Option (Name × Name)
 both_in kind attributes = first_two (are_apart kind attributes) attributes
 
 -- two names behind references
-abbrev pub names_of : Option (Bor (List ℕ) × Bor (List ℕ)) → Option (List ℕ × List ℕ)
+abbrev pub names_of : Option (Bor Name × Bor Name) → Option (Name × Name)
 names_of None = None
 names_of (Some two) = Some (two.0.now, two.1.now)
 
@@ -152,14 +153,14 @@ first_bad kind [] = None
 first_bad kind (pair ∷ pairs) = or_else (bad_attribute kind pair) (first_bad kind pairs)
 
 -- an element without a tag is a property, an item, a metadata or a task of its name
-abbrev pub bad_own_name : Kind → List ℕ → Option ℕ
+abbrev pub bad_own_name : Kind → Name → Option ℕ
 bad_own_name kind name = if is_some (row_of kind).tag then None else bad_place is_name_byte name
 
 -- BadName: a name that is none
-abbrev pub bad_name_in : Kind → List ℕ → List Pair → Option ℕ
+abbrev pub bad_name_in : Kind → Name → List Pair → Option ℕ
 bad_name_in kind name attributes = or_else (bad_own_name kind name) (first_bad kind attributes)
 
-abbrev pub fault_of_attributes : Kind → List ℕ → List ℕ → List Pair → Trees → Option ReadFault
+abbrev pub fault_of_attributes : Kind → List ℕ → Name → List Pair → Trees → Option ReadFault
 fault_of_attributes kind place name attributes entries =
     or_else
     (option_map (λ missed. fault.MissingAttribute place missed)
@@ -168,7 +169,7 @@ fault_of_attributes kind place name attributes entries =
     (option_map (λ at. fault.BadName place at) (bad_name_in kind name attributes)))
 
 -- of the faults of an element that may stand there the least
-abbrev pub fault_of_kind : Kind → Bool → Bool → List ℕ → List ℕ → List Pair → List ℕ → Trees
+abbrev pub fault_of_kind : Kind → Bool → Bool → List ℕ → Name → List Pair → Text → Trees
     → Option ReadFault
 fault_of_kind kind after last place name attributes text entries =
     if has_not_allowed kind attributes text then Some (fault.UnknownElement place) else
@@ -177,7 +178,7 @@ fault_of_kind kind after last place name attributes text entries =
 
 -- the least fault of an element with these entries below it, after an OnError or not, and as the
 -- last child or not
-abbrev pub own_fault : Standing → Bool → Bool → List ℕ → List ℕ → List Pair → List ℕ → Trees
+abbrev pub own_fault : Standing → Bool → Bool → List ℕ → Name → List Pair → Text → Trees
     → Option ReadFault
 own_fault (Stands kind) after last place name attributes text entries = fault_of_kind kind after
     last place name attributes text entries

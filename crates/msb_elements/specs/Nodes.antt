@@ -1,11 +1,12 @@
 -- An element of a project file, as plain data. (MSBuild project file schema reference.)
 use Rattle.std.specs.Prelude.{ℕ, List, [], ◌∷◌}
+use Rattle.msb_laws.specs.Words.{Name, Pairs, Text}
 
 -- its place, its name, its attributes in byte order of their names, its text and its children
 mutual
   pub data Node : Type 0 where
-    node : (place : List ℕ) → (name : List ℕ) → (attributes : List (List ℕ × List ℕ))
-        → (text : List ℕ) → (children : Nodes) → Node
+    node : (place : List ℕ) → (name : Name) → (attributes : Pairs) → (text : Text)
+        → (children : Nodes) → Node
 
   pub data Nodes : Type 0 where
     no_nodes : Nodes
@@ -14,13 +15,13 @@ mutual
 abbrev pub place_of : Node → List ℕ
 place_of (node place name attributes text children) = place
 
-abbrev pub name_of : Node → List ℕ
+abbrev pub name_of : Node → Name
 name_of (node place name attributes text children) = name
 
-abbrev pub attributes_of : Node → List (List ℕ × List ℕ)
+abbrev pub attributes_of : Node → Pairs
 attributes_of (node place name attributes text children) = attributes
 
-abbrev pub inner_text : Node → List ℕ
+abbrev pub inner_text : Node → Text
 inner_text (node place name attributes text children) = text
 
 abbrev pub list_of : Nodes → List Node

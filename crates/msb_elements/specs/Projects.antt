@@ -22,6 +22,7 @@ use Rattle.std.specs.Prelude.{
   Err,
   if◌then◌else◌,
 }
+use Rattle.msb_laws.specs.Words.{Name, Pairs, Text}
 use Rattle.serde_json.specs.Data.{Data}
 use Rattle.msb_elements.specs.Nodes.{Node, node, Nodes, no_nodes, more}
 use Rattle.msb_elements.specs.Forms.{json_in}
@@ -49,7 +50,7 @@ kind_standing (Stands kind) = Some kind
 kind_standing _ = None
 
 -- an element with these children, unless it has a fault itself or one of them has
-abbrev pub with_children : List ℕ → List ℕ → List (List ℕ × List ℕ) → List ℕ → Option ReadFault
+abbrev pub with_children : List ℕ → Name → Pairs → Text → Option ReadFault
     → Result Nodes ReadFault → Result Node ReadFault
 with_children place name attributes text (Some fault) children = Err fault
 with_children place name attributes text None (Ok children) = Ok
@@ -99,5 +100,5 @@ root_or_fault None = Err NotJson
 root_or_fault (Some d) = element_or_fault None false true [] (tree_of d)
 
 -- the root element of a project file, or its first fault
-unfoldable pub project_in : List ℕ → Result Node ReadFault
+unfoldable pub project_in : Text → Result Node ReadFault
 project_in bytes = root_or_fault (json_in bytes)

@@ -3,6 +3,7 @@
 --
 -- `Label` may stand on every element, and is in no row. The names are exact in case.
 use Rattle.std.specs.Prelude.{ℕ, List, [], ◌∷◌, Bool, true, false, Option, Some, None, codes}
+use Rattle.msb_laws.specs.Words.{Name}
 use Rattle.msb_values.specs.Names.{is_name_byte, is_target_byte}
 use Rattle.msb_elements.specs.declared.kind.Kind.{Kind}
 use Rattle.msb_elements.specs.declared.kind.Kind.TheVariants.{
@@ -34,18 +35,18 @@ use Rattle.msb_elements.specs.declared.kind.Role.TheVariants.{Known, Named, NotA
 -- one of these attributes is needed, or only where another stands; the first of them is the one
 -- that is missed
 pub record Need : Type 0 where
-  pub beside : Option (List ℕ)
-  pub one_of : List (List ℕ)
+  pub beside : Option Name
+  pub one_of : List Name
 
 -- two attributes, in byte order, that may not stand together, unless another stands there too
 pub record Clash : Type 0 where
-  pub first : List ℕ
-  pub second : List ℕ
-  pub unless : Option (List ℕ)
+  pub first : Name
+  pub second : Name
+  pub unless : Option Name
 
 -- an attribute whose value is a name, and what may follow the first character of such a name
 pub record NameValue : Type 0 where
-  pub attribute : List ℕ
+  pub attribute : Name
   pub may_follow : ℕ → Bool
 
 -- which children an element may have: these; these, and of the names that stand in no row each as
@@ -59,8 +60,8 @@ pub data Children : Type 0 where
 -- `tag` is the element's name, if it has one and the same; `others` is what an attribute out of the
 -- list is
 pub record Row : Type 0 where
-  pub tag : Option (List ℕ)
-  pub attributes : List (List ℕ)
+  pub tag : Option Name
+  pub attributes : List Name
   pub others : Role
   pub needs : List Need
   pub clashes : List Clash
@@ -68,17 +69,17 @@ pub record Row : Type 0 where
   pub children : Children
   pub text : Bool
 
-abbrev need : List (List ℕ) → Need
+abbrev need : List Name → Need
 need names = record { beside = None; one_of = names }
 
-abbrev clash : List ℕ → List ℕ → Clash
+abbrev clash : Name → Name → Clash
 clash first second = record { first = first; second = second; unless = None }
 
-abbrev condition : List (List ℕ)
+abbrev condition : List Name
 condition = codes "Condition" ∷ []
 
 -- an element of this name with these attributes alone, without children and text
-abbrev fixed : List ℕ → List (List ℕ) → Row
+abbrev fixed : Name → List Name → Row
 fixed tag attributes = record {
   tag = Some tag;
   attributes = attributes;
@@ -92,7 +93,7 @@ fixed tag attributes = record {
 }
 
 -- an element that has its own name, with these attributes alone, without children and text
-abbrev free : List (List ℕ) → Row
+abbrev free : List Name → Row
 free attributes = record {
   tag = None;
   attributes = attributes;
@@ -105,7 +106,7 @@ free attributes = record {
   text = false;
 }
 
-abbrev pub names_items : List (List ℕ)
+abbrev pub names_items : List Name
 names_items = codes "Include" ∷ codes "Remove" ∷ codes "Update" ∷ []
 
 abbrev pub item_clashes : List Clash

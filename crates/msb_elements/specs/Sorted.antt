@@ -1,8 +1,6 @@
 -- The values of an object's members, by the keys that an element may have.
 use Rattle.std.specs.Prelude.{
   ◌≡◌,
-  ℕ,
-  List,
   true,
   false,
   Option,
@@ -13,6 +11,7 @@ use Rattle.std.specs.Prelude.{
   codes,
 }
 use Rattle.std.specs.Str.{bytes_eq}
+use Rattle.msb_laws.specs.Words.{Text}
 use Rattle.serde_json.specs.Data.{Members, object}
 use Rattle.serde_json.specs.Find.{get_member}
 use Rattle.serde_json.specs.View.{view as value_of}
@@ -22,10 +21,10 @@ use Rattle.msb_elements.specs.Stands.{or_else}
 use Rattle.msb_elements.specs.declared.parts.Values.{Values}
 
 -- of equal keys the first counts
-abbrev pub kept_at : List ℕ → List ℕ → Value → Option Value → Option Value
+abbrev pub kept_at : Text → Text → Value → Option Value → Option Value
 kept_at own key value before = if bytes_eq own key then or_else before (Some value) else before
 
-abbrev pub with_member : List ℕ → Value → Values → Values
+abbrev pub with_member : Text → Value → Values → Values
 with_member key value values = record {
   name = kept_at (codes "e") key value values.name;
   attributes = kept_at (codes "a") key value values.attributes;

@@ -2,8 +2,9 @@
 -- (MSBuild project file schema reference.)
 --
 -- An entry is no element by what it has itself. What stands below it, an entry says on its own.
-use Rattle.std.specs.Prelude.{ℕ, List, Option, Some, None, option_and_then, if◌then◌else◌, codes}
+use Rattle.std.specs.Prelude.{Option, Some, None, option_and_then, if◌then◌else◌, codes}
 use Rattle.std.specs.Str.{bytes_eq}
+use Rattle.msb_laws.specs.Words.{Name, Pairs, Text}
 use Rattle.serde_json.specs.Data.{
   Data,
   null,
@@ -34,14 +35,14 @@ use Rattle.msb_elements.specs.Forms.{
 mutual
   pub data Tree : Type 0 where
     no_element : Tree
-    element : (name : List ℕ) → (attributes : List (List ℕ × List ℕ)) → (text : List ℕ)
+    element : (name : Name) → (attributes : Pairs) → (text : Text)
         → (entries : Trees) → Tree
 
   pub data Trees : Type 0 where
     no_trees : Trees
     further : Tree → Trees → Trees
 
-abbrev pub grown_of : Option (List ℕ) → Option (List (List ℕ × List ℕ)) → Option (List ℕ)
+abbrev pub grown_of : Option Name → Option Pairs → Option Text
     → Option Trees → Tree
 grown_of (Some name) (Some attributes) (Some text) (Some entries) = element name attributes text
     entries

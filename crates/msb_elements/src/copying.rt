@@ -11,25 +11,25 @@ impl Element {
     pub fn copied(&self, alloc: Global) -> Result<Element, NoMemory>
         ensures { IfOk result (λ e. view e ≡ view self.now) }
     {
-        copied(alloc, self)
+        copy_element(alloc, self)
     }
 }
 
 #[cycle(copies)]
-fn copied(alloc: Global, element: &Element) -> Result<Element, NoMemory>
+fn copy_element(alloc: Global, element: &Element) -> Result<Element, NoMemory>
     ensures { IfOk result (λ e. view e ≡ view element.now) }
 {
-    let children = copied_each(alloc, &element.children)?;
+    let children = copy_each(alloc, &element.children)?;
     alone(alloc, element, children)
 }
 
 #[cycle(copies)]
-fn copied_each(alloc: Global, elements: &[Element]) -> Result<Vec<Element>, NoMemory>
+fn copy_each(alloc: Global, elements: &[Element]) -> Result<Vec<Element>, NoMemory>
     ensures { IfOk result (λ copies. map view copies.items ≡ map view elements.now) }
 {
     let mut copies = Vec::with_capacity(alloc, elements.len())?;
     for element in elements {
-        copies.push(copied(alloc, element)?)?;
+        copies.push(copy_element(alloc, element)?)?;
     }
     Ok(copies)
 }

@@ -48,7 +48,7 @@ fn own_in(alloc: Global, members: Map<String, Value>) -> Result<Own, PartFault>
         (trees_of (items_view own.entries.items))) result
         (as_element (tree_of (object (members_view members.entries)))) }
 {
-    match sorted(members) {
+    match sort(members) {
         Some(values) => own_from(alloc, values),
         None => Err(PartFault::NotElement),
     }
@@ -90,7 +90,7 @@ pub struct Values {
 
 /// The values of members that are an element's; none where another is among them, or a text stands
 /// beside children.
-fn sorted(members: Map<String, Value>) -> Option<Values>
+fn sort(members: Map<String, Value>) -> Option<Values>
     ensures { Sorts result (members_view members.entries) }
 {
     let mut values = Values {

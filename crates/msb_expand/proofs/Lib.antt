@@ -3,6 +3,8 @@ pub mod Overlays
 pub mod Distinct
 pub mod Giving
 pub mod Filtering
+pub mod Refusing
+pub mod Rereading
 pub mod Reversing
 pub mod Turns
 pub mod Growing

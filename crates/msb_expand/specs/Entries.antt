@@ -13,6 +13,7 @@ use Rattle.std.specs.Prelude.{
   Err,
   if◌then◌else◌,
 }
+use Rattle.msb_laws.specs.Words.{Text}
 use Rattle.msb_expand.specs.declared.open_entry.OpenEntry.{OpenEntry as Open}
 use Rattle.msb_expand.specs.declared.open_entry.OpenEntry.TheVariants.{Begun, Given, Joined}
 use Rattle.msb_expand.specs.declared.reading.Reading.{Reading as SoFar}
@@ -50,6 +51,6 @@ with_tokens scene r (token ∷ tokens) = and_then (with_token scene r token)
     (λ s. with_tokens scene s tokens)
 
 -- the size of a list with one more identity, where it is not too long
-abbrev pub size_with : ℕ → List ℕ → Result ℕ ExpandFault
+abbrev pub size_with : ℕ → Text → Result ℕ ExpandFault
 size_with size ident = if nat_lt limit (size + (length ident + 1)) then Err TooLong else Ok
     (size + (length ident + 1))

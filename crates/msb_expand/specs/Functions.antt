@@ -1,6 +1,5 @@
 -- What the steps of an item reference do to its items. (MSBuild transforms; Item functions)
 use Rattle.std.specs.Prelude.{
-  ℕ,
   Bool,
   true,
   false,
@@ -22,6 +21,7 @@ use Rattle.std.specs.Prelude.{
 }
 use Rattle.std.specs.Fmt.{decimal}
 use Rattle.std.specs.List.{list_any, flat_map}
+use Rattle.msb_laws.specs.Words.{Text, Name, Path}
 use Rattle.msb_values.specs.Pairs.{value_at}
 use Rattle.msb_values.specs.Same.{is_same_text}
 use Rattle.msb_values.specs.declared.item.Item.{Item}
@@ -50,7 +50,7 @@ use Rattle.msb_expand.specs.Reserved.{property_of}
 use Rattle.msb_expand.specs.Metadata.{metadata_of}
 
 -- the item functions, by their names without case
-abbrev pub functions : List (List ℕ × Function)
+abbrev pub functions : List (Name × Function)
 functions =
     (codes "count", Count) ∷
     (codes "distinct", Distinct) ∷
@@ -61,11 +61,11 @@ functions =
     (codes "clearmetadata", ClearMetadata) ∷ []
 
 -- an item that is a text and nothing else
-abbrev pub plain_item : List ℕ → Item
+abbrev pub plain_item : Text → Item
 plain_item text = record { ident = text; recursive = []; meta = [] }
 
 -- the first item of each identity
-abbrev pub distinct_from : List (List ℕ) → List Item → List Item
+abbrev pub distinct_from : List Text → List Item → List Item
 distinct_from seen [] = []
 distinct_from seen (item ∷ items) =
     elim (list_any (is_same_text item.ident) seen) [
@@ -81,29 +81,29 @@ abbrev pub kept_if : Bool → Item → List Item → List Item
 kept_if true item items = item ∷ items
 kept_if false item items = items
 
-abbrev pub filtered : List ℕ → List ℕ → (List ℕ → Bool) → List Item → Result (List Item) ExpandFault
+abbrev pub filtered : Path → Name → (Text → Bool) → List Item → Result (List Item) ExpandFault
 filtered project name passes [] = Ok []
 filtered project name passes (item ∷ items) =
     and_then (metadata_of project item name)
     (λ value. map_ok (kept_if (passes value) item) (filtered project name passes items))
 
 -- whether any passes, which ends at the first that does
-abbrev pub any_passes : List ℕ → List ℕ → (List ℕ → Bool) → List Item → Result Bool ExpandFault
+abbrev pub any_passes : Path → Name → (Text → Bool) → List Item → Result Bool ExpandFault
 any_passes project name passes [] = Ok false
 any_passes project name passes (item ∷ items) =
     and_then (metadata_of project item name)
     (λ value.
     elim (passes value) [ true ↦ Ok true | false ↦ any_passes project name passes items ])
 
-abbrev pub truth_text : Bool → List ℕ
+abbrev pub truth_text : Bool → Text
 truth_text true = codes "true"
 truth_text false = codes "false"
 
-abbrev pub is_some_text : List ℕ → Bool
+abbrev pub is_some_text : Text → Bool
 is_some_text text = not (length text == 0)
 
 -- a function's result; another name or number of arguments is refused
-abbrev pub function_result : List ℕ → List ℕ → Option Function → List (List ℕ) → List Item
+abbrev pub function_result : Path → Name → Option Function → List Text → List Item
     → Result (List Item) ExpandFault
 function_result project name (Some Count) [] items = Ok (plain_item (decimal (length items)) ∷ [])
 function_result project name (Some Distinct) [] items = Ok (distinct_from [] items)
@@ -119,7 +119,7 @@ function_result project name (Some ClearMetadata) [] items = Ok (map without_met
 function_result project name function args items = Err (UnknownFunction name)
 
 -- a part of a transform, over an item
-abbrev pub piece_value : Scene → Item → Piece → Result (List ℕ) ExpandFault
+abbrev pub piece_value : Scene → Item → Piece → Result Text ExpandFault
 piece_value scene item (Plain text) = Ok text
 piece_value scene item (Prop name) = Ok (property_of scene name)
 piece_value scene item (Meta name) = metadata_of scene.project item name
@@ -131,12 +131,12 @@ transformed scene pieces item =
     (grown_by (piece_value scene item) [] pieces)
 
 -- a part of an argument or of a separator, where properties alone have values
-abbrev pub quoted_piece : Scene → Piece → List ℕ
+abbrev pub quoted_piece : Scene → Piece → Text
 quoted_piece scene (Prop name) = property_of scene name
 quoted_piece scene (Plain text) = text
 quoted_piece scene (Meta name) = piece_text (Meta name)
 
-abbrev pub quoted_value : Scene → List Piece → List ℕ
+abbrev pub quoted_value : Scene → List Piece → Text
 quoted_value scene pieces = flat_map (quoted_piece scene) pieces
 
 abbrev pub stepped : Scene → Step → List Item → Result (List Item) ExpandFault
@@ -150,4 +150,4 @@ stepped scene (Call name args) items =
 abbrev pub after_steps : Scene → List Step → List Item → Result (List Item) ExpandFault
 after_steps scene [] items = Ok items
 after_steps scene (step ∷ steps) items = and_then (stepped scene step items)
-    (λ made. after_steps scene steps made)
+    (λ next. after_steps scene steps next)

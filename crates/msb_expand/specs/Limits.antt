@@ -12,6 +12,7 @@ use Rattle.std.specs.Prelude.{
   Err,
   if◌then◌else◌,
 }
+use Rattle.msb_laws.specs.Words.{Text}
 use Rattle.msb_expand.specs.declared.faults.ExpandFault.{ExpandFault}
 use Rattle.msb_expand.specs.declared.faults.ExpandFault.TheVariants.{TooLong}
 use Rattle.msb_laws.specs.Results.{and_then}
@@ -20,16 +21,16 @@ abbrev pub limit : ℕ
 limit = 4194304
 
 -- the text, where it is not too long
-abbrev pub if_short : List ℕ → Result (List ℕ) ExpandFault
+abbrev pub if_short : Text → Result Text ExpandFault
 if_short text = if nat_lt limit (length text) then Err TooLong else Ok text
 
 -- a text and what is put behind it
-abbrev pub grown : List ℕ → Result (List ℕ) ExpandFault → Result (List ℕ) ExpandFault
+abbrev pub grown : Text → Result Text ExpandFault → Result Text ExpandFault
 grown text (Ok more) = if_short (text ++ more)
 grown text (Err fault) = Err fault
 
 -- a text that grows by the values of some parts, from the left
-abbrev pub grown_by : {X : Type 0} → (X → Result (List ℕ) ExpandFault) → List ℕ → List X
-    → Result (List ℕ) ExpandFault
+abbrev pub grown_by : {X : Type 0} → (X → Result Text ExpandFault) → Text → List X
+    → Result Text ExpandFault
 grown_by value text [] = Ok text
 grown_by value text (x ∷ xs) = and_then (grown text (value x)) (λ longer. grown_by value longer xs)

@@ -1,5 +1,6 @@
 -- The metadata of an item. (MSBuild well-known item metadata; MSBuild item metadata)
-use Rattle.std.specs.Prelude.{ℕ, List, [], ◌∷◌, Option, Some, None, Result, Ok, Err, codes}
+use Rattle.std.specs.Prelude.{List, [], ◌∷◌, Option, Some, None, Result, Ok, Err, codes}
+use Rattle.msb_laws.specs.Words.{Text, Name, Path}
 use Rattle.msb_paths.specs.Refused.{normal_path}
 use Rattle.msb_paths.specs.Parts.{relative_dir, filename, extension}
 use Rattle.msb_paths.specs.declared.errors.NormalFault.{NormalFault}
@@ -24,7 +25,7 @@ use Rattle.msb_laws.specs.Results.{map_ok}
 use Rattle.msb_expand.specs.Reserved.{folder_of, from_root}
 
 -- the names
-abbrev pub well_known : List (List ℕ × WellKnown)
+abbrev pub well_known : List (Name × WellKnown)
 well_known =
     (codes "identity", Identity) ∷
     (codes "fullpath", FullPath) ∷
@@ -36,24 +37,24 @@ well_known =
     (codes "recursivedir", RecursiveDir) ∷ []
 
 -- an identity as a path of the store, on the project's folder
-abbrev pub or_bad_path : List ℕ → Result (List ℕ) NormalFault → Result (List ℕ) ExpandFault
+abbrev pub or_bad_path : Text → Result Path NormalFault → Result Path ExpandFault
 or_bad_path ident (Ok path) = Ok path
 or_bad_path ident (Err fault) = Err (BadPath ident)
 
-abbrev pub path_of : List ℕ → List ℕ → Result (List ℕ) ExpandFault
+abbrev pub path_of : Path → Text → Result Path ExpandFault
 path_of project ident = or_bad_path ident (normal_path (folder_of project) ident)
 
 -- of an identity as it stands in its item
-abbrev pub full_path : List ℕ → List ℕ → Result (List ℕ) ExpandFault
+abbrev pub full_path : Path → Text → Result Text ExpandFault
 full_path project ident = map_ok (λ path. escaped (from_root path))
     (path_of project (unescaped ident))
 
-abbrev pub directory : List ℕ → List ℕ → Result (List ℕ) ExpandFault
+abbrev pub directory : Path → Text → Result Text ExpandFault
 directory project ident = map_ok (λ path. escaped (relative_dir path))
     (path_of project (unescaped ident))
 
 -- by the project's file and an item, whose identity is unescaped
-abbrev pub well_known_value : List ℕ → Item → WellKnown → Result (List ℕ) ExpandFault
+abbrev pub well_known_value : Path → Item → WellKnown → Result Text ExpandFault
 well_known_value project item Identity = Ok (escaped (unescaped item.ident))
 well_known_value project item FullPath = full_path project item.ident
 well_known_value project item RootDir = Ok (codes "/")
@@ -63,22 +64,22 @@ well_known_value project item Filename = Ok (escaped (filename (unescaped item.i
 well_known_value project item Extension = Ok (escaped (extension (unescaped item.ident)))
 well_known_value project item RecursiveDir = Ok item.recursive
 
-abbrev pub text_or_none : Option (List ℕ) → List ℕ
+abbrev pub text_or_none : Option Text → Text
 text_or_none (Some text) = text
 text_or_none None = []
 
-abbrev pub value_if : List ℕ → Item → List ℕ → Option WellKnown → Result (List ℕ) ExpandFault
+abbrev pub value_if : Path → Item → Name → Option WellKnown → Result Text ExpandFault
 value_if project item key (Some known) = well_known_value project item known
 value_if project item key None = Ok (text_or_none (value_at key item.meta))
 
 -- the metadata of a key, of an item that has the defaults of its type: well-known, or its own, or
 -- empty
-abbrev pub metadata_at : List ℕ → Item → List ℕ → Result (List ℕ) ExpandFault
+abbrev pub metadata_at : Path → Item → Name → Result Text ExpandFault
 metadata_at project item key = value_if project item key (value_at key well_known)
 
-abbrev pub metadata_if : List ℕ → Item → Option (List ℕ) → Result (List ℕ) ExpandFault
+abbrev pub metadata_if : Path → Item → Option Name → Result Text ExpandFault
 metadata_if project item (Some key) = metadata_at project item key
 metadata_if project item None = Ok []
 
-abbrev pub metadata_of : List ℕ → Item → List ℕ → Result (List ℕ) ExpandFault
+abbrev pub metadata_of : Path → Item → Name → Result Text ExpandFault
 metadata_of project item name = metadata_if project item (key_of name)

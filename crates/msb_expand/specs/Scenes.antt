@@ -1,6 +1,7 @@
 -- What an expression sees, and where it stands.
-use Rattle.std.specs.Prelude.{ℕ, List, [], Option, Some, None, option_map, option_copied}
+use Rattle.std.specs.Prelude.{List, [], Option, Some, None, option_map, option_copied}
 use Rattle.std.specs.Prelude.{map}
+use Rattle.msb_laws.specs.Words.{Name, Path, Pairs}
 use Rattle.msb_values.specs.Overlays.{overlaid}
 use Rattle.msb_values.specs.Pairs.{value_at}
 use Rattle.msb_values.specs.declared.item.Item.{Item}
@@ -13,10 +14,10 @@ use Rattle.msb_expand.specs.declared.lens.Lens.{Lens}
 -- bucket that `%` speaks of
 pub record Scene : Type 0 where
   pub scope : Scope
-  pub project : List ℕ
-  pub file : List ℕ
+  pub project : Path
+  pub file : Path
   pub usage : Use
-  pub own : Option (List ℕ × Item)
+  pub own : Option (Name × Item)
   pub bucket : Option Bucket
 
 abbrev pub scene_of : Lens → Scene
@@ -30,12 +31,12 @@ scene_of lens = record {
 }
 
 -- in a file of a project, where no item is at hand and nothing is batched
-abbrev pub scene_at : Scope → List ℕ → List ℕ → Use → Scene
+abbrev pub scene_at : Scope → Path → Path → Use → Scene
 scene_at scope project file usage = record
     { scope = scope; project = project; file = file; usage = usage; own = None; bucket = None }
 
 -- with an item of a type at hand
-abbrev pub with_own : Scene → List ℕ → Item → Scene
+abbrev pub with_own : Scene → Name → Item → Scene
 with_own scene kind item = record {
   scope = scene.scope;
   project = scene.project;
@@ -59,15 +60,15 @@ with_bucket scene bucket = record {
 }
 
 -- the metadata that a type's items have by default
-abbrev pub pairs_or_none : Option (List (List ℕ × List ℕ)) → List (List ℕ × List ℕ)
+abbrev pub pairs_or_none : Option Pairs → Pairs
 pairs_or_none (Some pairs) = pairs
 pairs_or_none None = []
 
-abbrev pub defaults_at : Scene → List ℕ → List (List ℕ × List ℕ)
+abbrev pub defaults_at : Scene → Name → Pairs
 defaults_at scene kind = pairs_or_none (value_at kind scene.scope.defaults)
 
 -- an item with the defaults of its type
-abbrev pub with_defaults : List (List ℕ × List ℕ) → Item → Item
+abbrev pub with_defaults : Pairs → Item → Item
 with_defaults defaults item = record
     { ident = item.ident; recursive = item.recursive; meta = overlaid defaults item.meta }
 
@@ -77,12 +78,12 @@ abbrev pub list_or : Option (List Item) → List Item → List Item
 list_or (Some list) other = list
 list_or None other = other
 
-abbrev pub list_in : Option Bucket → List (List ℕ × List Item) → List ℕ → List Item
+abbrev pub list_in : Option Bucket → List (Name × List Item) → Name → List Item
 list_in None items kind = list_or (value_at kind items) []
 list_in (Some bucket) items kind = list_or (value_at kind bucket.lists)
     (list_or (value_at kind items) [])
 
 -- the items of a type, each with the defaults
-abbrev pub items_at : Scene → List ℕ → List Item
+abbrev pub items_at : Scene → Name → List Item
 items_at scene kind = map (with_defaults (defaults_at scene kind))
     (list_in scene.bucket scene.scope.items kind)

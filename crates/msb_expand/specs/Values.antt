@@ -26,6 +26,7 @@ use Rattle.std.specs.Prelude.{
   if◌then◌else◌,
 }
 use Rattle.std.specs.List.{list_all, slice_split, join_by, flat_map, sum}
+use Rattle.msb_laws.specs.Words.{Text, Name}
 use Rattle.msb_values.specs.Lists.{is_list_space, trimmed}
 use Rattle.msb_values.specs.declared.item.Item.{Item}
 use Rattle.msb_expression.specs.declared.expression.Piece.{Piece}
@@ -41,31 +42,31 @@ use Rattle.msb_expand.specs.Scenes.{Scene, items_at}
 use Rattle.msb_expand.specs.Functions.{after_steps, quoted_value, plain_item}
 use Rattle.msb_expand.specs.Tokens.{Token, written, referred, faulty, tokens}
 
-abbrev pub named_items : Scene → Option (List ℕ) → List Item
+abbrev pub named_items : Scene → Option Name → List Item
 named_items scene (Some kind) = items_at scene kind
 named_items scene None = []
 
 -- the items of a reference, after its steps
-abbrev pub referred_items : Scene → List ℕ → List Step → Result (List Item) ExpandFault
+abbrev pub referred_items : Scene → Name → List Step → Result (List Item) ExpandFault
 referred_items scene kind steps = after_steps scene steps (named_items scene (key_of kind))
 
 -- the separator, or `;`
-abbrev pub separator_of : Scene → Option (List Piece) → List ℕ
+abbrev pub separator_of : Scene → Option (List Piece) → Text
 separator_of scene None = codes ";"
 separator_of scene (Some pieces) = quoted_value scene pieces
 
 -- identities joined, the empty ones too
-abbrev pub joined : List ℕ → List Item → List ℕ
+abbrev pub joined : Text → List Item → Text
 joined separator items = join_by (λ item. item.ident) separator items
 
-abbrev pub token_text : Scene → Token → Result (List ℕ) ExpandFault
+abbrev pub token_text : Scene → Token → Result Text ExpandFault
 token_text scene (written text) = Ok text
 token_text scene (referred kind steps separator) = map_ok (joined (separator_of scene separator))
     (referred_items scene kind steps)
 token_text scene (faulty fault) = Err fault
 
 -- the text of an expression
-abbrev pub text_value : Scene → List Part → Result (List ℕ) ExpandFault
+abbrev pub text_value : Scene → List Part → Result Text ExpandFault
 text_value scene parts = grown_by (token_text scene) [] (tokens scene parts)
 
 -- An entry of a list is written as text, or given by a reference, which makes no pattern of it.
@@ -75,7 +76,7 @@ entry_of is_written item = record { item = item; written = is_written }
 -- An entry as far as it is read: text, or the items of a reference that nothing but spaces may
 -- stand beside.
 pub data OpenEntry : Type 0 where
-  begun : List ℕ → OpenEntry
+  begun : Text → OpenEntry
   given : List Item → OpenEntry
 
 -- what was read of a list: whole entries, and the entry that is open
@@ -86,11 +87,11 @@ pub record Reading : Type 0 where
 abbrev pub reading : List Entry → OpenEntry → Reading
 reading whole entry = record { whole = whole; entry = entry }
 
-abbrev pub is_blank : List ℕ → Bool
+abbrev pub is_blank : Text → Bool
 is_blank text = list_all is_list_space text
 
 -- an item of this text, unless it is empty
-abbrev pub text_entry : Bool → List ℕ → List Entry
+abbrev pub text_entry : Bool → Text → List Entry
 text_entry is_written [] = []
 text_entry is_written (b ∷ bs) = entry_of is_written (plain_item (b ∷ bs)) ∷ []
 
@@ -112,34 +113,34 @@ abbrev pub closed : Reading → Result (List Entry) ExpandFault
 closed r = if_small (r.whole ++ entries_in r.entry)
 
 -- text without `;` behind an entry
-abbrev pub entry_with : OpenEntry → List ℕ → Result OpenEntry ExpandFault
+abbrev pub entry_with : OpenEntry → Text → Result OpenEntry ExpandFault
 entry_with (begun piece) more = Ok (begun (piece ++ more))
 entry_with (given items) more = if is_blank more then Ok (given items) else Err MixedList
 
-abbrev pub with_text : Reading → List ℕ → Result Reading ExpandFault
+abbrev pub with_text : Reading → Text → Result Reading ExpandFault
 with_text r more = map_ok (reading r.whole) (entry_with r.entry more)
 
 -- text behind a `;`, which closes the entry before it
-abbrev pub next_text : Reading → List ℕ → Result Reading ExpandFault
+abbrev pub next_text : Reading → Text → Result Reading ExpandFault
 next_text r piece = map_ok (λ whole. reading whole (begun piece)) (closed r)
 
-abbrev pub with_next : Reading → List (List ℕ) → Result Reading ExpandFault
+abbrev pub with_next : Reading → List Text → Result Reading ExpandFault
 with_next r [] = Ok r
 with_next r (piece ∷ pieces) = and_then (next_text r piece) (λ s. with_next s pieces)
 
 -- text that is cut at each `;`
-abbrev pub with_pieces : Reading → List (List ℕ) → Result Reading ExpandFault
+abbrev pub with_pieces : Reading → List Text → Result Reading ExpandFault
 with_pieces r [] = Ok r
 with_pieces r (piece ∷ pieces) = and_then (with_text r piece) (λ s. with_next s pieces)
 
 -- the joined text of a reference with a separator is one item, in which `;` cuts nothing
-abbrev pub uncut_byte : ℕ → List ℕ
+abbrev pub uncut_byte : ℕ → Text
 uncut_byte b = if b == 59 then codes "%3B" else b ∷ []
 
-abbrev pub one_item : List ℕ → List Item
+abbrev pub one_item : Text → List Item
 one_item joined_text = plain_item (flat_map uncut_byte joined_text) ∷ []
 
-abbrev pub given_items : Scene → List ℕ → List Step → Option (List Piece)
+abbrev pub given_items : Scene → Name → List Step → Option (List Piece)
     → Result (List Item) ExpandFault
 given_items scene kind steps None = referred_items scene kind steps
 given_items scene kind steps (Some separator) = map_ok
@@ -151,7 +152,7 @@ abbrev pub is_open : OpenEntry → Bool
 is_open (begun piece) = is_blank piece
 is_open (given items) = false
 
-abbrev pub with_reference : Bool → Scene → Reading → List ℕ → List Step → Option (List Piece)
+abbrev pub with_reference : Bool → Scene → Reading → Name → List Step → Option (List Piece)
     → Result Reading ExpandFault
 with_reference true scene r kind steps separator = map_ok (λ items. reading r.whole (given items))
     (given_items scene kind steps separator)

@@ -2,6 +2,7 @@
 -- MSBuild targets)
 use Rattle.std.specs.Prelude.{ℕ, List, Option, Some, None, Result, Ok, Err}
 use Rattle.std.specs.Str.{str_to_ascii_lowercase}
+use Rattle.msb_laws.specs.Words.{Text, Name}
 use Rattle.msb_laws.specs.Results.{and_then, all_ok}
 use Rattle.msb_values.specs.Names.{bad_place, is_target_byte}
 use Rattle.msb_values.specs.declared.cause.Cause.{Cause}
@@ -26,28 +27,28 @@ or_unread (Ok parts) = Ok parts
 or_unread (Err fault) = Err (expression_cause_of fault)
 
 -- its text
-abbrev pub expanded : Scene → List ℕ → Result (List ℕ) Cause
+abbrev pub expanded : Scene → Text → Result Text Cause
 expanded scene written = and_then (or_unread (reading written))
     (λ parts. or_cause (text_value scene parts))
 
 -- the entries of its list
-abbrev pub expanded_entries : Scene → List ℕ → Result (List Entry) Cause
+abbrev pub expanded_entries : Scene → Text → Result (List Entry) Cause
 expanded_entries scene written = and_then (or_unread (reading written))
     (λ parts. or_cause (entries_value scene parts))
 
 -- its list
-abbrev pub expanded_items : Scene → List ℕ → Result (List Item) Cause
+abbrev pub expanded_items : Scene → Text → Result (List Item) Cause
 expanded_items scene written = and_then (or_unread (reading written))
     (λ parts. or_cause (list_value scene parts))
 
 -- an entry of a list of targets is a target's name, or refused at its first bad byte
-abbrev pub name_if : List ℕ → Option ℕ → Result (List ℕ) Cause
+abbrev pub name_if : Text → Option ℕ → Result Name Cause
 name_if text None = Ok (str_to_ascii_lowercase text)
 name_if text (Some place) = Err (BadName place)
 
-abbrev pub target_name : Item → Result (List ℕ) Cause
+abbrev pub target_name : Item → Result Name Cause
 target_name item = name_if item.ident (bad_place is_target_byte item.ident)
 
 -- the targets that it names
-abbrev pub target_names : Scene → List ℕ → Result (List (List ℕ)) Cause
+abbrev pub target_names : Scene → Text → Result (List Name) Cause
 target_names scene written = and_then (expanded_items scene written) (all_ok target_name)

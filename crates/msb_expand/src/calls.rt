@@ -66,13 +66,13 @@ fn calls_value(
 {
     let mut value = subject;
     for call in calls {
-        value = Some(called(alloc, lens, &value, call)?);
+        value = Some(call_function(alloc, lens, &value, call)?);
     }
     Ok(value)
 }
 
 /// What a call gives, of a text or of `[MSBuild]`.
-fn called(
+fn call_function(
     alloc: Global,
     lens: &Lens<'_>,
     subject: &Option<Text>,

@@ -9,7 +9,7 @@ use msb_expression::{Args, Part, Piece, Pieces, Step, Steps, Word};
 use std::alloc::Global;
 
 /// An item reference that stays text, in which each property has its value.
-pub(crate) fn kept_text(
+pub(crate) fn reference_text(
     alloc: Global,
     lens: &Lens<'_>,
     kind: &Word,
@@ -19,12 +19,12 @@ pub(crate) fn kept_text(
     ensures { Gives result (Ok (kept_text (scene_of lens.now) kind.now steps.now separator.now)) }
 {
     let kind = Word::of(alloc, kind.as_str())?;
-    let steps = filled_steps(alloc, lens, steps.as_slice())?;
-    let separator = filled_separator(alloc, lens, separator)?;
+    let steps = fill_steps(alloc, lens, steps.as_slice())?;
+    let separator = fill_separator(alloc, lens, separator)?;
     Ok(Part::Items(kind, steps, separator).text(alloc)?)
 }
 
-fn filled_separator(
+fn fill_separator(
     alloc: Global,
     lens: &Lens<'_>,
     separator: &Option<Pieces>,
@@ -33,57 +33,57 @@ fn filled_separator(
 {
     match separator {
         None => Ok(None),
-        Some(pieces) => Ok(Some(filled_pieces(alloc, lens, pieces.as_slice())?)),
+        Some(pieces) => Ok(Some(fill_pieces(alloc, lens, pieces.as_slice())?)),
     }
 }
 
-fn filled_steps(alloc: Global, lens: &Lens<'_>, steps: &[Step]) -> Result<Steps, ExpandFault>
+fn fill_steps(alloc: Global, lens: &Lens<'_>, steps: &[Step]) -> Result<Steps, ExpandFault>
     ensures { Gives result (Ok (map (filled_step (scene_of lens.now)) steps.now)) }
 {
     let mut filled = Steps::new(alloc);
     for step in steps {
-        filled.push(filled_step(alloc, lens, step)?)?;
+        filled.push(fill_step(alloc, lens, step)?)?;
     }
     Ok(filled)
 }
 
-fn filled_step(alloc: Global, lens: &Lens<'_>, step: &Step) -> Result<Step, ExpandFault>
+fn fill_step(alloc: Global, lens: &Lens<'_>, step: &Step) -> Result<Step, ExpandFault>
     ensures { Gives result (Ok (filled_step (scene_of lens.now) step.now)) }
 {
     match step {
-        Step::Transform(pieces) => Ok(Step::Transform(filled_pieces(
+        Step::Transform(pieces) => Ok(Step::Transform(fill_pieces(
             alloc,
             lens,
             pieces.as_slice(),
         )?)),
         Step::Call(function, args) => {
             let function = Word::of(alloc, function.as_str())?;
-            Ok(Step::Call(function, filled_args(alloc, lens, args.as_slice())?))
+            Ok(Step::Call(function, fill_args(alloc, lens, args.as_slice())?))
         }
     }
 }
 
-fn filled_args(alloc: Global, lens: &Lens<'_>, args: &[Pieces]) -> Result<Args, ExpandFault>
+fn fill_args(alloc: Global, lens: &Lens<'_>, args: &[Pieces]) -> Result<Args, ExpandFault>
     ensures { Gives result (Ok (map (filled (scene_of lens.now)) args.now)) }
 {
     let mut filled = Args::new(alloc);
     for arg in args {
-        filled.push(filled_pieces(alloc, lens, arg.as_slice())?)?;
+        filled.push(fill_pieces(alloc, lens, arg.as_slice())?)?;
     }
     Ok(filled)
 }
 
-fn filled_pieces(alloc: Global, lens: &Lens<'_>, pieces: &[Piece]) -> Result<Pieces, ExpandFault>
+fn fill_pieces(alloc: Global, lens: &Lens<'_>, pieces: &[Piece]) -> Result<Pieces, ExpandFault>
     ensures { Gives result (Ok (filled (scene_of lens.now) pieces.now)) }
 {
     let mut filled = Pieces::new(alloc);
     for piece in pieces {
-        filled.push(filled_piece(alloc, lens, piece)?)?;
+        filled.push(fill_piece(alloc, lens, piece)?)?;
     }
     Ok(filled)
 }
 
-fn filled_piece(alloc: Global, lens: &Lens<'_>, piece: &Piece) -> Result<Piece, ExpandFault>
+fn fill_piece(alloc: Global, lens: &Lens<'_>, piece: &Piece) -> Result<Piece, ExpandFault>
     ensures { Gives result (Ok (filled_piece (scene_of lens.now) piece.now)) }
 {
     match piece {

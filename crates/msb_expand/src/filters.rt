@@ -52,7 +52,7 @@ pub(crate) fn with_some<'a>(
     ensures { GivesAs (λ seen. map seen_item seen.items) result
         (filtered project.now of.now is_some_text (map seen_item items.entry.items)) }
 {
-    filtered(alloc, project, of, &Wanted::Some, items)
+    filter(alloc, project, of, &Wanted::Some, items)
 }
 
 /// The items whose metadata of this name equals a value without case.
@@ -67,7 +67,7 @@ pub(crate) fn with_value<'a>(
         (filtered project.now of.now (is_same_text value.now) (map seen_item items.entry.items)) }
 {
     let wanted = Wanted::value(alloc, value)?;
-    filtered(alloc, project, of, &wanted, items)
+    filter(alloc, project, of, &wanted, items)
 }
 
 /// Whether the metadata of this name equals a value, without case, of any item.
@@ -86,7 +86,7 @@ pub(crate) fn any_with_value(
 }
 
 /// The items whose metadata of this name passes.
-fn filtered<'a>(
+fn filter<'a>(
     alloc: Global,
     project: &str,
     of: &str,

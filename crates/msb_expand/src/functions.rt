@@ -17,7 +17,7 @@ ghost use Rattle.msb_expand.specs.Seen.{seen_item};
 
 use crate::ExpandFault;
 use crate::filters::{any_with_value, with_some, with_value};
-use crate::kept::{distinct, reversed, without_metadata};
+use crate::kept::{distinct, reverse, without_metadata};
 use crate::seen::Seen;
 use msb_values::{Name, NoMemory, Text};
 use std::alloc::Global;
@@ -36,7 +36,7 @@ pub enum Function {
 
 impl Function {
     /// The function of this name, in whatever case.
-    fn named(alloc: Global, name: &str) -> Result<Option<Function>, NoMemory>
+    fn find(alloc: Global, name: &str) -> Result<Option<Function>, NoMemory>
         ensures { IfOk result (λ function. function
             ≡ option_and_then (λ key. value_at key functions) (key_of name.now)) }
     {
@@ -75,7 +75,7 @@ pub(crate) fn call<'a>(
         (option_and_then (λ key. value_at key functions) (key_of name.now)) args.now
         (map seen_item items.entry.items)) }
 {
-    let function = Function::named(alloc, name)?;
+    let function = Function::find(alloc, name)?;
     match args {
         [] => call_plain(alloc, project, name, function, items),
         [of] => call_of(alloc, project, name, function, of, items),
@@ -97,7 +97,7 @@ fn call_plain<'a>(
     match function {
         Some(Function::Count) => Ok(count(alloc, items.len())?),
         Some(Function::Distinct) => Ok(distinct(alloc, items)?),
-        Some(Function::Reverse) => Ok(reversed(items)),
+        Some(Function::Reverse) => Ok(reverse(items)),
         Some(Function::ClearMetadata) => Ok(without_metadata(alloc, items)?),
         _ => Err(unknown(alloc, name)?),
     }

@@ -22,7 +22,7 @@ pub(crate) fn distinct<'a>(alloc: Global, items: Vec<Seen<'a>>) -> Result<Vec<Se
     Ok(kept)
 }
 
-pub(crate) fn reversed<'a>(items: Vec<Seen<'a>>) -> Vec<Seen<'a>>
+pub(crate) fn reverse<'a>(items: Vec<Seen<'a>>) -> Vec<Seen<'a>>
     ensures { map seen_item result.items ≡ reverse (map seen_item items.entry.items) }
 {
     let mut items = items;

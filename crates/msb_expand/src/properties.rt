@@ -48,7 +48,7 @@ pub(crate) fn property<'a>(
     let Some(key) = Name::written(alloc, name)? else {
         return Ok(CowText::Borrowed(""));
     };
-    match Reserved::named(key.key()) {
+    match Reserved::find(key.key()) {
         Some(reserved) => Ok(CowText::Owned(reserved.value(alloc, lens.project, lens.file)?)),
         None => Ok(CowText::Borrowed(text_or_empty(lens.scope.props.get(&key)))),
     }

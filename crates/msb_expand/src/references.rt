@@ -34,12 +34,12 @@ fn named_items<'a>(alloc: Global, lens: &Lens<'a>, kind: &str) -> Result<Vec<See
         ≡ named_items (scene_of lens.now) (key_of kind.now)) }
 {
     match Name::written(alloc, kind)? {
-        Some(kind) => all_seen(alloc, lens.items(&kind), lens.scope.defaults.get(&kind)),
+        Some(kind) => see_all(alloc, lens.items(&kind), lens.scope.defaults.get(&kind)),
         None => Ok(Vec::new(alloc)),
     }
 }
 
-fn all_seen<'a>(
+fn see_all<'a>(
     alloc: Global,
     items: &'a [Item],
     defaults: Option<&'a Pairs>,

@@ -70,7 +70,7 @@ impl<'a> Seen<'a> {
         Ok(Item {
             ident: Text::of(alloc, self.ident.as_str())?,
             recursive: Text::of(alloc, self.recursive)?,
-            meta: overlaid(alloc, self.defaults, self.meta)?,
+            meta: overlay(alloc, self.defaults, self.meta)?,
         })
     }
 
@@ -84,7 +84,7 @@ impl<'a> Seen<'a> {
     ) -> Result<CowText<'a>, ExpandFault>
         ensures { GivesAs cow_text result (metadata_at project.now (seen_item self.now) name.now) }
     {
-        match WellKnown::named(name.key()) {
+        match WellKnown::find(name.key()) {
             Some(known) => known.value(alloc, project, self),
             None => Ok(CowText::Borrowed(self.own_or_default(name))),
         }
@@ -139,12 +139,12 @@ fn text_in<'a>(pairs: Option<&'a Pairs>, name: &Name) -> Option<&'a Text>
 
 /// An item's own metadata, and the defaults that it does not have itself. (MSBuild item
 /// definitions.)
-fn overlaid(alloc: Global, defaults: Option<&Pairs>, own: Option<&Pairs>) -> Result<Pairs, NoMemory>
+fn overlay(alloc: Global, defaults: Option<&Pairs>, own: Option<&Pairs>) -> Result<Pairs, NoMemory>
     ensures { IfOk result
         (λ meta. meta ≡ overlaid (pairs_or_none (option_copied defaults.entry))
         (pairs_or_none (option_copied own.entry))) }
 {
-    let mut meta = copied(alloc, own)?;
+    let mut meta = copy_or_new(alloc, own)?;
     match defaults {
         Some(defaults) => put_all_missing(&mut meta, defaults)?,
         None => {}
@@ -152,7 +152,7 @@ fn overlaid(alloc: Global, defaults: Option<&Pairs>, own: Option<&Pairs>) -> Res
     Ok(meta)
 }
 
-fn copied(alloc: Global, pairs: Option<&Pairs>) -> Result<Pairs, NoMemory>
+fn copy_or_new(alloc: Global, pairs: Option<&Pairs>) -> Result<Pairs, NoMemory>
     ensures { IfOk result (λ copied. copied ≡ pairs_or_none (option_copied pairs.entry)) }
 {
     match pairs {

@@ -78,12 +78,12 @@ fn transform<'a>(
     ensures { GivesAs (λ seen. map seen_item seen.items) result
         (all_ok (transformed (scene_of lens.now) pieces.now) (map seen_item items.entry.items)) }
 {
-    let mut made = Vec::new(alloc);
+    let mut transformed = Vec::new(alloc);
     for item in items {
         let item = transform_item(alloc, lens, pieces, item)?;
-        keep(&mut made, item)?;
+        keep(&mut transformed, item)?;
     }
-    Ok(made)
+    Ok(transformed)
 }
 
 fn transform_item<'a>(

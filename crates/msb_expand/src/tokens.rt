@@ -18,7 +18,7 @@ ghost use Rattle.msb_expand.specs.Tokens.{
 
 use crate::batched::bucket_token;
 use crate::calls::calls_text;
-use crate::filled::kept_text;
+use crate::filled::reference_text;
 use crate::own::{default_token, own_token};
 use crate::properties::{CowText, property};
 use crate::{ExpandFault, Lens, Use};
@@ -84,6 +84,7 @@ fn calls_token<'a, 'e>(
     Ok(Token::Value(CowText::Owned(value)))
 }
 
+#[tactic(auto, using(crate::proofs::Rereading::again_stops))]
 fn property_token<'a, 'e>(
     alloc: Global,
     lens: &Lens<'a>,
@@ -143,7 +144,7 @@ fn items_token<'a, 'e>(
         (items_token lens.now.usage (scene_of lens.now) kind.now steps.now separator.now ∷ []) }
 {
     match lens.usage {
-        Use::Properties => Ok(Token::Kept(kept_text(alloc, lens, kind, steps, separator)?)),
+        Use::Properties => Ok(Token::Kept(reference_text(alloc, lens, kind, steps, separator)?)),
         Use::Definition => Err(ExpandFault::ItemsHere),
         Use::Metadata | Use::All | Use::Batched => Ok(Token::Items(Reference {
             kind: kind.as_str(),

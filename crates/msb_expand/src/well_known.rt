@@ -27,7 +27,7 @@ pub enum WellKnown {
 
 impl WellKnown {
     /// The metadata of this name, which is in lower case.
-    pub(crate) fn named(name: &str) -> Option<WellKnown>
+    pub(crate) fn find(name: &str) -> Option<WellKnown>
         ensures { result ≡ value_at name.now well_known }
     {
         match name {
@@ -70,5 +70,5 @@ impl WellKnown {
 pub fn is_well_known(name: &Name) -> bool
     ensures { result ≡ is_some (value_at name.now well_known) }
 {
-    WellKnown::named(name.key()).is_some()
+    WellKnown::find(name.key()).is_some()
 }

@@ -144,7 +144,7 @@ impl Whole {
     {
         let mut text = Text::of(alloc, "")?;
         push_joined(&mut text, items, separator)?;
-        let ident = uncut(alloc, text.as_str())?;
+        let ident = escape_semicolons(alloc, text.as_str())?;
         self.push_text(alloc, ident.as_str(), false)
     }
 }
@@ -179,7 +179,7 @@ fn plain_item(alloc: Global, ident: &str) -> Result<Item, NoMemory>
 }
 
 /// The text with each `;` as `%3B`, so that it cuts nothing.
-fn uncut(alloc: Global, text: &str) -> Result<Text, NoMemory>
+fn escape_semicolons(alloc: Global, text: &str) -> Result<Text, NoMemory>
     ensures { IfOk result (λ t. t ≡ flat_map uncut_byte text.now) }
 {
     let mut written = Text::of(alloc, "")?;

@@ -83,7 +83,7 @@ build_closes parts (wanted ∷ left) h =
     let c = build_closes parts left h.1 in
     let goes : step_of (build_opened parts (wanted ∷ left)) (sort_of wanted) wanted ≡ go
     (build_next parts left) =
-    picked (to_ascii_lowercase wanted == wanted) (go (build_next parts left)) (stop Name) h.0 in (
+    picked (to_ascii_lowercase wanted == wanted) (build_next parts left) h.0 in (
       wanted ∷ c.0,
       c.1,
       run-go wanted c.0 (build_opened parts (wanted ∷ left))

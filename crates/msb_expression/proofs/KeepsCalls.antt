@@ -88,6 +88,7 @@ use Rattle.msb_expression.specs.Machine.{
   in_text,
   go,
   stop,
+  go_if,
   settled,
   flushed_pieces,
   call_heads,
@@ -203,7 +204,7 @@ build_opened_keeps parts [] front b h = tt
 build_opened_keeps parts (wanted ∷ left) front b h = by (to_ascii_lowercase b == wanted) refl
   where
     by : (t : Bool) → (to_ascii_lowercase b == wanted) ≡ t
-        → Keeps (elim t [ true ↦ go (build_next parts left) | false ↦ stop Name ])
+        → Keeps (go_if t (build_next parts left))
         (λ mode. Behind mode (front ++ b ∷ []))
     by true e = build_next_behind parts left (front ++ b ∷ []) h.base (h.head ++ b ∷ [])
         (ap (λ t. t ++ b ∷ []) h.split ∙ append_assoc h.base (36 ∷ 40 ∷ h.head) (b ∷ [])) h.parts_at
@@ -267,7 +268,7 @@ pub unless_first_keeps : (heads : CallHeads) (mode : Mode) (P : Mode → Type 0)
 unless_first_keeps heads mode P h = by (may_be_plain heads) refl
   where
     by : (t : Bool) → may_be_plain heads ≡ t
-        → Keeps (elim t [ true ↦ go mode | false ↦ stop Name ]) P
+        → Keeps (go_if t mode) P
     by true e = h e
     by false e = tt
 

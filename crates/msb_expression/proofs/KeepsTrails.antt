@@ -81,6 +81,7 @@ use Rattle.msb_expression.specs.Machine.{
   Next,
   go,
   stop,
+  go_if,
   host_inside,
   place_inside,
   settled,
@@ -827,7 +828,7 @@ build_follows parts [] back b = refl
 build_follows parts (wanted ∷ more) back b = by (to_ascii_lowercase b == wanted)
   where
     by : (t : Bool) → FollowsIn true
-        (elim t [ true ↦ go (build_next parts more) | false ↦ stop Name ]) b back
+        (go_if t (build_next parts more)) b back
     by true = build_next_trail parts more (b ∷ back)
     by false = refl
 
@@ -842,7 +843,7 @@ unless_first_follows : (heads : CallHeads) (mode : Mode) (b : ℕ) (back : List 
     → FollowsIn true (unless_first heads mode) b back
 unless_first_follows heads mode b back h = by (may_be_plain heads)
   where
-    by : (t : Bool) → FollowsIn true (elim t [ true ↦ go mode | false ↦ stop Name ]) b back
+    by : (t : Bool) → FollowsIn true (go_if t mode) b back
     by true = h
     by false = refl
 

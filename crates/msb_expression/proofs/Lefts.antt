@@ -109,6 +109,7 @@ use Rattle.msb_expression.specs.Machine.{
   Next,
   go,
   stop,
+  go_if,
   step_of,
   place_inside,
   settled,
@@ -676,7 +677,7 @@ build_opened_left parts (wanted ∷ more) b i = by (to_ascii_lowercase b == want
         ) refl
 
     by : (t : Bool) → (to_ascii_lowercase b == wanted) ≡ t
-        → KeepsLeft (elim t [ true ↦ go (build_next parts more) | false ↦ stop Name ])
+        → KeepsLeft (go_if t (build_next parts more))
         (inside 36 0) b
     by true e =
         build_next_left parts more (left_behind (inside 36 0) b)

@@ -39,10 +39,12 @@ use Rattle.msb_expression.specs.Machine.{
   property_opened,
   build_opened,
   build_next,
+  build_from,
   build_begun,
-  Next,
+  Mode,
   go,
   stop,
+  go_if,
   run,
   refused,
 }
@@ -68,8 +70,7 @@ begun_later parts left h = by (length left == 11) (other (length left) h)
         by false e = refl
 
     by : (t : Bool) → t ≡ false
-        → elim t [ true ↦ property_opened parts | false ↦ build_next parts left ]
-        ≡ build_next parts left
+        → build_from t parts left ≡ build_next parts left
     by true e = cc
     by false e = refl
 
@@ -108,15 +109,14 @@ module _ (parts : List Part) (bs : List ℕ) (n k : ℕ) where
       ap (run (drop n bs)) (begun_at parts k p q)
       ∙ ap (λ t. run t (build_opened parts (w ∷ left))) (drop_more bs n 0 l)
       ∙ run-go b (drop (n + 1) bs) (build_opened parts (w ∷ left)) (build_next parts left)
-      (picked (to_ascii_lowercase b == w) (go (build_next parts left)) (stop Name)
+      (picked (to_ascii_lowercase b == w) (build_next parts left)
       (same_byte (to_ascii_lowercase b) w e))
       ∙ ap (run (drop (n + 1) bs))
       (sym (begun_later parts left (omega (arith, left_length (k + 1) (omega arith)))))
 
-  not_picked : (t : Bool) (one other : Next) → t ≡ false
-      → elim t [ true ↦ one | false ↦ other ] ≡ other
-  not_picked true one other e = cc
-  not_picked false one other e = refl
+  not_picked : (t : Bool) (mode : Mode) → t ≡ false → go_if t mode ≡ stop Name
+  not_picked true mode e = cc
+  not_picked false mode e = refl
 
   stops_later : 0 < k → k < 11
       → (n < length bs → (to_ascii_lowercase (get_or bs n 0) == get_or marker k 0) ≡ false)
@@ -132,7 +132,7 @@ module _ (parts : List Part) (bs : List ℕ) (n k : ℕ) where
           ∙ run-stop (get_or bs n 0) (drop (n + 1) bs)
           (build_opened parts (get_or marker k 0 ∷ drop (k + 1) marker)) Name
           (not_picked (to_ascii_lowercase (get_or bs n 0) == get_or marker k 0)
-          (go (build_next parts (drop (k + 1) marker))) (stop Name) (e l))
+          (build_next parts (drop (k + 1) marker)) (e l))
           ∙ ap (λ t. refused t Name) (sym (drop_more bs n 0 l))
       by (inr g) =
           ap (λ t. run t (build_opened parts (get_or marker k 0 ∷ drop (k + 1) marker)))

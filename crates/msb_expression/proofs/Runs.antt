@@ -66,9 +66,9 @@ use Rattle.msb_expression.specs.Machine.{
   function_named,
   function_ended,
   arrow,
-  Next,
   go,
   stop,
+  go_if,
   step_of,
   in_name_step,
   name_ended_step,
@@ -96,9 +96,9 @@ unfolding run
 run-nil mode = refl
 
 -- where a test chooses
-pub picked : (t : Bool) (one other : Next) → t ≡ true → elim t [ true ↦ one | false ↦ other ] ≡ one
-picked true one other e = refl
-picked false one other e = cc
+pub picked : (t : Bool) (mode : Mode) → t ≡ true → go_if t mode ≡ go mode
+picked true mode e = refl
+picked false mode e = cc
 
 -- two modes that do the same with the next byte, or with none
 pub run-same : (bs : List ℕ) (one other : Mode) → finish one ≡ finish other

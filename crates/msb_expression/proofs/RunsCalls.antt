@@ -410,7 +410,7 @@ follows_call _ = false
 
 pub unless_first-go : (heads : CallHeads) (mode : Mode) → may_be_plain heads ≡ true
     → unless_first heads mode ≡ go mode
-unless_first-go heads mode e = picked (may_be_plain heads) (go mode) (stop Name) e
+unless_first-go heads mode e = picked (may_be_plain heads) mode e
 
 plain_same : (heads : CallHeads) (function : List ℕ) (sort : Sort) → may_be_plain heads ≡ true
     → follows_call sort ≡ true
@@ -512,7 +512,7 @@ left_runs parts [] (b ∷ bs) rest e = cc
 left_runs parts (wanted ∷ left) [] rest e = cc
 left_runs parts (wanted ∷ left) (b ∷ bs) rest e =
     run-go b (bs ++ rest) (build_opened parts (wanted ∷ left)) (build_next parts left)
-    (picked (to_ascii_lowercase b == wanted) (go (build_next parts left)) (stop Name)
+    (picked (to_ascii_lowercase b == wanted) (build_next parts left)
     (same_byte (to_ascii_lowercase b) wanted (head_same _ _ _ _ e)))
     ∙ left_runs parts left bs rest (tail_same _ _ _ _ e)
   where

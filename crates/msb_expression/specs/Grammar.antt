@@ -27,6 +27,7 @@ use Rattle.std.specs.Prelude.{
   codes,
 }
 use Rattle.std.specs.Str.{str_to_ascii_lowercase}
+use Rattle.msb_laws.specs.Words.{Text, Name}
 use Rattle.msb_expression.specs.declared.starts.Inside.{Inside}
 use Rattle.msb_expression.specs.declared.starts.Inside.TheVariants.{Whole, Transform, Quoted, Loose}
 use Rattle.msb_expression.specs.declared.expression.Part.{Part}
@@ -59,25 +60,25 @@ abbrev pub is_name_byte : ℕ → Bool
 is_name_byte b = is_letter b || (is_digit b || b == 45)
 
 -- each byte passes the test
-abbrev pub Every : (ℕ → Bool) → List ℕ → Type 0
+abbrev pub Every : (ℕ → Bool) → Text → Type 0
 Every test [] = Unit {0}
 Every test (b ∷ bs) = IsTrue (test b) × Every test bs
 
-abbrev pub IsName : List ℕ → Type 0
+abbrev pub IsName : Text → Type 0
 IsName [] = ⊥
 IsName (b ∷ bs) = IsTrue (is_letter b) × Every is_name_byte bs
 
-abbrev pub IsSpaces : List ℕ → Type 0
+abbrev pub IsSpaces : Text → Type 0
 IsSpaces = Every (λ b. b == 32)
 
 -- a name, with spaces around it
-abbrev pub IsNamed : List ℕ → List ℕ → Type 0
+abbrev pub IsNamed : Text → Name → Type 0
 IsNamed text name =
-    (before : List ℕ) × (after : List ℕ) × IsSpaces before × IsName name × IsSpaces after
+    (before : Text) × (after : Text) × IsSpaces before × IsName name × IsSpaces after
     × (text ≡ before ++ name ++ after)
 
 -- the text begins with the byte and a `(`
-abbrev pub opens : ℕ → List ℕ → Bool
+abbrev pub opens : ℕ → Text → Bool
 opens mark [] = false
 opens mark (b ∷ []) = false
 opens mark (b ∷ c ∷ bs) = (b == mark) && (c == 40)
@@ -86,14 +87,14 @@ opens mark (b ∷ c ∷ bs) = (b == mark) && (c == 40)
 abbrev pub is_quotable : ℕ → Bool
 is_quotable b = b == 39 || (b == 40 || (b == 64 || b == 37))
 
-abbrev pub begins_quotable : List ℕ → Bool
+abbrev pub begins_quotable : Text → Bool
 begins_quotable [] = false
 begins_quotable (b ∷ bs) = is_quotable b
 
 -- no plain text: a reference begins, in a transform also an `@(`, which can't stand there, and what
 -- can't stand in an
 -- argument without quotes
-abbrev pub begins_reference : Inside → List ℕ → Bool
+abbrev pub begins_reference : Inside → Text → Bool
 begins_reference Whole bs = opens 36 bs || (opens 37 bs || opens 64 bs)
 begins_reference Transform bs = opens 36 bs || (opens 37 bs || opens 64 bs)
 begins_reference Quoted bs = opens 36 bs
@@ -108,18 +109,18 @@ is_end_quote Quoted b = b == 39
 is_end_quote Loose b = b == 44 || b == 41
 
 -- every other character is plain
-abbrev pub IsPlain : Inside → List ℕ → Type 0
+abbrev pub IsPlain : Inside → Text → Type 0
 IsPlain inside [] = Unit {0}
 IsPlain inside (b ∷ bs) = (begins_reference inside (b ∷ bs) ≡ false)
     × (is_end_quote inside b ≡ false) × IsPlain inside bs
 
-abbrev pub IsPlainText : Inside → List ℕ → Type 0
+abbrev pub IsPlainText : Inside → Text → Type 0
 IsPlainText inside text = (0 < length text) × IsPlain inside text
 
 -- a text that is the texts of these things, one behind another
-abbrev pub Joins : {A : Type 0} → (List ℕ → A → Type 0) → List ℕ → List A → Type 0
+abbrev pub Joins : {A : Type 0} → (Text → A → Type 0) → Text → List A → Type 0
 Joins Is text [] = text ≡ []
-Joins Is text (x ∷ xs) = (front : List ℕ) × (rest : List ℕ) × (text ≡ front ++ rest) × Is front x
+Joins Is text (x ∷ xs) = (front : Text) × (rest : Text) × (text ≡ front ++ rest) × Is front x
     × Joins Is rest xs
 
 -- no two that pass the test stand side by side
@@ -129,12 +130,12 @@ Apart test (x ∷ []) = Unit {0}
 Apart test (x ∷ y ∷ ys) = ((test x && test y) ≡ false) × Apart test (y ∷ ys)
 
 -- `$(Name)` in each text, and `%(Name)` in a transform
-abbrev pub IsPiece : Inside → List ℕ → Piece → Type 0
+abbrev pub IsPiece : Inside → Text → Piece → Type 0
 IsPiece inside text (PlainPiece plain) = IsPlainText inside plain × (text ≡ plain)
-IsPiece inside text (PropPiece name) = (named : List ℕ) × IsNamed named name
+IsPiece inside text (PropPiece name) = (named : Text) × IsNamed named name
     × (text ≡ codes "$(" ++ named ++ codes ")")
 IsPiece inside text (MetaPiece name) =
-    (inside ≡ Transform) × (named : List ℕ) × IsNamed named name
+    (inside ≡ Transform) × (named : Text) × IsNamed named name
     × (text ≡ codes "%(" ++ named ++ codes ")")
 
 abbrev pub is_plain_piece : Piece → Bool
@@ -143,40 +144,40 @@ is_plain_piece (PropPiece name) = false
 is_plain_piece (MetaPiece name) = false
 
 -- `'` text `'` behind spaces
-abbrev pub IsQuoted : Inside → List ℕ → List Piece → Type 0
+abbrev pub IsQuoted : Inside → Text → List Piece → Type 0
 IsQuoted inside text pieces =
-    (before : List ℕ) × (inner : List ℕ) × IsSpaces before × Joins (IsPiece inside) inner pieces
+    (before : Text) × (inner : Text) × IsSpaces before × Joins (IsPiece inside) inner pieces
     × Apart is_plain_piece pieces
     × (text ≡ before ++ codes "'" ++ inner ++ codes "'")
 
 -- `,` and a quoted text, behind spaces
-abbrev pub IsListed : List ℕ → List Piece → Type 0
+abbrev pub IsListed : Text → List Piece → Type 0
 IsListed text pieces =
-    (before : List ℕ) × (quoted : List ℕ) × IsSpaces before × IsQuoted Quoted quoted pieces
+    (before : Text) × (quoted : Text) × IsSpaces before × IsQuoted Quoted quoted pieces
     × (text ≡ before ++ codes "," ++ quoted)
 
 -- none, or quoted texts parted by `,`
-abbrev pub IsArgs : List ℕ → List (List Piece) → Type 0
+abbrev pub IsArgs : Text → List (List Piece) → Type 0
 IsArgs text [] = IsSpaces text
 IsArgs text (arg ∷ args) =
-    (first : List ℕ) × (others : List ℕ) × (after : List ℕ) × IsQuoted Quoted first arg
+    (first : Text) × (others : Text) × (after : Text) × IsQuoted Quoted first arg
     × Joins IsListed others args × IsSpaces after
     × (text ≡ first ++ others ++ after)
 
 -- a transform, or Function `(` arguments `)`, behind spaces
-abbrev pub IsAct : List ℕ → Step → Type 0
+abbrev pub IsAct : Text → Step → Type 0
 IsAct text (Transforms pieces) = IsQuoted Transform text pieces
 IsAct text (Call function args) =
-    (named : List ℕ) × (inner : List ℕ) × IsNamed named function × IsArgs inner args
+    (named : Text) × (inner : Text) × IsNamed named function × IsArgs inner args
     × (text ≡ named ++ codes "(" ++ inner ++ codes ")")
 
 -- `->` and either of these, behind spaces
-abbrev pub IsStep : List ℕ → Step → Type 0
-IsStep text step = (before : List ℕ) × (acts : List ℕ) × IsSpaces before × IsAct acts step
+abbrev pub IsStep : Text → Step → Type 0
+IsStep text step = (before : Text) × (acts : Text) × IsSpaces before × IsAct acts step
     × (text ≡ before ++ codes "->" ++ acts)
 
 -- nothing, or `,` and a quoted text
-abbrev pub IsSeparator : List ℕ → Option (List Piece) → Type 0
+abbrev pub IsSeparator : Text → Option (List Piece) → Type 0
 IsSeparator text None = text ≡ []
 IsSeparator text (Some pieces) = IsListed text pieces
 
@@ -184,26 +185,26 @@ IsSeparator text (Some pieces) = IsListed text pieces
 abbrev pub is_blank : ℕ → Bool
 is_blank b = b == 32 || (b == 9 || (b == 13 || b == 10))
 
-abbrev pub begins_blank : List ℕ → Bool
+abbrev pub begins_blank : Text → Bool
 begins_blank [] = false
 begins_blank (b ∷ bs) = is_blank b
 
-abbrev pub without_front : List ℕ → List ℕ
+abbrev pub without_front : Text → Text
 without_front [] = []
 without_front (b ∷ bs) = elim (is_blank b) [ true ↦ without_front bs | false ↦ b ∷ bs ]
 
-abbrev pub without_end : List ℕ → List ℕ
+abbrev pub without_end : Text → Text
 without_end text = reverse (without_front (reverse text))
 
-abbrev pub cut_front : Bool → List ℕ → List ℕ
+abbrev pub cut_front : Bool → Text → Text
 cut_front true text = without_front text
 cut_front false text = text
 
-abbrev pub cut_end : Bool → List ℕ → List ℕ
+abbrev pub cut_end : Bool → Text → Text
 cut_end true text = without_end text
 cut_end false text = text
 
-abbrev pub plain_pieces : List ℕ → List Piece
+abbrev pub plain_pieces : Text → List Piece
 plain_pieces [] = []
 plain_pieces (b ∷ bs) = PlainPiece (b ∷ bs) ∷ []
 
@@ -223,80 +224,80 @@ cut_pieces front (piece ∷ next ∷ pieces) =
 abbrev pub trimmed_pieces : List Piece → List Piece
 trimmed_pieces pieces = cut_pieces true pieces
 
-abbrev pub begins_space : List ℕ → Bool
+abbrev pub begins_space : Text → Bool
 begins_space [] = false
 begins_space (b ∷ bs) = b == 32
 
 -- one or more characters without quotes, and without the white space around them
-abbrev pub IsLoose : List ℕ → List Piece → Type 0
+abbrev pub IsLoose : Text → List Piece → Type 0
 IsLoose text pieces =
-    (spaces : List ℕ) × (inner : List ℕ) × (read : List Piece) × (0 < length text)
+    (spaces : Text) × (inner : Text) × (read : List Piece) × (0 < length text)
     × IsSpaces spaces × (begins_space inner ≡ false) × Joins (IsPiece Loose) inner read
     × Apart is_plain_piece read
     × (trimmed_pieces read ≡ pieces) × (text ≡ spaces ++ inner)
 
 -- a quoted text between spaces, or a text without quotes
-abbrev pub IsArgument : List ℕ → List Piece → Type 0
+abbrev pub IsArgument : Text → List Piece → Type 0
 IsArgument text pieces =
-    ((quoted : List ℕ) × (after : List ℕ) × IsQuoted Quoted quoted pieces × IsSpaces after
+    ((quoted : Text) × (after : Text) × IsQuoted Quoted quoted pieces × IsSpaces after
     × (text ≡ quoted ++ after))
     ⊎ IsLoose text pieces
 
-abbrev pub IsNextArgument : List ℕ → List Piece → Type 0
+abbrev pub IsNextArgument : Text → List Piece → Type 0
 IsNextArgument text pieces =
-    (argument : List ℕ) × IsArgument argument pieces × (text ≡ codes "," ++ argument)
+    (argument : Text) × IsArgument argument pieces × (text ≡ codes "," ++ argument)
 
 -- none, which spaces are too, or arguments parted by `,`
-abbrev pub IsArguments : List ℕ → List (List Piece) → Type 0
+abbrev pub IsArguments : Text → List (List Piece) → Type 0
 IsArguments text [] = IsSpaces text
 IsArguments text (arg ∷ args) =
-    (first : List ℕ) × (others : List ℕ) × IsArgument first arg × Joins IsNextArgument others args
+    (first : Text) × (others : Text) × IsArgument first arg × Joins IsNextArgument others args
     × (IsSpaces text → ⊥) × (text ≡ first ++ others)
 
 -- nothing, or `(` arguments `)`
-abbrev pub IsParenthesized : List ℕ → Option (List (List Piece)) → Type 0
+abbrev pub IsParenthesized : Text → Option (List (List Piece)) → Type 0
 IsParenthesized text None = text ≡ []
 IsParenthesized text (Some args) =
-    (inner : List ℕ) × (after : List ℕ) × IsArguments inner args × IsSpaces after
+    (inner : Text) × (after : Text) × IsArguments inner args × IsSpaces after
     × (text ≡ codes "(" ++ inner ++ codes ")" ++ after)
 
 -- a call of a property function
-abbrev pub IsCall : List ℕ → PropertyCall → Type 0
+abbrev pub IsCall : Text → PropertyCall → Type 0
 IsCall text call =
-    (named : List ℕ) × (rest : List ℕ) × IsNamed named call.name × IsParenthesized rest call.args
+    (named : Text) × (rest : Text) × IsNamed named call.name × IsParenthesized rest call.args
     × (text ≡ named ++ rest)
 
-abbrev pub IsNextCall : List ℕ → PropertyCall → Type 0
-IsNextCall text call = (called : List ℕ) × IsCall called call × (text ≡ codes "." ++ called)
+abbrev pub IsNextCall : Text → PropertyCall → Type 0
+IsNextCall text call = (called : Text) × IsCall called call × (text ≡ codes "." ++ called)
 
 -- a property's name and at least one call; or `[MSBuild]::`, in whatever case, and calls, of which
 -- the first has parentheses
-abbrev pub IsFunction : List ℕ → Option (List ℕ) → List PropertyCall → Type 0
+abbrev pub IsFunction : Text → Option Name → List PropertyCall → Type 0
 IsFunction text (Some name) calls =
-    (named : List ℕ) × (called : List ℕ) × IsNamed named name × Joins IsNextCall called calls
+    (named : Text) × (called : Text) × IsNamed named name × Joins IsNextCall called calls
     × (0 < length calls)
     × (text ≡ named ++ called)
 IsFunction text None [] = ⊥
 IsFunction text None (call ∷ calls) =
-    (head : List ℕ) × (first : List ℕ) × (others : List ℕ)
+    (head : Text) × (first : Text) × (others : Text)
     × (str_to_ascii_lowercase head ≡ codes "[msbuild]::")
     × IsCall first call × IsSome call.args × Joins IsNextCall others calls
     × (text ≡ head ++ first ++ others)
 
-abbrev pub IsPart : List ℕ → Part → Type 0
+abbrev pub IsPart : Text → Part → Type 0
 IsPart text (Plain plain) = IsPlainText Whole plain × (text ≡ plain)
-IsPart text (Prop name) = (named : List ℕ) × IsNamed named name
+IsPart text (Prop name) = (named : Text) × IsNamed named name
     × (text ≡ codes "$(" ++ named ++ codes ")")
 IsPart text (Func subject calls) =
-    (function : List ℕ) × IsFunction function subject calls
+    (function : Text) × IsFunction function subject calls
     × (text ≡ codes "$(" ++ function ++ codes ")")
-IsPart text (Meta None name) = (named : List ℕ) × IsNamed named name
+IsPart text (Meta None name) = (named : Text) × IsNamed named name
     × (text ≡ codes "%(" ++ named ++ codes ")")
 IsPart text (Meta (Some kind) name) =
-    (first : List ℕ) × (second : List ℕ) × IsNamed first kind × IsNamed second name
+    (first : Text) × (second : Text) × IsNamed first kind × IsNamed second name
     × (text ≡ codes "%(" ++ first ++ codes "." ++ second ++ codes ")")
 IsPart text (Items kind steps separator) =
-    (before : List ℕ) × (stepped : List ℕ) × (separated : List ℕ) × (after : List ℕ)
+    (before : Text) × (stepped : Text) × (separated : Text) × (after : Text)
     × IsSpaces before × IsName kind × Joins IsStep stepped steps × IsSeparator separated separator
     × IsSpaces after
     × (text ≡ codes "@(" ++ before ++ kind ++ stepped ++ separated ++ after ++ codes ")")
@@ -309,5 +310,5 @@ is_plain (Meta kind name) = false
 is_plain (Items kind steps separator) = false
 
 -- the text is written so: its parts one behind another, and each plain part whole
-abbrev pub IsReading : List ℕ → List Part → Type 0
+abbrev pub IsReading : Text → List Part → Type 0
 IsReading text parts = Joins IsPart text parts × Apart is_plain parts

@@ -22,6 +22,7 @@ use Rattle.std.specs.Prelude.{
   if◌then◌else◌,
 }
 use Rattle.std.specs.Char.{to_ascii_lowercase}
+use Rattle.msb_laws.specs.Words.{Text, Name}
 use Rattle.msb_expression.specs.declared.starts.Inside.{Inside}
 use Rattle.msb_expression.specs.declared.starts.Inside.TheVariants.{Whole, Transform, Quoted, Loose}
 use Rattle.msb_expression.specs.declared.starts.Start.{Start}
@@ -46,7 +47,11 @@ use Rattle.msb_expression.specs.declared.sorts.Sort.TheVariants.{
   Other,
 }
 use Rattle.msb_expression.specs.declared.sorts.Kind.{Kind}
-use Rattle.msb_expression.specs.declared.sorts.Kind.TheVariants.{Name, Transform as BadStep, Nested}
+use Rattle.msb_expression.specs.declared.sorts.Kind.TheVariants.{
+  Name as BadName,
+  Transform as BadStep,
+  Nested,
+}
 use Rattle.msb_expression.specs.declared.expression.Part.{Part}
 use Rattle.msb_expression.specs.declared.expression.Part.TheVariants.{
   Plain,
@@ -97,12 +102,12 @@ ends_argument Close = true
 ends_argument _ = false
 
 -- the sort of the first byte
-abbrev pub first_sort : List ℕ → Sort
+abbrev pub first_sort : Text → Sort
 first_sort [] = End
 first_sort (b ∷ bs) = sort_of b
 
 -- the bytes begin with `->`
-abbrev pub is_arrow : List ℕ → Bool
+abbrev pub is_arrow : Text → Bool
 is_arrow [] = false
 is_arrow (b ∷ []) = false
 is_arrow (b ∷ c ∷ bs) = (b == 45) && (c == 62)
@@ -110,27 +115,27 @@ is_arrow (b ∷ c ∷ bs) = (b == 45) && (c == 62)
 -- an item reference as far as it is read
 pub record Heads : Type 0 where
   pub parts : List Part
-  pub kind : List ℕ
+  pub kind : Name
   pub steps : List Step
 
 -- a property reference with calls as far as it is read; the first call behind `[MSBuild]::` is one
 -- of no property
 pub record CallHeads : Type 0 where
   pub parts : List Part
-  pub subject : Option (List ℕ)
+  pub subject : Option Name
   pub calls : List PropertyCall
 
 -- the call of a function of this name, with the arguments that are read
 pub record Arguments : Type 0 where
   pub heads : CallHeads
-  pub function : List ℕ
+  pub function : Name
   pub args : List (List Piece)
 
 -- which text between quotes, or which argument without quotes
 pub data Place : Type 0 where
   in_transform : Heads → Place
   in_separator : Heads → Place
-  in_argument : Heads → (function : List ℕ) → (args : List (List Piece)) → Place
+  in_argument : Heads → (function : Name) → (args : List (List Piece)) → Place
   in_call : Arguments → Place
   in_loose : Arguments → Place
 
@@ -150,7 +155,7 @@ pub data Mark : Type 0 where
 pub data Named : Type 0 where
   property : Named
   metadata : Named
-  qualified : (kind : List ℕ) → Named
+  qualified : (kind : Name) → Named
 
 abbrev pub is_metadata : Named → Bool
 is_metadata property = false
@@ -158,28 +163,28 @@ is_metadata metadata = true
 is_metadata (qualified kind) = false
 
 pub data Mode : Type 0 where
-  in_text : Host → (plain : List ℕ) → Mark → Mode
+  in_text : Host → (plain : Text) → Mark → Mode
   name_opened : Host → Named → Mode
-  in_name : Host → Named → (name : List ℕ) → Mode
-  name_ended : Host → Named → (name : List ℕ) → Mode
+  in_name : Host → Named → (name : Name) → Mode
+  name_ended : Host → Named → (name : Name) → Mode
   type_opened : List Part → Mode
-  in_type : List Part → (kind : List ℕ) → Mode
-  type_dashed : List Part → (kind : List ℕ) → Mode
+  in_type : List Part → (kind : Name) → Mode
+  type_dashed : List Part → (kind : Name) → Mode
   stepping : Heads → Mode
   dashed : Heads → Mode
   arrow : Heads → Mode
-  function_named : Heads → (function : List ℕ) → Mode
-  function_ended : Heads → (function : List ℕ) → Mode
-  args_opened : Heads → (function : List ℕ) → Mode
-  arg_ended : Heads → (function : List ℕ) → (args : List (List Piece)) → Mode
-  arg_wanted : Heads → (function : List ℕ) → (args : List (List Piece)) → Mode
+  function_named : Heads → (function : Name) → Mode
+  function_ended : Heads → (function : Name) → Mode
+  args_opened : Heads → (function : Name) → Mode
+  arg_ended : Heads → (function : Name) → (args : List (List Piece)) → Mode
+  arg_wanted : Heads → (function : Name) → (args : List (List Piece)) → Mode
   separator_wanted : Heads → Mode
   separator_ended : Heads → List Piece → Mode
   property_opened : List Part → Mode
-  build_opened : List Part → (left : List ℕ) → Mode
+  build_opened : List Part → (left : Text) → Mode
   call_wanted : CallHeads → Mode
-  call_named : CallHeads → (function : List ℕ) → Mode
-  call_ended : CallHeads → (function : List ℕ) → Mode
+  call_named : CallHeads → (function : Name) → Mode
+  call_ended : CallHeads → (function : Name) → Mode
   called : CallHeads → Mode
   call_arg_wanted : Arguments → (spaced : Bool) → Mode
   call_arg_ended : Arguments → Mode
@@ -195,31 +200,31 @@ abbrev pub host_inside : Host → Inside
 host_inside (whole parts) = Whole
 host_inside (inner place pieces) = place_inside place
 
-abbrev pub spelled : Mark → List ℕ
+abbrev pub spelled : Mark → Text
 spelled unmarked = []
 spelled dollar = 36 ∷ []
 spelled percent = 37 ∷ []
 spelled at_sign = 64 ∷ []
 
 -- plain text with its last mark
-abbrev pub settled : List ℕ → Mark → List ℕ
+abbrev pub settled : Text → Mark → Text
 settled plain mark = plain ++ spelled mark
 
 -- with a plain part, where that isn't empty
-abbrev pub flushed_parts : List Part → List ℕ → List Part
+abbrev pub flushed_parts : List Part → Text → List Part
 flushed_parts parts [] = parts
 flushed_parts parts (b ∷ bs) = parts ++ Plain (b ∷ bs) ∷ []
 
-abbrev pub flushed_pieces : List Piece → List ℕ → List Piece
+abbrev pub flushed_pieces : List Piece → Text → List Piece
 flushed_pieces pieces [] = pieces
 flushed_pieces pieces (b ∷ bs) = pieces ++ PlainPiece (b ∷ bs) ∷ []
 
-abbrev pub flushed : Host → List ℕ → Host
+abbrev pub flushed : Host → Text → Host
 flushed (whole parts) plain = whole (flushed_parts parts plain)
 flushed (inner place pieces) plain = inner place (flushed_pieces pieces plain)
 
 -- with a reference of this name
-abbrev pub referred : Host → Named → List ℕ → Host
+abbrev pub referred : Host → Named → Name → Host
 referred (whole parts) property name = whole (parts ++ Prop name ∷ [])
 referred (whole parts) metadata name = whole (parts ++ Meta None name ∷ [])
 referred (whole parts) (qualified kind) name = whole (parts ++ Meta (Some kind) name ∷ [])
@@ -227,7 +232,7 @@ referred (inner place pieces) property name = inner place (pieces ++ PropPiece n
 referred (inner place pieces) metadata name = inner place (pieces ++ MetaPiece name ∷ [])
 referred (inner place pieces) (qualified kind) name = inner place (pieces ++ MetaPiece name ∷ [])
 
-abbrev pub heads_of : List Part → List ℕ → Heads
+abbrev pub heads_of : List Part → Name → Heads
 heads_of parts kind = record { parts = parts; kind = kind; steps = [] }
 
 abbrev pub with_step : Heads → Step → Heads
@@ -239,7 +244,7 @@ with_steps heads steps = record
     { parts = heads.parts; kind = heads.kind; steps = heads.steps ++ steps }
 
 -- before the calls of a property, or of `[MSBuild]`
-abbrev pub call_heads : List Part → Option (List ℕ) → CallHeads
+abbrev pub call_heads : List Part → Option Name → CallHeads
 call_heads parts subject = record { parts = parts; subject = subject; calls = [] }
 
 abbrev pub with_call : CallHeads → PropertyCall → CallHeads
@@ -250,15 +255,15 @@ abbrev pub with_calls : CallHeads → List PropertyCall → CallHeads
 with_calls heads calls =
     record { parts = heads.parts; subject = heads.subject; calls = heads.calls ++ calls }
 
-abbrev pub property_call : List ℕ → Option (List (List Piece)) → PropertyCall
+abbrev pub property_call : Name → Option (List (List Piece)) → PropertyCall
 property_call function args = record { name = function; args = args }
 
 -- a call of which no argument is read
-abbrev pub arguments_of : CallHeads → List ℕ → Arguments
+abbrev pub arguments_of : CallHeads → Name → Arguments
 arguments_of heads function = record { heads = heads; function = function; args = [] }
 
 -- of which these are
-abbrev pub with_all_args : CallHeads → List ℕ → List (List Piece) → Arguments
+abbrev pub with_all_args : CallHeads → Name → List (List Piece) → Arguments
 with_all_args heads function args = record { heads = heads; function = function; args = args }
 
 abbrev pub with_arg : Arguments → List Piece → Arguments
@@ -292,27 +297,27 @@ pub data Next : Type 0 where
   stop : Kind → Next
 
 -- `%(`
-abbrev pub percent_step : Host → Inside → List ℕ → Next
+abbrev pub percent_step : Host → Inside → Text → Next
 percent_step host Whole plain = go (name_opened (flushed host plain) metadata)
 percent_step host Transform plain = go (name_opened (flushed host plain) metadata)
 percent_step host Quoted plain = go (in_text host (plain ++ 37 ∷ 40 ∷ []) unmarked)
-percent_step host Loose plain = stop Name
+percent_step host Loose plain = stop BadName
 
 -- `$(`: only outside all other references may calls follow the name
-abbrev pub dollar_opened : Host → List ℕ → Mode
+abbrev pub dollar_opened : Host → Text → Mode
 dollar_opened (whole parts) plain = property_opened (flushed_parts parts plain)
 dollar_opened (inner place pieces) plain =
     name_opened (inner place (flushed_pieces pieces plain)) property
 
 -- `@(` between quotes
-abbrev pub nested_step : Host → Inside → List ℕ → Next
+abbrev pub nested_step : Host → Inside → Text → Next
 nested_step host Whole plain = stop Nested
 nested_step host Transform plain = stop Nested
 nested_step host Quoted plain = go (in_text host (plain ++ 64 ∷ 40 ∷ []) unmarked)
-nested_step host Loose plain = stop Name
+nested_step host Loose plain = stop BadName
 
 -- `@(`
-abbrev pub items_step : Host → List ℕ → Next
+abbrev pub items_step : Host → Text → Next
 items_step (whole parts) plain = go (type_opened (flushed_parts parts plain))
 items_step (inner place pieces) plain = nested_step (inner place pieces) (place_inside place) plain
 
@@ -321,10 +326,10 @@ abbrev pub unless_loose : Inside → Mode → Next
 unless_loose Whole mode = go mode
 unless_loose Transform mode = go mode
 unless_loose Quoted mode = go mode
-unless_loose Loose mode = stop Name
+unless_loose Loose mode = stop BadName
 
 -- `(` in text
-abbrev pub open_step : Host → List ℕ → Mark → Next
+abbrev pub open_step : Host → Text → Mark → Next
 open_step host plain unmarked =
     unless_loose (host_inside host) (in_text host (plain ++ 40 ∷ []) unmarked)
 open_step host plain dollar = go (dollar_opened host plain)
@@ -332,7 +337,7 @@ open_step host plain percent = percent_step host (host_inside host) plain
 open_step host plain at_sign = items_step host plain
 
 -- `'` in text
-abbrev pub quote_step : Host → List ℕ → Next
+abbrev pub quote_step : Host → Text → Next
 quote_step (whole parts) plain = go (in_text (whole parts) (plain ++ 39 ∷ []) unmarked)
 quote_step (inner place pieces) plain =
     unless_loose (place_inside place) (left place (flushed_pieces pieces plain))
@@ -342,15 +347,15 @@ abbrev pub call_arg_ended_step : Arguments → Sort → Next
 call_arg_ended_step a Space = go (call_arg_ended a)
 call_arg_ended_step a Comma = go (call_arg_wanted a false)
 call_arg_ended_step a Close = go (call_closed a)
-call_arg_ended_step a _ = stop Name
+call_arg_ended_step a _ = stop BadName
 
 -- `,` or `)` in text, which end an argument without quotes
-abbrev pub part_step : Host → List ℕ → Sort → ℕ → Next
+abbrev pub part_step : Host → Text → Sort → ℕ → Next
 part_step (inner (in_loose a) pieces) plain sort b =
     call_arg_ended_step (with_arg a (trimmed_pieces (flushed_pieces pieces plain))) sort
 part_step host plain sort b = go (in_text host (plain ++ b ∷ []) unmarked)
 
-abbrev pub text_step : Host → List ℕ → Mark → Sort → ℕ → Next
+abbrev pub text_step : Host → Text → Mark → Sort → ℕ → Next
 text_step host plain mark Dollar b = go (in_text host (settled plain mark) dollar)
 text_step host plain mark Percent b =
     unless_loose (host_inside host) (in_text host (settled plain mark) percent)
@@ -363,25 +368,25 @@ text_step host plain mark Quote b = quote_step host (settled plain mark)
 text_step host plain mark _ b = go (in_text host (settled plain mark ++ b ∷ []) unmarked)
 
 -- `.` behind a name
-abbrev pub dot_step : Host → Named → List ℕ → Next
+abbrev pub dot_step : Host → Named → Name → Next
 dot_step (whole parts) property name = go (call_wanted (call_heads parts (Some name)))
-dot_step (inner place pieces) property name = stop Name
+dot_step (inner place pieces) property name = stop BadName
 dot_step (whole parts) metadata name = go (name_opened (whole parts) (qualified name))
 dot_step (inner place pieces) metadata name = stop BadStep
-dot_step host (qualified kind) name = stop Name
+dot_step host (qualified kind) name = stop BadName
 
 abbrev pub name_opened_step : Host → Named → Sort → ℕ → Next
 name_opened_step host which Space b = go (name_opened host which)
 name_opened_step host which Letter b = go (in_name host which (b ∷ []))
-name_opened_step host which _ b = stop Name
+name_opened_step host which _ b = stop BadName
 
-abbrev pub name_ended_step : Host → Named → List ℕ → Sort → Next
+abbrev pub name_ended_step : Host → Named → Name → Sort → Next
 name_ended_step host which name Space = go (name_ended host which name)
 name_ended_step host which name Close = go (in_text (referred host which name) [] unmarked)
 name_ended_step host which name Dot = dot_step host which name
-name_ended_step host which name _ = stop Name
+name_ended_step host which name _ = stop BadName
 
-abbrev pub in_name_step : Host → Named → List ℕ → Sort → ℕ → Next
+abbrev pub in_name_step : Host → Named → Name → Sort → ℕ → Next
 in_name_step host which name Letter b = go (in_name host which (name ++ b ∷ []))
 in_name_step host which name Digit b = go (in_name host which (name ++ b ∷ []))
 in_name_step host which name Dash b = go (in_name host which (name ++ b ∷ []))
@@ -389,7 +394,7 @@ in_name_step host which name sort b = name_ended_step host which name sort
 
 -- the kind of a bad byte where a step may follow
 abbrev pub stepping_kind : List Step → Kind
-stepping_kind [] = Name
+stepping_kind [] = BadName
 stepping_kind (step ∷ steps) = BadStep
 
 abbrev pub stepping_step : Heads → Sort → Next
@@ -402,15 +407,15 @@ stepping_step heads _ = stop (stepping_kind heads.steps)
 abbrev pub type_opened_step : List Part → Sort → ℕ → Next
 type_opened_step parts Space b = go (type_opened parts)
 type_opened_step parts Letter b = go (in_type parts (b ∷ []))
-type_opened_step parts _ b = stop Name
+type_opened_step parts _ b = stop BadName
 
-abbrev pub in_type_step : List Part → List ℕ → Sort → ℕ → Next
+abbrev pub in_type_step : List Part → Name → Sort → ℕ → Next
 in_type_step parts kind Letter b = go (in_type parts (kind ++ b ∷ []))
 in_type_step parts kind Digit b = go (in_type parts (kind ++ b ∷ []))
 in_type_step parts kind Dash b = go (type_dashed parts kind)
 in_type_step parts kind sort b = stepping_step (heads_of parts kind) sort
 
-abbrev pub type_dashed_step : List Part → List ℕ → Sort → ℕ → Next
+abbrev pub type_dashed_step : List Part → Name → Sort → ℕ → Next
 type_dashed_step parts kind Greater b = go (arrow (heads_of parts kind))
 type_dashed_step parts kind sort b = in_type_step parts (kind ++ 45 ∷ []) sort b
 
@@ -424,31 +429,31 @@ arrow_step heads Quote b = go (in_text (inner (in_transform heads) []) [] unmark
 arrow_step heads Letter b = go (function_named heads (b ∷ []))
 arrow_step heads _ b = stop BadStep
 
-abbrev pub function_ended_step : Heads → List ℕ → Sort → Next
+abbrev pub function_ended_step : Heads → Name → Sort → Next
 function_ended_step heads function Space = go (function_ended heads function)
 function_ended_step heads function Open = go (args_opened heads function)
 function_ended_step heads function _ = stop BadStep
 
-abbrev pub function_named_step : Heads → List ℕ → Sort → ℕ → Next
+abbrev pub function_named_step : Heads → Name → Sort → ℕ → Next
 function_named_step heads function Letter b = go (function_named heads (function ++ b ∷ []))
 function_named_step heads function Digit b = go (function_named heads (function ++ b ∷ []))
 function_named_step heads function Dash b = go (function_named heads (function ++ b ∷ []))
 function_named_step heads function sort b = function_ended_step heads function sort
 
-abbrev pub args_opened_step : Heads → List ℕ → Sort → Next
+abbrev pub args_opened_step : Heads → Name → Sort → Next
 args_opened_step heads function Space = go (args_opened heads function)
 args_opened_step heads function Quote = go
     (in_text (inner (in_argument heads function []) []) [] unmarked)
 args_opened_step heads function Close = go (stepping (with_step heads (Call function [])))
 args_opened_step heads function _ = stop BadStep
 
-abbrev pub arg_ended_step : Heads → List ℕ → List (List Piece) → Sort → Next
+abbrev pub arg_ended_step : Heads → Name → List (List Piece) → Sort → Next
 arg_ended_step heads function args Space = go (arg_ended heads function args)
 arg_ended_step heads function args Comma = go (arg_wanted heads function args)
 arg_ended_step heads function args Close = go (stepping (with_step heads (Call function args)))
 arg_ended_step heads function args _ = stop BadStep
 
-abbrev pub arg_wanted_step : Heads → List ℕ → List (List Piece) → Sort → Next
+abbrev pub arg_wanted_step : Heads → Name → List (List Piece) → Sort → Next
 arg_wanted_step heads function args Space = go (arg_wanted heads function args)
 arg_wanted_step heads function args Quote = go
     (in_text (inner (in_argument heads function args) []) [] unmarked)
@@ -465,7 +470,7 @@ separator_ended_step heads pieces Close = go (closed heads (Some pieces))
 separator_ended_step heads pieces _ = stop BadStep
 
 -- the first byte is this one, in whatever case
-abbrev pub begins_lower : ℕ → List ℕ → Bool
+abbrev pub begins_lower : ℕ → Text → Bool
 begins_lower wanted [] = false
 begins_lower wanted (b ∷ bs) = to_ascii_lowercase b == wanted
 
@@ -474,42 +479,50 @@ abbrev pub property_opened_step : List Part → Sort → ℕ → Next
 property_opened_step parts Bracket b = go (build_opened parts (codes "msbuild]::"))
 property_opened_step parts sort b = name_opened_step (whole parts) property sort b
 
-abbrev pub build_next : List Part → List ℕ → Mode
+abbrev pub build_next : List Part → Text → Mode
 build_next parts [] = call_wanted (call_heads parts None)
 build_next parts (wanted ∷ left) = build_opened parts (wanted ∷ left)
 
 -- before so much of `[msbuild]::`: all of it, or what is left
-abbrev pub build_begun : List Part → List ℕ → Mode
-build_begun parts left =
-    elim (length left == 11) [ true ↦ property_opened parts | false ↦ build_next parts left ]
+abbrev pub build_from : (is_whole : Bool) → List Part → Text → Mode
+build_from true parts left = property_opened parts
+build_from false parts left = build_next parts left
 
-abbrev pub build_opened_step : List Part → List ℕ → ℕ → Next
-build_opened_step parts [] b = stop Name
+abbrev pub build_begun : List Part → Text → Mode
+build_begun parts left = build_from (length left == 11) parts left
+
+-- the text is read that far where a test holds, and else the byte is bad
+abbrev pub go_if : Bool → Mode → Next
+go_if true mode = go mode
+go_if false mode = stop BadName
+
+abbrev pub build_opened_step : List Part → Text → ℕ → Next
+build_opened_step parts [] b = stop BadName
 build_opened_step parts (wanted ∷ left) b =
-    elim (to_ascii_lowercase b == wanted) [ true ↦ go (build_next parts left) | false ↦ stop Name ]
+    go_if (to_ascii_lowercase b == wanted) (build_next parts left)
 
 abbrev pub call_wanted_step : CallHeads → Sort → ℕ → Next
 call_wanted_step heads Space b = go (call_wanted heads)
 call_wanted_step heads Letter b = go (call_named heads (b ∷ []))
-call_wanted_step heads _ b = stop Name
+call_wanted_step heads _ b = stop BadName
 
 -- the first call behind `::` has parentheses
 abbrev pub may_be_plain : CallHeads → Bool
 may_be_plain heads = is_some heads.subject || not (length heads.calls == 0)
 
 abbrev pub unless_first : CallHeads → Mode → Next
-unless_first heads mode = elim (may_be_plain heads) [ true ↦ go mode | false ↦ stop Name ]
+unless_first heads mode = go_if (may_be_plain heads) mode
 
-abbrev pub call_ended_step : CallHeads → List ℕ → Sort → Next
+abbrev pub call_ended_step : CallHeads → Name → Sort → Next
 call_ended_step heads function Space = go (call_ended heads function)
 call_ended_step heads function Open = go (call_arg_wanted (arguments_of heads function) false)
 call_ended_step heads function Dot =
     unless_first heads (call_wanted (with_call heads (property_call function None)))
 call_ended_step heads function Close =
     unless_first heads (calls_closed (with_call heads (property_call function None)))
-call_ended_step heads function _ = stop Name
+call_ended_step heads function _ = stop BadName
 
-abbrev pub call_named_step : CallHeads → List ℕ → Sort → ℕ → Next
+abbrev pub call_named_step : CallHeads → Name → Sort → ℕ → Next
 call_named_step heads function Letter b = go (call_named heads (function ++ b ∷ []))
 call_named_step heads function Digit b = go (call_named heads (function ++ b ∷ []))
 call_named_step heads function Dash b = go (call_named heads (function ++ b ∷ []))
@@ -519,27 +532,27 @@ abbrev pub called_step : CallHeads → Sort → Next
 called_step heads Space = go (called heads)
 called_step heads Dot = go (call_wanted heads)
 called_step heads Close = go (calls_closed heads)
-called_step heads _ = stop Name
+called_step heads _ = stop BadName
 
 -- nothing but spaces, or nothing at all, where an argument may stand: spaces are one, but before
 -- any other
 abbrev pub blank_closed : Arguments → List (List Piece) → Bool → Next
 blank_closed a [] spaced = go (call_closed a)
 blank_closed a (arg ∷ args) true = go (call_closed (with_arg a []))
-blank_closed a (arg ∷ args) false = stop Name
+blank_closed a (arg ∷ args) false = stop BadName
 
 -- the byte stands there, perhaps behind spaces
-abbrev pub is_behind_spaces : ℕ → List ℕ → Bool
+abbrev pub is_behind_spaces : ℕ → Text → Bool
 is_behind_spaces byte [] = false
 is_behind_spaces byte (b ∷ bs) = b == byte || (b == 32 && is_behind_spaces byte bs)
 
 -- an argument is read there: no `)` behind spaces closes a call that has none
-abbrev pub IsArgWanted : Arguments → List ℕ → Type 0
+abbrev pub IsArgWanted : Arguments → Text → Type 0
 IsArgWanted a bytes = a.args ≡ [] → is_behind_spaces 41 bytes ≡ false
 
 abbrev pub blank_listed : Arguments → Bool → Next
 blank_listed a true = go (call_arg_wanted (with_arg a []) false)
-blank_listed a false = stop Name
+blank_listed a false = stop BadName
 
 abbrev pub call_arg_wanted_step : Arguments → Bool → Sort → ℕ → Next
 call_arg_wanted_step a spaced Space b = go (call_arg_wanted a true)
@@ -578,18 +591,18 @@ step_of (call_arg_ended a) sort b = call_arg_ended_step a sort
 -- What a text comes to: its parts, the bytes from the bad one on, or too early an end.
 pub data Outcome : Type 0 where
   done : List Part → Outcome
-  bad : Kind → List ℕ → Outcome
+  bad : Kind → Text → Outcome
   early : Outcome
 
 abbrev pub finish : Mode → Outcome
 finish (in_text (whole parts) plain mark) = done (flushed_parts parts (settled plain mark))
 finish _ = early
 
-abbrev pub followed : (Mode → Outcome) → Next → List ℕ → Outcome
+abbrev pub followed : (Mode → Outcome) → Next → Text → Outcome
 followed go_on (go mode) bytes = go_on mode
 followed go_on (stop kind) bytes = bad kind bytes
 
-unfoldable pub run : List ℕ → Mode → Outcome
+unfoldable pub run : Text → Mode → Outcome
 run [] mode = finish mode
 run (b ∷ bs) mode = followed (run bs) (step_of mode (sort_of b) b) (b ∷ bs)
 
@@ -598,7 +611,7 @@ abbrev pub begin : Mode
 begin = in_text (whole []) [] unmarked
 
 -- a byte of this kind is bad, or there is none
-abbrev pub refused : List ℕ → Kind → Outcome
+abbrev pub refused : Text → Kind → Outcome
 refused [] kind = early
 refused (b ∷ bs) kind = bad kind (b ∷ bs)
 
@@ -649,6 +662,6 @@ start_by inside Comma next = part_start inside
 start_by inside Close next = part_start inside
 start_by inside _ next = start.Plain
 
-abbrev pub start_of : Inside → List ℕ → Start
+abbrev pub start_of : Inside → Text → Start
 start_of inside [] = start.End
 start_of inside (b ∷ bs) = start_by inside (sort_of b) (first_sort bs)

@@ -1,5 +1,6 @@
 -- What a text is read as: its parts, or its refusal with the place.
 use Rattle.std.specs.Prelude.{◌≡◌, ℕ, ◌-◌, List, Result, Ok, Err, length}
+use Rattle.msb_laws.specs.Words.{Text}
 use Rattle.msb_expression.specs.declared.expression.Part.{Part}
 use Rattle.msb_expression.specs.declared.expression.Expr.{Expr}
 use Rattle.msb_expression.specs.declared.sorts.Kind.{Kind}
@@ -26,7 +27,7 @@ read_as len (done parts) = Ok parts
 read_as len (bad kind rest) = Err (fault_at kind (len - length rest))
 read_as len early = Err (Unclosed len)
 
-abbrev pub reading : List ℕ → Result (List Part) ExprFault
+abbrev pub reading : Text → Result (List Part) ExprFault
 reading text = read_as (length text) (run text begin)
 
 -- the answer is this reading, but for want of memory

@@ -19,6 +19,7 @@ use Rattle.std.specs.Prelude.{
   reverse,
   if◌then◌else◌,
 }
+use Rattle.msb_laws.specs.Words.{Text}
 use Rattle.msb_expression.specs.declared.expression.Part.{Part}
 use Rattle.msb_expression.specs.declared.sorts.Kind.{Kind}
 use Rattle.msb_expression.specs.declared.sorts.Kind.TheVariants.{Name, Transform, Nested}
@@ -33,8 +34,8 @@ use Rattle.msb_expression.specs.declared.faults.ExprFault.TheVariants.{
 use Rattle.msb_expression.specs.Grammar.{IsReading, is_letter, is_name_byte}
 
 -- some text that begins so has a reading
-abbrev pub CanGoOn : List ℕ → Type 0
-CanGoOn front = (more : List ℕ) × (parts : List Part) × IsReading (front ++ more) parts
+abbrev pub CanGoOn : Text → Type 0
+CanGoOn front = (more : Text) × (parts : List Part) × IsReading (front ++ more) parts
 
 -- Where a text is left: outside each reference, behind some byte; or inside one that began with a
 -- mark, so many `(`
@@ -59,7 +60,7 @@ left_behind (inside mark depth) b =
     if b == 41 then closed mark depth else inside mark depth
 left_behind (in_quotes mark depth) b = if b == 39 then inside mark depth else in_quotes mark depth
 
-abbrev pub left_after : Left → List ℕ → Left
+abbrev pub left_after : Left → Text → Left
 left_after left [] = left
 left_after left (b ∷ bs) = left_after (left_behind left b) bs
 
@@ -71,30 +72,30 @@ is_in_property (in_quotes mark depth) = mark == 36
 
 -- In what follows, back is what stands before a byte, the nearest byte first.
 
-abbrev pub is_first : ℕ → List ℕ → Bool
+abbrev pub is_first : ℕ → Text → Bool
 is_first byte [] = false
 is_first byte (b ∷ back) = b == byte
 
 -- it stands inside `$(` or `%(`: those stand before it, with neither `)` nor `'` between
-abbrev pub is_inside : List ℕ → Bool
+abbrev pub is_inside : Text → Bool
 is_inside [] = false
 is_inside (b ∷ back) =
     (b == 40 && (is_first 36 back || is_first 37 back))
     || (not (b == 41 || b == 39) && is_inside back)
 
 -- behind the mark, `(` and spaces
-abbrev pub is_opened : ℕ → List ℕ → Bool
+abbrev pub is_opened : ℕ → Text → Bool
 is_opened mark [] = false
 is_opened mark (b ∷ back) = (b == 40 && is_first mark back) || (b == 32 && is_opened mark back)
 
 -- behind these and a name
-abbrev pub is_named : ℕ → List ℕ → Bool
+abbrev pub is_named : ℕ → Text → Bool
 is_named mark [] = false
 is_named mark (b ∷ back) = (is_letter b && is_opened mark back)
     || (is_name_byte b && is_named mark back)
 
 -- behind these and spaces
-abbrev pub is_spaced : ℕ → List ℕ → Bool
+abbrev pub is_spaced : ℕ → Text → Bool
 is_spaced mark [] = false
 is_spaced mark (b ∷ back) = b == 32 && (is_named mark back || is_spaced mark back)
 
@@ -102,7 +103,7 @@ is_spaced mark (b ∷ back) = b == 32 && (is_named mark back || is_spaced mark b
 -- bad in a transform alone; the `.` behind the name of a `%(`, bad in a transform alone; anything
 -- inside `$(` or `%(`; anything in the type name of `@(`, in that name's spaces or right behind
 -- them; any other byte.
-abbrev pub kind_of : ℕ → List ℕ → Kind
+abbrev pub kind_of : ℕ → Text → Kind
 kind_of byte back =
     if byte == 40 && is_first 64 back then Nested else
     if byte == 46 && (is_named 37 back || is_spaced 37 back) then Transform else
@@ -110,16 +111,16 @@ kind_of byte back =
     if is_opened 64 back || (is_named 64 back || is_spaced 64 back) then Name else Transform
 
 -- of a byte behind this front
-abbrev pub kind_at : ℕ → List ℕ → Kind
+abbrev pub kind_at : ℕ → Text → Kind
 kind_at byte front =
     if is_in_property (left_after (outside 0) front) then Name else kind_of byte (reverse front)
 
 -- The bad byte, which is the first such that no text that begins with all bytes through it has a
 -- reading.
-pub record IsBadAt (text : List ℕ) (place : ℕ) (kind : Kind) : Type 0 where
-  pub front : List ℕ
+pub record IsBadAt (text : Text) (place : ℕ) (kind : Kind) : Type 0 where
+  pub front : Text
   pub byte : ℕ
-  pub rest : List ℕ
+  pub rest : Text
   pub whole : text ≡ front ++ byte ∷ rest
   pub place_is : length front ≡ place
   pub before : CanGoOn front
@@ -127,13 +128,13 @@ pub record IsBadAt (text : List ℕ) (place : ℕ) (kind : Kind) : Type 0 where
   pub kind_is : kind_at byte front ≡ kind
 
 -- the text ends too early: it has no reading, and a longer one has
-pub record IsUnclosed (text : List ℕ) (place : ℕ) : Type 0 where
+pub record IsUnclosed (text : Text) (place : ℕ) : Type 0 where
   pub goes_on : CanGoOn text
   pub unread : (parts : List Part) → IsReading text parts → ⊥
   pub place_is : length text ≡ place
 
 -- what a refusal says of the text
-abbrev pub IsRefusal : List ℕ → ExprFault → Type 0
+abbrev pub IsRefusal : Text → ExprFault → Type 0
 IsRefusal text (Unclosed place) = IsUnclosed text place
 IsRefusal text (BadName place) = IsBadAt text place Name
 IsRefusal text (BadTransform place) = IsBadAt text place Transform

@@ -1,6 +1,7 @@
 -- The functions by their names, in lower case.
-use Rattle.std.specs.Prelude.{ℕ, List, [], ◌∷◌, Option, Some, None, codes, if◌then◌else◌}
+use Rattle.std.specs.Prelude.{List, [], ◌∷◌, Option, Some, None, codes, if◌then◌else◌}
 use Rattle.std.specs.Str.{bytes_eq, str_to_ascii_lowercase}
+use Rattle.msb_laws.specs.Words.{Name}
 use Rattle.msb_functions.specs.declared.names.TextFunction.{TextFunction}
 use Rattle.msb_functions.specs.declared.names.TextFunction.TheVariants.{
   Replace,
@@ -19,15 +20,15 @@ use Rattle.msb_functions.specs.declared.names.BuildFunction.TheVariants.{
 }
 
 -- what has a name, in whatever case
-abbrev pub at_name : {T : Type 0} → List ℕ → List (List ℕ × T) → Option T
+abbrev pub at_name : {T : Type 0} → Name → List (Name × T) → Option T
 at_name key [] = None
 at_name key (p ∷ ps) = if bytes_eq key p.0 then Some p.1 else at_name key ps
 
-abbrev pub named : {T : Type 0} → List (List ℕ × T) → List ℕ → Option T
+abbrev pub named : {T : Type 0} → List (Name × T) → Name → Option T
 named pairs name = at_name (str_to_ascii_lowercase name) pairs
 
 -- of a text, with parentheses
-abbrev pub text_functions : List (List ℕ × TextFunction)
+abbrev pub text_functions : List (Name × TextFunction)
 text_functions =
     (codes "replace", Replace) ∷
     (codes "substring", Substring) ∷
@@ -37,7 +38,7 @@ text_functions =
     (codes "trim", Trim) ∷ []
 
 -- of `[MSBuild]`, with parentheses
-abbrev pub build_functions : List (List ℕ × BuildFunction)
+abbrev pub build_functions : List (Name × BuildFunction)
 build_functions =
     (codes "add", Add) ∷
     (codes "subtract", Subtract) ∷

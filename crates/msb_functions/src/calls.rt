@@ -32,7 +32,7 @@ fn of_text(alloc: Global, text: &str, name: &str, args: Option<&Texts>) -> Resul
 {
     match args {
         None => without_args(alloc, text, name),
-        Some(args) => match TextFunction::named(alloc, name)? {
+        Some(args) => match TextFunction::find(alloc, name)? {
             Some(function) => text_value(alloc, function, text, args.as_slice()),
             None => Err(FuncFault::UnknownFunction),
         },
@@ -54,7 +54,7 @@ fn of_build(alloc: Global, name: &str, args: Option<&Texts>) -> Result<Word, Fun
 {
     match args {
         None => Err(FuncFault::UnknownFunction),
-        Some(args) => match BuildFunction::named(alloc, name)? {
+        Some(args) => match BuildFunction::find(alloc, name)? {
             Some(function) => build_value(alloc, function, args.as_slice()),
             None => Err(FuncFault::UnknownFunction),
         },

@@ -18,7 +18,7 @@ pub enum TextFunction {
 
 impl TextFunction {
     /// The function of this name, in whatever case.
-    pub(crate) fn named(alloc: Global, name: &str) -> Result<Option<TextFunction>, NoRoom>
+    pub(crate) fn find(alloc: Global, name: &str) -> Result<Option<TextFunction>, NoRoom>
         ensures { IfOk result (λ function. function ≡ named text_functions name.now) }
     {
         let key = name.to_ascii_lowercase(alloc)?;
@@ -51,7 +51,7 @@ pub enum BuildFunction {
 
 impl BuildFunction {
     /// The function of this name, in whatever case.
-    pub(crate) fn named(alloc: Global, name: &str) -> Result<Option<BuildFunction>, NoRoom>
+    pub(crate) fn find(alloc: Global, name: &str) -> Result<Option<BuildFunction>, NoRoom>
         ensures { IfOk result (λ function. function ≡ named build_functions name.now) }
     {
         let key = name.to_ascii_lowercase(alloc)?;

@@ -14,11 +14,11 @@ pub(crate) fn number(text: &str) -> Result<i64, FuncFault>
     if !is_number(text) {
         return Err(FuncFault::BadArgument);
     }
-    parsed(text)
+    parse(text)
 }
 
 /// The whole number of 64 bits that a text of this form is.
-fn parsed(text: &str) -> Result<i64, FuncFault>
+fn parse(text: &str) -> Result<i64, FuncFault>
     requires { is_number text.now ≡ true }
     ensures { result ≡ number text.now }
 {
@@ -59,7 +59,7 @@ fn are_digits(bytes: &[u8]) -> bool
 }
 
 /// The number in decimal, with a `-` where it is below 0.
-pub(crate) fn shown(alloc: Global, number: i64) -> Result<Word, NoRoom>
+pub(crate) fn show(alloc: Global, number: i64) -> Result<Word, NoRoom>
     ensures { IfOk result (λ word. word ≡ signed_decimal number) }
 {
     Ok(Word::from(format!(in alloc; "{number}")?))

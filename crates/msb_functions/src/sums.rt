@@ -4,7 +4,7 @@ ghost use Rattle.msb_functions.specs.Functions.{build_row, of_numbers, operation
 ghost use Rattle.msb_functions.specs.Numbers.{if_fits, number_text};
 
 use crate::names::BuildFunction;
-use crate::numbers::{number, shown};
+use crate::numbers::{number, show};
 use crate::{FuncFault, Word};
 use std::alloc::Global;
 
@@ -78,7 +78,7 @@ fn number_text(alloc: Global, number: Option<i64>) -> Result<Word, FuncFault>
     ensures { Gives result (number_text number) }
 {
     match number {
-        Some(number) => Ok(shown(alloc, number)?),
+        Some(number) => Ok(show(alloc, number)?),
         None => Err(FuncFault::Overflow),
     }
 }

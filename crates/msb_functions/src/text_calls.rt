@@ -118,10 +118,10 @@ fn replace(alloc: Global, text: &str, from: &str, to: &str) -> Result<Word, Func
     if from.is_empty() {
         return Err(FuncFault::BadArgument);
     }
-    Ok(replaced(alloc, text, from, to)?)
+    Ok(replace_all(alloc, text, from, to)?)
 }
 
-fn replaced(alloc: Global, text: &str, from: &str, to: &str) -> Result<Word, NoRoom>
+fn replace_all(alloc: Global, text: &str, from: &str, to: &str) -> Result<Word, NoRoom>
     requires { 0 < length from.now }
     ensures { IfOk result (λ word. word ≡ replaced from.now to.now text.now) }
 {

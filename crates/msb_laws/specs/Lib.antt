@@ -3,3 +3,4 @@ pub mod Faults
 pub mod Gains
 pub mod Results
 pub mod Traverse
+pub mod Words

@@ -1,5 +1,6 @@
 -- A text as a normal path, or why it is none.
-use Rattle.std.specs.Prelude.{◌≡◌, ℕ, List, Result, Ok, Err, if◌then◌else◌}
+use Rattle.std.specs.Prelude.{◌≡◌, Result, Ok, Err, if◌then◌else◌}
+use Rattle.msb_laws.specs.Words.{Path, Text}
 use Rattle.msb_paths.specs.Normal.{normalized, is_normal}
 use Rattle.msb_paths.specs.declared.errors.PathFault.{PathFault}
 use Rattle.msb_paths.specs.declared.errors.PathFault.TheVariants as path
@@ -17,12 +18,12 @@ normal_fault path.Empty = Empty
 normal_fault path.Memory = Memory
 
 -- what is made normal is a normal path, unless a control character is left
-abbrev pub if_normal : Result (List ℕ) PathFault → Result (List ℕ) NormalFault
+abbrev pub if_normal : Result Path PathFault → Result Path NormalFault
 if_normal (Ok path) = if is_normal path then Ok path else Err ControlCharacter
 if_normal (Err fault) = Err (normal_fault fault)
 
 -- the normal path of a text on a base folder
-abbrev pub normal_path : List ℕ → List ℕ → Result (List ℕ) NormalFault
+abbrev pub normal_path : Path → Text → Result Path NormalFault
 normal_path base text = if_normal (normalized base text)
 
 -- the answer is this one, but for want of memory

@@ -1,6 +1,7 @@
 -- The properties that the engine itself sets. (MSBuild reserved and well-known properties)
-use Rattle.std.specs.Prelude.{ℕ, List, [], ◌∷◌, Bool, is_some, codes, if◌then◌else◌}
+use Rattle.std.specs.Prelude.{List, [], ◌∷◌, Bool, is_some, codes, if◌then◌else◌}
 use Rattle.std.specs.List.{list_any, before_last}
+use Rattle.msb_laws.specs.Words.{Text, Name, Path}
 use Rattle.msb_paths.specs.Segments.{is_slash}
 use Rattle.msb_paths.specs.Parts.{file_of, relative_dir, filename, extension}
 use Rattle.msb_values.specs.Pairs.{value_at}
@@ -18,15 +19,15 @@ use Rattle.msb_reserved.specs.declared.reserved.Reserved.TheVariants.{
 }
 
 -- the folder of a file, which is empty at the root of the store
-abbrev pub folder_of : List ℕ → List ℕ
+abbrev pub folder_of : Path → Path
 folder_of path = if list_any is_slash path then before_last is_slash path else []
 
 -- from the root of the store
-abbrev pub from_root : List ℕ → List ℕ
+abbrev pub from_root : Path → Text
 from_root path = 47 ∷ path
 
 -- the names
-abbrev pub reserved : List (List ℕ × Reserved)
+abbrev pub reserved : List (Name × Reserved)
 reserved =
     (codes "msbuildprojectdirectory", ProjectDirectory) ∷
     (codes "msbuildprojectfile", ProjectFile) ∷
@@ -38,11 +39,11 @@ reserved =
     (codes "msbuildthisfilefullpath", ThisFileFullPath) ∷
     (codes "msbuildthisfiledirectory", ThisFileDirectory) ∷ []
 
-abbrev pub is_reserved : List ℕ → Bool
+abbrev pub is_reserved : Name → Bool
 is_reserved name = is_some (value_at name reserved)
 
 -- by the project's file and the file of the element
-abbrev pub reserved_value : List ℕ → List ℕ → Reserved → List ℕ
+abbrev pub reserved_value : Path → Path → Reserved → Text
 reserved_value project file ProjectDirectory = from_root (folder_of project)
 reserved_value project file ProjectFile = file_of project
 reserved_value project file ProjectName = filename project

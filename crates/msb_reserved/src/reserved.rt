@@ -25,7 +25,7 @@ impl Reserved {
     ghost use Rattle.msb_reserved.specs.Reserved.{reserved, reserved_value};
 
     /// The property of this name, which is in lower case.
-    pub fn named(name: &str) -> Option<Reserved>
+    pub fn find(name: &str) -> Option<Reserved>
         ensures { result ≡ value_at name.now reserved }
     {
         match name {
@@ -75,5 +75,5 @@ impl Reserved {
 pub fn is_reserved(name: &Name) -> bool
     ensures { result ≡ is_reserved name.now }
 {
-    Reserved::named(name.key()).is_some()
+    Reserved::find(name.key()).is_some()
 }

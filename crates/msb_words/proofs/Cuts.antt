@@ -40,8 +40,7 @@ pub cut_is : (text : List ℕ) (r : Option (Bor (List ℕ) × Bor (List ℕ)))
     → MatchOption r (Lacks 61 text) (λ x. (text ≡ x.0.now ++ (61 ∷ x.1.now)) × Lacks 61 x.0.now)
     → option_map (λ p. (p.0.now, p.1.now)) r ≡ cut_at_equals text
 cut_is text None lacks = sym (rw (list_any-Lacks 61 text lacks) refl)
-cut_is text (Some x) parts =
-    sym
+cut_is text (Some x) parts = sym
     (ap cut_at_equals parts.0
     ∙ rw (
       list_any-at 61 x.0.now x.1.now,

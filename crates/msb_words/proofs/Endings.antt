@@ -101,13 +101,15 @@ defaults_clean rs = defaults_clean_after rs valued_rules undefaulted
 flag_alone : (rs : List Row) (others : List Rule) → Undefaulted others
     → fold with_default rs (others ++ flag_rule ∷ []) ≡ with_default rs flag_rule
 flag_alone rs [] u = refl
-flag_alone rs (a ∷ others) u = ap (λ r. fold with_default r (others ++ flag_rule ∷ []))
+flag_alone rs (a ∷ others) u =
+    ap (λ r. fold with_default r (others ++ flag_rule ∷ []))
     (same_default rs a u.0) ∙ flag_alone rs others u.1
 
 -- ---- the end
 
 abbrev pub ends : Held → Kinds
-ends h = or_else (settle_fault rules false h)
+ends h =
+    or_else (settle_fault rules false h)
     (or_else (defaults_fault (settled rules h).rows rules)
     (check_fault shape (finished rules h) false))
 
@@ -127,7 +129,8 @@ check_without_project rs a p = rw (a, p) tt
 module _ (h : Held) (names : Names) (clean : settle_fault rules false h ≡ [])
     (are : (settled rules h).rows ≡ rows names) where
   pub end_rows : finished rules h ≡ all_rows names
-  end_rows = ap (λ rs. fold with_default rs rules) are
+  end_rows =
+      ap (λ rs. fold with_default rs rules) are
       ∙ flag_alone (rows names) valued_rules undefaulted ∙ defaulted names
 
   given_at_end : (id : List ℕ) (b : Bool) → bytes_eq (codes "clean") id ≡ false → has id names ≡ b

@@ -74,7 +74,8 @@ same_faults words = no_level words _
 
 agree : (words : List (List ℕ)) → list_all is_word words ≡ true
     → Agrees (fault_of grammar words) (matches_of grammar words) (names_in words)
-agree words good = subst (λ k. Agrees k (matches_of grammar words) (names_in words))
+agree words good =
+    subst (λ k. Agrees k (matches_of grammar words) (names_in words))
     (sym (same_faults words)) (from_nothing words good)
 
 -- words that are neither values nor options
@@ -94,7 +95,8 @@ pub refused : (words : List (List ℕ)) (k : ErrorKind) → list_all is_word wor
     → (k ≡ OutOfMemory) ⊎ IsAmong k (fault_of grammar words)
     → ReadsAs seen (given_in words) (Err (fault_of_kind k))
 refused words k good (inl out) = rw (out) tt
-refused words k good (inr among) = none_read (given_in words) (fault_of_kind k)
+refused words k good (inr among) =
+    none_read (given_in words) (fault_of_kind k)
     ((agree words good).fails (some_kind k (fault_of grammar words) among))
 
 -- what the matches have: the flag's value, and by it the whole

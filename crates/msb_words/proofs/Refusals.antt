@@ -78,7 +78,8 @@ by_test : (words : List (List ℕ)) (word : List ℕ) (b : Bool) → is_word wor
     → taken_all t (word ∷ words) ≡ None
 unfolding taken_all
 by_test words word true is bad later t = goes_on words _ (later bad)
-by_test words word false is bad later t = ap (option_and_then (λ more. taken_all more words))
+by_test words word false is bad later t =
+    ap (option_and_then (λ more. taken_all more words))
     (bad_word word is t.places t.waiting t.names)
 
 pub none_taken : (words : List (List ℕ)) → list_all is_word words ≡ false → (t : Taken)

@@ -118,7 +118,8 @@ defaulted names = go (has (codes "clean") names) refl
     go : (b : Bool) → has (codes "clean") names ≡ b
         → with_default (rows names) flag_rule ≡ cond b (rows names) (rows names ++ default_row ∷ [])
     go true old = rw (same_names (codes "clean") names, old) refl
-    go false new = rw (same_names (codes "clean") names, new)
+    go false new =
+        rw (same_names (codes "clean") names, new)
         (at_absent (codes "clean") (more_values DefaultValue (codes "false" ∷ []))
         (default_row ∷ []) names new)
 
@@ -218,8 +219,8 @@ own_value id value (n ∷ names) new same = let p = split_or (bytes_eq n.0 id) (
 
 -- where it stands it is `true`
 abbrev pub FlagIsTrue : Names → Type 0
-FlagIsTrue names = has (codes "clean") names ≡ true
-    → value_in names (codes "clean") ≡ Some (codes "true")
+FlagIsTrue names =
+    has (codes "clean") names ≡ true → value_in names (codes "clean") ≡ Some (codes "true")
 
 pub flag_kept : (name value : List ℕ) (names : Names) → bytes_eq name (codes "clean") ≡ false
     → FlagIsTrue names → FlagIsTrue (with name value names)
@@ -243,7 +244,8 @@ flag_read names flagged = go (has (codes "clean") names) refl
 
     in_rows : option_and_then row_text (find (λ r. bytes_eq r.id (codes "clean")) (rows names))
         ≡ value_in names (codes "clean")
-    in_rows = ap (option_and_then row_text)
+    in_rows =
+        ap (option_and_then row_text)
         (sym (find-map (λ r. bytes_eq r.id (codes "clean")) row names))
         ∙ written (find (λ n. bytes_eq n.0 (codes "clean")) names)
 

@@ -135,20 +135,20 @@ named : (name : List ℕ) (b c d e f g : Bool) → bytes_eq (codes "target") nam
     → bytes_eq (codes "property") name ≡ c → bytes_eq (codes "nodes") name ≡ d
     → bytes_eq (codes "show") name ≡ e
     → bytes_eq (codes "size") name ≡ f → bytes_eq (codes "clean") name ≡ g → Met name
-named name true c d e f g t p n s z l = an_option
-    (subst IsOption (same_text (codes "target") name t) is_target)
-named name false true d e f g t p n s z l = an_option
-    (subst IsOption (same_text (codes "property") name p) is_property)
-named name false false true e f g t p n s z l = an_option
-    (subst IsOption (same_text (codes "nodes") name n) is_nodes)
-named name false false false true f g t p n s z l = an_option
-    (subst IsOption (same_text (codes "show") name s) is_show)
-named name false false false false true g t p n s z l = an_option
-    (subst IsOption (same_text (codes "size") name z) is_size)
-named name false false false false false true t p n s z l = a_flag
-    (subst IsFlag (same_text (codes "clean") name l) is_clean)
-named name false false false false false false t p n s z l = unknown (rw (t, p, n, s, z) refl) l
-    (rw (t, p, n, s, z, l) refl)
+named name true c d e f g t p n s z l =
+    an_option (subst IsOption (same_text (codes "target") name t) is_target)
+named name false true d e f g t p n s z l =
+    an_option (subst IsOption (same_text (codes "property") name p) is_property)
+named name false false true e f g t p n s z l =
+    an_option (subst IsOption (same_text (codes "nodes") name n) is_nodes)
+named name false false false true f g t p n s z l =
+    an_option (subst IsOption (same_text (codes "show") name s) is_show)
+named name false false false false true g t p n s z l =
+    an_option (subst IsOption (same_text (codes "size") name z) is_size)
+named name false false false false false true t p n s z l =
+    a_flag (subst IsFlag (same_text (codes "clean") name l) is_clean)
+named name false false false false false false t p n s z l =
+    unknown (rw (t, p, n, s, z) refl) l (rw (t, p, n, s, z, l) refl)
 
 pub which : (name : List ℕ) → Met name
 which name = named name _ _ _ _ _ _ refl refl refl refl refl refl
@@ -196,14 +196,14 @@ pub data At : ℕ → List (List ℕ) → Names → Type 0 where
 stays : {position : ℕ} {places : List (List ℕ)} {names : Names} (name value : List ℕ)
     → TakesNoPlace name → FlagIsTrue (with name value names) → At position places names
     → At position places (with name value names)
-stays {position} {places} {names} name value d g (at_first a p f) = at_first
-    (other_name (codes "action") name value names d.action ∙ a)
+stays {position} {places} {names} name value d g (at_first a p f) =
+    at_first (other_name (codes "action") name value names d.action ∙ a)
     (other_name (codes "project") name value names d.project ∙ p) g
-stays {position} {places} {names} name value d g (at_second a p f) = at_second
-    (other_name (codes "action") name value names d.action ∙ a)
+stays {position} {places} {names} name value d g (at_second a p f) =
+    at_second (other_name (codes "action") name value names d.action ∙ a)
     (other_name (codes "project") name value names d.project ∙ p) g
-stays {position} {places} {names} name value d g (at_end a p f) = at_end
-    (other_name (codes "action") name value names d.action ∙ a)
+stays {position} {places} {names} name value d g (at_end a p f) =
+    at_end (other_name (codes "action") name value names d.action ∙ a)
     (other_name (codes "project") name value names d.project ∙ p) g
 
 flags_so_far : {position : ℕ} {places : List (List ℕ)} {names : Names} → At position places names
@@ -215,13 +215,14 @@ flags_so_far (at_end a p f) = f
 -- an option takes no place, and a flag takes none
 pub kept : {position : ℕ} {places : List (List ℕ)} {names : Names} (name value : List ℕ)
     → IsOption name → At position places names → At position places (with name value names)
-kept {position} {places} {names} name value o at = stays name value (no_place o)
-    (flag_kept name value names (no_flag o) (flags_so_far at)) at
+kept {position} {places} {names} name value o at =
+    stays name value (no_place o) (flag_kept name value names (no_flag o) (flags_so_far at)) at
 
 pub kept_by_flag : {position : ℕ} {places : List (List ℕ)} {names : Names} {name : List ℕ}
     → IsFlag name → has name names ≡ false → At position places names
     → At position places (with name (codes "true") names)
-kept_by_flag {position} {places} {names} is_clean new at = stays (codes "clean") (codes "true")
+kept_by_flag {position} {places} {names} is_clean new at =
+    stays (codes "clean") (codes "true")
     (record { action = refl; project = refl }) (flag_added names new) at
 
 -- a word that stands alone takes the first place
@@ -296,16 +297,16 @@ module _ (rs : List Row) (pending : Option (List ℕ × List (List ℕ))) (posit
       → long_of word ≡ Some (name, Some value)
       → has_row name (settled_rows rules pending rs) ≡ false
       → turn_fault shape [] (walk_at rs pending idle position) word ≡ []
-  attached_clean is_target is new = rw (long_word word _ is, is)
-      (none_else _ [] (none_else _ _ clean (rw (new) refl)) refl)
-  attached_clean is_property is new = rw (long_word word _ is, is)
-      (none_else _ [] (none_else _ _ clean (rw (new) refl)) refl)
-  attached_clean is_nodes is new = rw (long_word word _ is, is)
-      (none_else _ [] (none_else _ _ clean (rw (new) refl)) refl)
-  attached_clean is_show is new = rw (long_word word _ is, is)
-      (none_else _ [] (none_else _ _ clean (rw (new) refl)) refl)
-  attached_clean is_size is new = rw (long_word word _ is, is)
-      (none_else _ [] (none_else _ _ clean (rw (new) refl)) refl)
+  attached_clean is_target is new =
+      rw (long_word word _ is, is) (none_else _ [] (none_else _ _ clean (rw (new) refl)) refl)
+  attached_clean is_property is new =
+      rw (long_word word _ is, is) (none_else _ [] (none_else _ _ clean (rw (new) refl)) refl)
+  attached_clean is_nodes is new =
+      rw (long_word word _ is, is) (none_else _ [] (none_else _ _ clean (rw (new) refl)) refl)
+  attached_clean is_show is new =
+      rw (long_word word _ is, is) (none_else _ [] (none_else _ _ clean (rw (new) refl)) refl)
+  attached_clean is_size is new =
+      rw (long_word word _ is, is) (none_else _ [] (none_else _ _ clean (rw (new) refl)) refl)
 
   pub attached_goes : {name value : List ℕ} → IsOption name → long_of word ≡ Some (name, Some value)
       → walked rules [] (walk_at rs pending idle position) word
@@ -322,23 +323,23 @@ module _ (rs : List Row) (pending : Option (List ℕ × List (List ℕ))) (posit
   pub attached_again : {name value : List ℕ} → IsOption name
       → long_of word ≡ Some (name, Some value) → has_row name (settled_rows rules pending rs) ≡ true
       → Faulty (turn_fault shape [] (walk_at rs pending idle position) word)
-  attached_again is_target is old = rw (long_word word _ is, is)
-      (or_else_first _ [] (or_else_then _ _ clean (rw (old) tt)))
-  attached_again is_property is old = rw (long_word word _ is, is)
-      (or_else_first _ [] (or_else_then _ _ clean (rw (old) tt)))
-  attached_again is_nodes is old = rw (long_word word _ is, is)
-      (or_else_first _ [] (or_else_then _ _ clean (rw (old) tt)))
-  attached_again is_show is old = rw (long_word word _ is, is)
-      (or_else_first _ [] (or_else_then _ _ clean (rw (old) tt)))
-  attached_again is_size is old = rw (long_word word _ is, is)
-      (or_else_first _ [] (or_else_then _ _ clean (rw (old) tt)))
+  attached_again is_target is old =
+      rw (long_word word _ is, is) (or_else_first _ [] (or_else_then _ _ clean (rw (old) tt)))
+  attached_again is_property is old =
+      rw (long_word word _ is, is) (or_else_first _ [] (or_else_then _ _ clean (rw (old) tt)))
+  attached_again is_nodes is old =
+      rw (long_word word _ is, is) (or_else_first _ [] (or_else_then _ _ clean (rw (old) tt)))
+  attached_again is_show is old =
+      rw (long_word word _ is, is) (or_else_first _ [] (or_else_then _ _ clean (rw (old) tt)))
+  attached_again is_size is old =
+      rw (long_word word _ is, is) (or_else_first _ [] (or_else_then _ _ clean (rw (old) tt)))
 
   -- the flag
   pub flag_clean : {name : List ℕ} → IsFlag name → long_of word ≡ Some (name, None)
       → has_row name (settled_rows rules pending rs) ≡ false
       → turn_fault shape [] (walk_at rs pending idle position) word ≡ []
-  flag_clean is_clean is new = rw (long_word word _ is, is)
-      (none_else _ [] (none_else _ _ clean (rw (new) refl)) refl)
+  flag_clean is_clean is new =
+      rw (long_word word _ is, is) (none_else _ [] (none_else _ _ clean (rw (new) refl)) refl)
 
   pub flag_goes : {name : List ℕ} → IsFlag name → long_of word ≡ Some (name, None)
       → walked rules [] (walk_at rs pending idle position) word
@@ -351,8 +352,8 @@ module _ (rs : List Row) (pending : Option (List ℕ × List (List ℕ))) (posit
   pub flag_again : {name : List ℕ} → IsFlag name → long_of word ≡ Some (name, None)
       → has_row name (settled_rows rules pending rs) ≡ true
       → Faulty (turn_fault shape [] (walk_at rs pending idle position) word)
-  flag_again is_clean is old = rw (long_word word _ is, is)
-      (or_else_first _ [] (or_else_then _ _ clean (rw (old) tt)))
+  flag_again is_clean is old =
+      rw (long_word word _ is, is) (or_else_first _ [] (or_else_then _ _ clean (rw (old) tt)))
 
 -- a flag with a value
 pub flag_valued : (rs : List Row) (pending : Option (List ℕ × List (List ℕ))) (position : ℕ)
@@ -417,44 +418,44 @@ pub long_fails : (rs : List Row) (pending : Option (List ℕ × List (List ℕ))
     (position : ℕ) (word : List ℕ) (cut : List ℕ × Option (List ℕ)) → long_of word ≡ Some cut
     → arg_by_long rules cut.0 ≡ None → subcommand_met [] waiting word ≡ None
     → Faulty (turn_fault shape [] (walk_at rs pending waiting position) word)
-long_fails rs pending waiting position word cut is no_rule none = rw
-    (none, long_word word cut is, is, no_rule) tt
+long_fails rs pending waiting position word cut is no_rule none =
+    rw (none, long_word word cut is, is, no_rule) tt
 
 pub long_bad : {name : List ℕ} (rs : List Row) (pending : Option (List ℕ × List (List ℕ)))
     (waiting : Waiting) (position : ℕ) (word : List ℕ) (value : Option (List ℕ)) → IsOption name
     → long_of word ≡ Some (name, value)
     → subcommand_met [] waiting word ≡ None → Faulty (settle_fault rules false (held rs pending))
     → Faulty (turn_fault shape [] (walk_at rs pending waiting position) word)
-long_bad rs pending waiting position word None is_target is none bad = rw
-    (none, long_word word _ is, is) (or_else_first _ _ bad)
-long_bad rs pending waiting position word None is_property is none bad = rw
-    (none, long_word word _ is, is) (or_else_first _ _ bad)
-long_bad rs pending waiting position word None is_nodes is none bad = rw
-    (none, long_word word _ is, is) (or_else_first _ _ bad)
-long_bad rs pending waiting position word None is_show is none bad = rw
-    (none, long_word word _ is, is) (or_else_first _ _ bad)
-long_bad rs pending waiting position word None is_size is none bad = rw
-    (none, long_word word _ is, is) (or_else_first _ _ bad)
-long_bad rs pending waiting position word (Some value) is_target is none bad = rw
-    (none, long_word word _ is, is) (or_else_first _ _ (or_else_first _ _ bad))
-long_bad rs pending waiting position word (Some value) is_property is none bad = rw
-    (none, long_word word _ is, is) (or_else_first _ _ (or_else_first _ _ bad))
-long_bad rs pending waiting position word (Some value) is_nodes is none bad = rw
-    (none, long_word word _ is, is) (or_else_first _ _ (or_else_first _ _ bad))
-long_bad rs pending waiting position word (Some value) is_show is none bad = rw
-    (none, long_word word _ is, is) (or_else_first _ _ (or_else_first _ _ bad))
-long_bad rs pending waiting position word (Some value) is_size is none bad = rw
-    (none, long_word word _ is, is) (or_else_first _ _ (or_else_first _ _ bad))
+long_bad rs pending waiting position word None is_target is none bad =
+    rw (none, long_word word _ is, is) (or_else_first _ _ bad)
+long_bad rs pending waiting position word None is_property is none bad =
+    rw (none, long_word word _ is, is) (or_else_first _ _ bad)
+long_bad rs pending waiting position word None is_nodes is none bad =
+    rw (none, long_word word _ is, is) (or_else_first _ _ bad)
+long_bad rs pending waiting position word None is_show is none bad =
+    rw (none, long_word word _ is, is) (or_else_first _ _ bad)
+long_bad rs pending waiting position word None is_size is none bad =
+    rw (none, long_word word _ is, is) (or_else_first _ _ bad)
+long_bad rs pending waiting position word (Some value) is_target is none bad =
+    rw (none, long_word word _ is, is) (or_else_first _ _ (or_else_first _ _ bad))
+long_bad rs pending waiting position word (Some value) is_property is none bad =
+    rw (none, long_word word _ is, is) (or_else_first _ _ (or_else_first _ _ bad))
+long_bad rs pending waiting position word (Some value) is_nodes is none bad =
+    rw (none, long_word word _ is, is) (or_else_first _ _ (or_else_first _ _ bad))
+long_bad rs pending waiting position word (Some value) is_show is none bad =
+    rw (none, long_word word _ is, is) (or_else_first _ _ (or_else_first _ _ bad))
+long_bad rs pending waiting position word (Some value) is_size is none bad =
+    rw (none, long_word word _ is, is) (or_else_first _ _ (or_else_first _ _ bad))
 
 pub flag_bad : {name : List ℕ} (rs : List Row) (pending : Option (List ℕ × List (List ℕ)))
     (waiting : Waiting) (position : ℕ) (word : List ℕ) (value : Option (List ℕ)) → IsFlag name
     → long_of word ≡ Some (name, value)
     → subcommand_met [] waiting word ≡ None → Faulty (settle_fault rules false (held rs pending))
     → Faulty (turn_fault shape [] (walk_at rs pending waiting position) word)
-flag_bad rs pending waiting position word None is_clean is none bad = rw
-    (none, long_word word _ is, is) (or_else_first _ _ (or_else_first _ _ bad))
-flag_bad rs pending waiting position word (Some value) is_clean is none bad = rw
-    (none, long_word word _ is, is) tt
+flag_bad rs pending waiting position word None is_clean is none bad =
+    rw (none, long_word word _ is, is) (or_else_first _ _ (or_else_first _ _ bad))
+flag_bad rs pending waiting position word (Some value) is_clean is none bad =
+    rw (none, long_word word _ is, is) tt
 
 module _ (rs : List Row) (pending : Option (List ℕ × List (List ℕ))) (word : List ℕ)
     (good : is_value word ≡ true) (bad : Faulty (settle_fault rules false (held rs pending))) where

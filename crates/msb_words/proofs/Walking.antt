@@ -137,7 +137,8 @@ faults w words = or_else (walk_fault shape [] w words) (ends (after w words).hel
 
 -- the names that the words give from here on
 abbrev names_after : List (List ℕ) → Option (List ℕ) → Names → List (List ℕ) → Option Names
-names_after places waiting names words = option_and_then names_of
+names_after places waiting names words =
+    option_and_then names_of
     (taken_all (record { places = places; waiting = waiting; names = names }) words)
 
 abbrev names_on : List (List ℕ) → Option Taken → Option Names
@@ -163,8 +164,8 @@ no_fault kinds none bad = subst Faulty none bad
 
 disagrees : (kinds : Kinds) (rs : List Row) (own : Option Names) → Faulty kinds → answer own ≡ None
     → Agrees kinds rs own
-disagrees kinds rs own bad none = record
-    { whole = λ is. absurd (no_fault kinds is bad); fails = λ _. none }
+disagrees kinds rs own bad none =
+    record { whole = λ is. absurd (no_fault kinds is bad); fails = λ _. none }
 
 -- one word more
 module _ (w : Walk) (word : List ℕ) (words : List (List ℕ)) (own : Option Names) where
@@ -172,8 +173,7 @@ module _ (w : Walk) (word : List ℕ) (words : List (List ℕ)) (own : Option Na
       → Agrees (faults next words) (found next words) own
       → Agrees (faults w (word ∷ words)) (found w (word ∷ words)) own
   unfolding walk_fault
-  goes next clean is agrees =
-      subst
+  goes next clean is agrees = subst
       (λ n.
       Agrees
       (or_else (or_else (turn_fault shape [] w word) (walk_fault shape [] n words))
@@ -234,7 +234,8 @@ doomed (word ∷ words) good {position} rs pending at bad = or_else_first _ _
 
 -- nothing waits for a value
 abbrev Idle : List (List ℕ) → Type 0
-Idle words = (position : ℕ) (places : List (List ℕ)) (names : Names) (rs : List Row)
+Idle words =
+    (position : ℕ) (places : List (List ℕ)) (names : Names) (rs : List Row)
     (pending : Option (List ℕ × List (List ℕ))) → At position places names
     → settle_fault rules false (held rs pending) ≡ [] → settled_rows rules pending rs ≡ rows names
     → Agrees (faults (walk_at rs pending idle position) words)
@@ -242,7 +243,8 @@ Idle words = (position : ℕ) (places : List (List ℕ)) (names : Names) (rs : L
 
 -- an option waits for its value
 abbrev Waits : List (List ℕ) → Type 0
-Waits words = (position : ℕ) (places : List (List ℕ)) (names : Names) (name : List ℕ)
+Waits words =
+    (position : ℕ) (places : List (List ℕ)) (names : Names) (name : List ℕ)
     → At position places names → IsOption name
     → Agrees (faults (walk_at (rows names) (Some (name, [])) (waits_for name) position) words)
     (found (walk_at (rows names) (Some (name, [])) (waits_for name) position) words)
@@ -250,10 +252,10 @@ Waits words = (position : ℕ) (places : List (List ℕ)) (names : Names) (name 
 
 idle_end : Idle []
 unfolding walk_fault taken_all
-idle_end _ _ names rs pending (at_first a p f) clean are = disagrees _ _ _
-    (end_without_action (held rs pending) names clean are a) (no_action names a)
-idle_end _ _ names rs pending (at_second a p f) clean are = disagrees _ _ _
-    (end_without_project (held rs pending) names clean are a p) (no_project names p)
+idle_end _ _ names rs pending (at_first a p f) clean are =
+    disagrees _ _ _ (end_without_action (held rs pending) names clean are a) (no_action names a)
+idle_end _ _ names rs pending (at_second a p f) clean are =
+    disagrees _ _ _ (end_without_project (held rs pending) names clean are a p) (no_project names p)
 idle_end _ _ names rs pending (at_end a p f) clean are = record {
   whole = λ _. let end = end_rows (held rs pending) names clean are in record {
     clean = has (codes "clean") names;
@@ -266,22 +268,25 @@ idle_end _ _ names rs pending (at_end a p f) clean are = record {
 
 waits_end : Waits []
 unfolding walk_fault taken_all
-waits_end _ _ names name at o = disagrees _ _ _ (or_else_first _ _ (value_missing (rows names) o))
-    refl
+waits_end _ _ names name at o =
+    disagrees _ _ _ (or_else_first _ _ (value_missing (rows names) o)) refl
 
 module _ (word : List ℕ) (words : List (List ℕ)) (next_idle : Idle words) (next_waits : Waits words)
   where
     -- a word that stands alone
     idle_alone : is_value word ≡ true → Idle (word ∷ words)
     unfolding taken_all
-    idle_alone v _ _ names rs pending (at_first a p f) clean are = rw (v)
+    idle_alone v _ _ names rs pending (at_first a p f) clean are =
+        rw (v)
         (goes _ word words _ _ (first_clean rs pending word v clean)
         (first_goes rs pending word v clean
         ∙ ap (λ r. walk_at r (Some (codes "action", word ∷ [])) idle 2) are)
-        (next_idle _ _ _ (rows names) (Some (codes "action", word ∷ [])) (first_taken names word p f)
+        (next_idle _ _ _ (rows names) (Some (codes "action", word ∷ []))
+        (first_taken names word p f)
         (action_pending (rows names) word (same_names (codes "action") names ∙ a))
         (action_settled (rows names) word ∙ one_more (codes "action") word names a)))
-    idle_alone v _ _ names rs pending (at_second a p f) clean are = rw (v)
+    idle_alone v _ _ names rs pending (at_second a p f) clean are =
+        rw (v)
         (goes _ word words _ _ (second_clean rs pending word v clean)
         (second_goes rs pending word v clean
         ∙ ap (λ r. walk_at r (Some (codes "project", word ∷ [])) idle 3) are)
@@ -289,26 +294,27 @@ module _ (word : List ℕ) (words : List (List ℕ)) (next_idle : Idle words) (n
         (second_taken names word a f)
         (project_pending (rows names) word (same_names (codes "project") names ∙ p))
         (project_settled (rows names) word ∙ one_more (codes "project") word names p)))
-    idle_alone v _ _ names rs pending (at_end a p f) clean are = rw (v)
-        (stops _ word words _ (third_fails rs pending word v) refl)
+    idle_alone v _ _ names rs pending (at_end a p f) clean are =
+        rw (v) (stops _ word words _ (third_fails rs pending word v) refl)
 
     -- an option with its value behind `=`
     attached : {position : ℕ} {places : List (List ℕ)} {names : Names} (rs : List Row)
         (pending : Option (List ℕ × List (List ℕ))) (name value : List ℕ) (b : Bool)
         → At position places names
-        → settle_fault rules false (held rs pending) ≡ [] → settled_rows rules pending rs ≡ rows names
+        → settle_fault rules false (held rs pending) ≡ []
+        → settled_rows rules pending rs ≡ rows names
         → IsOption name → long_of word ≡ Some (name, Some value) → is_value value ≡ true
         → has name names ≡ b
         → Agrees (faults (walk_at rs pending idle position) (word ∷ words))
         (found (walk_at rs pending idle position) (word ∷ words))
         (names_on words (valued places names name value))
-    attached {position} {places} {names} rs pending name value true at clean are o is ok old = rw
-        (ok, old)
+    attached {position} {places} {names} rs pending name value true at clean are o is ok old =
+        rw (ok, old)
         (stops _ word words _
         (attached_again rs pending position word clean o is
         (ap (has_row name) are ∙ same_names name names ∙ old)) refl)
-    attached {position} {places} {names} rs pending name value false at clean are o is ok new = rw
-        (ok, new)
+    attached {position} {places} {names} rs pending name value false at clean are o is ok new =
+        rw (ok, new)
         (goes _ word words _ _
         (attached_clean rs pending position word clean o is
         (ap (has_row name) are ∙ same_names name names ∙ new))
@@ -322,7 +328,8 @@ module _ (word : List ℕ) (words : List (List ℕ)) (next_idle : Idle words) (n
     opened_idle : {position : ℕ} {places : List (List ℕ)} {names : Names} (rs : List Row)
         (pending : Option (List ℕ × List (List ℕ))) (name : List ℕ) (value : Option (List ℕ))
         → At position places names
-        → settle_fault rules false (held rs pending) ≡ [] → settled_rows rules pending rs ≡ rows names
+        → settle_fault rules false (held rs pending) ≡ []
+        → settled_rows rules pending rs ≡ rows names
         → IsOption name → long_of word ≡ Some (name, value) → is_value_if value ≡ true
         → Agrees (faults (walk_at rs pending idle position) (word ∷ words))
         (found (walk_at rs pending idle position) (word ∷ words))
@@ -339,22 +346,24 @@ module _ (word : List ℕ) (words : List (List ℕ)) (next_idle : Idle words) (n
     flag_alone : {position : ℕ} {places : List (List ℕ)} {names : Names} (rs : List Row)
         (pending : Option (List ℕ × List (List ℕ))) (name : List ℕ) (b : Bool)
         → At position places names
-        → settle_fault rules false (held rs pending) ≡ [] → settled_rows rules pending rs ≡ rows names
+        → settle_fault rules false (held rs pending) ≡ []
+        → settled_rows rules pending rs ≡ rows names
         → IsFlag name → long_of word ≡ Some (name, None) → has name names ≡ b
         → Agrees (faults (walk_at rs pending idle position) (word ∷ words))
         (found (walk_at rs pending idle position) (word ∷ words))
         (names_on words (flagged places names name None))
-    flag_alone {position} {places} {names} rs pending name true at clean are f is old = rw (old)
+    flag_alone {position} {places} {names} rs pending name true at clean are f is old =
+        rw (old)
         (stops _ word words _
         (flag_again rs pending position word clean f is
         (ap (has_row name) are ∙ same_names name names ∙ old)) refl)
-    flag_alone {position} {places} {names} rs pending name false at clean are f is new = rw (new)
+    flag_alone {position} {places} {names} rs pending name false at clean are f is new =
+        rw (new)
         (goes _ word words _ _
         (flag_clean rs pending position word clean f is
         (ap (has_row name) are ∙ same_names name names ∙ new))
         (flag_goes rs pending position word clean f is
-        ∙ ap
-        (λ r.
+        ∙ ap (λ r.
         walk_at (with_values name AsWritten CommandLine (codes "true" ∷ []) (without name r)) None
         idle position) are
         ∙ ap (λ r. walk_at r None idle position) (one_more name (codes "true") names new))
@@ -364,26 +373,27 @@ module _ (word : List ℕ) (words : List (List ℕ)) (next_idle : Idle words) (n
     flag_idle : {position : ℕ} {places : List (List ℕ)} {names : Names} (rs : List Row)
         (pending : Option (List ℕ × List (List ℕ))) (name : List ℕ) (value : Option (List ℕ))
         → At position places names
-        → settle_fault rules false (held rs pending) ≡ [] → settled_rows rules pending rs ≡ rows names
+        → settle_fault rules false (held rs pending) ≡ []
+        → settled_rows rules pending rs ≡ rows names
         → IsFlag name → long_of word ≡ Some (name, value)
         → Agrees (faults (walk_at rs pending idle position) (word ∷ words))
         (found (walk_at rs pending idle position) (word ∷ words))
         (names_on words (flagged places names name value))
-    flag_idle {position} {places} {names} rs pending name None at clean are f is = flag_alone rs
-        pending name (has name names) at clean are f is refl
-    flag_idle {position} {places} {names} rs pending name (Some value) at clean are f is = stops _
-        word words _ (flag_valued rs pending position word f is) refl
+    flag_idle {position} {places} {names} rs pending name None at clean are f is =
+        flag_alone rs pending name (has name names) at clean are f is refl
+    flag_idle {position} {places} {names} rs pending name (Some value) at clean are f is =
+        stops _ word words _ (flag_valued rs pending position word f is) refl
 
     idle_long : (cut : List ℕ × Option (List ℕ)) → is_value word ≡ false → option_of word ≡ Some cut
         → is_value_if cut.1 ≡ true → Met cut.0 → Idle (word ∷ words)
     unfolding taken_all
     idle_long cut v is ok (an_option o) position places names rs pending at clean are = rw
         (v, is, known o) (opened_idle rs pending cut.0 cut.1 at clean are o (same_cut word ∙ is) ok)
-    idle_long cut v is ok (a_flag f) position places names rs pending at clean are = rw
-        (v, is, (known_flag f).0, (known_flag f).1)
+    idle_long cut v is ok (a_flag f) position places names rs pending at clean are =
+        rw (v, is, (known_flag f).0, (known_flag f).1)
         (flag_idle rs pending cut.0 cut.1 at clean are f (same_cut word ∙ is))
-    idle_long cut v is ok (unknown o f none) position places names rs pending at clean are = rw
-        (v, is, o, f)
+    idle_long cut v is ok (unknown o f none) position places names rs pending at clean are =
+        rw (v, is, o, f)
         (stops _ word words _
         (long_fails rs pending idle position word cut (same_cut word ∙ is) none refl) refl)
 
@@ -395,13 +405,15 @@ module _ (word : List ℕ) (words : List (List ℕ)) (next_idle : Idle words) (n
         (faults (walk_at (rows names) (Some (name, [])) (waits_for name) position) (word ∷ words))
         (found (walk_at (rows names) (Some (name, [])) (waits_for name) position) (word ∷ words))
         (names_on words (valued places names name word))
-    waits_alone good v {position} {places} {names} name true at o old = rw (v, old)
+    waits_alone good v {position} {places} {names} name true at o old =
+        rw (v, old)
         (goes _ word words _ _ (value_clean (rows names) position word v name)
         (value_goes (rows names) position word v o)
         (disagrees _ _ _
         (doomed words good (rows names) (Some (name, word ∷ [])) at
         (value_again (rows names) word o (same_names name names ∙ old))) refl))
-    waits_alone good v {position} {places} {names} name false at o new = rw (v, new)
+    waits_alone good v {position} {places} {names} name false at o new =
+        rw (v, new)
         (goes _ word words _ _ (value_clean (rows names) position word v name)
         (value_goes (rows names) position word v o)
         (next_idle _ _ _ (rows names) (Some (name, word ∷ [])) (kept name word o at)
@@ -411,15 +423,18 @@ module _ (word : List ℕ) (words : List (List ℕ)) (next_idle : Idle words) (n
     waits_long : (cut : List ℕ × Option (List ℕ)) → is_value word ≡ false → long_of word ≡ Some cut
         → Met cut.0 → Waits (word ∷ words)
     unfolding taken_all
-    waits_long cut v is (an_option other) position places names name at o = rw (v)
+    waits_long cut v is (an_option other) position places names name at o =
+        rw (v)
         (stops _ word words _
         (long_bad (rows names) (Some (name, [])) (waits_for name) position word cut.1 other is
         refl (value_missing (rows names) o)) refl)
-    waits_long cut v is (a_flag f) position places names name at o = rw (v)
+    waits_long cut v is (a_flag f) position places names name at o =
+        rw (v)
         (stops _ word words _
         (flag_bad (rows names) (Some (name, [])) (waits_for name) position word cut.1 f is refl
         (value_missing (rows names) o)) refl)
-    waits_long cut v is (unknown other f none) position places names name at o = rw (v)
+    waits_long cut v is (unknown other f none) position places names name at o =
+        rw (v)
         (stops _ word words _
         (long_fails (rows names) (Some (name, [])) (waits_for name) position word cut is none
         refl) refl)
@@ -430,10 +445,10 @@ module _ (word : List ℕ) (words : List (List ℕ)) (next_idle : Idle words) (n
 
     waits_word : list_all is_word words ≡ true → Word word → Waits (word ∷ words)
     unfolding taken_all
-    waits_word good (alone v) position places names name at o = waits_alone good v name
-        (has name names) at o refl
-    waits_word good (long v cut is ok) position places names name at o = waits_long cut v
-        (same_cut word ∙ is) (which cut.0) position places names name at o
+    waits_word good (alone v) position places names name at o =
+        waits_alone good v name (has name names) at o refl
+    waits_word good (long v cut is ok) position places names name at o =
+        waits_long cut v (same_cut word ∙ is) (which cut.0) position places names name at o
 
 both : (words : List (List ℕ)) → list_all is_word words ≡ true → Idle words × Waits words
 both [] good = (idle_end, waits_end)
@@ -449,5 +464,6 @@ both (word ∷ words) good =
 pub from_nothing : (words : List (List ℕ)) → list_all is_word words ≡ true
     → Agrees (faults (walk_at [] None idle 1) words) (found (walk_at [] None idle 1) words)
     (names_in words)
-from_nothing words good = (both words good).0 _ _ [] [] None
+from_nothing words good =
+    (both words good).0 _ _ [] [] None
     (at_first refl refl (λ there. absurd (true≢false (sym there)))) refl refl

@@ -16,6 +16,7 @@ use Rattle.std.specs.Prelude.{
   option_map,
   option_and_then,
 }
+use Rattle.msb_laws.specs.Words.{Text}
 use Rattle.msb_values.specs.Pairs.{value_at}
 use Rattle.msb_words.specs.Given.{Given, given_in}
 use Rattle.msb_words.specs.Values.{targets_if, globals_if, nodes_if, low_if, size_if, seed_in}
@@ -24,11 +25,11 @@ use Rattle.msb_words.specs.declared.options.Action.{Action}
 use Rattle.msb_words.specs.declared.options.Action.TheVariants.{Build, Check, Eval, Targets, Trial}
 
 -- the names, as they have to be written
-abbrev pub actions : List (List ℕ × Action)
+abbrev pub actions : List (Text × Action)
 actions = (codes "build", Build) ∷ (codes "check", Check) ∷ (codes "eval", Eval)
     ∷ (codes "targets", Targets) ∷ (codes "trial", Trial) ∷ []
 
-abbrev pub action_of : List ℕ → Option Action
+abbrev pub action_of : Text → Option Action
 action_of word = value_at word actions
 
 -- there is no option but `--property`
@@ -62,7 +63,7 @@ nodes_without Targets = 1
 nodes_without Trial = 4
 
 -- a trial has a seed in the place of a project
-abbrev pub seed_for : Action → List ℕ → Option ℕ
+abbrev pub seed_for : Action → Text → Option ℕ
 seed_for Build project = Some 0
 seed_for Check project = Some 0
 seed_for Eval project = Some 0
@@ -70,13 +71,14 @@ seed_for Targets project = Some 0
 seed_for Trial seed = seed_in seed
 
 abbrev pub options_for : Given → Action → Option Options
-options_for given action = if has_options action given then
-    option_and_then
-    (λ targets.
-    option_and_then
-    (λ globals.
-    option_and_then
-    (λ nodes. option_and_then (λ low. option_and_then (λ size. option_map (λ seed. record {
+options_for given action =
+    if has_options action given then
+    option_and_then (λ targets.
+    option_and_then (λ globals.
+    option_and_then (λ nodes.
+    option_and_then (λ low.
+    option_and_then (λ size.
+    option_map (λ seed. record {
       action = action;
       project = given.project;
       targets = targets;
@@ -86,13 +88,18 @@ options_for given action = if has_options action given then
       low = low;
       size = size;
       seed = seed;
-    }) (seed_for action given.project)) (size_if given.size)) (low_if given.show)) (nodes_if
-    (nodes_without action) given.nodes)) (globals_if given.property)) (targets_if given.target)
+    })
+    (seed_for action given.project))
+    (size_if given.size))
+    (low_if given.show))
+    (nodes_if (nodes_without action) given.nodes))
+    (globals_if given.property))
+    (targets_if given.target)
     else None
 
 abbrev pub options_of : Given → Option Options
 options_of given = option_and_then (options_for given) (action_of given.action)
 
 -- none where the words are outside the grammar
-abbrev pub options_in : List (List ℕ) → Option Options
+abbrev pub options_in : List Text → Option Options
 options_in words = option_and_then options_of (given_in words)

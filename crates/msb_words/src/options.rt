@@ -84,9 +84,10 @@ impl Drop for Options {
 /// trial SEED --size SIZE [--nodes N]
 /// ```
 ///
-/// Options may stand anywhere, each once. A value stands behind `=` or is the next word; it is not empty and does not
-/// begin with `-`. N is one or two digits, and from 1 to 64; SIZE is one to three, and from 1 to 100; SEED is one to
-/// twenty, and below 2^64. Nothing is shortened. Other words are [`WordFault::Usage`]. (MSBuild command-line reference.)
+/// Options may stand anywhere, each once. A value stands behind `=` or is the next word; it is not
+/// empty and does not begin with `-`. N is one or two digits, and from 1 to 64; SIZE is one to
+/// three, and from 1 to 100; SEED is one to twenty, and below 2^64. Nothing is shortened. Other
+/// words are [`WordFault::Usage`]. (MSBuild command-line reference.)
 pub fn read_words(alloc: Global, words: &[String]) -> Result<Options, WordFault>
     ensures reads { Reads (options_in (map string_bytes words.now)) result }
     ensures nodes { IfOk result (λ options. (0 < options.nodes) × (options.nodes ≤ 64)) }

@@ -51,7 +51,7 @@ fn tasks(alloc: Global, number: u64, calls: &[u64]) -> Result<Vec<String>, NoMem
     ensures { IfOk result (λ tasks. map string_bytes tasks.items
         ≡ calls_text calls.now ++ write_text number ∷ []) }
 {
-    let mut tasks = called(alloc, calls)?;
+    let mut tasks = call_if_any(alloc, calls)?;
     tasks.push(write(alloc, number)?)?;
     Ok(tasks)
 }
@@ -81,7 +81,7 @@ fn one(alloc: Global, text: String) -> Result<Vec<String>, NoMemory>
 }
 
 /// The call of the projects that a project calls, if there are any.
-fn called(alloc: Global, calls: &[u64]) -> Result<Vec<String>, NoMemory>
+fn call_if_any(alloc: Global, calls: &[u64]) -> Result<Vec<String>, NoMemory>
     ensures { IfOk result (λ tasks. map string_bytes tasks.items ≡ calls_text calls.now) }
 {
     let mut tasks = Vec::new(alloc);

@@ -28,8 +28,8 @@ operand_of-returns-in-Unended-clause-leads t c = λ frames room.
     c.in-Unended.is c.requires.1.1.1.1))
     (c.unended.ensures c.args.token.end)
 
-pub named-returns-in-None-clause-leads : goal.named-returns-in-None-clause-leads
-named-returns-in-None-clause-leads t c = λ frames room.
+pub function_at-returns-in-None-clause-leads : goal.function_at-returns-in-None-clause-leads
+function_at-returns-in-None-clause-leads t c = λ frames room.
     plain_word c.args.text.now c.args.token.end frames c.args.function
     (take (c.args.token.end - c.args.token.start) (drop c.args.token.start c.args.text.now))
     c.plain.result c.in-None.ensures.none

@@ -10,8 +10,8 @@ decreases-operand_of l = 5 * l.room + 3
 abbrev pub decreases-word : goal.decreases-word
 decreases-word l = 5 * l.room + 2
 
-abbrev pub decreases-named : goal.decreases-named
-decreases-named l = 5 * l.room + 1
+abbrev pub decreases-function_at : goal.decreases-function_at
+decreases-function_at l = 5 * l.room + 1
 
 abbrev pub decreases-call : goal.decreases-call
 decreases-call l = 5 * l.room + 0

@@ -13,4 +13,4 @@ returns c =
     gives_same _ _ _
     (ap
     (λ test. filtered c.args.project.now c.args.of.now test (map seen_item c.args.items.items))
-    same) c.filtered.ensures
+    same) c.filter.ensures

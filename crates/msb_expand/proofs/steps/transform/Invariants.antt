@@ -6,10 +6,10 @@ use Rattle.msb_laws.specs.Results.{map_ok, all_ok}
 use Rattle.msb_expand.specs.Seen.{seen_item}
 use Rattle.msb_expand.proofs.steps.transform.Given as goal
 
--- what is made, and what is left to make
+-- what is transformed, and what is left to transform
 abbrev pub invariant-loop-item : goal.invariant-loop-item
 invariant-loop-item l =
-    map_ok (λ rest. map seen_item l.made.items ++ rest)
+    map_ok (λ rest. map seen_item l.transformed.items ++ rest)
     (all_ok (transformed (scene_of l.lens) l.pieces)
     (map seen_item (into_iter_items l.item-iterator)))
     ≡ all_ok (transformed (scene_of l.lens) l.pieces) (map seen_item l.fn.items.items)

@@ -12,13 +12,13 @@ returns-clause-tuples c =
     ∙ ap (λ t. if t then old ++ tuple ∷ [] else old)
     (c.in_ok-number.ensures.added
     ∙ ap not
-    (is_there (λ key. key.items) tuple c.in_ok-folded.field-0.items c.args.self.now.keys.keys
-    old (c.in_ok-folded.ensures ∙ ap (map folded_bytes) c.as_slice.ensures) c.requires))
+    (is_there (λ key. key.items) tuple c.in_ok-fold_texts.field-0.items c.args.self.now.keys.keys
+    old (c.in_ok-fold_texts.ensures ∙ ap (map folded_bytes) c.as_slice.ensures) c.requires))
     ∙ spelled_if _ old tuple
 
 pub returns-clause-number : goal.returns-clause-number
 returns-clause-number c =
     c.in_ok-number.ensures.index
-    ∙ place_is (λ key. key.items) c.args.tuple c.in_ok-folded.field-0.items
+    ∙ place_is (λ key. key.items) c.args.tuple c.in_ok-fold_texts.field-0.items
     c.args.self.now.keys.keys (tuples_in c.args.self.now)
-    (c.in_ok-folded.ensures ∙ ap (map folded_bytes) c.as_slice.ensures) c.requires
+    (c.in_ok-fold_texts.ensures ∙ ap (map folded_bytes) c.as_slice.ensures) c.requires

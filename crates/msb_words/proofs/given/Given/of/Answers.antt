@@ -21,8 +21,8 @@ use Rattle.msb_words.proofs.Parsing.{
 use Rattle.msb_words.proofs.given.Given.of.Goals as goal
 
 pub returns-then-not-are_words : goal.returns-then-not-are_words
-returns-then-not-are_words c = no_words (map string_bytes c.args.words.now)
-    (sym c.are_words.ensures ∙ c.if-not-are_words.true)
+returns-then-not-are_words c =
+    no_words (map string_bytes c.args.words.now) (sym c.are_words.ensures ∙ c.if-not-are_words.true)
 
 pub returns-in-Ok : goal.returns-in-Ok
 returns-in-Ok c =
