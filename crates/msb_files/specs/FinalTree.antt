@@ -1,6 +1,7 @@
 -- The files that a build leaves. (MSBuild targets.)
-use Rattle.std.specs.Prelude.{◌≡◌, ℕ, List, [], ◌∷◌, not, filter, reverse}
+use Rattle.std.specs.Prelude.{◌≡◌, List, [], ◌∷◌, not, filter, reverse}
 use Rattle.std.specs.Str.{bytes_eq}
+use Rattle.msb_laws.specs.Words.{Path}
 use Rattle.msb_values.specs.Acts.{act_path}
 use Rattle.msb_values.specs.declared.act.Act.{Act}
 use Rattle.file_store.specs.Commits.{bytes_there}
@@ -20,5 +21,5 @@ commit_list journal = reverse (last_acts (acts_of journal))
 
 -- each path has what the journal has for it, and else what it had before
 abbrev pub IsFinalTree : List File → Journal → List File → Type 0
-IsFinalTree before journal after = (path : List ℕ) →
+IsFinalTree before journal after = (path : Path) →
     bytes_there path after ≡ content (record { files = before; journal = journal }) path

@@ -6,6 +6,7 @@ use Rattle.std.specs.HashSet.{HashSet, contains}
 use Rattle.std.specs.List.{find}
 use Rattle.std.specs.List.Sorted.{IsSortedByKey, IsPermutation}
 use Rattle.std.specs.Str.{bytes_eq}
+use Rattle.msb_laws.specs.Words.{Path}
 use Rattle.msb_values.specs.Acts.{act_path}
 use Rattle.msb_values.specs.declared.act.Act.{Act}
 use Rattle.result_cache.specs.Journal.{Journal, Entry, Mark, has, same_mark}
@@ -13,15 +14,15 @@ use Rattle.msb_files.specs.Places.{places_of, path_at, is_on}
 use Rattle.msb_files.specs.Views.{acts_of}
 
 -- the act is on this path
-abbrev pub has_path : List ℕ → Act → Bool
+abbrev pub has_path : Path → Act → Bool
 has_path path act = bytes_eq (act_path act) path
 
 -- the newest act on a path
-abbrev pub last_act : Journal → List ℕ → Option Act
+abbrev pub last_act : Journal → Path → Option Act
 last_act entries path = find (has_path path) (acts_of entries)
 
 -- the act of an entry, if there is one that is on this path
-abbrev pub act_on : Option Entry → List ℕ → Option Act
+abbrev pub act_on : Option Entry → Path → Option Act
 act_on None path = None
 act_on (Some e) path = last_act (e ∷ []) path
 
@@ -29,7 +30,7 @@ act_on (Some e) path = last_act (e ∷ []) path
 pub record IsOrdered (entries : Journal) (before after : List ℕ) : Type 0 where
   pub all : IsPermutation before after
   pub sorted : IsSortedByKey (path_at entries) (slice_cmp nat_cmp) after
-  pub first : (path : List ℕ) → find (is_on entries path) after ≡ find (is_on entries path) before
+  pub first : (path : Path) → find (is_on entries path) after ≡ find (is_on entries path) before
 
 -- the places of the acts of entries that stand oldest first: in the byte order of the paths, and
 -- the newest on a path ahead of the others on it

@@ -1,6 +1,5 @@
 -- How acts are kept.
 use Rattle.std.specs.Prelude.{[], IsSome, unwrap_or}
-use Rattle.std.specs.Arc.{arc_value}
 use Rattle.msb_values.specs.declared.act.Act.{Act}
 use Rattle.msb_values.specs.declared.act.Act.TheVariants.{Remove}
 use Rattle.msb_files.specs.Recorded.{act_at}
@@ -9,7 +8,7 @@ use Rattle.msb_files.specs.declared.shared.KeptAct.TheVariants.{Own, Recorded}
 
 -- the act, which a record that is kept for it has
 abbrev pub act_kept : KeptAct → Act
-act_kept (Own act) = arc_value act
+act_kept (Own act) = act
 act_kept (Recorded made number) = unwrap_or (act_at made number) (Remove [])
 
 -- a record that is kept for an act has it

@@ -23,11 +23,11 @@ ghost use Rattle.msb_files.specs.Views.{acts_of, with_paths};
 
 use crate::FileView;
 use crate::entry::{Entry, JView};
-use crate::layer::{Layer, LayerRef};
+use crate::layer::Layer;
 use crate::layers::{entry_at, has_mark, is_any_below, last_act, with_new};
 use crate::mark::Mark;
 use crate::part::Part;
-use msb_values::{Act, Copied, List, NoMemory, Text};
+use msb_values::{Act, Copied, List, NoMemory, Shared, Text};
 use result_cache::{RecordRef, RunRef};
 use std::alloc::Global;
 use std::collections::BTreeSet;
@@ -46,7 +46,7 @@ pub struct Journal {
     /// The newest entries, which no other journal shares.
     part: Part,
     /// The newest first.
-    layers: List<LayerRef>,
+    layers: List<Shared<Layer>>,
     count: usize,
 }
 
@@ -224,14 +224,14 @@ impl Journal {
         if self.part.len() < MOST {
             return self.push(entry);
         }
-        let mut settled = self.copy()?.settled(alloc)?;
+        let mut settled = self.copy()?.settle(alloc)?;
         settled.push(entry)?;
         *self = settled;
         Ok(())
     }
 
     /// The same entries, of which few stand in front of the layers, so that copies take little.
-    pub(crate) fn settled(self, alloc: Global) -> Result<Journal, NoMemory>
+    pub(crate) fn settle(self, alloc: Global) -> Result<Journal, NoMemory>
         ensures { IfOk result (λ j. j ≡ self) }
     {
         if self.part.len() < MOST {

@@ -21,11 +21,10 @@ use crate::entry::Entry;
 use crate::hashed::{Marks, has_mark, insert_marks};
 use crate::mark::Mark;
 use crate::part::{Part, push_copies};
-use crate::sorted::{by_path, is_any_below, last_act, merged};
-use msb_values::{Act, Copied, NoMemory};
+use crate::sorted::{by_path, is_any_below, last_act, merge};
+use msb_values::{Act, NoMemory};
 use std::alloc::Global;
 use std::marker::Model;
-use std::sync::Arc;
 
 /// Entries that stand together in a journal, with an index by path and one by mark.
 pub(crate) struct Layer {
@@ -80,9 +79,9 @@ impl Layer {
     {
         let (newer, newer_places, mut marks) = self.into_parts();
         insert_marks(&mut marks, older.entries())?;
-        let entries = joined(alloc, older.entries(), newer)?;
+        let entries = join(alloc, older.entries(), newer)?;
         let shift = older.len();
-        let by_path = merged(alloc, &entries, &newer_places, older.places(), shift)?;
+        let by_path = merge(alloc, &entries, &newer_places, older.places(), shift)?;
         Ok(Layer {
             entries,
             by_path,
@@ -153,7 +152,7 @@ impl Layer {
     }
 }
 
-fn joined(alloc: Global, older: &[Entry], newer: Vec<Entry>) -> Result<Vec<Entry>, NoMemory>
+fn join(alloc: Global, older: &[Entry], newer: Vec<Entry>) -> Result<Vec<Entry>, NoMemory>
     ensures { IfOk result (λ all. all.items ≡ older.now ++ newer.items) }
 {
     let mut newer = newer;
@@ -161,49 +160,4 @@ fn joined(alloc: Global, older: &[Entry], newer: Vec<Entry>) -> Result<Vec<Entry
     push_copies(&mut all, older)?;
     all.append(&mut newer)?;
     Ok(all)
-}
-
-/// A layer that all journals share that have it.
-pub(crate) struct LayerRef {
-    shared: Arc<Layer>,
-}
-
-// A drop that is written out is proved here alone.
-impl Drop for LayerRef {
-    fn drop(self) {
-        let LayerRef { shared: _ } = self;
-    }
-}
-
-impl Model for LayerRef {
-    ghost use Rattle.std.specs.Arc.{arc_value};
-    ghost use Rattle.result_cache.specs.Journal.{Journal};
-
-    ghost Value = { Journal };
-
-    ghost view = { λ l. arc_value l.shared };
-}
-
-impl LayerRef {
-    pub(crate) fn new(alloc: Global, layer: Layer) -> Result<LayerRef, NoMemory>
-        ensures { IfOk result (λ l. l ≡ layer) }
-    {
-        Ok(LayerRef {
-            shared: Arc::new(alloc, layer)?,
-        })
-    }
-
-    pub(crate) fn get(&self) -> &Layer
-        ensures { result.now ≡ self.now }
-    {
-        &self.shared
-    }
-}
-
-impl Copied for LayerRef {
-    fn copy(&self) -> Result<LayerRef, NoMemory> {
-        Ok(LayerRef {
-            shared: Arc::try_clone(&self.shared)?,
-        })
-    }
 }

@@ -11,9 +11,9 @@ ghost use Rattle.msb_files.specs.Views.{acts_of};
 
 use crate::FileView;
 use crate::entry::Entry;
-use crate::layer::{Layer, LayerRef};
+use crate::layer::Layer;
 use crate::mark::Mark;
-use msb_values::{Act, List, NoMemory};
+use msb_values::{Act, List, NoMemory, Shared};
 use std::alloc::Global;
 
 /// The layers with a new one over them, which takes in those that are no larger than itself: so
@@ -21,9 +21,9 @@ use std::alloc::Global;
 /// the number of entries.
 pub(crate) fn with_new(
     alloc: Global,
-    layers: &[LayerRef],
+    layers: &[Shared<Layer>],
     newest: Layer,
-) -> Result<List<LayerRef>, NoMemory>
+) -> Result<List<Shared<Layer>>, NoMemory>
     ensures { IfOk result (λ all. all_of all ≡ newest ++ all_of layers.now) }
 {
     let mut newest = newest;
@@ -37,13 +37,13 @@ pub(crate) fn with_new(
         taken += 1;
     }
     let mut all = List::new(alloc);
-    all.push(LayerRef::new(alloc, newest)?)?;
+    all.push(Shared::new(alloc, newest)?)?;
     all.append(List::of(alloc, &layers[taken..])?)?;
     Ok(all)
 }
 
 /// The last act on a path.
-pub(crate) fn last_act<'a>(layers: &'a [LayerRef], path: &str) -> Option<&'a Act>
+pub(crate) fn last_act<'a>(layers: &'a [Shared<Layer>], path: &str) -> Option<&'a Act>
     ensures { option_copied result ≡ last_act (all_of layers.now) path.now }
 {
     for layer in layers {
@@ -55,7 +55,7 @@ pub(crate) fn last_act<'a>(layers: &'a [LayerRef], path: &str) -> Option<&'a Act
 }
 
 /// Whether there is an act on a path below a folder at which the view has a file.
-pub(crate) fn is_any_below(layers: &[LayerRef], view: &FileView<'_>, folder: &str) -> bool
+pub(crate) fn is_any_below(layers: &[Shared<Layer>], view: &FileView<'_>, folder: &str) -> bool
     ensures { result ≡ list_any (λ act. has_file_below view.now folder.now (act_path act))
         (acts_of (all_of layers.now)) }
 {
@@ -69,7 +69,7 @@ pub(crate) fn is_any_below(layers: &[LayerRef], view: &FileView<'_>, folder: &st
 
 /// Whether there is an entry with this mark. The oldest layer, which has the most entries, is asked
 /// first.
-pub(crate) fn has_mark(layers: &[LayerRef], mark: &Mark<'_>) -> bool
+pub(crate) fn has_mark(layers: &[Shared<Layer>], mark: &Mark<'_>) -> bool
     ensures { result ≡ has mark.now (all_of layers.now) }
 {
     let count = layers.len();
@@ -83,7 +83,7 @@ pub(crate) fn has_mark(layers: &[LayerRef], mark: &Mark<'_>) -> bool
 }
 
 /// The entry at a place, from the newest on.
-pub(crate) fn entry_at(layers: &[LayerRef], at: usize) -> Option<&Entry>
+pub(crate) fn entry_at(layers: &[Shared<Layer>], at: usize) -> Option<&Entry>
     ensures { option_copied result ≡ slice_get (all_of layers.now) at }
 {
     let mut left = at;

@@ -15,7 +15,7 @@ impl Journal {
     {
         let mut merged = self.copy()?;
         add_all(&mut merged, other)?;
-        *self = merged.settled(alloc)?;
+        *self = merged.settle(alloc)?;
         Ok(())
     }
 }

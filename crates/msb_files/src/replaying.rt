@@ -26,7 +26,7 @@ impl Journal {
         }
         let mut grown = self.copy()?;
         take_run(&mut grown, table, run)?;
-        *self = grown.settled(alloc)?;
+        *self = grown.settle(alloc)?;
         Ok(())
     }
 
@@ -47,7 +47,7 @@ impl Journal {
         }
         let mut grown = self.copy()?;
         take_all(&mut grown, table, runs)?;
-        *self = grown.settled(alloc)?;
+        *self = grown.settle(alloc)?;
         Ok(())
     }
 

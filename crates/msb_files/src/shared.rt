@@ -3,11 +3,10 @@
 ghost use Rattle.std.specs.Prelude.{◌≡◌, Some, IfOk, IsSome};
 ghost use Rattle.msb_files.specs.Recorded.{act_at};
 
-use msb_values::{Act, Copied, NoMemory};
+use msb_values::{Act, Copied, NoMemory, Shared};
 use result_cache::{RecordRef, Segment};
 use std::alloc::Global;
 use std::marker::Model;
-use std::sync::Arc;
 
 /// What a run has done to a path, which all journals that have it share, with the record of the run
 /// where the run has ended.
@@ -23,7 +22,7 @@ impl Drop for ActRef {
 }
 
 enum KeptAct {
-    Own(Arc<Act>),
+    Own(Shared<Act>),
     /// The segment of this number in the record.
     Recorded(RecordRef, usize),
 }
@@ -54,7 +53,7 @@ impl ActRef {
         ensures { IfOk result (λ a. a ≡ act) }
     {
         Ok(ActRef {
-            kept: KeptAct::Own(Arc::new(alloc, act)?),
+            kept: KeptAct::Own(Shared::new(alloc, act)?),
         })
     }
 
@@ -72,7 +71,7 @@ impl ActRef {
         ensures { result.now ≡ self.now }
     {
         match &self.kept {
-            KeptAct::Own(act) => act,
+            KeptAct::Own(act) => act.get(),
             KeptAct::Recorded(made, number) => match &made.get().segments.as_slice()[*number] {
                 Segment::File(act) => act,
                 Segment::Call(_, _) => unreachable!(),
@@ -84,7 +83,7 @@ impl ActRef {
 impl Copied for ActRef {
     fn copy(&self) -> Result<ActRef, NoMemory> {
         let kept = match &self.kept {
-            KeptAct::Own(act) => KeptAct::Own(Arc::try_clone(act)?),
+            KeptAct::Own(act) => KeptAct::Own(act.copy()?),
             KeptAct::Recorded(made, number) => KeptAct::Recorded(made.copy()?, *number),
         };
         Ok(ActRef { kept })

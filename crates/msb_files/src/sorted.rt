@@ -29,12 +29,12 @@ pub(crate) fn by_path(alloc: Global, entries: &[Entry]) -> Result<Vec<usize>, No
     ensures { IfOk result (λ places. IsByPath entries.now places.items) }
 {
     let places = places_of(alloc, entries)?;
-    ordered(entries, places)
+    order(entries, places)
 }
 
 /// The places of newer acts, which so many entries precede, and of older ones: where both are in
 /// byte order of their paths, they are merged.
-pub(crate) fn merged(
+pub(crate) fn merge(
     alloc: Global,
     entries: &[Entry],
     newer: &[usize],
@@ -47,7 +47,7 @@ pub(crate) fn merged(
     let mut places = Vec::new(alloc);
     push_shifted(&mut places, newer, shift)?;
     places.extend_from_slice(older)?;
-    ordered(entries, places)
+    order(entries, places)
 }
 
 fn push_shifted(places: &mut Vec<usize>, newer: &[usize], shift: usize) -> Result<(), NoMemory>
@@ -79,7 +79,7 @@ fn places_of(alloc: Global, entries: &[Entry]) -> Result<Vec<usize>, NoMemory>
 }
 
 // The sort finds parts that are in order already, and merges them.
-fn ordered(entries: &[Entry], places: Vec<usize>) -> Result<Vec<usize>, NoMemory>
+fn order(entries: &[Entry], places: Vec<usize>) -> Result<Vec<usize>, NoMemory>
     ensures { IfOk result (λ sorted. IsOrdered entries.now places.items sorted.items) }
 {
     let mut places = places;

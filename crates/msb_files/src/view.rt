@@ -78,7 +78,7 @@ impl<'a> FileView<'a> {
         self.journal.add_paths(alloc, &mut all)?;
         add_files(&mut all, self.tree.files.as_slice())?;
         all.retain(|path| self.content(path.as_str()).is_some());
-        listed(alloc, all)
+        list(alloc, all)
     }
 }
 
@@ -114,7 +114,7 @@ fn add_files(all: &mut BTreeSet<Text>, files: &[File]) -> Result<(), NoMemory>
     Ok(())
 }
 
-fn listed(alloc: Global, all: BTreeSet<Text>) -> Result<List<Text>, NoMemory>
+fn list(alloc: Global, all: BTreeSet<Text>) -> Result<List<Text>, NoMemory>
     ensures { IfOk result (λ l. l ≡ all.keys) }
 {
     let paths: Vec<Text> = all.into_iter().collect(alloc)?;

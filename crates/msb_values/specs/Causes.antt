@@ -1,6 +1,7 @@
 -- How a cause is printed: its number and its name, and its details, with one space between.
-use Rattle.std.specs.Prelude.{ℕ, List, [], ◌∷◌, ◌++◌, codes}
+use Rattle.std.specs.Prelude.{[], ◌∷◌, ◌++◌, codes}
 use Rattle.std.specs.Fmt.{decimal}
+use Rattle.msb_laws.specs.Words.{Text}
 use Rattle.msb_values.specs.declared.cause.Cause.{Cause}
 use Rattle.msb_values.specs.declared.cause.Cause.TheVariants.{
   NotYet,
@@ -34,7 +35,7 @@ use Rattle.msb_values.specs.declared.cause.Cause.TheVariants.{
   Memory,
 }
 
-abbrev pub label_of : Cause → List ℕ
+abbrev pub label_of : Cause → Text
 label_of NotYet = codes "0 NotYet"
 label_of NotJson = codes "1 NotJson"
 label_of NotElement = codes "2 NotElement"
@@ -66,10 +67,10 @@ label_of (Overflow function) = codes "27 Overflow"
 label_of Memory = codes "Memory"
 
 -- a detail behind the others
-abbrev pub detail : List ℕ → List ℕ
+abbrev pub detail : Text → Text
 detail text = 32 ∷ text
 
-abbrev pub details_of : Cause → List ℕ
+abbrev pub details_of : Cause → Text
 details_of (MissingAttribute name) = detail name
 details_of (BothAttributes first second) = detail first ++ detail second
 details_of (BadName place) = detail (decimal place)
@@ -89,5 +90,5 @@ details_of (Overflow function) = detail function
 details_of (NoValue kind ident name) = detail kind ++ detail ident ++ detail name
 details_of _ = []
 
-abbrev pub shown_of : Cause → List ℕ
+abbrev pub shown_of : Cause → Text
 shown_of cause = label_of cause ++ details_of cause

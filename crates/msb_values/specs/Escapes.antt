@@ -1,7 +1,6 @@
 -- Escaped characters in a text. (MSBuild special characters.)
 use Rattle.std.specs.Prelude.{
   ℕ,
-  List,
   [],
   ◌∷◌,
   ◌++◌,
@@ -21,9 +20,10 @@ use Rattle.std.specs.Prelude.{
 }
 use Rattle.std.specs.Char.{digit_value, encode_utf8}
 use Rattle.std.specs.List.{flat_map}
+use Rattle.msb_laws.specs.Words.{Text}
 
 -- the special characters are written by their numbers, any other byte stays
-abbrev pub escape_of : ℕ → List ℕ
+abbrev pub escape_of : ℕ → Text
 escape_of b =
     if b == 37 then codes "%25" else
     if b == 36 then codes "%24" else
@@ -34,7 +34,7 @@ escape_of b =
     if b == 42 then codes "%2A" else
     b ∷ []
 
-abbrev pub escaped : List ℕ → List ℕ
+abbrev pub escaped : Text → Text
 escaped text = flat_map escape_of text
 
 abbrev pub is_hex : ℕ → Bool
@@ -45,7 +45,7 @@ abbrev pub hex_number : ℕ → ℕ → ℕ
 hex_number high low = digit_value high * 16 + digit_value low
 
 -- a `%` with two hexadecimal digits is the character of that number, anything else stays
-abbrev pub unescaped : List ℕ → List ℕ
+abbrev pub unescaped : Text → Text
 unescaped (b ∷ high ∷ low ∷ rest) =
     elim (b == 37 && is_hex high && is_hex low) [
       | true ↦ encode_utf8 (hex_number high low) ++ unescaped rest
@@ -54,7 +54,7 @@ unescaped (b ∷ high ∷ low ∷ rest) =
 unescaped text = text
 
 -- the number of the two hexadecimal digits that a text begins with
-abbrev pub number_at : List ℕ → Option ℕ
+abbrev pub number_at : Text → Option ℕ
 number_at (high ∷ low ∷ rest) = if is_hex high
     && is_hex low then Some (hex_number high low) else None
 number_at text = None

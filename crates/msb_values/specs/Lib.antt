@@ -7,6 +7,7 @@ pub mod Escapes
 pub mod Folded
 pub mod InstanceKeys
 pub mod Keys
+pub mod KeptTexts
 pub mod Kinds
 pub mod Lists
 pub mod Names

@@ -1,7 +1,6 @@
 -- What a name is, in characters. (MSBuild properties; MSBuild items; MSBuild targets.)
 use Rattle.std.specs.Prelude.{
   ℕ,
-  List,
   [],
   ◌∷◌,
   ◌+◌,
@@ -17,6 +16,7 @@ use Rattle.std.specs.Prelude.{
   if◌then◌else◌,
 }
 use Rattle.std.specs.List.{position}
+use Rattle.msb_laws.specs.Words.{Text}
 
 -- an ASCII letter or `_`
 abbrev pub is_letter : ℕ → Bool
@@ -31,7 +31,7 @@ abbrev pub is_target_byte : ℕ → Bool
 is_target_byte b = is_name_byte b || b == 46 || b == 58
 
 -- the place of the first byte that a name can't have there, which an empty text lacks at 0
-abbrev pub bad_place : (ℕ → Bool) → List ℕ → Option ℕ
+abbrev pub bad_place : (ℕ → Bool) → Text → Option ℕ
 bad_place may_follow [] = Some 0
 bad_place may_follow (b ∷ bs) = if is_letter b then option_map (λ n. n + 1)
     (position (λ c. not (may_follow c)) bs) else Some 0

@@ -12,7 +12,6 @@ use crate::changed_items::{with_metadata_on, without_named};
 use crate::name_map::NameMap;
 use crate::{Change, Copied, Item, List, Lists, Name, NoMemory, Pairs, Scope, SharedItems, Text};
 use std::alloc::Global;
-use std::sync::Arc;
 
 impl Scope {
     /// Does what a target's body changed; where there is no memory, the scope stays as it was.
@@ -49,33 +48,33 @@ impl Copied for Scope {
 impl Copied for Change {
     fn copy(&self) -> Result<Change, NoMemory> {
         match self {
-            Change::SetProp(name, value) => copied_property(name, value),
-            Change::AddItems(kind, items) => copied_addition(kind, items),
-            Change::RemoveItems(kind, texts) => copied_removal(kind, texts),
-            Change::SetMeta(kind, given, pairs) => copied_metadata(kind, given, pairs),
+            Change::SetProp(name, value) => copy_property(name, value),
+            Change::AddItems(kind, items) => copy_addition(kind, items),
+            Change::RemoveItems(kind, texts) => copy_removal(kind, texts),
+            Change::SetMeta(kind, given, pairs) => copy_metadata(kind, given, pairs),
         }
     }
 }
 
-fn copied_property(name: &Name, value: &Text) -> Result<Change, NoMemory>
+fn copy_property(name: &Name, value: &Text) -> Result<Change, NoMemory>
     ensures { IfOk result (λ change. change ≡ SetProp name.now value.now) }
 {
     Ok(Change::SetProp(name.copy()?, value.copy()?))
 }
 
-fn copied_addition(kind: &Name, items: &List<Item>) -> Result<Change, NoMemory>
+fn copy_addition(kind: &Name, items: &List<Item>) -> Result<Change, NoMemory>
     ensures { IfOk result (λ change. change ≡ AddItems kind.now items.now) }
 {
     Ok(Change::AddItems(kind.copy()?, items.copy()?))
 }
 
-fn copied_removal(kind: &Name, texts: &List<Text>) -> Result<Change, NoMemory>
+fn copy_removal(kind: &Name, texts: &List<Text>) -> Result<Change, NoMemory>
     ensures { IfOk result (λ change. change ≡ RemoveItems kind.now texts.now) }
 {
     Ok(Change::RemoveItems(kind.copy()?, texts.copy()?))
 }
 
-fn copied_metadata(kind: &Name, given: &List<Item>, pairs: &Pairs) -> Result<Change, NoMemory>
+fn copy_metadata(kind: &Name, given: &List<Item>, pairs: &Pairs) -> Result<Change, NoMemory>
     ensures { IfOk result (λ change. change ≡ SetMeta kind.now given.now pairs.now) }
 {
     let kind = kind.copy()?;
@@ -106,7 +105,7 @@ fn append(alloc: Global, lists: &mut Lists, kind: &Name, more: List<Item>) -> Re
     ensures err { OnErr result (lists.new ≡ lists.old) }
 {
     match &mut lists.shared {
-        Some(entries) => append_own(alloc, Arc::make_mut(entries)?, kind, more),
+        Some(entries) => append_own(alloc, entries.make_mut()?, kind, more),
         None => Ok(()),
     }
 }

@@ -25,7 +25,7 @@ pub(crate) fn without_named(
 ) -> Result<List<Item>, NoMemory>
     ensures { IfOk result (λ kept. kept ≡ without_named texts.now items.now) }
 {
-    let named = set_of(alloc, all_folded(alloc, texts)?)?;
+    let named = set_of(alloc, fold_all(alloc, texts)?)?;
     let mut kept = List::new(alloc);
     for item in items {
         let ident = Folded::of(alloc, item.ident.as_str())?;
@@ -76,7 +76,7 @@ fn put_all(meta: &mut Pairs, pairs: &Pairs) -> Result<(), NoMemory>
     Ok(())
 }
 
-fn all_folded(alloc: Global, texts: &[Text]) -> Result<Vec<Folded>, NoMemory>
+fn fold_all(alloc: Global, texts: &[Text]) -> Result<Vec<Folded>, NoMemory>
     ensures { IfOk result (λ folded. folded.items ≡ map folded_bytes texts.now) }
 {
     let mut folded = Vec::new(alloc);

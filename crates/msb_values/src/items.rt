@@ -1,15 +1,13 @@
 ghost use Rattle.std.specs.Prelude.{◌≡◌, ◌==◌, [], ◌++◌, length, IfOk, OnOk, OnErr};
-ghost use Rattle.std.specs.Arc.{arc_value};
 
-use crate::{Copied, Item, List, NoMemory};
+use crate::{Copied, Item, List, NoMemory, Shared};
 use std::alloc::{AllocError, Global};
 use std::marker::Model;
-use std::sync::Arc;
 
 /// The items of a type, which copies share until one of them is changed. (MSBuild items.)
 pub struct SharedItems {
     /// None where there are no items, which takes no memory.
-    shared: Option<Arc<List<Item>>>,
+    shared: Option<Shared<List<Item>>>,
 }
 
 // A drop that is written out is proved here alone.
@@ -20,14 +18,12 @@ impl Drop for SharedItems {
 }
 
 impl Model for SharedItems {
-    ghost use Rattle.std.specs.Prelude.{List, []};
-    ghost use Rattle.std.specs.Arc.{arc_value};
-    ghost use Rattle.std.specs.Option.{option_map_or};
+    ghost use Rattle.std.specs.Prelude.{List, [], unwrap_or};
     ghost use Rattle.msb_values.specs.declared.item.Item.{Item};
 
     ghost Value = { List Item };
 
-    ghost view = { λ s. option_map_or arc_value s.shared [] };
+    ghost view = { λ s. unwrap_or s.shared [] };
 }
 
 impl SharedItems {
@@ -42,7 +38,7 @@ impl SharedItems {
         ensures { IfOk result (λ s. s ≡ items) }
     {
         Ok(SharedItems {
-            shared: Some(Arc::new(alloc, items)?),
+            shared: Some(Shared::new(alloc, items)?),
         })
     }
 
@@ -50,7 +46,7 @@ impl SharedItems {
         ensures { result.now ≡ self.now }
     {
         match &self.shared {
-            Some(items) => items.as_slice(),
+            Some(items) => items.get().as_slice(),
             None => &[],
         }
     }
@@ -73,7 +69,7 @@ impl SharedItems {
     {
         let SharedItems { shared } = self;
         match shared {
-            Some(items) => Ok(Arc::unwrap_or_clone(items)?),
+            Some(items) => items.into_value(),
             None => Ok(List::new(alloc)),
         }
     }
@@ -87,25 +83,25 @@ impl SharedItems {
         match &mut self.shared {
             Some(items) => append(items, more),
             None => {
-                self.shared = Some(Arc::new(alloc, more)?);
+                self.shared = Some(Shared::new(alloc, more)?);
                 Ok(())
             }
         }
     }
 }
 
-fn append(items: &mut Arc<List<Item>>, more: List<Item>) -> Result<(), NoMemory>
-    ensures ok { OnOk result (arc_value items.new ≡ arc_value items.old ++ more) }
-    ensures err { OnErr result (arc_value items.new ≡ arc_value items.old) }
+fn append(items: &mut Shared<List<Item>>, more: List<Item>) -> Result<(), NoMemory>
+    ensures ok { OnOk result (items.new ≡ items.old ++ more) }
+    ensures err { OnErr result (items.new ≡ items.old) }
 {
-    Arc::make_mut(items)?.append(more)
+    items.make_mut()?.append(more)
 }
 
 impl Copied for SharedItems {
     fn copy(&self) -> Result<SharedItems, NoMemory> {
         match &self.shared {
             Some(items) => Ok(SharedItems {
-                shared: Some(Arc::try_clone(items)?),
+                shared: Some(items.copy()?),
             }),
             None => Ok(SharedItems::none()),
         }

@@ -39,7 +39,7 @@ mod truth;
 pub use act::Act;
 pub use cause::Cause;
 pub use change::Change;
-pub use equal_clones::EqualClones;
+pub use equal_clones::{EqualClones, NamedValue};
 pub use errors::{NameFault, NoMemory};
 pub use escapes::{escape, unescape};
 pub use folded::Folded;

@@ -86,8 +86,9 @@ impl Name {
     fn lower(alloc: Global, text: &str) -> Result<Name, NoMemory>
         ensures { IfOk result (λ n. n ≡ str_to_ascii_lowercase text.now) }
     {
+        let key = Text::from(text.to_ascii_lowercase(alloc)?);
         Ok(Name {
-            key: Text::from(text.to_ascii_lowercase(alloc)?),
+            key: key.share(alloc)?,
         })
     }
 }

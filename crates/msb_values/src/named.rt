@@ -10,25 +10,24 @@ ghost use Rattle.std.specs.Prelude.{
   unwrap_or,
 };
 ghost use Rattle.std.specs.Ordering.{nat_cmp};
-ghost use Rattle.std.specs.Arc.{arc_value};
 ghost use Rattle.std.specs.BTreeMap.{insert_entry};
 ghost use Rattle.std.specs.Cmp.Lexicographic.{slice_cmp};
 ghost use Rattle.msb_values.specs.Pairs.{value_at, AreRising, changed_at, without_name, all_put};
 
 use crate::name_map::NameMap;
-use crate::{Copied, EqualClones, Name, NoMemory, SharedItems, Text};
+use crate::{Copied, Name, NamedValue, NoMemory, Shared, SharedItems, Text};
 use std::alloc::{AllocError, Global};
 use std::collections::btree_map;
 use std::marker::Model;
-use std::sync::Arc;
 
 /// What each of some names has: each name once, in byte order of the names.
 ///
-/// Copies share the names and what they have until one of them is changed, in any threads.
+/// Copies share all of it until one of them is changed, in any threads, and then the names and what
+/// they have that stay.
 pub struct Named<T> {
     alloc: Global,
     /// None where no name has been given anything, which takes no memory.
-    pub(crate) shared: Option<Arc<NameMap<T>>>,
+    pub(crate) shared: Option<Shared<NameMap<T>>>,
     /// Empty: it stands for the entries where there are none to share.
     none: NameMap<T>,
 }
@@ -54,13 +53,11 @@ pub type Lists = Named<SharedItems>;
 pub type Defaults = Named<Pairs>;
 
 impl<T> Model for Named<T> {
-    ghost use Rattle.std.specs.Prelude.{◌≡◌, ℕ, List, []};
-    ghost use Rattle.std.specs.Arc.{arc_value};
-    ghost use Rattle.std.specs.Option.{option_map_or};
+    ghost use Rattle.std.specs.Prelude.{◌≡◌, ℕ, List, [], unwrap_or};
 
     ghost Value = { List (List ℕ × T) };
 
-    ghost view = { λ p. option_map_or arc_value p.shared [] };
+    ghost view = { λ p. unwrap_or p.shared [] };
 
     ghost invariant = { λ p. p.none ≡ [] };
 }
@@ -80,7 +77,7 @@ impl<T> Named<T> {
         ensures { result.now ≡ self.now }
     {
         match &self.shared {
-            Some(entries) => entries,
+            Some(entries) => entries.get(),
             None => &self.none,
         }
     }
@@ -119,7 +116,7 @@ impl<T> Named<T> {
     }
 }
 
-impl<T: EqualClones + Drop> Named<T> {
+impl<T: NamedValue + Drop> Named<T> {
     /// The names with these values; the last value of a name holds.
     pub fn of(alloc: Global, entries: Vec<(Name, T)>) -> Result<Named<T>, NoMemory>
         ensures { IfOk result (λ pairs. pairs ≡ all_put [] entries.items) }
@@ -136,12 +133,13 @@ impl<T: EqualClones + Drop> Named<T> {
         ensures ok { OnOk result (self.new ≡ insert_entry (slice_cmp nat_cmp) self.old name value) }
         ensures err { OnErr result (self.new ≡ self.old) }
     {
+        let value = value.into_shared(self.alloc)?;
         match &mut self.shared {
             Some(entries) => insert(entries, name, value),
             None => {
                 let mut entries = NameMap::new(self.alloc);
                 entries.insert(name, value)?;
-                self.shared = Some(Arc::new(self.alloc, entries)?);
+                self.shared = Some(Shared::new(self.alloc, entries)?);
                 Ok(())
             }
         }
@@ -159,7 +157,7 @@ impl<T: EqualClones + Drop> Named<T> {
         ensures err { OnErr result (self.new ≡ self.old) }
     {
         match &mut self.shared {
-            Some(entries) => Ok(Arc::make_mut(entries)?.replace(name, value)),
+            Some(entries) => Ok(entries.make_mut()?.replace(name, value)),
             None => Ok(value),
         }
     }
@@ -176,22 +174,21 @@ impl<T: EqualClones + Drop> Named<T> {
         ensures err { OnErr result (self.new ≡ self.old) }
     {
         match &mut self.shared {
-            Some(entries) => Ok(Arc::make_mut(entries)?.take(name)),
+            Some(entries) => Ok(entries.make_mut()?.take(name)),
             None => Ok(None),
         }
     }
 }
 
-fn insert<T: EqualClones + Drop>(
-    entries: &mut Arc<NameMap<T>>,
+fn insert<T: NamedValue + Drop>(
+    entries: &mut Shared<NameMap<T>>,
     name: Name,
     value: T,
 ) -> Result<(), NoMemory>
-    ensures ok { OnOk result (arc_value entries.new
-        ≡ insert_entry (slice_cmp nat_cmp) (arc_value entries.old) name value) }
-    ensures err { OnErr result (arc_value entries.new ≡ arc_value entries.old) }
+    ensures ok { OnOk result (entries.new ≡ insert_entry (slice_cmp nat_cmp) entries.old name value) }
+    ensures err { OnErr result (entries.new ≡ entries.old) }
 {
-    Arc::make_mut(entries)?.insert(name, value)
+    entries.make_mut()?.insert(name, value)
 }
 
 impl<T: Drop> Copied for Named<T> {
@@ -199,7 +196,7 @@ impl<T: Drop> Copied for Named<T> {
         match &self.shared {
             Some(entries) => Ok(Named {
                 alloc: self.alloc,
-                shared: Some(Arc::try_clone(entries)?),
+                shared: Some(entries.copy()?),
                 none: NameMap::new(self.alloc),
             }),
             None => Ok(Named::new(self.alloc)),

@@ -1,6 +1,7 @@
 ghost use Rattle.std.specs.Prelude.{◌≡◌, ◌++◌, IfOk, OnOk, OnErr};
+ghost use Rattle.msb_values.specs.KeptTexts.{bytes_kept};
 
-use crate::{Copied, NoMemory};
+use crate::{Copied, NoMemory, Shared};
 use std::alloc::{AllocError, Global};
 use std::cmp::Ordering;
 use std::hash::{Hash, Hasher};
@@ -10,37 +11,55 @@ use std::marker::Model;
 ///
 /// Texts are equal where their bytes are, and ordered by their bytes.
 pub struct Text {
-    string: String,
+    kept: KeptText,
 }
 
 // A drop that is written out is proved here alone.
 impl Drop for Text {
     fn drop(self) {
-        let Text { string: _ } = self;
+        let Text { kept: _ } = self;
+    }
+}
+
+enum KeptText {
+    Own(String),
+    /// Copies share it.
+    Shared(Shared<String>),
+}
+
+// A drop that is written out is proved here alone.
+impl Drop for KeptText {
+    fn drop(self) {
+        match self {
+            KeptText::Own(_) => {}
+            KeptText::Shared(_) => {}
+        }
     }
 }
 
 impl Model for Text {
-    ghost use Rattle.std.specs.Prelude.{ℕ, List, string_bytes};
+    ghost use Rattle.std.specs.Prelude.{ℕ, List};
+    ghost use Rattle.msb_values.specs.KeptTexts.{bytes_kept};
 
     ghost Value = { List ℕ };
 
-    ghost view = { λ t. string_bytes t.string };
+    ghost view = { λ t. bytes_kept t.kept };
 }
 
 impl Text {
     pub fn of(alloc: Global, text: &str) -> Result<Text, NoMemory>
         ensures { IfOk result (λ t. t ≡ text.now) }
     {
-        Ok(Text {
-            string: String::from_str(alloc, text)?,
-        })
+        Ok(Text::from(String::from_str(alloc, text)?))
     }
 
     pub fn as_str(&self) -> &str
         ensures { result.now ≡ self.now }
     {
-        self.string.as_str()
+        match &self.kept {
+            KeptText::Own(string) => string.as_str(),
+            KeptText::Shared(string) => string.get().as_str(),
+        }
     }
 
     /// Adds a text at the end; where there is no memory, the text stays as it was.
@@ -48,8 +67,36 @@ impl Text {
         ensures ok { OnOk result (self.new ≡ self.old ++ more.now) }
         ensures err { OnErr result (self.new ≡ self.old) }
     {
-        self.string.push_str(more)?;
-        Ok(())
+        match &mut self.kept {
+            KeptText::Own(string) => Ok(string.push_str(more)?),
+            KeptText::Shared(string) => {
+                let mut own = string.get().clone()?;
+                own.push_str(more)?;
+                *self = Text::from(own);
+                Ok(())
+            }
+        }
+    }
+
+    /// The text, which its copies share from then on.
+    pub(crate) fn share(self, alloc: Global) -> Result<Text, NoMemory>
+        ensures { IfOk result (λ t. t ≡ self) }
+    {
+        let Text { kept } = self;
+        Ok(Text {
+            kept: kept.share(alloc)?,
+        })
+    }
+}
+
+impl KeptText {
+    fn share(self, alloc: Global) -> Result<KeptText, NoMemory>
+        ensures { IfOk result (λ kept. bytes_kept kept ≡ bytes_kept self) }
+    {
+        match self {
+            KeptText::Own(string) => Ok(KeptText::Shared(Shared::new(alloc, string)?)),
+            KeptText::Shared(string) => Ok(KeptText::Shared(string)),
+        }
     }
 }
 
@@ -59,13 +106,20 @@ impl From<String> for Text {
     ghost from_gives = { λ s t. t ≡ string_bytes s };
 
     fn from(string: String) -> Text {
-        Text { string }
+        Text {
+            kept: KeptText::Own(string),
+        }
     }
 }
 
 impl Copied for Text {
     fn copy(&self) -> Result<Text, NoMemory> {
-        Ok(self.clone()?)
+        match &self.kept {
+            KeptText::Own(string) => Ok(Text::from(string.clone()?)),
+            KeptText::Shared(string) => Ok(Text {
+                kept: KeptText::Shared(string.copy()?),
+            }),
+        }
     }
 }
 
@@ -75,9 +129,10 @@ impl Clone for Text {
     ghost is_clone = { λ a b. b ≡ a };
 
     fn clone(&self) -> Result<Text, AllocError> {
-        Ok(Text {
-            string: self.string.clone()?,
-        })
+        match self.copy() {
+            Ok(copied) => Ok(copied),
+            Err(NoMemory) => Err(AllocError),
+        }
     }
 }
 

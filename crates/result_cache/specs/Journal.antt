@@ -2,6 +2,7 @@
 -- ended. (MSBuild targets.)
 use Rattle.std.specs.Prelude.{ℕ, Bool, true, false, ◌==◌, ◌||◌, ◌&&◌, List, [], ◌∷◌, Option, None}
 use Rattle.std.specs.Str.{bytes_eq}
+use Rattle.msb_laws.specs.Words.{Path, Text}
 use Rattle.msb_values.specs.declared.act.Act.{Act}
 use Rattle.msb_values.specs.Acts.{act_path, act_bytes}
 use Rattle.result_cache.specs.declared.run.RunId.{RunId}
@@ -58,7 +59,7 @@ merge journal (e ∷ other) = add (merge journal other) e
 
 -- what the last act on a path left there, which is nothing where it removed the file; none where no
 -- run has acted on the path
-abbrev pub content : Journal → List ℕ → Option (Option (List ℕ))
+abbrev pub content : Journal → Path → Option (Option Text)
 content [] path = None
 content (acted run place act ∷ journal) path = this_or (bytes_eq (act_path act) path)
     (content journal path) (act_bytes act)

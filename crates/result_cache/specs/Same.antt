@@ -1,10 +1,11 @@
 -- Which instances, runs and requests are the same. Texts and names are compared by their bytes.
-use Rattle.std.specs.Prelude.{◌≡◌, ℕ, Bool, true, false, ◌||◌, ◌&&◌, List, [], ◌∷◌, ◌++◌}
+use Rattle.std.specs.Prelude.{◌≡◌, Bool, true, false, ◌||◌, ◌&&◌, List, [], ◌∷◌, ◌++◌}
 use Rattle.std.specs.Cmp.Lexicographic.{pointwise, slice_cmp}
 use Rattle.std.specs.Hash.{HashWrites, str, slice}
 use Rattle.std.specs.declared.cmp.Ordering.{Ordering}
 use Rattle.std.specs.Ordering.{nat_cmp, ordering_then}
 use Rattle.std.specs.Str.{bytes_eq}
+use Rattle.msb_laws.specs.Words.{Name, Text}
 use Rattle.msb_values.specs.Equal.{same_pairs}
 use Rattle.msb_values.specs.declared.key.InstanceKey.{InstanceKey}
 use Rattle.result_cache.specs.declared.run.RunId.{RunId}
@@ -19,7 +20,7 @@ unfoldable pub same_run : RunId → RunId → Bool
 same_run a b = same_instance a.instance b.instance && bytes_eq a.target b.target
 
 -- the order of names with values, of instances and of runs, by bytes from the first difference on
-abbrev pub pair_order : List ℕ × List ℕ → List ℕ × List ℕ → Ordering
+abbrev pub pair_order : Name × Text → Name × Text → Ordering
 pair_order p q = ordering_then (slice_cmp nat_cmp p.0 q.0) (slice_cmp nat_cmp p.1 q.1)
 
 abbrev pub instance_order : InstanceKey → InstanceKey → Ordering

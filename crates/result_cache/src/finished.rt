@@ -254,7 +254,7 @@ fn with_layer_of(
     ensures { IfOk result (λ all. all_of all ≡ all_of layers.now ++ recent.now) }
 {
     let kept = how_many_stay(layers, recent.len());
-    let last = joined(alloc, &layers[kept..], recent)?;
+    let last = join(alloc, &layers[kept..], recent)?;
     let mut all = List::of(alloc, &layers[..kept])?;
     all.push(Shared::new(alloc, last)?)?;
     Ok(all)
@@ -276,16 +276,16 @@ fn how_many_stay(layers: &[Shared<Layer>], more: usize) -> usize
 }
 
 /// The runs of the layers and these in one.
-fn joined(alloc: Global, layers: &[Shared<Layer>], recent: &[Finish]) -> Result<Layer, NoMemory>
+fn join(alloc: Global, layers: &[Shared<Layer>], recent: &[Finish]) -> Result<Layer, NoMemory>
     requires { AreDistinct (runs_of (all_of layers.now ++ recent.now)) }
     ensures { IfOk result (λ layer. layer ≡ all_of layers.now ++ recent.now) }
 {
-    let mut all = joined_layers(alloc, layers)?;
+    let mut all = join_layers(alloc, layers)?;
     push_recent(&mut all, recent)?;
     Ok(all)
 }
 
-fn joined_layers(alloc: Global, layers: &[Shared<Layer>]) -> Result<Layer, NoMemory>
+fn join_layers(alloc: Global, layers: &[Shared<Layer>]) -> Result<Layer, NoMemory>
     requires { AreDistinct (runs_of (all_of layers.now)) }
     ensures { IfOk result (λ layer. layer ≡ all_of layers.now) }
 {

@@ -1,14 +1,13 @@
 ghost use Rattle.std.specs.Prelude.{◌≡◌, IfOk};
 
 use crate::{Record, RunId, RunRef};
-use msb_values::{Copied, NoMemory};
+use msb_values::{Copied, NoMemory, Shared};
 use std::alloc::Global;
 use std::marker::Model;
-use std::sync::Arc;
 
 /// A record that its copies share, in any threads.
 pub struct RecordRef {
-    shared: Arc<Kept>,
+    shared: Shared<Kept>,
 }
 
 // A drop that is written out is proved here alone.
@@ -32,20 +31,19 @@ impl Drop for Kept {
 }
 
 impl Model for RecordRef {
-    ghost use Rattle.std.specs.Arc.{arc_value};
     ghost use Rattle.result_cache.specs.declared.record.Record.{Record};
     ghost use Rattle.result_cache.specs.declared.record_ref.Kept.{Kept};
 
     ghost Value = { Record };
 
-    ghost view = { λ r. (arc_value r.shared).made };
+    ghost view = { λ r. r.shared.made };
 }
 
 impl RecordRef {
     pub fn new(alloc: Global, made: Record) -> Result<RecordRef, NoMemory>
         ensures { IfOk result (λ r. r ≡ made) }
     {
-        RecordRef::kept(alloc, Kept { made, run: None })
+        RecordRef::keep(alloc, Kept { made, run: None })
     }
 
     /// The record of this run, which shares the run's name with all that put it in a journal.
@@ -53,28 +51,28 @@ impl RecordRef {
         ensures { IfOk result (λ r. r ≡ made) }
     {
         let run = Some(run.copy()?);
-        RecordRef::kept(alloc, Kept { made, run })
+        RecordRef::keep(alloc, Kept { made, run })
     }
 
-    fn kept(alloc: Global, kept: Kept) -> Result<RecordRef, NoMemory>
+    fn keep(alloc: Global, kept: Kept) -> Result<RecordRef, NoMemory>
         ensures { IfOk result (λ r. r ≡ kept.made) }
     {
         Ok(RecordRef {
-            shared: Arc::new(alloc, kept)?,
+            shared: Shared::new(alloc, kept)?,
         })
     }
 
     pub fn get(&self) -> &Record
         ensures { result.now ≡ self.now }
     {
-        &self.shared.made
+        &self.shared.get().made
     }
 
     /// The kept name, if it is that of this run, else this one.
     pub fn name_or(&self, run: RunRef) -> RunRef
         ensures { result ≡ run }
     {
-        match &self.shared.run {
+        match &self.shared.get().run {
             Some(kept) if *kept == run => match kept.copy() {
                 Ok(kept) => kept,
                 Err(NoMemory) => run,
@@ -87,7 +85,7 @@ impl RecordRef {
     pub fn name(&self, alloc: Global, run: &RunId) -> Result<RunRef, NoMemory>
         ensures { IfOk result (λ r. r ≡ run.now) }
     {
-        match &self.shared.run {
+        match &self.shared.get().run {
             Some(kept) if *kept.get() == *run => kept.copy(),
             _ => RunRef::new(alloc, run),
         }
@@ -97,7 +95,7 @@ impl RecordRef {
 impl Copied for RecordRef {
     fn copy(&self) -> Result<RecordRef, NoMemory> {
         Ok(RecordRef {
-            shared: Arc::try_clone(&self.shared)?,
+            shared: self.shared.copy()?,
         })
     }
 }

@@ -4,15 +4,14 @@ ghost use Rattle.result_cache.specs.Same.{same_run};
 
 use crate::RunId;
 use indexmap::Equivalent;
-use msb_values::{Copied, NoMemory};
+use msb_values::{Copied, NoMemory, Shared};
 use std::alloc::Global;
 use std::hash::{FoldHasher, Hash, Hasher};
 use std::marker::Model;
-use std::sync::Arc;
 
 /// The name of a run, which its copies share, in any threads, with its hash beside it.
 pub struct RunRef {
-    shared: Arc<RunId>,
+    shared: Shared<RunId>,
     hash: u64,
 }
 
@@ -25,15 +24,14 @@ impl Drop for RunRef {
 
 impl Model for RunRef {
     ghost use Rattle.std.specs.Prelude.{◌≡◌};
-    ghost use Rattle.std.specs.Arc.{arc_value};
     ghost use Rattle.result_cache.specs.declared.run.RunId.{RunId};
     ghost use Rattle.result_cache.specs.Hashes.{run_hash};
 
     ghost Value = { RunId };
 
-    ghost view = { λ r. arc_value r.shared };
+    ghost view = { λ r. r.shared };
 
-    ghost invariant = { λ r. r.hash ≡ run_hash (arc_value r.shared) };
+    ghost invariant = { λ r. r.hash ≡ run_hash r.shared };
 }
 
 impl RunRef {
@@ -43,7 +41,7 @@ impl RunRef {
         let copy = run.copy()?;
         let hash = hash_of(&copy);
         Ok(RunRef {
-            shared: Arc::new(alloc, copy)?,
+            shared: Shared::new(alloc, copy)?,
             hash,
         })
     }
@@ -51,7 +49,7 @@ impl RunRef {
     pub fn get(&self) -> &RunId
         ensures { result.now ≡ self.now }
     {
-        &self.shared
+        self.shared.get()
     }
 
     /// The hash of the run, as `hash_of` gives it.
@@ -105,7 +103,7 @@ impl Hash for RunRef {
 impl Copied for RunRef {
     fn copy(&self) -> Result<RunRef, NoMemory> {
         Ok(RunRef {
-            shared: Arc::try_clone(&self.shared)?,
+            shared: self.shared.copy()?,
             hash: self.hash,
         })
     }

@@ -33,6 +33,7 @@ use Rattle.std.proofs.Common.{
 use Rattle.std.specs.Prelude.{reverse}
 use Rattle.std.specs.List.{list_any}
 use Rattle.std.proofs.lemmas.List.{length-reverse}
+use Rattle.msb_laws.specs.Words.{Name}
 use Rattle.msb_laws.specs.Asking.{gives, asks}
 use Rattle.target_order.specs.declared.asks.OrderAsk.TheVariants.{
   Condition,
@@ -71,7 +72,6 @@ use Rattle.target_order.specs.declared.cursor.Stand.TheVariants.{
 }
 use Rattle.target_order.specs.Visit.{
   body,
-  Name,
   Rest,
   Standing,
   finished,

@@ -40,9 +40,10 @@ use Rattle.std.proofs.lemmas.List.{get_or-set_same, get_or-set_other, take_more}
 use Rattle.std.proofs.lemmas.List.Folds.{list_any-append}
 use Rattle.std.proofs.lemmas.Bool.{false_from_ne_true, cases_eq, eqb-false}
 use Rattle.std.proofs.lemmas.Bool.Decides.{nat_tests}
+use Rattle.msb_laws.specs.Words.{Name}
 use Rattle.target_order.specs.declared.row.TargetRow.{TargetRow}
 use Rattle.target_order.specs.declared.hooks.Side.{Side}
-use Rattle.target_order.specs.Visit.{Name, naming}
+use Rattle.target_order.specs.Visit.{naming}
 use Rattle.target_order.specs.Progress.{number_of}
 use Rattle.target_order.specs.Table.{side_of, AreDistinct, is_among, AreHooks, AreHooked}
 use Rattle.target_order.proofs.Names.{same_name, own_name, number_name}

@@ -31,7 +31,7 @@ use Rattle.std.specs.Cmp.Lexicographic.{slice_cmp}
 use Rattle.std.specs.BTreeMap.{BTreeMap, get}
 use Rattle.std.proofs.lemmas.Slice.Eq.{bytes_eq-Decides}
 use Rattle.std.proofs.lemmas.Map.Text.{is_eq-slice_cmp}
-use Rattle.target_order.specs.Visit.{Name}
+use Rattle.msb_laws.specs.Words.{Name}
 use Rattle.target_order.specs.Progress.{number_of}
 use Rattle.target_order.specs.Numbered.{IsNumbered}
 

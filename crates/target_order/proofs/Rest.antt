@@ -30,6 +30,7 @@ use Rattle.std.proofs.Common.{
 }
 use Rattle.std.specs.List.{list_any}
 use Rattle.std.proofs.lemmas.List.{length-map, length-drop}
+use Rattle.msb_laws.specs.Words.{Name}
 use Rattle.target_order.specs.declared.visits.Step.{Step}
 use Rattle.target_order.specs.declared.visits.Step.TheVariants.{
   Request,
@@ -42,7 +43,6 @@ use Rattle.target_order.specs.declared.visits.Step.TheVariants.{
 use Rattle.target_order.specs.declared.visits.OpenVisit.{OpenVisit}
 use Rattle.target_order.specs.declared.cursor.Cursor.{Cursor}
 use Rattle.target_order.specs.Visit.{
-  Name,
   Rest,
   Opened,
   Standing,

@@ -38,6 +38,7 @@ use Rattle.std.proofs.lemmas.Bool.{cases_eq}
 use Rattle.std.proofs.Math.ListN.{length-set}
 use Rattle.std.proofs.lemmas.List.{get_or-set_same, get_or-set_other}
 use Rattle.std.proofs.Math.Nat.{eq-or-lt_of_le}
+use Rattle.msb_laws.specs.Words.{Name}
 use Rattle.target_order.specs.declared.visits.Step.{Step}
 use Rattle.target_order.specs.declared.visits.OpenVisit.{OpenVisit}
 use Rattle.target_order.specs.declared.visits.Asked.{Asked}
@@ -71,7 +72,6 @@ use Rattle.target_order.specs.Steps.{
   IsPlace,
 }
 use Rattle.target_order.specs.declared.steps.Undo.{Undo}
-use Rattle.target_order.specs.Visit.{Name}
 use Rattle.target_order.proofs.Marks.{
   marked_placed,
   marked_errors,

@@ -40,19 +40,11 @@ use Rattle.std.specs.Str.{bytes_eq}
 use Rattle.std.proofs.Math.Seq.{take-suc, drop-append_seam}
 use Rattle.std.proofs.lemmas.List.{length-take-le, drop-append-le, map-append}
 use Rattle.std.proofs.lemmas.Bool.{false_from_ne_true, cases_eq}
+use Rattle.msb_laws.specs.Words.{Name}
 use Rattle.target_order.specs.declared.visits.Step.{Step}
 use Rattle.target_order.specs.declared.visits.OpenVisit.{OpenVisit}
 use Rattle.target_order.specs.declared.cursor.Cursor.{Cursor}
-use Rattle.target_order.specs.Visit.{
-  Name,
-  Hooks,
-  Opened,
-  settled,
-  circular,
-  fresh,
-  standing,
-  among_open,
-}
+use Rattle.target_order.specs.Visit.{Hooks, Opened, settled, circular, fresh, standing, among_open}
 use Rattle.target_order.specs.Progress.{
   Table,
   Progress,

@@ -40,12 +40,13 @@ use Rattle.std.proofs.Math.ListN.{get_or-append}
 use Rattle.std.proofs.Math.Seq.{get_or-append_seam}
 use Rattle.std.proofs.lemmas.List.{length-map, get_or_past}
 use Rattle.std.proofs.lemmas.Bool.{cases_lt}
+use Rattle.msb_laws.specs.Words.{Name}
 use Rattle.target_order.specs.declared.row.TargetRow.{TargetRow}
 use Rattle.target_order.specs.declared.hooks.Side.TheVariants.{Before, After}
 use Rattle.target_order.specs.declared.visits.Asked.TheVariants.{Nothing}
 use Rattle.target_order.specs.declared.visits.OpenVisit.{OpenVisit}
 use Rattle.target_order.specs.declared.asks.OrderAnswer.TheVariants.{First}
-use Rattle.target_order.specs.Visit.{Name, is_target, keep, first_rows, naming, hooks_in, order}
+use Rattle.target_order.specs.Visit.{is_target, keep, first_rows, naming, hooks_in, order}
 use Rattle.target_order.specs.Progress.{Table, number_of, hooks_at, project_of, flag_at, ran_of}
 use Rattle.target_order.specs.Left.{left}
 use Rattle.target_order.specs.Table.{side_of, names_in, AreDistinct, AreHooks}

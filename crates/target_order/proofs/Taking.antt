@@ -40,6 +40,7 @@ use Rattle.std.proofs.Common.{
 use Rattle.std.specs.Prelude.{reverse}
 use Rattle.std.specs.Str.{bytes_eq}
 use Rattle.std.specs.Prelude.{Result, Ok, Err, OnOk, IfOk}
+use Rattle.msb_laws.specs.Words.{Name}
 use Rattle.msb_values.specs.declared.errors.NoMemory.{NoMemory}
 use Rattle.std.proofs.Math.ListN.{length-set}
 use Rattle.std.proofs.lemmas.List.{get_or-set_same, get_or-set_other, set-get_or}
@@ -72,7 +73,7 @@ use Rattle.target_order.specs.declared.visits.Step.TheVariants.{
   Depends as AtDepends,
 }
 use Rattle.target_order.specs.declared.visits.OpenVisit.{OpenVisit}
-use Rattle.target_order.specs.Visit.{Question, depends, Name, End, in_order, with, step_3}
+use Rattle.target_order.specs.Visit.{Question, depends, End, in_order, with, step_3}
 use Rattle.target_order.specs.Progress.{
   Table,
   Progress,

@@ -1,6 +1,7 @@
 -- What is left of a walk, as the tree of its further asks: its open visits are what follows,
 -- innermost first.
 use Rattle.std.specs.Prelude.{ℕ, suc, ◌-◌, Bool, true, List, [], ◌∷◌, map, length, drop, reverse}
+use Rattle.msb_laws.specs.Words.{Name}
 use Rattle.msb_laws.specs.Asking.{Asking, gives}
 use Rattle.target_order.specs.declared.asks.OrderAnswer.{OrderAnswer}
 use Rattle.target_order.specs.declared.visits.Asked.{Asked}
@@ -22,7 +23,6 @@ use Rattle.target_order.specs.declared.visits.Step.TheVariants.{
 use Rattle.target_order.specs.declared.visits.OpenVisit.{OpenVisit}
 use Rattle.target_order.specs.Visit.{
   Question,
-  Name,
   End,
   finished,
   stopped,

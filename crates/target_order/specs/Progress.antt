@@ -17,6 +17,7 @@ use Rattle.std.specs.Prelude.{
   if◌then◌else◌,
 }
 use Rattle.std.specs.Str.{bytes_eq}
+use Rattle.msb_laws.specs.Words.{Name}
 use Rattle.target_order.specs.declared.visits.Asked.{Asked}
 use Rattle.target_order.specs.declared.visits.Step.{Step}
 use Rattle.target_order.specs.declared.visits.Step.TheVariants.{
@@ -28,17 +29,17 @@ use Rattle.target_order.specs.declared.visits.Step.TheVariants.{
   Errors,
 }
 use Rattle.target_order.specs.declared.visits.OpenVisit.{OpenVisit}
-use Rattle.target_order.specs.Visit.{Name, Hooks, Opened}
+use Rattle.target_order.specs.Visit.{Hooks, Opened}
 
 -- the targets of a project by their numbers: their names, and the names of those that hook on them
 pub record Table : Type 0 where
-  pub names : List (List ℕ)
-  pub before : List (List (List ℕ))
-  pub after : List (List (List ℕ))
+  pub names : List Name
+  pub before : List (List Name)
+  pub after : List (List Name)
 
 pub record Progress : Type 0 where
   pub table : Table
-  pub wanted : List (List ℕ)  -- the targets of the request
+  pub wanted : List Name  -- the targets of the request
   pub passed : ℕ  -- how many of them are behind it
   pub visits : List OpenVisit  -- the open visits, innermost last
   pub has_run : List Bool  -- by the numbers of the targets

@@ -29,6 +29,7 @@ use Rattle.std.specs.Prelude.{
   Some,
 }
 use Rattle.std.specs.List.{list_any}
+use Rattle.msb_laws.specs.Words.{Name}
 use Rattle.msb_laws.specs.Asking.{gives}
 use Rattle.target_order.specs.declared.visits.Asked.{Asked}
 use Rattle.target_order.specs.declared.visits.Asked.TheVariants.{
@@ -69,7 +70,6 @@ use Rattle.target_order.specs.declared.cursor.Stop.TheVariants.{
 use Rattle.target_order.specs.declared.cursor.Turn.{Turn}
 use Rattle.target_order.specs.declared.cursor.Turn.TheVariants.{On, Stop as Stops}
 use Rattle.target_order.specs.Visit.{
-  Name,
   Rest,
   Opened,
   Standing,

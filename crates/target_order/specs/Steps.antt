@@ -25,6 +25,7 @@ use Rattle.std.specs.Prelude.{
   slice_set,
   if◌then◌else◌,
 }
+use Rattle.msb_laws.specs.Words.{Name}
 use Rattle.msb_laws.specs.Asking.{Asking}
 use Rattle.target_order.specs.declared.asks.OrderAsk.{OrderAsk}
 use Rattle.target_order.specs.declared.asks.OrderAsk.TheVariants.{
@@ -62,7 +63,7 @@ use Rattle.target_order.specs.declared.cursor.Stop.TheVariants.{
   Unknown as AtUnknown,
 }
 use Rattle.target_order.specs.declared.steps.Undo.{Undo}
-use Rattle.target_order.specs.Visit.{Question, Name, End}
+use Rattle.target_order.specs.Visit.{Question, End}
 use Rattle.target_order.specs.Progress.{Progress, name_at, ran_of, is_past, is_errors}
 use Rattle.target_order.specs.Left.{resume, base_at}
 use Rattle.target_order.specs.AsksLeft.{resume_asks, base_asks}

@@ -19,10 +19,11 @@ use Rattle.std.specs.Prelude.{
 }
 use Rattle.std.specs.List.{list_any}
 use Rattle.std.specs.Str.{bytes_eq}
+use Rattle.msb_laws.specs.Words.{Name}
 use Rattle.target_order.specs.declared.row.TargetRow.{TargetRow}
 use Rattle.target_order.specs.declared.hooks.Side.{Side}
 use Rattle.target_order.specs.declared.hooks.Side.TheVariants.{Before, After}
-use Rattle.target_order.specs.Visit.{Name, naming}
+use Rattle.target_order.specs.Visit.{naming}
 use Rattle.target_order.specs.Progress.{number_of}
 
 abbrev pub side_of : Side → TargetRow → List Name

@@ -21,32 +21,29 @@ use Rattle.std.specs.Prelude.{
 use Rattle.std.specs.List.{filter, list_any}
 use Rattle.std.specs.Str.{bytes_eq}
 use Rattle.msb_laws.specs.Asking.{Asking, gives, asks}
+use Rattle.msb_laws.specs.Words.{Name}
 use Rattle.target_order.specs.declared.row.TargetRow.{TargetRow}
 use Rattle.target_order.specs.declared.asks.OrderAnswer.{OrderAnswer}
 use Rattle.target_order.specs.declared.asks.OrderAnswer.TheVariants.{Truth, Names, Failed}
 
--- a name in lower case, in bytes
-abbrev pub Name : Type 0
-Name = List ℕ
-
 -- what is asked of a target: whether its Condition holds, what its DependsOnTargets names, and that
 -- its body be run
 pub data Question : Type 0 where
-  condition : List ℕ → Question
-  depends : List ℕ → Question
-  body : List ℕ → Question
+  condition : Name → Question
+  depends : Name → Question
+  body : Name → Question
 
 -- how the asks end: every target was visited; the OnError targets of a failed body were; a circle;
 -- a name without a target
 pub data End : Type 0 where
   finished : End
   stopped : End
-  circle : List (List ℕ) → End
-  unknown : List ℕ → End
+  circle : List Name → End
+  unknown : Name → End
 
 -- what is still asked, by what has run
 abbrev pub Rest : Type 0
-Rest = (List ℕ → Bool) → Asking Question OrderAnswer End
+Rest = (Name → Bool) → Asking Question OrderAnswer End
 
 -- whether a row has this name
 abbrev pub is_target : List TargetRow → Name → Bool
@@ -63,8 +60,8 @@ first_rows kept (r ∷ rows) = first_rows (keep kept r) rows
 -- the targets that hook on a target: those that name it in BeforeTargets, and those that name it in
 -- AfterTargets
 pub record Hooks : Type 0 where
-  pub before : List (List ℕ)
-  pub after : List (List ℕ)
+  pub before : List Name
+  pub after : List Name
 
 -- the names of the rows with t in such a list, in the order of the rows
 abbrev pub naming : (TargetRow → List Name) → List TargetRow → Name → List Name
@@ -82,7 +79,7 @@ hooks_in rows t =
 
 -- a visit that is open, and whether it has passed its fifth step
 pub record Opened : Type 0 where
-  pub name : List ℕ
+  pub name : Name
   pub past : Bool
 
 -- how a wanted target stands: it is none; nothing is to be done; its open visit makes a circle; it
@@ -90,7 +87,7 @@ pub record Opened : Type 0 where
 pub data Standing : Type 0 where
   strange : Standing
   settled : Standing
-  circular : List (List ℕ) → Standing
+  circular : List Name → Standing
   fresh : Hooks → Standing
 
 -- the open visits, innermost first, are searched for t; the circle goes from its open visit inwards

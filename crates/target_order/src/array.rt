@@ -12,10 +12,9 @@ ghost use Rattle.std.specs.Prelude.{
 };
 ghost use Rattle.target_order.specs.Chunks.{width};
 
-use msb_values::{Copied, List, NoMemory};
+use msb_values::{Copied, List, NoMemory, Shared};
 use std::alloc::Global;
 use std::marker::Model;
-use std::sync::Arc;
 
 /// How many entries stand in a chunk.
 const WIDTH: usize = 256;
@@ -23,7 +22,7 @@ const WIDTH: usize = 256;
 /// An array whose copies share its entries: a copy takes one handle, and a write copies one chunk
 /// and the list of the chunks.
 pub struct SharedArray<T> {
-    chunks: Arc<List<Chunk<T>>>,
+    chunks: Shared<List<Shared<List<T>>>>,
 }
 
 // A drop that is written out is proved here alone.
@@ -33,36 +32,15 @@ impl<T: Drop> Drop for SharedArray<T> {
     }
 }
 
-/// Entries that the copies of a chunk share.
-pub struct Chunk<T> {
-    entries: Arc<List<T>>,
-}
-
-impl<T: Drop> Drop for Chunk<T> {
-    fn drop(self) {
-        let Chunk { entries: _ } = self;
-    }
-}
-
-impl<T> Model for Chunk<T> {
-    ghost use Rattle.std.specs.Prelude.{List};
-    ghost use Rattle.std.specs.Arc.{arc_value};
-
-    ghost Value = { List T };
-
-    ghost view = { λ c. arc_value c.entries };
-}
-
 impl<T> Model for SharedArray<T> {
     ghost use Rattle.std.specs.Prelude.{List};
-    ghost use Rattle.std.specs.Arc.{arc_value};
     ghost use Rattle.target_order.specs.Chunks.{joined, AreFull};
 
     ghost Value = { List T };
 
-    ghost view = { λ a. joined (arc_value a.chunks) };
+    ghost view = { λ a. joined a.chunks };
 
-    ghost invariant = { λ a. AreFull (arc_value a.chunks) };
+    ghost invariant = { λ a. AreFull a.chunks };
 }
 
 impl<T: Copy + Drop> SharedArray<T> {
@@ -71,13 +49,13 @@ impl<T: Copy + Drop> SharedArray<T> {
         ensures long { IfOk result (λ a. count ≤ length a) }
         ensures same { IfOk result (λ a. a ≡ replicate (length a) entry) }
     {
-        let chunk = Chunk::of(alloc, repeated(alloc, entry)?)?;
+        let chunk = Shared::new(alloc, List::from(repeat(alloc, entry)?))?;
         let mut chunks = List::new(alloc);
         for _ in 0..count / WIDTH + 1 {
             chunks.push(chunk.copy()?)?;
         }
         Ok(SharedArray {
-            chunks: Arc::new(alloc, chunks)?,
+            chunks: Shared::new(alloc, chunks)?,
         })
     }
 
@@ -85,7 +63,7 @@ impl<T: Copy + Drop> SharedArray<T> {
         requires { index < length self.now }
         ensures { (default : T) → result ≡ slice_index_or self.now index default }
     {
-        let chunk = self.chunks.as_slice()[index / WIDTH].as_slice();
+        let chunk = self.chunks.get().as_slice()[index / WIDTH].get().as_slice();
         chunk[index % WIDTH]
     }
 
@@ -95,12 +73,12 @@ impl<T: Copy + Drop> SharedArray<T> {
         ensures { IfOk result (λ a. a ≡ slice_set self.now index entry) }
     {
         let at = index / WIDTH;
-        let mut entries = copied(alloc, self.chunks.as_slice()[at].as_slice())?;
+        let mut entries = copy_entries(alloc, self.chunks.get().as_slice()[at].get().as_slice())?;
         entries[index % WIDTH] = entry;
-        let mut chunks = self.chunks.copy()?.into_vec();
-        chunks[at] = Chunk::of(alloc, entries)?;
+        let mut chunks = self.chunks.get().copy()?.into_vec();
+        chunks[at] = Shared::new(alloc, List::from(entries))?;
         Ok(SharedArray {
-            chunks: Arc::new(alloc, List::from(chunks))?,
+            chunks: Shared::new(alloc, List::from(chunks))?,
         })
     }
 }
@@ -108,39 +86,13 @@ impl<T: Copy + Drop> SharedArray<T> {
 impl<T> Copied for SharedArray<T> {
     fn copy(&self) -> Result<SharedArray<T>, NoMemory> {
         Ok(SharedArray {
-            chunks: Arc::try_clone(&self.chunks)?,
-        })
-    }
-}
-
-impl<T> Chunk<T> {
-    pub fn as_slice(&self) -> &[T]
-        ensures { result.now ≡ self.now }
-    {
-        self.entries.as_slice()
-    }
-}
-
-impl<T: Drop> Chunk<T> {
-    pub fn of(alloc: Global, entries: Vec<T>) -> Result<Chunk<T>, NoMemory>
-        ensures { IfOk result (λ c. c ≡ entries.items) }
-    {
-        Ok(Chunk {
-            entries: Arc::new(alloc, List::from(entries))?,
-        })
-    }
-}
-
-impl<T> Copied for Chunk<T> {
-    fn copy(&self) -> Result<Chunk<T>, NoMemory> {
-        Ok(Chunk {
-            entries: Arc::try_clone(&self.entries)?,
+            chunks: self.chunks.copy()?,
         })
     }
 }
 
 /// The entries of a chunk, each of them this one.
-fn repeated<T: Copy + Drop>(alloc: Global, entry: T) -> Result<Vec<T>, NoMemory>
+fn repeat<T: Copy + Drop>(alloc: Global, entry: T) -> Result<Vec<T>, NoMemory>
     ensures { IfOk result (λ v. v.items ≡ replicate width entry) }
 {
     let mut entries = Vec::with_capacity(alloc, WIDTH)?;
@@ -150,7 +102,7 @@ fn repeated<T: Copy + Drop>(alloc: Global, entry: T) -> Result<Vec<T>, NoMemory>
     Ok(entries)
 }
 
-fn copied<T: Copy + Drop>(alloc: Global, entries: &[T]) -> Result<Vec<T>, NoMemory>
+fn copy_entries<T: Copy + Drop>(alloc: Global, entries: &[T]) -> Result<Vec<T>, NoMemory>
     ensures { IfOk result (λ v. v.items ≡ entries.now) }
 {
     let mut copies = Vec::with_capacity(alloc, entries.len())?;

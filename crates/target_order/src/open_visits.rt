@@ -18,13 +18,11 @@ ghost use Rattle.target_order.specs.OpenVisits.{width};
 ghost use Rattle.target_order.specs.Search.{visit_at};
 ghost use Rattle.target_order.specs.Steps.{noted};
 
-use crate::array::Chunk;
 use crate::visits::{OpenVisit, Step};
-use msb_values::{Copied, List, NoMemory};
+use msb_values::{Copied, List, NoMemory, Shared};
 use std::alloc::Global;
 use std::marker::Model;
 use std::mem;
-use std::sync::Arc;
 
 /// How many visits stand in a chunk.
 const WIDTH: usize = 32;
@@ -32,7 +30,7 @@ const WIDTH: usize = 32;
 /// The open visits of a walk, innermost last. A copy shares all but the last `2 * WIDTH` of them.
 pub struct OpenVisits {
     /// The outer visits.
-    outer: Arc<List<Chunk<OpenVisit>>>,
+    outer: Shared<List<Shared<List<OpenVisit>>>>,
     /// The visits inside them: some, unless no visit is open.
     inner: Vec<OpenVisit>,
     /// How many there are of both.
@@ -52,16 +50,15 @@ impl Drop for OpenVisits {
 
 impl Model for OpenVisits {
     ghost use Rattle.std.specs.Prelude.{List, ◌++◌};
-    ghost use Rattle.std.specs.Arc.{arc_value};
     ghost use Rattle.target_order.specs.declared.visits.OpenVisit.{OpenVisit};
     ghost use Rattle.target_order.specs.Chunks.{joined};
     ghost use Rattle.target_order.specs.OpenVisits.{AreOpen};
 
     ghost Value = { List OpenVisit };
 
-    ghost view = { λ v. joined (arc_value v.outer) ++ v.inner.items };
+    ghost view = { λ v. joined v.outer ++ v.inner.items };
 
-    ghost invariant = { λ v. AreOpen (arc_value v.outer) v.inner.items v.count };
+    ghost invariant = { λ v. AreOpen v.outer v.inner.items v.count };
 }
 
 impl OpenVisits {
@@ -69,7 +66,7 @@ impl OpenVisits {
         ensures { IfOk result (λ visits. visits ≡ []) }
     {
         Ok(OpenVisits {
-            outer: Arc::new(alloc, List::new(alloc))?,
+            outer: Shared::new(alloc, List::new(alloc))?,
             inner: Vec::new(alloc),
             count: 0,
         })
@@ -88,7 +85,7 @@ impl OpenVisits {
     {
         let outer = self.count - self.inner.len();
         if at < outer {
-            &self.outer.as_slice()[at / WIDTH].as_slice()[at % WIDTH]
+            &self.outer.get().as_slice()[at / WIDTH].get().as_slice()[at % WIDTH]
         } else {
             &self.inner[at - outer]
         }
@@ -104,12 +101,12 @@ impl OpenVisits {
             OpenVisits::new(alloc)
         } else if depth > outer {
             Ok(OpenVisits {
-                outer: Arc::try_clone(&self.outer)?,
+                outer: self.outer.copy()?,
                 inner: List::of(alloc, &self.inner[..depth - outer])?.into_vec(),
                 count: depth,
             })
         } else {
-            through_chunks(alloc, self.outer.as_slice(), depth)
+            through_chunks(alloc, self.outer.get().as_slice(), depth)
         }
     }
 
@@ -137,9 +134,9 @@ impl OpenVisits {
         }
         let (first, rest) = self.inner.split_at(WIDTH);
         let rest = List::of(alloc, rest)?.into_vec();
-        let mut outer = self.outer.copy()?;
-        outer.push(Chunk::of(alloc, List::of(alloc, first)?.into_vec())?)?;
-        self.outer = Arc::new(alloc, outer)?;
+        let mut outer = self.outer.get().copy()?;
+        outer.push(Shared::new(alloc, List::of(alloc, first)?)?)?;
+        self.outer = Shared::new(alloc, outer)?;
         self.inner = rest;
         Ok(())
     }
@@ -170,7 +167,7 @@ impl OpenVisits {
 impl Copied for OpenVisits {
     fn copy(&self) -> Result<OpenVisits, NoMemory> {
         Ok(OpenVisits {
-            outer: Arc::try_clone(&self.outer)?,
+            outer: self.outer.copy()?,
             inner: List::of(*self.inner.allocator(), &self.inner)?.into_vec(),
             count: self.count,
         })
@@ -180,7 +177,7 @@ impl Copied for OpenVisits {
 /// The first visits of these chunks, so many.
 fn through_chunks(
     alloc: Global,
-    chunks: &[Chunk<OpenVisit>],
+    chunks: &[Shared<List<OpenVisit>>],
     depth: usize,
 ) -> Result<OpenVisits, NoMemory>
     requires full { AreOf width chunks.now }
@@ -189,9 +186,9 @@ fn through_chunks(
     ensures { IfOk result (λ visits. visits ≡ take depth (joined chunks.now)) }
 {
     let last = (depth - 1) / WIDTH;
-    let inner = &chunks[last].as_slice()[..depth - last * WIDTH];
+    let inner = &chunks[last].get().as_slice()[..depth - last * WIDTH];
     Ok(OpenVisits {
-        outer: Arc::new(alloc, List::of(alloc, &chunks[..last])?)?,
+        outer: Shared::new(alloc, List::of(alloc, &chunks[..last])?)?,
         inner: List::of(alloc, inner)?.into_vec(),
         count: depth,
     })

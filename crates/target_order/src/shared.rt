@@ -1,13 +1,13 @@
 ghost use Rattle.std.specs.Prelude.{◌≡◌, [], IfOk};
 
-use msb_values::{Copied, List, Name, NoMemory};
+use msb_values::{Copied, List, Name, NoMemory, Shared};
 use std::alloc::Global;
 use std::marker::Model;
-use std::sync::Arc;
 
 /// A list of names that its copies share.
 pub struct SharedNames {
-    names: Option<Arc<List<Name>>>,
+    /// None where there are none, which takes no memory.
+    names: Option<Shared<List<Name>>>,
 }
 
 // A drop that is written out is proved here alone.
@@ -18,14 +18,11 @@ impl Drop for SharedNames {
 }
 
 impl Model for SharedNames {
-    ghost use Rattle.std.specs.Prelude.{ℕ, List};
-    ghost use Rattle.std.specs.Arc.{arc_value};
-    ghost use Rattle.std.specs.Option.{option_map_or};
-    ghost use Rattle.std.specs.Prelude.{[]};
+    ghost use Rattle.std.specs.Prelude.{ℕ, List, [], unwrap_or};
 
     ghost Value = { List (List ℕ) };
 
-    ghost view = { λ s. option_map_or arc_value s.names [] };
+    ghost view = { λ s. unwrap_or s.names [] };
 }
 
 impl SharedNames {
@@ -39,7 +36,7 @@ impl SharedNames {
         ensures { IfOk result (λ s. s ≡ names.now) }
     {
         Ok(SharedNames {
-            names: Some(Arc::new(alloc, names.copy()?)?),
+            names: Some(Shared::new(alloc, names.copy()?)?),
         })
     }
 
@@ -47,7 +44,7 @@ impl SharedNames {
         ensures { result.now ≡ self.now }
     {
         match &self.names {
-            Some(names) => names.as_slice(),
+            Some(names) => names.get().as_slice(),
             None => &[],
         }
     }
@@ -57,7 +54,7 @@ impl Copied for SharedNames {
     fn copy(&self) -> Result<SharedNames, NoMemory> {
         match &self.names {
             Some(names) => Ok(SharedNames {
-                names: Some(Arc::try_clone(names)?),
+                names: Some(names.copy()?),
             }),
             None => Ok(SharedNames::none()),
         }

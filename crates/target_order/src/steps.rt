@@ -293,7 +293,7 @@ impl OrderWalk {
         ensures ok { OnOk result (self.new ≡ at_body self.old depth step passed) }
         ensures err { OnErr result (self.new ≡ self.old) }
     {
-        self.visits = marked(alloc, &self.visits, depth, step, passed)?;
+        self.visits = mark(alloc, &self.visits, depth, step, passed)?;
         self.asked = Asked::Body;
         Ok(())
     }
@@ -319,13 +319,13 @@ fn with_visit(
     ensures { IfOk result
         (λ opened. opened ≡ marked_visits visits.now depth step passed ++ visit ∷ []) }
 {
-    let mut opened = marked(alloc, visits, depth, step, passed)?;
+    let mut opened = mark(alloc, visits, depth, step, passed)?;
     opened.push(alloc, visit)?;
     Ok(opened)
 }
 
 /// The visits through this depth, the innermost at this place of its list.
-fn marked(
+fn mark(
     alloc: Global,
     visits: &OpenVisits,
     depth: usize,

@@ -7,14 +7,13 @@ ghost use Rattle.target_order.specs.declared.hooks.Side.TheVariants.{Before, Aft
 use crate::TargetRow;
 use crate::hooks::{Side, firsts_of, hooks};
 use crate::numbers::Numbers;
-use msb_values::{Copied, List, Name, NoMemory};
+use msb_values::{Copied, List, Name, NoMemory, Shared};
 use std::alloc::Global;
 use std::marker::Model;
-use std::sync::Arc;
 
 /// The targets of a project by their numbers, which the copies of a walk share.
 pub struct SharedTable {
-    targets: Arc<Targets>,
+    targets: Shared<Targets>,
 }
 
 // A drop that is written out is proved here alone.
@@ -65,10 +64,10 @@ impl SharedTable {
         let (firsts, numbers) = firsts_of(alloc, rows)?;
         let before = hooks(alloc, &firsts, &numbers, Side::Before)?;
         let after = hooks(alloc, &firsts, &numbers, Side::After)?;
-        Ok(SharedTable::shared(alloc, numbers, before, after)?)
+        Ok(SharedTable::share(alloc, numbers, before, after)?)
     }
 
-    fn shared(
+    fn share(
         alloc: Global,
         names: Numbers,
         before: Vec<List<Name>>,
@@ -83,14 +82,14 @@ impl SharedTable {
             after,
         };
         Ok(SharedTable {
-            targets: Arc::new(alloc, targets)?,
+            targets: Shared::new(alloc, targets)?,
         })
     }
 
     pub fn count(&self) -> usize
         ensures { result ≡ length self.now.names }
     {
-        self.targets.names.len()
+        self.targets.get().names.len()
     }
 
     /// The number of the target with this name.
@@ -98,14 +97,14 @@ impl SharedTable {
         ensures value { result ≡ number_of self.now.names name.now }
         ensures within { IfSome result (λ k. k < length self.now.names) }
     {
-        self.targets.names.find(name)
+        self.targets.get().names.find(name)
     }
 
     pub fn name(&self, number: usize) -> &Name
         requires { number < length self.now.names }
         ensures { result.now ≡ slice_index_or self.now.names number [] }
     {
-        self.targets.names.name(number)
+        self.targets.get().names.name(number)
     }
 
     /// The targets that name this one in BeforeTargets.
@@ -113,7 +112,7 @@ impl SharedTable {
         requires { number < length self.now.before }
         ensures { result.now ≡ slice_index_or self.now.before number [] }
     {
-        self.targets.before[number].as_slice()
+        self.targets.get().before[number].as_slice()
     }
 
     /// The targets that name this one in AfterTargets.
@@ -121,14 +120,14 @@ impl SharedTable {
         requires { number < length self.now.after }
         ensures { result.now ≡ slice_index_or self.now.after number [] }
     {
-        self.targets.after[number].as_slice()
+        self.targets.get().after[number].as_slice()
     }
 }
 
 impl Copied for SharedTable {
     fn copy(&self) -> Result<SharedTable, NoMemory> {
         Ok(SharedTable {
-            targets: Arc::try_clone(&self.targets)?,
+            targets: self.targets.copy()?,
         })
     }
 }

@@ -16,7 +16,7 @@ loop-item-preserved c =
     c.contains.ensures
     ∙ c.in_ok-named.ensures c.in_ok-ident.ident
     ∙ ap (λ keys. list_any (λ one. bytes_eq one c.in_ok-ident.ident) keys)
-    c.in_ok-all_folded.ensures
+    c.in_ok-fold_all.ensures
     ∙ ap (λ ident. list_any (λ one. bytes_eq one ident) (map folded_bytes texts))
     (c.in_ok-ident.ensures.value ∙ ap folded_bytes c.as_str.ensures)
     ∙ folded_any item.ident texts c.in_ok-ident.ensures.compared in

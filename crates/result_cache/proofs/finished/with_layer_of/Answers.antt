@@ -4,8 +4,8 @@ use Rattle.result_cache.specs.Same.{AreDistinct}
 use Rattle.result_cache.proofs.LayerSteps.{rest_all, distinct_last, joined_last}
 use Rattle.result_cache.proofs.finished.with_layer_of.Goals as goal
 
-pub joined-requires : goal.joined-requires
-joined-requires c =
+pub join-requires : goal.join-requires
+join-requires c =
     let layers = c.args.layers.now in
     let kept = c.how_many_stay-kept.result in
     subst (λ l. AreDistinct (runs_of (all_of l ++ c.args.recent.now))) (sym (rest_all layers kept))

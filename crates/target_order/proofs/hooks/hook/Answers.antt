@@ -15,7 +15,7 @@ use Rattle.std.proofs.Common.{
   ◌∙◌,
 }
 use Rattle.std.proofs.lemmas.List.{take_more}
-use Rattle.target_order.specs.Visit.{Name}
+use Rattle.msb_laws.specs.Words.{Name}
 use Rattle.target_order.specs.Progress.{number_of}
 use Rattle.target_order.proofs.Names.{number_below}
 use Rattle.target_order.proofs.Hooking.{hooked_none, hooked_some}

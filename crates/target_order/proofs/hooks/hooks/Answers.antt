@@ -2,8 +2,8 @@ use Rattle.std.proofs.Common.{◌+◌, ◌<◌, List, map, length, sym, ap, ◌�
 use Rattle.std.specs.Borrow.{Bor}
 use Rattle.std.proofs.Math.ListN.{get_or-map}
 use Rattle.std.proofs.lemmas.List.{length-map}
+use Rattle.msb_laws.specs.Words.{Name}
 use Rattle.target_order.specs.declared.row.TargetRow.{TargetRow}
-use Rattle.target_order.specs.Visit.{Name}
 use Rattle.target_order.specs.Table.{AreHooked}
 use Rattle.target_order.proofs.Hooking.{hooks_more}
 use Rattle.target_order.proofs.hooks.hooks.Goals as goal

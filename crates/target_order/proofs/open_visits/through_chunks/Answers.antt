@@ -31,7 +31,7 @@ slice_bounds-inner-length c =
     (chunk_at chunks c.requires.full depth c.requires.some c.requires.deep)
     c.index-chunks-last.is [] in
     subst (λ xs. depth - (depth - 1) / 32 * 32 ≡ length (take (depth - (depth - 1) / 32 * 32) xs))
-    (sym (c.as_slice.ensures ∙ chunk))
+    (sym (c.as_slice.ensures ∙ (c.get.ensures ∙ chunk)))
     (sym (rest_length chunks c.requires.full depth c.requires.some c.requires.deep))
 
 pub slice_bounds-of-end : goal.slice_bounds-of-end
@@ -47,10 +47,10 @@ invariant_of-result c =
     let chunk = get_or_read chunks ((depth - 1) / 32) _
     (chunk_at chunks c.requires.full depth c.requires.some c.requires.deep)
     c.index-chunks-last.is [] in
-    let outer = c.in_ok-new.ensures.ok ∙ c.in_ok-of.ensures in
+    let outer = c.in_ok-new.ensures ∙ c.in_ok-of.ensures in
     let inner = c.into_vec.ensures
     ∙ (c.in_ok-of-2.ensures ∙ ap (take (depth - (depth - 1) / 32 * 32))
-    (c.as_slice.ensures ∙ chunk)) in
+    (c.as_slice.ensures ∙ (c.get.ensures ∙ chunk))) in
     subst (λ cs. AreOpen cs c.into_vec.result.items depth) (sym outer)
     (subst (λ vs. AreOpen (take ((depth - 1) / 32) chunks) vs depth) (sym inner)
     (through_are chunks c.requires.full depth c.requires.some c.requires.deep))
@@ -62,10 +62,10 @@ returns c =
     let chunk = get_or_read chunks ((depth - 1) / 32) _
     (chunk_at chunks c.requires.full depth c.requires.some c.requires.deep)
     c.index-chunks-last.is [] in
-    let outer = c.in_ok-new.ensures.ok ∙ c.in_ok-of.ensures in
+    let outer = c.in_ok-new.ensures ∙ c.in_ok-of.ensures in
     let inner = c.into_vec.ensures
     ∙ (c.in_ok-of-2.ensures ∙ ap (take (depth - (depth - 1) / 32 * 32))
-    (c.as_slice.ensures ∙ chunk)) in
+    (c.as_slice.ensures ∙ (c.get.ensures ∙ chunk))) in
     ap (λ cs. joined cs ++ c.into_vec.result.items) outer
     ∙ (ap (λ vs. joined (take ((depth - 1) / 32) chunks) ++ vs) inner
     ∙ through_taken chunks c.requires.full depth c.requires.some c.requires.deep)

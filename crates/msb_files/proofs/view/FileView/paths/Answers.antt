@@ -10,6 +10,6 @@ returns c =
     let view = c.args.self.now in
     let live = λ (path : List ℕ). is_some (content view path) in
     let met : c.add_files.new.all.keys ≡ paths_met view = search rules in
-    if_ok_is c.listed.result _ _ c.listed.ensures
+    if_ok_is c.list.result _ _ c.list.ensures
     (filter_same _ live _ (λ x b f k. (search rules, search rules)) c.add_files.new.all.keys
     c.retain.new.self.keys c.retain.ensures.filtered ∙ ap (filter live) met)

@@ -10,18 +10,18 @@ pub returns-clause-long : goal.returns-clause-long
 returns-clause-long g c =
     let count = c.args.count in
     let turns : c.loop.counter ≡ count / 256 + 1 = search arith in
-    let chunks = c.in_ok-new.ensures.ok
+    let chunks = c.in_ok-new.ensures
     ∙ (c.loop.invariant ∙ ap (λ x. replicate c.loop.counter x)
-    (c.in_ok-chunk.ensures ∙ c.in_ok-repeated.ensures)) in
+    (c.in_ok-chunk.ensures ∙ (c.from.ensures ∙ c.in_ok-repeat.ensures))) in
     let all = ap joined chunks ∙ same_joined 256 c.loop.counter c.args.entry in
     let len = ap length all ∙ length-replicate (c.loop.counter * 256) c.args.entry in
     omega (arith, div-add-mod' count 256, mod_below count 256 (omega arith))
 
 pub returns-clause-same : goal.returns-clause-same
 returns-clause-same g c =
-    let chunks = c.in_ok-new.ensures.ok
+    let chunks = c.in_ok-new.ensures
     ∙ (c.loop.invariant ∙ ap (λ x. replicate c.loop.counter x)
-    (c.in_ok-chunk.ensures ∙ c.in_ok-repeated.ensures)) in
+    (c.in_ok-chunk.ensures ∙ (c.from.ensures ∙ c.in_ok-repeat.ensures))) in
     let all = ap joined chunks ∙ same_joined 256 c.loop.counter c.args.entry in
     let len = ap length all ∙ length-replicate (c.loop.counter * 256) c.args.entry in
     all ∙ ap (λ n. replicate n c.args.entry) (sym len)

@@ -22,8 +22,8 @@ use Rattle.target_order.proofs.open_visits.OpenVisits.get.Goals as goal
 
 pub bounds-as_slice-at : goal.bounds-as_slice-at
 bounds-as_slice-at c =
-    let outer = c.self.inside.outer.value in
-    let held : c.as_slice.result.now ≡ outer = c.as_slice.ensures ∙ c.deref.ensures in
+    let outer = c.self.inside.outer in
+    let held : c.as_slice.result.now ≡ outer = c.as_slice.ensures ∙ c.get.ensures in
     let len : c.len.result ≡ length c.self.inside.inner.items = search rules in
     let below : c.args.at < length (joined outer) = let chunks = in_chunks outer
     c.self.inside.inner.items c.self.inside.count c.self.invariant in let h = c.if-at-outer.true
@@ -33,9 +33,9 @@ bounds-as_slice-at c =
 
 pub bounds-as_slice-at-then-at-outer : goal.bounds-as_slice-at-then-at-outer
 bounds-as_slice-at-then-at-outer c =
-    let outer = c.self.inside.outer.value in
+    let outer = c.self.inside.outer in
     let at = c.args.at in
-    let held : c.as_slice.result.now ≡ outer = c.as_slice.ensures ∙ c.deref.ensures in
+    let held : c.as_slice.result.now ≡ outer = c.as_slice.ensures ∙ c.get.ensures in
     let len : c.len.result ≡ length c.self.inside.inner.items = search rules in
     let below : at < length (joined outer) = let chunks = in_chunks outer c.self.inside.inner.items
     c.self.inside.count c.self.invariant in let h = c.if-at-outer.true in omega arith in
@@ -43,14 +43,14 @@ bounds-as_slice-at-then-at-outer c =
     (at_chunk 32 (omega arith) outer c.self.invariant.full at below)
     (c.index-as_slice-at.is ∙ ap (λ cs. get_or cs (at / 32) c.index-as_slice-at.result) held) []
     in
-    subst (λ xs. at % 32 < length xs) (sym (c.as_slice-then-at-outer.ensures ∙ chunk))
+    subst (λ xs. at % 32 < length xs) (sym (c.as_slice-then-at-outer.ensures ∙ (c.get-then-at-outer.ensures ∙ chunk)))
     (in_chunk 32 (omega arith) outer c.self.invariant.full at below)
 
 pub returns-then-at-outer : goal.returns-then-at-outer
 returns-then-at-outer c =
-    let outer = c.self.inside.outer.value in
+    let outer = c.self.inside.outer in
     let at = c.args.at in
-    let held : c.as_slice.result.now ≡ outer = c.as_slice.ensures ∙ c.deref.ensures in
+    let held : c.as_slice.result.now ≡ outer = c.as_slice.ensures ∙ c.get.ensures in
     let len : c.len.result ≡ length c.self.inside.inner.items = search rules in
     let below : at < length (joined outer) = let chunks = in_chunks outer c.self.inside.inner.items
     c.self.inside.count c.self.invariant in let h = c.if-at-outer.true in omega arith in
@@ -61,7 +61,7 @@ returns-then-at-outer c =
     get_or_read _ (at % 32) _ (in_chunk 32 (omega arith) outer c.self.invariant.full at below)
     (c.index-as_slice-at-then-at-outer.is
     ∙ ap (λ xs. get_or xs (at % 32) c.index-as_slice-at-then-at-outer.result)
-    (c.as_slice-then-at-outer.ensures ∙ chunk)) _
+    (c.as_slice-then-at-outer.ensures ∙ (c.get-then-at-outer.ensures ∙ chunk))) _
     ∙ (sym
     (read_outer outer c.self.inside.inner.items c.self.inside.count c.self.invariant at below _)
     ∙ ap (λ vs. visit_at vs at) c.self.view_is)

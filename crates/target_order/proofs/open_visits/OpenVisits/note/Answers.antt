@@ -5,7 +5,7 @@ use Rattle.target_order.proofs.open_visits.OpenVisits.note.Goals as goal
 
 pub returns-then-self-gt0 : goal.returns-then-self-gt0
 returns-then-self-gt0 c =
-    let outer = c.self.inside.outer.value in
+    let outer = c.self.inside.outer in
     let inner = c.self.inside.inner.items in
     let len : c.len-last.result ≡ length inner = search rules in
     note_top outer inner c.self.inside.count c.self.invariant c.args.step c.args.passed

@@ -5,7 +5,7 @@ use Rattle.target_order.proofs.open_visits.OpenVisits.replace_last.Goals as goal
 
 pub returns-clause-replaced : goal.returns-clause-replaced
 returns-clause-replaced c =
-    let outer = c.self.inside.outer.value in
+    let outer = c.self.inside.outer in
     let inner = c.self.inside.inner.items in
     let len : c.len-last.result ≡ length inner = search rules in
     let some : 0 < c.self.inside.count = subst (λ n. 0 < n)

@@ -5,7 +5,7 @@ use Rattle.target_order.proofs.open_visits.OpenVisits.through.Goals as goal
 
 pub returns-in_ok-of : goal.returns-in_ok-of
 returns-in_ok-of c =
-    let outer = c.self.inside.outer.value in
+    let outer = c.self.inside.outer in
     let inner = c.self.inside.inner.items in
     let depth = c.args.depth in
     let len : c.len.result ≡ length inner = search rules in
@@ -15,7 +15,7 @@ returns-in_ok-of c =
     ∙ (c.in_ok-of.ensures
     ∙ (ap (take (depth - (c.self.inside.count - c.len.result))) c.deref.ensures.value
     ∙ ap (λ n. take (depth - n) inner) from)) in
-    ap (λ cs. joined cs ++ c.into_vec.result.items) c.in_ok-try_clone.ensures
+    ap (λ cs. joined cs ++ c.into_vec.result.items) c.in_ok-copy.ensures
     ∙ (ap (λ vs. joined outer ++ vs) part
     ∙ (through_inner outer inner depth (let h = c.if-depth-outer.true in omega arith)
     ∙ ap (take depth) c.self.view_is))

@@ -11,7 +11,7 @@ returns-clause-before c =
     let same = ap (map (λ (x : Bor TargetRow). x.now)) c.deref.ensures.value
     ∙ c.in_ok-firsts.ensures.rows in
     subst (λ t. AreHooks Before (first_rows [] c.args.rows.now) t.names t.before)
-    (sym c.in_ok-shared.ensures)
+    (sym c.in_ok-share.ensures)
     (subst (λ rs. AreHooks Before rs c.in_ok-firsts.numbers c.in_ok-before.before.items) same
     c.in_ok-before.ensures)
 
@@ -20,6 +20,6 @@ returns-clause-after c =
     let same = ap (map (λ (x : Bor TargetRow). x.now)) c.deref-2.ensures.value
     ∙ c.in_ok-firsts.ensures.rows in
     subst (λ t. AreHooks After (first_rows [] c.args.rows.now) t.names t.after)
-    (sym c.in_ok-shared.ensures)
+    (sym c.in_ok-share.ensures)
     (subst (λ rs. AreHooks After rs c.in_ok-firsts.numbers c.in_ok-after.after.items) same
     c.in_ok-after.ensures)

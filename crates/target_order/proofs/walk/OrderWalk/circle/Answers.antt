@@ -15,8 +15,8 @@ use Rattle.std.proofs.Common.{
   arith,
 }
 use Rattle.std.proofs.lemmas.List.{map-append}
+use Rattle.msb_laws.specs.Words.{Name}
 use Rattle.target_order.specs.declared.visits.OpenVisit.{OpenVisit}
-use Rattle.target_order.specs.Visit.{Name}
 use Rattle.target_order.specs.Progress.{name_at}
 use Rattle.target_order.specs.Search.{visit_at}
 use Rattle.target_order.proofs.Stack.{part_more}

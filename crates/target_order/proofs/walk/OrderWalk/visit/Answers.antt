@@ -1,6 +1,6 @@
 use Rattle.std.proofs.Common.{◌<◌, ◌≢◌, ◌++◌, ◌∷◌, [], ℕ, List, length, ap, sym, ◌∙◌, subst}
+use Rattle.msb_laws.specs.Words.{Name}
 use Rattle.target_order.specs.declared.visits.Step.TheVariants.{Depends}
-use Rattle.target_order.specs.Visit.{Name}
 use Rattle.target_order.specs.Search.{visit_at, IsSound}
 use Rattle.target_order.specs.Steps.{visiting, marked_visits, IsPlace}
 use Rattle.target_order.specs.Fields.{progress}

@@ -2,7 +2,7 @@ use Rattle.std.proofs.Common.{◌++◌, sym, ◌∙◌, subst}
 use Rattle.result_cache.specs.Kept.{runs_of}
 use Rattle.result_cache.specs.Same.{AreDistinct}
 use Rattle.result_cache.proofs.LayerSteps.{joined_next, distinct_next}
-use Rattle.result_cache.proofs.finished.joined_layers.Goals as goal
+use Rattle.result_cache.proofs.finished.join_layers.Goals as goal
 
 pub push_all-requires : goal.push_all-requires
 push_all-requires c =

@@ -6,7 +6,7 @@ use Rattle.std.proofs.lemmas.Fn.{always_returns_same}
 use Rattle.std.proofs.lemmas.List.Sorted.{ranks_by}
 use Rattle.msb_files.specs.Places.{path_at}
 use Rattle.msb_files.proofs.Finds.{stays_first}
-use Rattle.msb_files.proofs.sorted.ordered.Goals as goal
+use Rattle.msb_files.proofs.sorted.order.Goals as goal
 
 pub returns : goal.returns
 returns c =

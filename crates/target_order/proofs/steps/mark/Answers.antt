@@ -2,7 +2,7 @@ use Rattle.std.proofs.Common.{length, take, ap, ◌∙◌}
 use Rattle.std.proofs.lemmas.List.{length-take-le}
 use Rattle.target_order.specs.Steps.{noted}
 use Rattle.target_order.proofs.Marks.{noted_top}
-use Rattle.target_order.proofs.steps.marked.Goals as goal
+use Rattle.target_order.proofs.steps.mark.Goals as goal
 
 pub returns : goal.returns
 returns c =

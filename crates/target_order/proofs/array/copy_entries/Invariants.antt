@@ -1,5 +1,5 @@
 use Rattle.std.proofs.Common.{◌≡◌, take}
-use Rattle.target_order.proofs.array.copied.Given as goal
+use Rattle.target_order.proofs.array.copy_entries.Given as goal
 
 abbrev pub invariant-loop-entry : goal.invariant-loop-entry
 invariant-loop-entry g l = l.copies.items ≡ take l.entry-index l.entries
