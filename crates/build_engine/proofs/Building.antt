@@ -29,7 +29,8 @@ use Rattle.build_meaning.specs.World.{World}
 use Rattle.build_meaning.specs.State.{Place, walking, ready, assigned, RequestState, State, start}
 use Rattle.build_scheduler.specs.Ready.{IsAssigned}
 use Rattle.build_scheduler.specs.declared.slot.End.{End}
-use Rattle.build_plain.specs.Driven.{IsLegal, NoneAssigned}
+use Rattle.build_plain.specs.Driven.{NoneAssigned}
+use Rattle.build_scheduler.specs.Drivers.{IsLegal}
 use Rattle.build_outcome.specs.Outcomes.{IsOutcome, IsOutcomeAt, IsStatus}
 use Rattle.build_outcome.specs.declared.outcome.Outcome.{Outcome}
 use Rattle.build_engine.specs.Statuses.{IsCompletion, IsRefusal}

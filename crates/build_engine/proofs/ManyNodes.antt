@@ -6,7 +6,7 @@ use Rattle.build_meaning.specs.declared.event.Event.{Event}
 use Rattle.build_meaning.specs.World.{World}
 use Rattle.build_meaning.specs.History.{AreOfNodes}
 use Rattle.build_scheduler.specs.declared.slot.End.{End}
-use Rattle.build_plain.specs.Driven.{IsLegal}
+use Rattle.build_scheduler.specs.Drivers.{IsLegal}
 use Rattle.build_outcome.specs.Outcomes.{IsOutcomeAt}
 use Rattle.build_outcome.specs.declared.outcome.Outcome.{Outcome}
 use Rattle.build_engine.specs.OnNodes.{IsOutcomeOn}

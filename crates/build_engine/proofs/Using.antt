@@ -35,7 +35,8 @@ use Rattle.build_scheduler.specs.declared.slot.End.TheVariants.{
   TooMany,
   NoMemory as WantsMemory,
 }
-use Rattle.build_plain.specs.Driven.{AssignsLeast, IsLegal}
+use Rattle.build_plain.specs.Driven.{AssignsLeast}
+use Rattle.build_scheduler.specs.Drivers.{IsLegal}
 use Rattle.build_plain.specs.Used.{Uses, UnlessMemory}
 use Rattle.build_outcome.specs.Outcomes.{IsOutcomeAt}
 use Rattle.build_outcome.specs.declared.outcome.Outcome.{Outcome}

@@ -66,6 +66,7 @@ use Rattle.build_meaning.specs.SoFar.{
 }
 use Rattle.build_meaning.specs.Stop.{Stop, ends, asks, run_on}
 use Rattle.build_meaning.specs.State.{
+  with_status,
   Within,
   walking,
   within,
@@ -75,7 +76,6 @@ use Rattle.build_meaning.specs.State.{
   waits,
   calling,
   done,
-  Origin,
   RequestState,
   ToolsUsed,
   State,
@@ -114,7 +114,7 @@ use Rattle.build_meaning.proofs.ListPlaces.{
   at-traverse,
   traverse-at,
 }
-use Rattle.build_meaning.proofs.EventsKeepLawful.{only_if-some, unless-some, some-is, request_of}
+use Rattle.build_meaning.proofs.EventsKeepLawful.{only_if-some, unless-some, some-is}
 use Rattle.build_meaning.proofs.RetiredRequests.{IsRetire}
 use Rattle.build_history.specs.Uses.{body_at}
 
@@ -212,14 +212,14 @@ older-begun true c h = absurd (cc)
 older-begun false c h = h
 
 module _ {P I A : Type 0} (w : World P I A) where
-  claimed-moved : (s t : State P I A) (id m : ℕ) (o : Origin) (j : Journal) (runs : List RunId)
+  claimed-moved : (s t : State P I A) (id m : ℕ) (old : RequestState P I A)
       (claims : RunId) (r : RunId) (b : Body I A) (go : Record → Journal → Walk P I A)
       (kind : ClaimKind) (q : RequestState P I A) →
       at s.requests id ≡ Some q → body_at q.status ≡ None
-      → claimed w s id m o j runs r b go kind ≡ Some t → Moved s t (Claim id claims kind)
-  claimed-moved s t id m o j runs claims r b go Go q e none h =
+      → claimed w s id m old r b go kind ≡ Some t → Moved s t (Claim id claims kind)
+  claimed-moved s t id m old claims r b go Go q e none h =
       let z : RequestState P I A =
-      in_body w (assigned m) o runs r go (run_on w.tools r b j nothing_yet) in
+      in_body w (assigned m) old r go (run_on w.tools r b old.journal nothing_yet) in
       let next : State P I A = record {
         requests = put s.requests id z;
         begun = record {
@@ -232,39 +232,41 @@ module _ {P I A : Type 0} (w : World P I A) where
       let x = unless-some (is_begun r s.begun) next t h in
       moved-same s next t (Claim id claims Go)
       (put-moved s next (Claim id claims Go) q z e refl (λ a. a)
-      (begins q (record { run = r; tools = (run_on w.tools r b j nothing_yet).so_far.tools }) tt e
+      (begins q
+      (record { run = r; tools = (run_on w.tools r b old.journal nothing_yet).so_far.tools }) tt
+      e
       none refl x.0 refl)
       (λ r1 g. older-begun (same_run r r1) (is_begun r1 s.begun) g)) x.1
-  claimed-moved s t id m o j runs claims r b go Use q e none h =
+  claimed-moved s t id m old claims r b go Use q e none h =
       let x = and_then-some (found s.table r)
-      (λ made. and_then (replay s.table r j)
-      (λ next. Some (with_request s id (goes_on w (assigned m) o runs r go made next)))) t h in
-      let y = and_then-some (replay s.table r j)
-      (λ next. Some (with_request s id (goes_on w (assigned m) o runs r go x.0 next))) t x.2 in
-      let z : RequestState P I A = goes_on w (assigned m) o runs r go x.0 y.0 in
+      (λ made. and_then (replay s.table r old.journal)
+      (λ next. Some (with_request s id (goes_on w (assigned m) old r go made next)))) t h in
+      let y = and_then-some (replay s.table r old.journal)
+      (λ next. Some (with_request s id (goes_on w (assigned m) old r go x.0 next))) t x.2 in
+      let z : RequestState P I A = goes_on w (assigned m) old r go x.0 y.0 in
       moved-same s (with_request s id z) t (Claim id claims Use)
       (put-moved s (with_request s id z) (Claim id claims Use) q z e refl (λ a. a)
       (rests refl refl) (λ r1 g. g)) (some-is (with_request s id z) t y.2)
-  claimed-moved s t id m o j runs claims r b go Wait q e none h =
-      let next : State P I A = waiting w s id o j runs r b go in
+  claimed-moved s t id m old claims r b go Wait q e none h =
+      let next : State P I A = waiting w s id old r b go in
       let x = only_if-some (may_wait w (is_begun r s.begun) (found s.table r) (is_in_cycle next r))
       next t h in
       moved-same s next t (Claim id claims Wait)
-      (put-moved s next (Claim id claims Wait) q (request_of o j runs (waits r b go)) e refl
+      (put-moved s next (Claim id claims Wait) q (with_status old (waits r b go)) e refl
       (λ a. a) (rests refl refl) (λ r1 g. g)) x.1
 
-  called-moved : (s t : State P I A) (id m : ℕ) (asked : List RequestKey) (o : Origin) (j : Journal)
-      (runs : List RunId) (keys : List RequestKey) (x : Within P I A) (stop : Stop I A)
+  called-moved : (s t : State P I A) (id m : ℕ) (asked : List RequestKey) (old : RequestState P I A)
+      (keys : List RequestKey) (x : Within P I A) (stop : Stop I A)
       (go : List RequestResult → Journal → Body I A) →
-      at s.requests id ≡ Some (request_of o j runs (assigned m (within x stop)))
-      → with_children w s id o j runs keys x go ≡ t → Moved s t (Request id asked)
-  called-moved s t id m asked o j runs keys x stop go e h =
-      let q : RequestState P I A = request_of o j runs (assigned m (within x stop)) in
+      at s.requests id ≡ Some (with_status old (assigned m (within x stop)))
+      → with_children w s id old keys x go ≡ t → Moved s t (Request id asked)
+  called-moved s t id m asked old keys x stop go e h =
+      let q : RequestState P I A = with_status old (assigned m (within x stop)) in
       let z : RequestState P I A =
-      request_of o j runs (calling keys (numbered_from (length s.requests) keys) x go) in
+      with_status old (calling keys (numbered_from (length s.requests) keys) x go) in
       let more : List (RequestState P I A) =
-      map (new_request w (Some id) (x.run ∷ o.path) j) keys in
-      moved-same s (with_children w s id o j runs keys x go) t (Request id asked) (record {
+      map (new_request w (Some id) (x.run ∷ old.origin.path) old.journal) keys in
+      moved-same s (with_children w s id old keys x go) t (Request id asked) (record {
         mine = z;
         there = at-front (put s.requests id z) more id z (at-put_same s.requests id q z e);
         unready = λ a. a;
@@ -272,7 +274,8 @@ module _ {P I A : Type 0} (w : World P I A) where
         others = λ n b d at_n. elim (at-append (put s.requests id z) more n b at_n) [
           | inl y ↦ inl (put-others s id z n b d y)
           | inr y ↦
-              (let c = at-map (new_request w (Some id) (x.run ∷ o.path) j) keys y.0 b y.1 in inr
+              (let c = at-map (new_request w (Some id) (x.run ∷ old.origin.path) old.journal) keys
+              y.0 b y.1 in inr
               (inl (ap (λ (a : RequestState P I A). body_at a.status) (sym c.2))))
         ];
         begun = λ r1 g. g;
@@ -287,25 +290,25 @@ module _ {P I A : Type 0} (w : World P I A) where
           → (q ≡ z) ⊎ (body_at z.status ≡ None)
       by_test true h =
           let y = and_then-some (replay table wanted q.journal)
-          (λ next. Some (goes_on w ready q.origin q.runs wanted go m next)) z h in
+          (λ next. Some (goes_on w ready q wanted go m next)) z h in
           inr (ap (λ (a : RequestState P I A). body_at a.status)
-          (sym (some-is (goes_on w ready q.origin q.runs wanted go m y.0) z y.2)))
+          (sym (some-is (goes_on w ready q wanted go m y.0) z y.2)))
       by_test false h = inl (some-is q z h)
   woken-others table r m q z (ready a) e h = inl (some-is q z h)
   woken-others table r m q z (assigned k a) e h = inl (some-is q z h)
   woken-others table r m q z (calling a b c d) e h = inl (some-is q z h)
   woken-others table r m q z (done a) e h = inl (some-is q z h)
 
-  finished-moved : (s t : State P I A) (id m : ℕ) (run : RunId) (o : Origin) (j : Journal)
-      (runs : List RunId) (x : Within P I A) (stop : Stop I A) (made : Record) →
-      at s.requests id ≡ Some (request_of o j runs (assigned m (within x stop)))
-      → finished w s id m o j runs x made ≡ Some t → Moved s t (Result id run)
-  finished-moved s t id m run o j runs x stop made e h =
+  finished-moved : (s t : State P I A) (id m : ℕ) (run : RunId) (old : RequestState P I A)
+      (x : Within P I A) (stop : Stop I A) (made : Record) →
+      at s.requests id ≡ Some (with_status old (assigned m (within x stop)))
+      → finished w s id m old x made ≡ Some t → Moved s t (Result id run)
+  finished-moved s t id m run old x stop made e h =
       let f : FinishedRun = record { run = x.run; made = made } in
-      let q : RequestState P I A = request_of o j runs (assigned m (within x stop)) in
+      let q : RequestState P I A = with_status old (assigned m (within x stop)) in
       let used : ToolsUsed I = record { run = x.run; tools = x.so_far.tools } in
       let z : RequestState P I A =
-      goes_on w (assigned m) o runs x.run x.go made (add j (ended x.run made)) in
+      goes_on w (assigned m) old x.run x.go made (add old.journal (ended x.run made)) in
       let wakes = woken w (f ∷ s.table) x.run made in
       let u = and_then-some (traverse wakes (put s.requests id z))
       (λ requests.
@@ -345,7 +348,7 @@ module _ {P I A : Type 0} (w : World P I A) where
       Journal → Body I A) → Moved s m event →
       (a ≡ whose event → ⊥) → at s.requests a ≡ Some c → at m.requests a ≡ Some c
       → c.status ≡ calling keys ids x go → (o : Option (List RequestResult))
-      → answered w m a c.origin c.journal c.runs keys x go o ≡ Some t → Moved s t event
+      → answered w m a c keys x go o ≡ Some t → Moved s t event
   answered-moved s m t event a c keys ids x go v d es em p None h = moved-same s m t event v
       (some-is m t h)
   answered-moved s m t event a c keys ids x go v d es em p (Some results) h =
@@ -353,10 +356,10 @@ module _ {P I A : Type 0} (w : World P I A) where
       (λ next.
       Some
       (with_request m a
-      (in_body w ready c.origin c.runs x.run x.go
+      (in_body w ready c x.run x.go
       (run_on w.tools x.run (go results next) next (with_calls x.so_far keys results))))) t h in
       let after = run_on w.tools x.run (go results y.0) y.0 (with_calls x.so_far keys results) in
-      let z : RequestState P I A = in_body w ready c.origin c.runs x.run x.go after in
+      let z : RequestState P I A = in_body w ready c x.run x.go after in
       let more = run_on-uses w.tools x.run (go results y.0) y.0 (with_calls x.so_far keys results)
       in
       moved-same s (with_request m a z) t event (record {
@@ -392,42 +395,42 @@ module _ {P I A : Type 0} (w : World P I A) where
       kept z (begins q x y e n f g i) = begins q x y e n f g i
       kept z (finishes q x e u f g i) = finishes q x e u f g i
 
-  step_of-moved : (s t : State P I A) (event : Event) (o : Origin) (j : Journal) (runs : List RunId)
-      (u : Status P I A) → at s.requests (whose event) ≡ Some (request_of o j runs u) →
-      step_of w s event (request_of o j runs u) ≡ Some t →
+  step_of-moved : (s t : State P I A) (event : Event) (old : RequestState P I A)
+      (u : Status P I A) → at s.requests (whose event) ≡ Some (with_status old u) →
+      step_of w s event (with_status old u) ≡ Some t →
       Moved s t event
-  step_of-moved s t (Assign id m) o j runs (ready a) e h =
-      let z : RequestState P I A = request_of o j runs (assigned m a) in
+  step_of-moved s t (Assign id m) old (ready a) e h =
+      let z : RequestState P I A = with_status old (assigned m a) in
       moved-same s (with_request s id z) t (Assign id m)
-      (put-moved s (with_request s id z) (Assign id m) (request_of o j runs (ready a)) z e refl
-      (λ a. a) (goes (request_of o j runs (ready a)) e refl refl) (λ r1 g. g))
+      (put-moved s (with_request s id z) (Assign id m) (with_status old (ready a)) z e refl
+      (λ a. a) (goes (with_status old (ready a)) e refl refl) (λ r1 g. g))
       (some-is (with_request s id z) t h)
-  step_of-moved s t (Assign id m) o j runs _ e h = absurd (cc)
-  step_of-moved s t (Claim id run kind) o j runs (assigned m (walking (wants site r b go))) e h =
+  step_of-moved s t (Assign id m) old _ e h = absurd (cc)
+  step_of-moved s t (Claim id run kind) old (assigned m (walking (wants site r b go))) e h =
       let x = and_then-some (only_if (same_run r run) r)
-      (λ run. claimed w s id m o j runs run b go kind) t h in
-      claimed-moved s t id m o j runs run x.0 b go kind (request_of o j runs
+      (λ run. claimed w s id m old run b go kind) t h in
+      claimed-moved s t id m old run x.0 b go kind (with_status old
       (assigned m (walking (wants site r b go)))) e refl x.2
-  step_of-moved s t (Claim id run kind) o j runs _ e h = absurd (cc)
-  step_of-moved s t (Request id keys) o j runs (assigned m (within x (asks key more go))) e h =
+  step_of-moved s t (Claim id run kind) old _ e h = absurd (cc)
+  step_of-moved s t (Request id keys) old (assigned m (within x (asks key more go))) e h =
       let y = only_if-some (same_keys (key ∷ more) keys
-      && is_within_limits w s (x.run ∷ o.path) (key ∷ more))
-      (with_children w s id o j runs (key ∷ more) x go) t h in
-      called-moved s t id m keys o j runs (key ∷ more) x (asks key more go) go e y.1
-  step_of-moved s t (Request id keys) o j runs _ e h = absurd (cc)
-  step_of-moved s t (Result id run) o j runs (assigned m (within x (ends outcome))) e h =
+      && is_within_limits w s (x.run ∷ old.origin.path) (key ∷ more))
+      (with_children w s id old (key ∷ more) x go) t h in
+      called-moved s t id m keys old (key ∷ more) x (asks key more go) go e y.1
+  step_of-moved s t (Request id keys) old _ e h = absurd (cc)
+  step_of-moved s t (Result id run) old (assigned m (within x (ends outcome))) e h =
       let y = and_then-some (only_if (same_run x.run run) x)
-      (λ x. finished w s id m o j runs x (recorded outcome x.so_far.segments)) t h in
+      (λ x. finished w s id m old x (recorded outcome x.so_far.segments)) t h in
       let p : x ≡ y.0 = (only_if-some (same_run x.run run) x y.0 y.1).1 in
-      finished-moved s t id m run o j runs x (ends outcome) (recorded outcome x.so_far.segments) e
-      (subst (λ (a : Within P I A). finished w s id m o j runs a
+      finished-moved s t id m run old x (ends outcome) (recorded outcome x.so_far.segments) e
+      (subst (λ (a : Within P I A). finished w s id m old a
       (recorded outcome a.so_far.segments) ≡ Some t) (sym p) y.2)
-  step_of-moved s t (Result id run) o j runs _ e h = absurd (cc)
-  step_of-moved s t (Done id) o j runs (assigned m (walking (gives reply))) e h =
-      let q : RequestState P I A = request_of o j runs (assigned m (walking (gives reply))) in
-      let z : RequestState P I A = request_of o j runs (done (result_of reply runs)) in
+  step_of-moved s t (Result id run) old _ e h = absurd (cc)
+  step_of-moved s t (Done id) old (assigned m (walking (gives reply))) e h =
+      let q : RequestState P I A = with_status old (assigned m (walking (gives reply))) in
+      let z : RequestState P I A = with_status old (done (result_of reply old.runs)) in
       let over : State P I A = with_request s id z in
-      caller-moved s over t (Done id) z o.parent
+      caller-moved s over t (Done id) z old.origin.parent
       (put-moved s over (Done id) q z e refl (λ a. a) (rests refl refl) (λ r1 g. g)) refl refl h
     where
       resumed-moved : (s m t : State P I A) (event : Event) (a : ℕ) (z c : RequestState P I A)
@@ -441,13 +444,13 @@ module _ {P I A : Type 0} (w : World P I A) where
       resumed-moved s m t event a z c _ v f d e p h = absurd (cc)
 
       over-calls : (m t : State P I A) (a : ℕ) (z : RequestState P I A) (u : Status P I A) →
-          u ≡ done (result_of reply runs) → resume_at w m a z u ≡ Some t → ⊥
+          u ≡ done (result_of reply old.runs) → resume_at w m a z u ≡ Some t → ⊥
       over-calls m t a z (calling keys ids x go) e h = absurd (cc)
       over-calls m t a z _ e h = absurd (cc)
 
       caller-moved : (s m t : State P I A) (event : Event) (z : RequestState P I A)
           (parent : Option ℕ) → Moved s m event → m.requests ≡ put s.requests (whose event) z →
-          z.status ≡ done (result_of reply runs) → resume_caller w m parent ≡ Some t →
+          z.status ≡ done (result_of reply old.runs) → resume_caller w m parent ≡ Some t →
           Moved s t event
       caller-moved s m t event z None v f g h = moved-same s m t event v (some-is m t h)
       caller-moved s m t event z (Some a) v f g h =
@@ -458,17 +461,17 @@ module _ {P I A : Type 0} (w : World P I A) where
                 (sym same.1) ∙ g) y.2)
             | inr else ↦ resumed-moved s m t event a z y.0 y.0.status v f else.0 y.1 refl y.2
           ]
-  step_of-moved s t (Done id) o j runs _ e h = absurd (cc)
-  step_of-moved s t (Retire id node) o j runs (assigned by a) e h =
-      let q : RequestState P I A = request_of o j runs (assigned by a) in
-      let z : RequestState P I A = request_of o j runs (ready a) in
+  step_of-moved s t (Done id) old _ e h = absurd (cc)
+  step_of-moved s t (Retire id node) old (assigned by a) e h =
+      let q : RequestState P I A = with_status old (assigned by a) in
+      let z : RequestState P I A = with_status old (ready a) in
       moved-same s (with_request s id z) t (Retire id node)
       (put-moved s (with_request s id z) (Retire id node) q z e refl (λ r. tt)
       (goes q e refl refl) (λ r1 g. g))
       (only_if-some (by == node) (with_request s id z) t h).1
-  step_of-moved s t (Retire id node) o j runs _ e h = absurd (cc)
+  step_of-moved s t (Retire id node) old _ e h = absurd (cc)
 
   pub step-moved : (s t : State P I A) (event : Event) → step w s event ≡ Some t → Moved s t event
   step-moved s t event h =
       let z = and_then-some (at s.requests (whose event)) (step_of w s event) t h in
-      step_of-moved s t event z.0.origin z.0.journal z.0.runs z.0.status z.1 z.2
+      step_of-moved s t event z.0 z.0.status z.1 z.2

@@ -57,6 +57,7 @@ use Rattle.build_meaning.specs.Walk.{Walk, gives, wants, Body}
 use Rattle.build_meaning.specs.SoFar.{nothing_yet, with_calls, runs_of, recorded, result_of}
 use Rattle.build_meaning.specs.Stop.{ends, asks, run_on}
 use Rattle.build_meaning.specs.State.{
+  with_status,
   Within,
   Place,
   walking,
@@ -100,7 +101,6 @@ use Rattle.build_meaning.proofs.EventsKeepLawful.{
   only_if-some,
   unless-some,
   some-is,
-  request_of,
   step-lawful,
   start-lawful,
   all-lawful,
@@ -178,13 +178,13 @@ module _ {P I A : Type 0} (w : World P I A) where
   same-requests : (u t : State P I A) → Some u ≡ Some t → t.requests ≡ u.requests
   same-requests u t h = ap (λ (v : State P I A). v.requests) (sym (some-is u t h))
 
-  claimed-calls : (s t : State P I A) (id m : ℕ) (o : Origin) (j : Journal) (runs : List RunId)
+  claimed-calls : (s t : State P I A) (id m : ℕ) (old : RequestState P I A)
       (r : RunId) (body : Body I A) (go : Record → Journal → Walk P I A) (kind : ClaimKind)
       (q b : RequestState P I A) → at s.requests id ≡ Some q →
-      claimed w s id m o j runs r body go kind ≡ Some t → at t.requests id ≡ Some b → CallsSo s b
-  claimed-calls s t id m o j runs r body go Go q b e h at_b =
+      claimed w s id m old r body go kind ≡ Some t → at t.requests id ≡ Some b → CallsSo s b
+  claimed-calls s t id m old r body go Go q b e h at_b =
       let z : RequestState P I A =
-      in_body w (assigned m) o runs r go (run_on w.tools r body j nothing_yet) in
+      in_body w (assigned m) old r go (run_on w.tools r body old.journal nothing_yet) in
       let next : State P I A = record {
         requests = put s.requests id z;
         begun = record { run = r; by = id } ∷ s.begun;
@@ -193,27 +193,28 @@ module _ {P I A : Type 0} (w : World P I A) where
       } in
       let x = unless-some (is_begun r s.begun) next t h in
       put-calls s t id q z b e (ap (λ (v : State P I A). v.requests) (sym x.1)) tt at_b
-  claimed-calls s t id m o j runs r body go Use q b e h at_b =
-      let x = and_then-some (found s.table r) (λ made. and_then (replay s.table r j) (λ next.
-      Some (with_request s id (goes_on w (assigned m) o runs r go made next)))) t h in
-      let y = and_then-some (replay s.table r j) (λ next.
-      Some (with_request s id (goes_on w (assigned m) o runs r go x.0 next))) t x.2 in
-      let z : RequestState P I A = goes_on w (assigned m) o runs r go x.0 y.0 in
+  claimed-calls s t id m old r body go Use q b e h at_b =
+      let x = and_then-some (found s.table r)
+      (λ made. and_then (replay s.table r old.journal) (λ next.
+      Some (with_request s id (goes_on w (assigned m) old r go made next)))) t h in
+      let y = and_then-some (replay s.table r old.journal) (λ next.
+      Some (with_request s id (goes_on w (assigned m) old r go x.0 next))) t x.2 in
+      let z : RequestState P I A = goes_on w (assigned m) old r go x.0 y.0 in
       put-calls s t id q z b e (same-requests (with_request s id z) t y.2) tt at_b
-  claimed-calls s t id m o j runs r body go Wait q b e h at_b =
-      let next : State P I A = waiting w s id o j runs r body go in
+  claimed-calls s t id m old r body go Wait q b e h at_b =
+      let next : State P I A = waiting w s id old r body go in
       let x = only_if-some (may_wait w (is_begun r s.begun) (found s.table r)
       (is_in_cycle next r)) next t h in
-      put-calls s t id q (request_of o j runs (waits r body go)) b e
+      put-calls s t id q (with_status old (waits r body go)) b e
       (ap (λ (v : State P I A). v.requests) (sym x.1)) tt at_b
 
-  finished-calls : (s t : State P I A) (id m : ℕ) (o : Origin) (j : Journal) (runs : List RunId)
+  finished-calls : (s t : State P I A) (id m : ℕ) (old : RequestState P I A)
       (x : Within P I A) (made : Record) (q b : RequestState P I A) → at s.requests id ≡ Some q →
-      finished w s id m o j runs x made ≡ Some t → at t.requests id ≡ Some b → CallsSo s b
-  finished-calls s t id m o j runs x made q b e h at_b =
+      finished w s id m old x made ≡ Some t → at t.requests id ≡ Some b → CallsSo s b
+  finished-calls s t id m old x made q b e h at_b =
       let f : FinishedRun = record { run = x.run; made = made } in
       let z : RequestState P I A =
-      goes_on w (assigned m) o runs x.run x.go made (add j (ended x.run made)) in
+      goes_on w (assigned m) old x.run x.go made (add old.journal (ended x.run made)) in
       let wakes = woken w (f ∷ s.table) x.run made in
       let after : List (RequestState P I A) → Option (State P I A) = λ requests. Some (record {
         requests = requests;
@@ -249,13 +250,13 @@ module _ {P I A : Type 0} (w : World P I A) where
 
       resumes : (a : ℕ) (c : RequestState P I A) (keys : List RequestKey) (x : Within P I A)
           (go : List RequestResult → Journal → Body I A) (o : Option (List RequestResult)) →
-          answered w mid a c.origin c.journal c.runs keys x go o ≡ Some t → CallsSo s b
+          answered w mid a c keys x go o ≡ Some t → CallsSo s b
       resumes a c keys x go None g = stays (sym (same-requests mid t g))
       resumes a c keys x go (Some results) g =
           let y = and_then-some (replay_all s.table (runs_of results) c.journal) (λ next.
-          Some (with_request mid a (in_body w ready c.origin c.runs x.run x.go
+          Some (with_request mid a (in_body w ready c x.run x.go
           (run_on w.tools x.run (go results next) next (with_calls x.so_far keys results))))) t g in
-          let n : RequestState P I A = in_body w ready c.origin c.runs x.run x.go
+          let n : RequestState P I A = in_body w ready c x.run x.go
           (run_on w.tools x.run (go results y.0) y.0 (with_calls x.so_far keys results)) in
           let there : at (put mid.requests a n) id ≡ Some b =
           sym (ap (λ rs. at rs id) (same-requests (with_request mid a n) t y.2)) ∙ at_b in
@@ -280,54 +281,57 @@ module _ {P I A : Type 0} (w : World P I A) where
           by_status a y.0 y.0.status y.2
 
   -- the request of an event calls none that was there before
-  own-calls : (s t : State P I A) (event : Event) (o : Origin) (j : Journal) (runs : List RunId)
+  own-calls : (s t : State P I A) (event : Event) (old : RequestState P I A)
       (st : Status P I A) (b : RequestState P I A) →
-      at s.requests (whose event) ≡ Some (request_of o j runs st) →
-      step_of w s event (request_of o j runs st) ≡ Some t →
+      at s.requests (whose event) ≡ Some (with_status old st) →
+      step_of w s event (with_status old st) ≡ Some t →
       at t.requests (whose event) ≡ Some b → CallsSo s b
-  own-calls s t (Assign id m) o j runs (ready a) b e h at_b =
-      let z : RequestState P I A = request_of o j runs (assigned m a) in
-      put-calls s t id (request_of o j runs (ready a)) z b e
+  own-calls s t (Assign id m) old (ready a) b e h at_b =
+      let z : RequestState P I A = with_status old (assigned m a) in
+      put-calls s t id (with_status old (ready a)) z b e
       (same-requests (with_request s id z) t h) tt at_b
-  own-calls s t (Assign id m) o j runs _ b e h at_b = absurd (cc)
-  own-calls s t (Claim id run kind) o j runs (assigned m (walking (wants site r body go))) b e h
+  own-calls s t (Assign id m) old _ b e h at_b = absurd (cc)
+  own-calls s t (Claim id run kind) old (assigned m (walking (wants site r body go))) b e h
       at_b =
       let x = and_then-some (only_if (same_run r run) r)
-      (λ run. claimed w s id m o j runs run body go kind) t h in
-      claimed-calls s t id m o j runs x.0 body go kind
-      (request_of o j runs (assigned m (walking (wants site r body go)))) b e x.2 at_b
-  own-calls s t (Claim id run kind) o j runs _ b e h at_b = absurd (cc)
-  own-calls s t (Request id keys) o j runs (assigned m (within x (asks key more go))) b e h at_b =
+      (λ run. claimed w s id m old run body go kind) t h in
+      claimed-calls s t id m old x.0 body go kind
+      (with_status old (assigned m (walking (wants site r body go)))) b e x.2 at_b
+  own-calls s t (Claim id run kind) old _ b e h at_b = absurd (cc)
+  own-calls s t (Request id keys) old (assigned m (within x (asks key more go))) b e h at_b =
       let all : List RequestKey = key ∷ more in
-      let q : RequestState P I A = request_of o j runs (assigned m (within x (asks key more go))) in
+      let q : RequestState P I A = with_status old (assigned m (within x (asks key more go))) in
       let z : RequestState P I A =
-      request_of o j runs (calling all (numbered_from (length s.requests) all) x go) in
-      let y = only_if-some (same_keys all keys && is_within_limits w s (x.run ∷ o.path) all)
-      (with_children w s id o j runs all x go) t h in
+      with_status old (calling all (numbered_from (length s.requests) all) x go) in
+      let y = only_if-some (same_keys all keys
+      && is_within_limits w s (x.run ∷ old.origin.path) all)
+      (with_children w s id old all x go) t h in
       let there : at t.requests id ≡ Some z =
       ap (λ (v : State P I A). at v.requests id) (sym y.1)
-      ∙ at-front (put s.requests id z) (map (new_request w (Some id) (x.run ∷ o.path) j) all) id z
+      ∙ at-front (put s.requests id z)
+      (map (new_request w (Some id) (x.run ∷ old.origin.path) old.journal) all) id z
       (at-put_same s.requests id q z e) in
       subst (λ (a : RequestState P I A). CallsSo s a) (same_some (at t.requests id) z b there at_b)
       refl
-  own-calls s t (Request id keys) o j runs _ b e h at_b = absurd (cc)
-  own-calls s t (Result id run) o j runs (assigned m (within x (ends outcome))) b e h at_b =
+  own-calls s t (Request id keys) old _ b e h at_b = absurd (cc)
+  own-calls s t (Result id run) old (assigned m (within x (ends outcome))) b e h at_b =
       let y = and_then-some (only_if (same_run x.run run) x)
-      (λ x. finished w s id m o j runs x (recorded outcome x.so_far.segments)) t h in
-      finished-calls s t id m o j runs y.0 (recorded outcome y.0.so_far.segments)
-      (request_of o j runs (assigned m (within x (ends outcome)))) b e y.2 at_b
-  own-calls s t (Result id run) o j runs _ b e h at_b = absurd (cc)
-  own-calls s t (Done id) o j runs (assigned m (walking (gives reply))) b e h at_b =
-      over-calls s t id (request_of o j runs (assigned m (walking (gives reply))))
-      (request_of o j runs (done (result_of reply runs))) b (result_of reply runs) o.parent e refl
+      (λ x. finished w s id m old x (recorded outcome x.so_far.segments)) t h in
+      finished-calls s t id m old y.0 (recorded outcome y.0.so_far.segments)
+      (with_status old (assigned m (within x (ends outcome)))) b e y.2 at_b
+  own-calls s t (Result id run) old _ b e h at_b = absurd (cc)
+  own-calls s t (Done id) old (assigned m (walking (gives reply))) b e h at_b =
+      over-calls s t id (with_status old (assigned m (walking (gives reply))))
+      (with_status old (done (result_of reply old.runs))) b (result_of reply old.runs)
+      old.origin.parent e refl
       h at_b
-  own-calls s t (Done id) o j runs _ b e h at_b = absurd (cc)
-  own-calls s t (Retire id node) o j runs (assigned m a) b e h at_b =
-      let z : RequestState P I A = request_of o j runs (ready a) in
+  own-calls s t (Done id) old _ b e h at_b = absurd (cc)
+  own-calls s t (Retire id node) old (assigned m a) b e h at_b =
+      let z : RequestState P I A = with_status old (ready a) in
       let x = only_if-some (m == node) (with_request s id z) t h in
-      put-calls s t id (request_of o j runs (assigned m a)) z b e
+      put-calls s t id (with_status old (assigned m a)) z b e
       (ap (λ (v : State P I A). v.requests) (sym x.1)) tt at_b
-  own-calls s t (Retire id node) o j runs _ b e h at_b = absurd (cc)
+  own-calls s t (Retire id node) old _ b e h at_b = absurd (cc)
 
   -- who waits for a call that was there before an event stood so before it
   awaited-before : (s t : State P I A) (event : Event) → step w s event ≡ Some t →
@@ -338,7 +342,7 @@ module _ {P I A : Type 0} (w : World P I A) where
       let moved = step-moved w s t event h in
       elim (same_or_not n (whose event)) [
         | inl same ↦ absurd (calls-new (length s.requests) b.status id
-            (own-calls s t event z.0.origin z.0.journal z.0.runs z.0.status b z.1 z.2
+            (own-calls s t event z.0 z.0.status b z.1 z.2
             (ap (at t.requests) (sym same) ∙ at_b)) i less)
         | inr other ↦ elim (moved.others n b other at_b) [
           | inl before ↦ before

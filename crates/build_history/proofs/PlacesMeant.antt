@@ -84,6 +84,7 @@ use Rattle.build_meaning.specs.Derived.{
 use Rattle.build_meaning.specs.Stands.{Goal, Contained, Calling, StandsAt, Stands}
 use Rattle.build_meaning.specs.Stop.{ends, asks, run_on}
 use Rattle.build_meaning.specs.State.{
+  with_status,
   Within,
   walking,
   within,
@@ -169,7 +170,6 @@ use Rattle.build_meaning.proofs.EventsKeepLawful.{
   unless-some,
   some-is,
   journal-grows,
-  request_of,
   unbegun-unfinished,
   unfinished-fresh,
   put-lawful,
@@ -340,38 +340,39 @@ module _ {P I A : Type 0} (w : World P I A) (D : Demanded P I → Type 0)
       | inr p ↦ v k y p.1
     ]
 
-    assign-passes : (s : State P I A) (id node : ℕ) (o : Origin) (j : Journal) (runs : List RunId)
+    assign-passes : (s : State P I A) (id node : ℕ) (q : RequestState P I A)
         (st : Status P I A) (t : State P I A) → AllPass s →
-        at s.requests id ≡ Some (request_of o j runs st)
-        → assign_at w s id node o j runs st ≡ Some t → AllPass t
-    assign-passes s id node o j runs (ready p) t v e h =
-        let z : RequestState P I A = request_of o j runs (assigned node p) in
+        at s.requests id ≡ Some (with_status q st)
+        → assign_at w s id node q st ≡ Some t → AllPass t
+    assign-passes s id node q (ready p) t v e h =
+        let z : RequestState P I A = with_status q (assigned node p) in
         subst (λ (u : State P I A). AllPass u) (some-is (with_request s id z) t h)
-        (put-passes s.requests id (request_of o j runs (ready p)) z e refl (λ base x. x) v)
-    assign-passes s id node o j runs _ t v e h = absurd (cc)
+        (put-passes s.requests id (with_status q (ready p)) z e refl (λ base x. x) v)
+    assign-passes s id node q _ t v e h = absurd (cc)
 
-    retire-passes : (s : State P I A) (id node : ℕ) (o : Origin) (j : Journal) (runs : List RunId)
+    retire-passes : (s : State P I A) (id node : ℕ) (q : RequestState P I A)
         (st : Status P I A) (t : State P I A) → AllPass s →
-        at s.requests id ≡ Some (request_of o j runs st)
-        → retire_at w s id node o j runs st ≡ Some t → AllPass t
-    retire-passes s id node o j runs (assigned by p) t v e h =
-        let z : RequestState P I A = request_of o j runs (ready p) in
+        at s.requests id ≡ Some (with_status q st)
+        → retire_at w s id node q st ≡ Some t → AllPass t
+    retire-passes s id node q (assigned by p) t v e h =
+        let z : RequestState P I A = with_status q (ready p) in
         subst (λ (u : State P I A). AllPass u) (only_if-some (by == node)
-        (with_request s id z) t h).1 (put-passes s.requests id (request_of o j runs
+        (with_request s id z) t h).1 (put-passes s.requests id (with_status q
         (assigned by p)) z e refl (λ base x. x) v)
-    retire-passes s id node o j runs _ t v e h = absurd (cc)
+    retire-passes s id node q _ t v e h = absurd (cc)
 
-    claimed-passes : (s : State P I A) (goals : List Goal) (id node : ℕ) (o : Origin) (j : Journal)
-        (runs : List RunId) (site : P) (r : RunId) (b : Body I A) (go : Record → Journal →
+    claimed-passes : (s : State P I A) (goals : List Goal) (id node : ℕ)
+        (earlier : RequestState P I A)
+        (site : P) (r : RunId) (b : Body I A) (go : Record → Journal →
         Walk P I A) (kind : ClaimKind) (t : State P I A) → Standing w D one s goals → AllPass s →
         at s.requests id ≡
-        Some (request_of o j runs (assigned node (walking (wants site r b go)))) →
-        claimed w s id node o j runs r b go kind ≡ Some t → AllPass t
-    claimed-passes s goals id node o j runs site r b go Go t k v e h =
+        Some (with_status earlier (assigned node (walking (wants site r b go)))) →
+        claimed w s id node earlier r b go kind ≡ Some t → AllPass t
+    claimed-passes s goals id node earlier site r b go Go t k v e h =
         let q : RequestState P I A =
-        request_of o j runs (assigned node (walking (wants site r b go))) in
+        with_status earlier (assigned node (walking (wants site r b go))) in
         let z : RequestState P I A =
-        in_body w (assigned node) o runs r go (run_on w.tools r b j nothing_yet) in
+        in_body w (assigned node) earlier r go (run_on w.tools r b earlier.journal nothing_yet) in
         let x = unless-some (is_begun r s.begun)
         (record {
           requests = put s.requests id z;
@@ -380,88 +381,97 @@ module _ {P I A : Type 0} (w : World P I A) (D : Demanded P I → Type 0)
           table = s.table;
           tools_used = s.tools_used;
         }) t h in
-        let fresh = unfinished-fresh w s.table j runs r (k.lawful.each id q e).journal
+        let fresh = unfinished-fresh w s.table earlier.journal earlier.runs r
+        (k.lawful.each id q e).journal
         (unbegun-unfinished w s k.lawful r x.0) in
         let g = Paired-some (Stands w D goals) s.requests goals id q k.each e in
-        let not_nested : is_in r o.path ≡ false =
-        wants_new o.path j runs site r b go g.0.res g.0.journal fresh g.1.stands in
+        let not_nested : is_in r earlier.origin.path ≡ false =
+        wants_new earlier.origin.path earlier.journal earlier.runs site r b go g.0.res g.0.journal
+        fresh
+        g.1.stands in
         subst (λ (u : State P I A). AllPass u) x.1 (put-passes s.requests id q z e refl
-        (λ base p. enters p (none-had j r fresh) not_nested) v)
-    claimed-passes s goals id node o j runs site r b go Use t k v e h =
+        (λ base p. enters p (none-had earlier.journal r fresh) not_nested) v)
+    claimed-passes s goals id node earlier site r b go Use t k v e h =
         let q : RequestState P I A =
-        request_of o j runs (assigned node (walking (wants site r b go))) in
+        with_status earlier (assigned node (walking (wants site r b go))) in
         let x = and_then-some (found s.table r)
-        (λ made. and_then (replay s.table r j)
-        (λ next. Some (with_request s id (goes_on w (assigned node) o runs r go made next)))) t
+        (λ made. and_then (replay s.table r earlier.journal)
+        (λ next. Some (with_request s id (goes_on w (assigned node) earlier r go made next)))) t
         h in
-        let y = and_then-some (replay s.table r j)
-        (λ next. Some (with_request s id (goes_on w (assigned node) o runs r go x.0 next))) t
+        let y = and_then-some (replay s.table r earlier.journal)
+        (λ next. Some (with_request s id (goes_on w (assigned node) earlier r go x.0 next))) t
         x.2 in
-        let z : RequestState P I A = goes_on w (assigned node) o runs r go x.0 y.0 in
+        let z : RequestState P I A = goes_on w (assigned node) earlier r go x.0 y.0 in
         let g = Paired-some (Stands w D goals) s.requests goals id q k.each e in
         subst (λ (u : State P I A). AllPass u) (some-is (with_request s id z) t y.2)
         (put-passes s.requests id q z e refl
-        (λ base p. uses_passes s.table k.lawful.once k.known (called_so o base) runs j site site r b
+        (λ base p. uses_passes s.table k.lawful.once k.known (called_so earlier.origin base)
+        earlier.runs
+        earlier.journal site site r b
         go g.0 x.0 y.0 (k.lawful.each id q e).journal g.1.stands (k.known r x.0 x.1) y.1 p) v)
-    claimed-passes s goals id node o j runs site r b go Wait t k v e h =
-        let next : State P I A = waiting w s id o j runs r b go in
+    claimed-passes s goals id node earlier site r b go Wait t k v e h =
+        let next : State P I A = waiting w s id earlier r b go in
         let x = only_if-some
         (may_wait w (is_begun r s.begun) (found s.table r) (is_in_cycle next r)) next t h in
         subst (λ (u : State P I A). AllPass u) x.1
-        (put-passes s.requests id (request_of o j runs
-        (assigned node (walking (wants site r b go)))) (request_of o j runs (waits r b go)) e refl
+        (put-passes s.requests id (with_status earlier
+        (assigned node (walking (wants site r b go)))) (with_status earlier (waits r b go)) e refl
         (λ base p. (site, p)) v)
 
     claim-passes : (s : State P I A) (goals : List Goal) (id : ℕ) (run : RunId) (kind : ClaimKind)
-        (o : Origin) (j : Journal) (runs : List RunId) (st : Status P I A) (t : State P I A) →
+        (q : RequestState P I A) (st : Status P I A) (t : State P I A) →
         Standing w D one s goals → AllPass s →
-        at s.requests id ≡ Some (request_of o j runs st)
-        → claim_at w s id run kind o j runs st ≡ Some t → AllPass t
-    claim-passes s goals id run kind o j runs (assigned node (walking (wants site r b go))) t k v e
+        at s.requests id ≡ Some (with_status q st)
+        → claim_at w s id run kind q st ≡ Some t → AllPass t
+    claim-passes s goals id run kind q (assigned node (walking (wants site r b go))) t k v e
         h =
         let x = and_then-some (only_if (same_run r run) r)
-        (λ run. claimed w s id node o j runs run b go kind) t h in
+        (λ run. claimed w s id node q run b go kind) t h in
         let y : r ≡ x.0 = (only_if-some (same_run r run) r x.0 x.1).1 in
-        claimed-passes s goals id node o j runs site r b go kind t k v e
-        (subst (λ n. claimed w s id node o j runs n b go kind ≡ Some t) (sym y) x.2)
-    claim-passes s goals id run kind o j runs _ t k v e h = absurd (cc)
+        claimed-passes s goals id node q site r b go kind t k v e
+        (subst (λ n. claimed w s id node q n b go kind ≡ Some t) (sym y) x.2)
+    claim-passes s goals id run kind q _ t k v e h = absurd (cc)
 
     -- calls are made
-    request-passes : (s : State P I A) (id : ℕ) (keys : List RequestKey) (o : Origin) (j : Journal)
-        (runs : List RunId) (st : Status P I A) (t : State P I A) → AllPass s → SaysNew t →
-        at s.requests id ≡ Some (request_of o j runs st)
-        → request_at w s id keys o j runs st ≡ Some t → AllPass t
-    request-passes s id keys o j runs (assigned node (within x (asks key more go))) t v new_so e h =
+    request-passes : (s : State P I A) (id : ℕ) (keys : List RequestKey) (q : RequestState P I A)
+        (st : Status P I A) (t : State P I A) → AllPass s → SaysNew t →
+        at s.requests id ≡ Some (with_status q st)
+        → request_at w s id keys q st ≡ Some t → AllPass t
+    request-passes s id keys q (assigned node (within x (asks key more go))) t v new_so e h =
         let y = only_if-some (same_keys (key ∷ more) keys
-        && is_within_limits w s (x.run ∷ o.path) (key ∷ more))
-        (with_children w s id o j runs (key ∷ more) x go) t h in
+        && is_within_limits w s (x.run ∷ q.origin.path) (key ∷ more))
+        (with_children w s id q (key ∷ more) x go) t h in
         subst (λ (u : State P I A). AllPass u) y.1 (each (subst (λ (u : State P I A). SaysNew u)
         (sym y.1) new_so))
       where
         caller : RequestState P I A
-        caller = request_of o j runs (assigned node (within x (asks key more go)))
+        caller = with_status q (assigned node (within x (asks key more go)))
 
         z : RequestState P I A
-        z = request_of o j runs
+        z = with_status q
             (calling (key ∷ more) (numbered_from (length s.requests) (key ∷ more)) x go)
 
         kids : List (RequestState P I A)
-        kids = map (new_request w (Some id) (x.run ∷ o.path) j) (key ∷ more)
+        kids = map (new_request w (Some id) (x.run ∷ q.origin.path) q.journal) (key ∷ more)
 
-        each : SaysNew (with_children w s id o j runs (key ∷ more) x go)
-            → AllPass (with_children w s id o j runs (key ∷ more) x go)
+        each : SaysNew (with_children w s id q (key ∷ more) x go)
+            → AllPass (with_children w s id q (key ∷ more) x go)
         each says k y h = elim (at-append (put s.requests id z) kids k y h) [
           | inl a ↦ put-passes s.requests id caller z e refl (λ base p. (key, more, refl, p)) v k y
               a
           | inr a ↦
-              let c = at-map (new_request w (Some id) (x.run ∷ o.path) j) (key ∷ more) a.0 y a.1 in
-              let origin : Origin = record { key = c.0; parent = Some id; path = x.run ∷ o.path } in
+              let c = at-map (new_request w (Some id) (x.run ∷ q.origin.path) q.journal)
+              (key ∷ more) a.0 y a.1 in
+              let origin : Origin = record
+              { key = c.0; parent = Some id; path = x.run ∷ q.origin.path } in
               let here : at (put s.requests id z ++ kids) k
-              ≡ Some (new_request w (Some id) (x.run ∷ o.path) j c.0) = h ∙ ap Some (sym c.2) in
+              ≡ Some (new_request w (Some id) (x.run ∷ q.origin.path) q.journal c.0) = h
+              ∙ ap Some (sym c.2) in
               let from = v id caller e in
-              let child : PassesFrom k (new_request w (Some id) (x.run ∷ o.path) j c.0) = record {
-                base = j;
-                began = says k origin j here (
+              let child : PassesFrom k
+              (new_request w (Some id) (x.run ∷ q.origin.path) q.journal c.0) = record {
+                base = q.journal;
+                began = says k origin q.journal here (
                   z,
                   at-front (put s.requests id z) kids id z
                       (at-put_same s.requests id caller z e),
@@ -471,7 +481,7 @@ module _ {P I A : Type 0} (w : World P I A) (D : Demanded P I → Type 0)
               } in
               subst (λ (u : RequestState P I A). PassesFrom k u) c.2 child
         ]
-    request-passes s id keys o j runs _ t v new_so e h = absurd (cc)
+    request-passes s id keys q _ t v new_so e h = absurd (cc)
 
     -- a request that waits goes on with the record
     woken-passes : (table : Records) → IsOnce table →
@@ -490,8 +500,8 @@ module _ {P I A : Type 0} (w : World P I A) (D : Demanded P I → Type 0)
         by_test false f h = subst (λ (u : RequestState P I A). PassesFrom id u) (some-is q t h) v
         by_test true f h =
             let y = and_then-some (replay table r q.journal)
-            (λ next. Some (goes_on w ready q.origin q.runs r go m next)) t h in
-            let z : RequestState P I A = goes_on w ready q.origin q.runs r go m y.0 in
+            (λ next. Some (goes_on w ready q r go m next)) t h in
+            let z : RequestState P I A = goes_on w ready q r go m y.0 in
             let g = of r b go refl in
             let mine : Made D r m = subst (λ n. Made D n m) (sym (same_run-true r run f)) p in
             let there : (site : P) × Passes w (called_so q.origin v.base) q.runs q.journal
@@ -509,19 +519,20 @@ module _ {P I A : Type 0} (w : World P I A) (D : Demanded P I → Type 0)
         subst (λ (u : RequestState P I A). PassesFrom id u) (some-is q t h) v
 
     -- a run is finished
-    finished-passes : (s : State P I A) (goals : List Goal) (id node : ℕ) (o : Origin) (j : Journal)
-        (runs : List RunId) (x : Within P I A) (outcome : Outcome) (t : State P I A)
+    finished-passes : (s : State P I A) (goals : List Goal) (id node : ℕ)
+        (earlier : RequestState P I A)
+        (x : Within P I A) (outcome : Outcome) (t : State P I A)
         (more : List Goal) → Standing w D one s goals → Standing w D one t more → AllPass s →
-        at s.requests id ≡ Some (request_of o j runs (assigned node (within x (ends outcome))))
-        → finished w s id node o j runs x (recorded outcome x.so_far.segments) ≡ Some t
+        at s.requests id ≡ Some (with_status earlier (assigned node (within x (ends outcome))))
+        → finished w s id node earlier x (recorded outcome x.so_far.segments) ≡ Some t
         → AllPass t
-    finished-passes s goals id node o j runs x outcome t more k kt v e h =
+    finished-passes s goals id node earlier x outcome t more k kt v e h =
         let m : Record = recorded outcome x.so_far.segments in
         let f : FinishedRun = record { run = x.run; made = m } in
         let q : RequestState P I A =
-        request_of o j runs (assigned node (within x (ends outcome))) in
+        with_status earlier (assigned node (within x (ends outcome))) in
         let z : RequestState P I A =
-        goes_on w (assigned node) o runs x.run x.go m (add j (ended x.run m)) in
+        goes_on w (assigned node) earlier x.run x.go m (add earlier.journal (ended x.run m)) in
         let n : found s.table x.run ≡ None = (k.lawful.each id q e).status.1.unfinished in
         let u = and_then-some (traverse (woken w (f ∷ s.table) x.run m) (put s.requests id z))
         (λ requests.
@@ -566,44 +577,47 @@ module _ {P I A : Type 0} (w : World P I A) (D : Demanded P I → Type 0)
               (w_g.0, left.0, left.1)) g.2
         ])
 
-    result-passes : (s : State P I A) (goals : List Goal) (id : ℕ) (run : RunId) (o : Origin)
-        (j : Journal) (runs : List RunId) (st : Status P I A) (t : State P I A) (more : List Goal) →
+    result-passes : (s : State P I A) (goals : List Goal) (id : ℕ) (run : RunId)
+        (q : RequestState P I A) (st : Status P I A) (t : State P I A) (more : List Goal) →
         Standing w D one s goals → Standing w D one t more → AllPass s →
-        at s.requests id ≡ Some (request_of o j runs st) → result_at w s id run o j runs st ≡ Some t
+        at s.requests id ≡ Some (with_status q st) → result_at w s id run q st ≡ Some t
         → AllPass t
-    result-passes s goals id run o j runs (assigned node (within x (ends outcome))) t more k kt v e
+    result-passes s goals id run q (assigned node (within x (ends outcome))) t more k kt v e
         h =
         let y = and_then-some (only_if (same_run x.run run) x)
-        (λ x. finished w s id node o j runs x (recorded outcome x.so_far.segments)) t h in
+        (λ x. finished w s id node q x (recorded outcome x.so_far.segments)) t h in
         let p : x ≡ y.0 = (only_if-some (same_run x.run run) x y.0 y.1).1 in
-        finished-passes s goals id node o j runs x outcome t more k kt v e
-        (subst (λ (a : Within P I A). finished w s id node o j runs a
+        finished-passes s goals id node q x outcome t more k kt v e
+        (subst (λ (a : Within P I A). finished w s id node q a
         (recorded outcome a.so_far.segments) ≡ Some t) (sym p) y.2)
-    result-passes s goals id run o j runs _ t more k kt v e h = absurd (cc)
+    result-passes s goals id run q _ t more k kt v e h = absurd (cc)
 
     -- a request is over, and then its caller may go on
-    answered-passes : (s : State P I A) (goals : List Goal) (id : ℕ) (o : Origin) (j : Journal)
-        (runs : List RunId) (keys : List RequestKey) (ids : List ℕ) (x : Within P I A)
+    answered-passes : (s : State P I A) (goals : List Goal) (id : ℕ) (earlier : RequestState P I A)
+        (keys : List RequestKey) (ids : List ℕ) (x : Within P I A)
         (go : List RequestResult → Journal → Body I A) (t : State P I A) →
         Standing w D one s goals → AllPass s →
-        at s.requests id ≡ Some (request_of o j runs (calling keys ids x go))
+        at s.requests id ≡ Some (with_status earlier (calling keys ids x go))
         → (replies : Option (List RequestResult)) → results_of w s.requests ids ≡ replies
-        → answered w s id o j runs keys x go replies ≡ Some t → AllPass t
-    answered-passes s goals id o j runs keys ids x go t k v e None g h =
+        → answered w s id earlier keys x go replies ≡ Some t → AllPass t
+    answered-passes s goals id earlier keys ids x go t k v e None g h =
         subst (λ (u : State P I A). AllPass u) (some-is s t h) v
-    answered-passes s goals id o j runs keys ids x go t k v e (Some reply) g h =
-        let q : RequestState P I A = request_of o j runs (calling keys ids x go) in
+    answered-passes s goals id earlier keys ids x go t k v e (Some reply) g h =
+        let q : RequestState P I A = with_status earlier (calling keys ids x go) in
         let lq = (k.lawful.each id q e).journal in
-        let y = and_then-some (replay_all s.table (runs_of reply) j)
+        let y = and_then-some (replay_all s.table (runs_of reply) earlier.journal)
         (λ next.
         Some
         (with_request s id
-        (in_body w ready o runs x.run x.go
+        (in_body w ready earlier x.run x.go
         (run_on w.tools x.run (go reply next) next (with_calls x.so_far keys reply))))) t h in
-        let d : Reps (Made D) (map replays_run (runs_of reply)) j y.0 = reps-map (Recorded s.table)
-        (Made D) k.known (replay_all-reps s.table k.lawful.once (runs_of reply) j y.0 y.1) in
-        let c = closed-made w D one s.table k.known j runs lq in
-        let z : RequestState P I A = in_body w ready o runs x.run x.go (run_on w.tools x.run
+        let d : Reps (Made D) (map replays_run (runs_of reply)) earlier.journal y.0 = reps-map
+        (Recorded s.table)
+        (Made D) k.known
+        (replay_all-reps s.table k.lawful.once (runs_of reply) earlier.journal y.0 y.1)
+        in
+        let c = closed-made w D one s.table k.known earlier.journal earlier.runs lq in
+        let z : RequestState P I A = in_body w ready earlier x.run x.go (run_on w.tools x.run
         (go reply y.0) y.0 (with_calls x.so_far keys reply)) in
         let b = Paired-some (Stands w D goals) s.requests goals id q k.each e in
         let same : reply ≡ b.1.stands.0 = results_of-match w D one goals s.requests goals k.each ids
@@ -612,26 +626,39 @@ module _ {P I A : Type 0} (w : World P I A) (D : Demanded P I → Type 0)
         (put-passes s.requests id q z e refl (λ base p. back b.0 same c d b.1.stands.2 p) v)
       where
         back : {base : Journal} {results : List RequestResult} {i next : Journal} (a : Goal)
-            → reply ≡ results → Closed (Made D) one j
-            → Reps (Made D) (map replays_run (runs_of reply)) j next
-            → Calling w D goals o.path j runs keys ids x go a results i →
+            → reply ≡ results → Closed (Made D) one earlier.journal
+            → Reps (Made D) (map replays_run (runs_of reply)) earlier.journal next
+            → Calling w D goals earlier.origin.path earlier.journal earlier.runs keys ids x go a
+            results i →
             (first : RequestKey) × (more : List RequestKey) × (keys ≡ first ∷ more)
-            × Passes w (called_so o base) runs j (within x (asks first more go)) →
-            Passes w (called_so o base) runs (after_calls w x keys go reply next).journal
+            × Passes w (called_so earlier.origin base) earlier.runs earlier.journal
+            (within x (asks first more go)) →
+            Passes w (called_so earlier.origin base) earlier.runs
+            (after_calls w x keys go reply next).journal
             (stopped_in x.run x.go (after_calls w x keys go reply next))
         back {base} {results} {i} {next} a e c d y (first, more, keys_so, p) =
-            let d2 : Reps (Made D) (map replays_run (runs_of reply)) j i = subst
-            (λ (n : List RequestResult). Reps (Made D) (map replays_run (runs_of n)) j i)
+            let d2 : Reps (Made D) (map replays_run (runs_of reply)) earlier.journal i = subst
+            (λ (n : List RequestResult). Reps (Made D) (map replays_run (runs_of n)) earlier.journal
+            i)
             (sym e) (agree_calls w D one y.asked (λ s h. h) c c) in
             let same : i ≡ next = reps-one (Made D) one d2 next d in
-            let asked : OfCalls w D (x.run ∷ o.path) j j (first ∷ more) reply next =
-            subst (λ (n : Journal). OfCalls w D (x.run ∷ o.path) j j (first ∷ more) reply n) same
-            (subst (λ (n : List RequestResult). OfCalls w D (x.run ∷ o.path) j j (first ∷ more) n i)
+            let asked : OfCalls w D (x.run ∷ earlier.origin.path) earlier.journal earlier.journal
+            (first ∷ more)
+            reply next =
+            subst
+            (λ (n : Journal). OfCalls w D (x.run ∷ earlier.origin.path) earlier.journal
+            earlier.journal
+            (first ∷ more) reply n) same
+            (subst
+            (λ (n : List RequestResult). OfCalls w D (x.run ∷ earlier.origin.path) earlier.journal
+            earlier.journal (first ∷ more) n i)
             (sym e)
-            (subst (λ (ks : List RequestKey). OfCalls w D (x.run ∷ o.path) j j ks results i) keys_so
+            (subst
+            (λ (ks : List RequestKey). OfCalls w D (x.run ∷ earlier.origin.path) earlier.journal
+            earlier.journal ks results i) keys_so
             y.asked)) in
             subst
-            (λ (ks : List RequestKey). Passes w (called_so o base) runs
+            (λ (ks : List RequestKey). Passes w (called_so earlier.origin base) earlier.runs
             (after_calls w x ks go reply next).journal
             (stopped_in x.run x.go (after_calls w x ks go reply next))) (sym keys_so)
             (resumed x go p asked)
@@ -640,8 +667,8 @@ module _ {P I A : Type 0} (w : World P I A) (D : Demanded P I → Type 0)
         (st : Status P I A) (t : State P I A) → Standing w D one s goals → AllPass s →
         at s.requests id ≡ Some q → q.status ≡ st → resume_at w s id q st ≡ Some t → AllPass t
     back_at-passes s goals id q (calling keys ids x go) t k v e p h =
-        answered-passes s goals id q.origin q.journal q.runs keys ids x go t k v
-        (e ∙ ap (λ (a : Status P I A). Some (request_of q.origin q.journal q.runs a)) p)
+        answered-passes s goals id q keys ids x go t k v
+        (e ∙ ap (λ (a : Status P I A). Some (with_status q a)) p)
         (results_of w s.requests ids) refl h
     back_at-passes s goals id q _ t k v e p h = absurd (cc)
 
@@ -652,14 +679,14 @@ module _ {P I A : Type 0} (w : World P I A) (D : Demanded P I → Type 0)
         let y = and_then-some (at s.requests id) (λ q. resume_at w s id q q.status) t h in
         back_at-passes s goals id y.0 y.0.status t k v y.1 refl y.2
 
-    done-passes : (s : State P I A) (goals : List Goal) (id : ℕ) (o : Origin) (j : Journal)
-        (runs : List RunId) (st : Status P I A) (t : State P I A) → Standing w D one s goals →
+    done-passes : (s : State P I A) (goals : List Goal) (id : ℕ) (earlier : RequestState P I A)
+        (st : Status P I A) (t : State P I A) → Standing w D one s goals →
         AllPass s →
-        at s.requests id ≡ Some (request_of o j runs st) → done_at w s id o j runs st ≡ Some t
+        at s.requests id ≡ Some (with_status earlier st) → done_at w s id earlier st ≡ Some t
         → AllPass t
-    done-passes s goals id o j runs (assigned node (walking (gives reply))) t k v e h =
-        let q : RequestState P I A = request_of o j runs (assigned node (walking (gives reply))) in
-        let z : RequestState P I A = request_of o j runs (done (result_of reply runs)) in
+    done-passes s goals id earlier (assigned node (walking (gives reply))) t k v e h =
+        let q : RequestState P I A = with_status earlier (assigned node (walking (gives reply))) in
+        let z : RequestState P I A = with_status earlier (done (result_of reply earlier.runs)) in
         let lq = k.lawful.each id q e in
         let zl : Lawful (with_request s id z) = put-lawful s id z k.lawful
         (record { journal = lq.journal; status = lq.journal.runs_in }) in
@@ -668,29 +695,30 @@ module _ {P I A : Type 0} (w : World P I A) (D : Demanded P I → Type 0)
         (λ g x.
         record {
           asked = x.asked;
-          stands = gives_so w D one o.path j runs reply g.res g.journal
+          stands = gives_so w D one earlier.origin.path earlier.journal earlier.runs reply g.res
+              g.journal
               x.stands;
         }) in
-        back_to-passes (with_request s id z) goals o.parent t over
+        back_to-passes (with_request s id z) goals earlier.origin.parent t over
         (put-passes s.requests id q z e refl (λ base p. (reply, refl, p)) v) h
-    done-passes s goals id o j runs _ t k v e h = absurd (cc)
+    done-passes s goals id earlier _ t k v e h = absurd (cc)
 
     step_of-passes : (s : State P I A) (goals : List Goal) (event : Event) (q : RequestState P I A)
         (t : State P I A) (more : List Goal) → Standing w D one s goals → Standing w D one t more →
         AllPass s → SaysNew t → at s.requests (whose event) ≡ Some q →
         step_of w s event q ≡ Some t → AllPass t
-    step_of-passes s goals (Assign id node) q t more k kt v n e h = assign-passes s id node q.origin
-        q.journal q.runs q.status t v e h
+    step_of-passes s goals (Assign id node) q t more k kt v n e h = assign-passes s id node q
+        q.status t v e h
     step_of-passes s goals (Claim id run kind) q t more k kt v n e h = claim-passes s goals id run
-        kind q.origin q.journal q.runs q.status t k v e h
+        kind q q.status t k v e h
     step_of-passes s goals (Request id keys) q t more k kt v n e h = request-passes s id keys
-        q.origin q.journal q.runs q.status t v n e h
+        q q.status t v n e h
     step_of-passes s goals (Result id run) q t more k kt v n e h = result-passes s goals id run
-        q.origin q.journal q.runs q.status t more k kt v e h
-    step_of-passes s goals (Done id) q t more k kt v n e h = done-passes s goals id q.origin
-        q.journal q.runs q.status t k v e h
-    step_of-passes s goals (Retire id node) q t more k kt v n e h = retire-passes s id node q.origin
-        q.journal q.runs q.status t v e h
+        q q.status t more k kt v e h
+    step_of-passes s goals (Done id) q t more k kt v n e h = done-passes s goals id q q.status t k v
+        e h
+    step_of-passes s goals (Retire id node) q t more k kt v n e h = retire-passes s id node q
+        q.status t v e h
 
 module _ {P I A : Type 0} (w : World P I A) (out : Given P I RequestResult) (whole : IsWhole w out)
     (steady : IsSteady out.demand) where

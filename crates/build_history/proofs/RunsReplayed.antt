@@ -54,6 +54,7 @@ use Rattle.build_meaning.specs.Walk.{Walk, gives, wants, Body, Outcome}
 use Rattle.build_meaning.specs.SoFar.{nothing_yet, with_calls, recorded, result_of, runs_of}
 use Rattle.build_meaning.specs.Stop.{ends, asks, run_on}
 use Rattle.build_meaning.specs.State.{
+  with_status,
   Within,
   Place,
   walking,
@@ -125,7 +126,6 @@ use Rattle.build_meaning.proofs.EventsKeepLawful.{
   unless-some,
   some-is,
   run_on-reps,
-  request_of,
   unbegun-unfinished,
   unfinished-fresh,
   put-lawful,
@@ -244,37 +244,37 @@ module _ {P I A : Type 0} (w : World P I A) (B : ℕ → Origin → Journal → 
       → at t.requests id ≡ Some (new_request w origin.parent origin.path base origin.key) →
       GivesJournal t origin.parent base → B id origin base
 
-  assign-ran : (s : State P I A) (id node : ℕ) (o : Origin) (j : Journal) (runs : List RunId)
+  assign-ran : (s : State P I A) (id node : ℕ) (q : RequestState P I A)
       (st : Status P I A) (t : State P I A) → AllRan s →
-      at s.requests id ≡ Some (request_of o j runs st) → assign_at w s id node o j runs st ≡ Some t
+      at s.requests id ≡ Some (with_status q st) → assign_at w s id node q st ≡ Some t
       → AllRan t
-  assign-ran s id node o j runs (ready p) t v e h =
-      let z : RequestState P I A = request_of o j runs (assigned node p) in
+  assign-ran s id node q (ready p) t v e h =
+      let z : RequestState P I A = with_status q (assigned node p) in
       subst (λ (u : State P I A). AllRan u) (some-is (with_request s id z) t h)
-      (put-ran B s.table s.requests id (request_of o j runs (ready p)) z e refl (λ base x. x) v)
-  assign-ran s id node o j runs _ t v e h = absurd (cc)
+      (put-ran B s.table s.requests id (with_status q (ready p)) z e refl (λ base x. x) v)
+  assign-ran s id node q _ t v e h = absurd (cc)
 
-  retire-ran : (s : State P I A) (id node : ℕ) (o : Origin) (j : Journal) (runs : List RunId)
+  retire-ran : (s : State P I A) (id node : ℕ) (q : RequestState P I A)
       (st : Status P I A) (t : State P I A) → AllRan s →
-      at s.requests id ≡ Some (request_of o j runs st) → retire_at w s id node o j runs st ≡ Some t
+      at s.requests id ≡ Some (with_status q st) → retire_at w s id node q st ≡ Some t
       → AllRan t
-  retire-ran s id node o j runs (assigned by p) t v e h =
-      let z : RequestState P I A = request_of o j runs (ready p) in
+  retire-ran s id node q (assigned by p) t v e h =
+      let z : RequestState P I A = with_status q (ready p) in
       subst (λ (u : State P I A). AllRan u) (only_if-some (by == node) (with_request s id z) t h).1
-      (put-ran B s.table s.requests id (request_of o j runs (assigned by p)) z e refl
+      (put-ran B s.table s.requests id (with_status q (assigned by p)) z e refl
       (λ base x. x) v)
-  retire-ran s id node o j runs _ t v e h = absurd (cc)
+  retire-ran s id node q _ t v e h = absurd (cc)
 
-  claimed-ran : (s : State P I A) (id node : ℕ) (o : Origin) (j : Journal) (runs : List RunId)
+  claimed-ran : (s : State P I A) (id node : ℕ) (old : RequestState P I A)
       (site : P) (r : RunId) (b : Body I A) (go : Record → Journal → Walk P I A) (kind : ClaimKind)
       (t : State P I A) → Lawful s → AllRan s →
-      at s.requests id ≡ Some (request_of o j runs (assigned node (walking (wants site r b go)))) →
-      claimed w s id node o j runs r b go kind ≡ Some t → AllRan t
-  claimed-ran s id node o j runs site r b go Go t l v e h =
+      at s.requests id ≡ Some (with_status old (assigned node (walking (wants site r b go)))) →
+      claimed w s id node old r b go kind ≡ Some t → AllRan t
+  claimed-ran s id node old site r b go Go t l v e h =
       let q : RequestState P I A =
-      request_of o j runs (assigned node (walking (wants site r b go))) in
+      with_status old (assigned node (walking (wants site r b go))) in
       let z : RequestState P I A =
-      in_body w (assigned node) o runs r go (run_on w.tools r b j nothing_yet) in
+      in_body w (assigned node) old r go (run_on w.tools r b old.journal nothing_yet) in
       let x = unless-some (is_begun r s.begun)
       (record {
         requests = put s.requests id z;
@@ -283,80 +283,80 @@ module _ {P I A : Type 0} (w : World P I A) (B : ℕ → Origin → Journal → 
         table = s.table;
         tools_used = s.tools_used;
       }) t h in
-      let fresh = unfinished-fresh w s.table j runs r (l.each id q e).journal
+      let fresh = unfinished-fresh w s.table old.journal old.runs r (l.each id q e).journal
       (unbegun-unfinished w s l r x.0) in
       subst (λ (u : State P I A). AllRan u) x.1 (put-ran B s.table s.requests id q z e refl
       (λ base d.
       record {
-        from = j;
+        from = old.journal;
         ran = d;
         fresh = fresh;
-        so_far = run_on-reps (Recorded s.table) w.tools r b j
-            j nothing_yet none;
+        so_far = run_on-reps (Recorded s.table) w.tools r b old.journal
+            old.journal nothing_yet none;
       }) v)
-  claimed-ran s id node o j runs site r b go Use t l v e h =
+  claimed-ran s id node old site r b go Use t l v e h =
       let x = and_then-some (found s.table r)
-      (λ made. and_then (replay s.table r j)
-      (λ next. Some (with_request s id (goes_on w (assigned node) o runs r go made next)))) t h
+      (λ made. and_then (replay s.table r old.journal)
+      (λ next. Some (with_request s id (goes_on w (assigned node) old r go made next)))) t h
       in
-      let y = and_then-some (replay s.table r j)
-      (λ next. Some (with_request s id (goes_on w (assigned node) o runs r go x.0 next))) t x.2
+      let y = and_then-some (replay s.table r old.journal)
+      (λ next. Some (with_request s id (goes_on w (assigned node) old r go x.0 next))) t x.2
       in
-      let z : RequestState P I A = goes_on w (assigned node) o runs r go x.0 y.0 in
+      let z : RequestState P I A = goes_on w (assigned node) old r go x.0 y.0 in
       subst (λ (u : State P I A). AllRan u) (some-is (with_request s id z) t y.2)
-      (put-ran B s.table s.requests id (request_of o j runs
-      (assigned node (walking (wants site r b go)))) z e refl (λ base d. reps-run runs r d
-      (replay-rep s.table l.once r j y.0 y.1)) v)
-  claimed-ran s id node o j runs site r b go Wait t l v e h =
-      let next : State P I A = waiting w s id o j runs r b go in
+      (put-ran B s.table s.requests id (with_status old
+      (assigned node (walking (wants site r b go)))) z e refl (λ base d. reps-run old.runs r d
+      (replay-rep s.table l.once r old.journal y.0 y.1)) v)
+  claimed-ran s id node old site r b go Wait t l v e h =
+      let next : State P I A = waiting w s id old r b go in
       let x = only_if-some (may_wait w (is_begun r s.begun) (found s.table r) (is_in_cycle next r))
       next t h in
       subst (λ (u : State P I A). AllRan u) x.1
-      (put-ran B s.table s.requests id (request_of o j runs
-      (assigned node (walking (wants site r b go)))) (request_of o j runs (waits r b go)) e refl
+      (put-ran B s.table s.requests id (with_status old
+      (assigned node (walking (wants site r b go)))) (with_status old (waits r b go)) e refl
       (λ base d. d) v)
 
-  claim-ran : (s : State P I A) (id : ℕ) (run : RunId) (kind : ClaimKind) (o : Origin) (j : Journal)
-      (runs : List RunId) (st : Status P I A) (t : State P I A) → Lawful s → AllRan s →
-      at s.requests id ≡ Some (request_of o j runs st)
-      → claim_at w s id run kind o j runs st ≡ Some t → AllRan t
-  claim-ran s id run kind o j runs (assigned node (walking (wants site r b go))) t l v e h =
+  claim-ran : (s : State P I A) (id : ℕ) (run : RunId) (kind : ClaimKind) (q : RequestState P I A)
+      (st : Status P I A) (t : State P I A) → Lawful s → AllRan s →
+      at s.requests id ≡ Some (with_status q st)
+      → claim_at w s id run kind q st ≡ Some t → AllRan t
+  claim-ran s id run kind q (assigned node (walking (wants site r b go))) t l v e h =
       let x = and_then-some (only_if (same_run r run) r)
-      (λ run. claimed w s id node o j runs run b go kind) t h in
+      (λ run. claimed w s id node q run b go kind) t h in
       let y : r ≡ x.0 = (only_if-some (same_run r run) r x.0 x.1).1 in
-      claimed-ran s id node o j runs site r b go kind t l v e
-      (subst (λ n. claimed w s id node o j runs n b go kind ≡ Some t) (sym y) x.2)
-  claim-ran s id run kind o j runs _ t l v e h = absurd (cc)
+      claimed-ran s id node q site r b go kind t l v e
+      (subst (λ n. claimed w s id node q n b go kind ≡ Some t) (sym y) x.2)
+  claim-ran s id run kind q _ t l v e h = absurd (cc)
 
   -- calls are made
-  children-ran : (s : State P I A) (id : ℕ) (q : RequestState P I A) (o : Origin) (j : Journal)
-      (runs : List RunId) (keys : List RequestKey) (x : Within P I A) (go : List RequestResult →
+  children-ran : (s : State P I A) (id : ℕ) (q : RequestState P I A) (old : RequestState P I A)
+      (keys : List RequestKey) (x : Within P I A) (go : List RequestResult →
       Journal → Body I A) →
       at s.requests id ≡ Some q
       → AllRan
       (with_request s id
-      (request_of o j runs (calling keys (numbered_from (length s.requests) keys) x go))) →
-      SaysNew (with_children w s id o j runs keys x go)
-      → AllRan (with_children w s id o j runs keys x go)
-  children-ran s id q o j runs keys x go e v new_so k y h =
+      (with_status old (calling keys (numbered_from (length s.requests) keys) x go))) →
+      SaysNew (with_children w s id old keys x go)
+      → AllRan (with_children w s id old keys x go)
+  children-ran s id q old keys x go e v new_so k y h =
       let z : RequestState P I A =
-      request_of o j runs (calling keys (numbered_from (length s.requests) keys) x go) in
-      let path : List RunId = x.run ∷ o.path in
-      let kids : List (RequestState P I A) = map (new_request w (Some id) path j) keys in
+      with_status old (calling keys (numbered_from (length s.requests) keys) x go) in
+      let path : List RunId = x.run ∷ old.origin.path in
+      let kids : List (RequestState P I A) = map (new_request w (Some id) path old.journal) keys in
       elim (at-append (put s.requests id z) kids k y h) [
         | inl a ↦ v k y a
         | inr a ↦
-            let c = at-map (new_request w (Some id) path j) keys a.0 y a.1 in
+            let c = at-map (new_request w (Some id) path old.journal) keys a.0 y a.1 in
             let origin : Origin = record { key = c.0; parent = Some id; path = path } in
             let late : k ≡ 0
             → ⊥ = behind k (length (put s.requests id z)) a.0 id a.2
             (subst (λ n. id < n) (sym (put-length s.requests id z)) (at-less s.requests id q e))
             in
             let here : at (put s.requests id z ++ kids) k
-            ≡ Some (new_request w (Some id) path j c.0) = h ∙ ap Some (sym c.2) in
-            let made : RanFrom B s.table k (new_request w (Some id) path j c.0) = record {
-              base = j;
-              began = new_so k origin j late here (
+            ≡ Some (new_request w (Some id) path old.journal c.0) = h ∙ ap Some (sym c.2) in
+            let made : RanFrom B s.table k (new_request w (Some id) path old.journal c.0) = record {
+              base = old.journal;
+              began = new_so k origin old.journal late here (
                 z,
                 at-front (put s.requests id z) kids id z (at-put_same s.requests id q z e),
                 refl,
@@ -366,22 +366,22 @@ module _ {P I A : Type 0} (w : World P I A) (B : ℕ → Origin → Journal → 
             subst (λ (u : RequestState P I A). RanFrom B s.table k u) c.2 made
       ]
 
-  request-ran : (s : State P I A) (id : ℕ) (keys : List RequestKey) (o : Origin) (j : Journal)
-      (runs : List RunId) (st : Status P I A) (t : State P I A) → AllRan s → SaysNew t →
-      at s.requests id ≡ Some (request_of o j runs st) → request_at w s id keys o j runs st ≡ Some t
+  request-ran : (s : State P I A) (id : ℕ) (keys : List RequestKey) (old : RequestState P I A)
+      (st : Status P I A) (t : State P I A) → AllRan s → SaysNew t →
+      at s.requests id ≡ Some (with_status old st) → request_at w s id keys old st ≡ Some t
       → AllRan t
-  request-ran s id keys o j runs (assigned node (within x (asks key more go))) t v new_so e h =
+  request-ran s id keys old (assigned node (within x (asks key more go))) t v new_so e h =
       let y = only_if-some (same_keys (key ∷ more) keys
-      && is_within_limits w s (x.run ∷ o.path) (key ∷ more))
-      (with_children w s id o j runs (key ∷ more) x go) t h in
+      && is_within_limits w s (x.run ∷ old.origin.path) (key ∷ more))
+      (with_children w s id old (key ∷ more) x go) t h in
       let q : RequestState P I A =
-      request_of o j runs (assigned node (within x (asks key more go))) in
-      let z : RequestState P I A = request_of o j runs (calling (key ∷ more)
+      with_status old (assigned node (within x (asks key more go))) in
+      let z : RequestState P I A = with_status old (calling (key ∷ more)
       (numbered_from (length s.requests) (key ∷ more)) x go) in
-      subst (λ (u : State P I A). AllRan u) y.1 (children-ran s id q o j runs (key ∷ more) x go e
+      subst (λ (u : State P I A). AllRan u) y.1 (children-ran s id q old (key ∷ more) x go e
       (put-ran B s.table s.requests id q z e refl (λ base d. d) v)
       (subst (λ (u : State P I A). SaysNew u) (sym y.1) new_so))
-  request-ran s id keys o j runs _ t v new_so e h = absurd (cc)
+  request-ran s id keys old _ t v new_so e h = absurd (cc)
 
   -- a run is finished
   woken-ran : (table : Records) → IsOnce table →
@@ -397,8 +397,8 @@ module _ {P I A : Type 0} (w : World P I A) (B : ℕ → Origin → Journal → 
       by_test false h = subst (λ (u : RequestState P I A). RanFrom B table id u) (some-is q t h) v
       by_test true h =
           let x = and_then-some (replay table wanted q.journal)
-          (λ next. Some (goes_on w ready q.origin q.runs wanted go m next)) t h in
-          let z : RequestState P I A = goes_on w ready q.origin q.runs wanted go m x.0 in
+          (λ next. Some (goes_on w ready q wanted go m next)) t h in
+          let z : RequestState P I A = goes_on w ready q wanted go m x.0 in
           let here : RanFrom B table id z = record {
             base = v.base;
             began = v.began;
@@ -409,16 +409,16 @@ module _ {P I A : Type 0} (w : World P I A) (B : ℕ → Origin → Journal → 
   woken-ran table once r m id q t v _ e h =
       subst (λ (u : RequestState P I A). RanFrom B table id u) (some-is q t h) v
 
-  finished-ran : (s : State P I A) (id node : ℕ) (o : Origin) (j : Journal) (runs : List RunId)
+  finished-ran : (s : State P I A) (id node : ℕ) (old : RequestState P I A)
       (x : Within P I A) (outcome : Outcome) (t : State P I A) → Lawful s → AllRan s →
-      at s.requests id ≡ Some (request_of o j runs (assigned node (within x (ends outcome))))
-      → finished w s id node o j runs x (recorded outcome x.so_far.segments) ≡ Some t → AllRan t
-  finished-ran s id node o j runs x outcome t l v e h =
+      at s.requests id ≡ Some (with_status old (assigned node (within x (ends outcome))))
+      → finished w s id node old x (recorded outcome x.so_far.segments) ≡ Some t → AllRan t
+  finished-ran s id node old x outcome t l v e h =
       let m : Record = recorded outcome x.so_far.segments in
       let f : FinishedRun = record { run = x.run; made = m } in
-      let q : RequestState P I A = request_of o j runs (assigned node (within x (ends outcome))) in
+      let q : RequestState P I A = with_status old (assigned node (within x (ends outcome))) in
       let z : RequestState P I A =
-      goes_on w (assigned node) o runs x.run x.go m (add j (ended x.run m)) in
+      goes_on w (assigned node) old x.run x.go m (add old.journal (ended x.run m)) in
       let body = (l.each id q e).status in
       let n : found s.table x.run ≡ None = body.1.unfinished in
       let u = and_then-some (traverse (woken w (f ∷ s.table) x.run m) (put s.requests id z))
@@ -440,45 +440,45 @@ module _ {P I A : Type 0} (w : World P I A) (B : ℕ → Origin → Journal → 
       } in
       let p : EachRan B (f ∷ s.table) (put s.requests id z) = put-ran B (f ∷ s.table) s.requests id
       q z e refl
-      (λ base d. reps-run runs x.run d.ran (new d.fresh (found-newest s.table f) d.so_far))
+      (λ base d. reps-run old.runs x.run d.ran (new d.fresh (found-newest s.table f) d.so_far))
       (each-more B s.table f n s.requests v) in
       subst (λ (u : State P I A). AllRan u) (some-is last t u.2) (λ k y a.
       let g = at-traverse (woken w (f ∷ s.table) x.run m) (put s.requests id z) u.0 u.1 k y a in
       woken-ran (f ∷ s.table) (n, l.once) x.run m k g.0 y (p k g.0 g.1) g.0.status refl g.2)
 
-  finish-ran : (s : State P I A) (id : ℕ) (run : RunId) (o : Origin) (j : Journal)
-      (runs : List RunId) (st : Status P I A) (t : State P I A) → Lawful s → AllRan s →
-      at s.requests id ≡ Some (request_of o j runs st) → result_at w s id run o j runs st ≡ Some t
+  finish-ran : (s : State P I A) (id : ℕ) (run : RunId) (q : RequestState P I A) (st : Status P I A)
+      (t : State P I A) → Lawful s → AllRan s →
+      at s.requests id ≡ Some (with_status q st) → result_at w s id run q st ≡ Some t
       → AllRan t
-  finish-ran s id run o j runs (assigned node (within x (ends outcome))) t l v e h =
+  finish-ran s id run q (assigned node (within x (ends outcome))) t l v e h =
       let y = and_then-some (only_if (same_run x.run run) x)
-      (λ x. finished w s id node o j runs x (recorded outcome x.so_far.segments)) t h in
+      (λ x. finished w s id node q x (recorded outcome x.so_far.segments)) t h in
       let p : x ≡ y.0 = (only_if-some (same_run x.run run) x y.0 y.1).1 in
-      finished-ran s id node o j runs x outcome t l v e
-      (subst (λ (a : Within P I A). finished w s id node o j runs a
+      finished-ran s id node q x outcome t l v e
+      (subst (λ (a : Within P I A). finished w s id node q a
       (recorded outcome a.so_far.segments) ≡ Some t) (sym p) y.2)
-  finish-ran s id run o j runs _ t l v e h = absurd (cc)
+  finish-ran s id run q _ t l v e h = absurd (cc)
 
   -- a request is over, and then its caller may go on
-  answered-ran : (s : State P I A) (id : ℕ) (o : Origin) (j : Journal) (runs : List RunId)
+  answered-ran : (s : State P I A) (id : ℕ) (old : RequestState P I A)
       (keys : List RequestKey) (ids : List ℕ) (x : Within P I A) (go : List RequestResult →
       Journal → Body I A) (t : State P I A) → Lawful s → AllRan s →
-      at s.requests id ≡ Some (request_of o j runs (calling keys ids x go))
+      at s.requests id ≡ Some (with_status old (calling keys ids x go))
       → (replies : Option (List RequestResult)) → results_of w s.requests ids ≡ replies
-      → answered w s id o j runs keys x go replies ≡ Some t → AllRan t
-  answered-ran s id o j runs keys ids x go t l v e None g h =
+      → answered w s id old keys x go replies ≡ Some t → AllRan t
+  answered-ran s id old keys ids x go t l v e None g h =
       subst (λ (u : State P I A). AllRan u) (some-is s t h) v
-  answered-ran s id o j runs keys ids x go t l v e (Some results) g h =
-      let q : RequestState P I A = request_of o j runs (calling keys ids x go) in
+  answered-ran s id old keys ids x go t l v e (Some results) g h =
+      let q : RequestState P I A = with_status old (calling keys ids x go) in
       let lq = (l.each id q e).status in
-      let y = and_then-some (replay_all s.table (runs_of results) j)
+      let y = and_then-some (replay_all s.table (runs_of results) old.journal)
       (λ next.
       Some
       (with_request s id
-      (in_body w ready o runs x.run x.go
+      (in_body w ready old x.run x.go
       (run_on w.tools x.run (go results next) next (with_calls x.so_far keys results))))) t h in
-      let d = replay_all-reps s.table l.once (runs_of results) j y.0 y.1 in
-      let z : RequestState P I A = in_body w ready o runs x.run x.go (run_on w.tools x.run
+      let d = replay_all-reps s.table l.once (runs_of results) old.journal y.0 y.1 in
+      let z : RequestState P I A = in_body w ready old x.run x.go (run_on w.tools x.run
       (go results y.0) y.0 (with_calls x.so_far keys results)) in
       let many : length keys ≡ length results = lq.1
       ∙ traverse-length (λ id. and_then (at s.requests id) (λ q. result_in w q.status)) ids
@@ -498,8 +498,8 @@ module _ {P I A : Type 0} (w : World P I A) (B : ℕ → Origin → Journal → 
       (t : State P I A) → Lawful s → AllRan s → at s.requests id ≡ Some q → q.status ≡ st →
       resume_at w s id q st ≡ Some t → AllRan t
   back_at-ran s id q (calling keys ids x go) t l v e p h =
-      answered-ran s id q.origin q.journal q.runs keys ids x go t l v
-      (e ∙ ap (λ (a : Status P I A). Some (request_of q.origin q.journal q.runs a)) p)
+      answered-ran s id q keys ids x go t l v
+      (e ∙ ap (λ (a : Status P I A). Some (with_status q a)) p)
       (results_of w s.requests ids) refl h
   back_at-ran s id q _ t l v e p h = absurd (cc)
 
@@ -510,31 +510,30 @@ module _ {P I A : Type 0} (w : World P I A) (B : ℕ → Origin → Journal → 
       let y = and_then-some (at s.requests id) (λ q. resume_at w s id q q.status) t h in
       back_at-ran s id y.0 y.0.status t l v y.1 refl y.2
 
-  done-ran : (s : State P I A) (id : ℕ) (o : Origin) (j : Journal) (runs : List RunId)
+  done-ran : (s : State P I A) (id : ℕ) (old : RequestState P I A)
       (st : Status P I A) (t : State P I A) → Lawful s → AllRan s →
-      at s.requests id ≡ Some (request_of o j runs st) → done_at w s id o j runs st ≡ Some t
+      at s.requests id ≡ Some (with_status old st) → done_at w s id old st ≡ Some t
       → AllRan t
-  done-ran s id o j runs (assigned node (walking (gives reply))) t l v e h =
-      let q : RequestState P I A = request_of o j runs (assigned node (walking (gives reply))) in
-      let z : RequestState P I A = request_of o j runs (done (result_of reply runs)) in
+  done-ran s id old (assigned node (walking (gives reply))) t l v e h =
+      let q : RequestState P I A = with_status old (assigned node (walking (gives reply))) in
+      let z : RequestState P I A = with_status old (done (result_of reply old.runs)) in
       let lq = l.each id q e in
       let zl : Lawful (with_request s id z) = put-lawful s id z l
       (record { journal = lq.journal; status = lq.journal.runs_in }) in
-      back_to-ran (with_request s id z) o.parent t zl
+      back_to-ran (with_request s id z) old.origin.parent t zl
       (put-ran B s.table s.requests id q z e refl (λ base d. (refl, d)) v) h
-  done-ran s id o j runs _ t l v e h = absurd (cc)
+  done-ran s id old _ t l v e h = absurd (cc)
 
   pub step_of-ran : (s : State P I A) (event : Event) (q : RequestState P I A) (t : State P I A) →
       Lawful s → AllRan s → SaysNew t → at s.requests (whose event) ≡ Some q →
       step_of w s event q ≡ Some t → AllRan t
-  step_of-ran s (Assign id node) q t l v n e h = assign-ran s id node q.origin q.journal q.runs
+  step_of-ran s (Assign id node) q t l v n e h = assign-ran s id node q
       q.status t v e h
-  step_of-ran s (Claim id run kind) q t l v n e h = claim-ran s id run kind q.origin q.journal
-      q.runs q.status t l v e h
-  step_of-ran s (Request id keys) q t l v n e h = request-ran s id keys q.origin q.journal q.runs
+  step_of-ran s (Claim id run kind) q t l v n e h = claim-ran s id run kind q q.status t l v e h
+  step_of-ran s (Request id keys) q t l v n e h = request-ran s id keys q
       q.status t v n e h
-  step_of-ran s (Result id run) q t l v n e h = finish-ran s id run q.origin q.journal q.runs
+  step_of-ran s (Result id run) q t l v n e h = finish-ran s id run q
       q.status t l v e h
-  step_of-ran s (Done id) q t l v n e h = done-ran s id q.origin q.journal q.runs q.status t l v e h
-  step_of-ran s (Retire id node) q t l v n e h = retire-ran s id node q.origin q.journal q.runs
+  step_of-ran s (Done id) q t l v n e h = done-ran s id q q.status t l v e h
+  step_of-ran s (Retire id node) q t l v n e h = retire-ran s id node q
       q.status t v e h

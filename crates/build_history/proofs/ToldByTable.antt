@@ -39,6 +39,7 @@ use Rattle.build_meaning.specs.Walk.{Walk, gives, wants, Body}
 use Rattle.build_meaning.specs.SoFar.{result_of}
 use Rattle.build_meaning.specs.ByTable.{walk_by, request_by}
 use Rattle.build_meaning.specs.State.{
+  with_status,
   Place,
   walking,
   within,
@@ -63,7 +64,7 @@ use Rattle.build_meaning.proofs.ConsistentTables.{
   PlaceTrace,
   traced,
 }
-use Rattle.build_meaning.proofs.EventsKeepLawful.{some-is, request_of}
+use Rattle.build_meaning.proofs.EventsKeepLawful.{some-is}
 use Rattle.build_meaning.proofs.GrowingTables.{
   Newer,
   same_table,
@@ -157,6 +158,10 @@ module _ {P I A : Type 0} (w : World P I A) where
     tools_used = s.tools_used;
   }) (put-same s.requests id q e))
 
+  -- a request of these parts
+  abbrev request_of : Origin → Journal → List RunId → Status P I A → RequestState P I A
+  request_of o j runs st = record { origin = o; journal = j; runs = runs; status = st }
+
   -- a walk between two runs comes to its end by records
   ends-by : (id node : ℕ) (o : Origin) (x : Walk P I A) (s : State P I A) (j : Journal)
       (runs : List RunId) (result : RequestResult) (last : Journal) →
@@ -186,7 +191,7 @@ module _ {P I A : Type 0} (w : World P I A) where
       let q : RequestState P I A =
       request_of o j runs (assigned node (walking (wants site run b go)))
       in
-      let z : RequestState P I A = goes_on w (assigned node) o runs run go f.0 g.0 in
+      let z : RequestState P I A = goes_on w (assigned node) q run go f.0 g.0 in
       let t : State P I A = with_request s id z in
       let there : at t.requests id ≡ Some z = at-put_same s.requests id q z e in
       let rest = ends-by id node o (go f.0 g.0) t g.0 (runs ++ run ∷ []) result last there g.2 in
@@ -194,12 +199,12 @@ module _ {P I A : Type 0} (w : World P I A) where
       request_of o last result.runs (assigned node (walking (gives rest.reply))) in
       let first : step w s (Claim id run Use) ≡ Some t =
       ap (λ o. and_then o (step_of w s (Claim id run Use))) e
-      ∙ (ap (λ c. and_then (only_if c run) (λ r. claimed w s id node o j runs r b go Use))
+      ∙ (ap (λ c. and_then (only_if c run) (λ r. claimed w s id node q r b go Use))
       (same_run-refl run)
       ∙ (ap (λ m. and_then m (λ made. and_then (replay s.table run j) (λ next.
-      Some (with_request s id (goes_on w (assigned node) o runs run go made next))))) f.1
+      Some (with_request s id (goes_on w (assigned node) q run go made next))))) f.1
       ∙ ap (λ k. and_then k (λ next.
-      Some (with_request s id (goes_on w (assigned node) o runs run go f.0 next)))) g.1)) in
+      Some (with_request s id (goes_on w (assigned node) q run go f.0 next)))) g.1)) in
       record {
         rest = run ∷ rest.rest;
         reply = rest.reply;
@@ -238,7 +243,7 @@ pub requests_end_by_the_table : {P I A : Type 0} (w : World P I A) (s : State P 
     EndsByRecords w s id node q.origin q.runs result last
 requests_end_by_the_table {P} {I} {A} w s id node q x result last e st h =
     ends-by w id node q.origin x s q.journal q.runs result last
-    (e ∙ ap (λ (a : Status P I A). Some (request_of q.origin q.journal q.runs a)) st) h
+    (e ∙ ap (λ (a : Status P I A). Some (with_status q a)) st) h
 
 pub what_the_table_tells_stays : {P I A : Type 0} (w : World P I A) (table : Records)
     (f : FinishedRun) → found table f.run ≡ None → (first : Journal) (key : RequestKey)

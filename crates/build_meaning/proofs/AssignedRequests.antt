@@ -44,6 +44,7 @@ use Rattle.build_meaning.specs.Walk.{Walk, gives, wants, Body}
 use Rattle.build_meaning.specs.SoFar.{nothing_yet, with_calls, runs_of, recorded, result_of}
 use Rattle.build_meaning.specs.Stop.{ends, asks, run_on}
 use Rattle.build_meaning.specs.State.{
+  with_status,
   Within,
   Place,
   walking,
@@ -54,7 +55,6 @@ use Rattle.build_meaning.specs.State.{
   waits,
   calling,
   done,
-  Origin,
   RequestState,
   State,
   with_request,
@@ -85,7 +85,7 @@ use Rattle.build_meaning.specs.Step.{
 use Rattle.build_meaning.specs.History.{AreOfOthers}
 use Rattle.result_cache.proofs.RunTests.{and_then-some}
 use Rattle.build_meaning.proofs.ListPlaces.{at-put_other, at-front, traverse-at}
-use Rattle.build_meaning.proofs.EventsKeepLawful.{only_if-some, unless-some, some-is, request_of}
+use Rattle.build_meaning.proofs.EventsKeepLawful.{only_if-some, unless-some, some-is}
 use Rattle.build_meaning.proofs.ParentsAndChildren.{same_some}
 
 module _ {P I A : Type 0} (w : World P I A) (id node : ℕ) (q : RequestState P I A) (p : Place P I A)
@@ -99,12 +99,12 @@ module _ {P I A : Type 0} (w : World P I A) (id node : ℕ) (q : RequestState P 
       subst (λ (u : State P I A). There u) h (at-put_other s.requests other z id q
       (λ d. n (sym d)) e)
 
-  claimed-there : (s t : State P I A) (other m : ℕ) (o : Origin) (j : Journal) (runs : List RunId)
+  claimed-there : (s t : State P I A) (other m : ℕ) (old : RequestState P I A)
       (r : RunId) (b : Body I A) (go : Record → Journal → Walk P I A) (kind : ClaimKind) →
-      (other ≡ id → ⊥) → There s → claimed w s other m o j runs r b go kind ≡ Some t → There t
-  claimed-there s t other m o j runs r b go Go n e h =
+      (other ≡ id → ⊥) → There s → claimed w s other m old r b go kind ≡ Some t → There t
+  claimed-there s t other m old r b go Go n e h =
       let z : RequestState P I A =
-      in_body w (assigned m) o runs r go (run_on w.tools r b j nothing_yet) in
+      in_body w (assigned m) old r go (run_on w.tools r b old.journal nothing_yet) in
       let x = unless-some (is_begun r s.begun)
       (record {
         requests = put s.requests other z;
@@ -115,19 +115,19 @@ module _ {P I A : Type 0} (w : World P I A) (id node : ℕ) (q : RequestState P 
       }) t h in
       subst (λ (u : State P I A). There u) x.1 (at-put_other s.requests other z id q
       (λ d. n (sym d)) e)
-  claimed-there s t other m o j runs r b go Use n e h =
+  claimed-there s t other m old r b go Use n e h =
       let x = and_then-some (found s.table r)
-      (λ made. and_then (replay s.table r j)
-      (λ next. Some (with_request s other (goes_on w (assigned m) o runs r go made next)))) t h
+      (λ made. and_then (replay s.table r old.journal)
+      (λ next. Some (with_request s other (goes_on w (assigned m) old r go made next)))) t h
       in
-      let y = and_then-some (replay s.table r j)
-      (λ next. Some (with_request s other (goes_on w (assigned m) o runs r go x.0 next))) t x.2
+      let y = and_then-some (replay s.table r old.journal)
+      (λ next. Some (with_request s other (goes_on w (assigned m) old r go x.0 next))) t x.2
       in
-      let z : RequestState P I A = goes_on w (assigned m) o runs r go x.0 y.0 in
+      let z : RequestState P I A = goes_on w (assigned m) old r go x.0 y.0 in
       put-there s t other z n e (some-is (with_request s other z) t y.2)
-  claimed-there s t other m o j runs r b go Wait n e h =
-      let next : State P I A = waiting w s other o j runs r b go in
-      put-there s t other (request_of o j runs (waits r b go)) n e
+  claimed-there s t other m old r b go Wait n e h =
+      let next : State P I A = waiting w s other old r b go in
+      put-there s t other (with_status old (waits r b go)) n e
       (only_if-some (may_wait w (is_begun r s.begun) (found s.table r) (is_in_cycle next r))
       next t h).1
 
@@ -152,17 +152,17 @@ module _ {P I A : Type 0} (w : World P I A) (id node : ℕ) (q : RequestState P 
           sym g ∙ (ap (λ (y : RequestState P I A). y.status) same ∙ st) in cc
 
       by_results : (o : Option (List RequestResult))
-          → answered w s a c.origin c.journal c.runs keys x go o ≡ Some t → There t
+          → answered w s a c keys x go o ≡ Some t → There t
       by_results None h = subst (λ (v : State P I A). There v) (some-is s t h) e
       by_results (Some results) h =
           let y = and_then-some (replay_all s.table (runs_of results) c.journal)
           (λ next.
           Some
           (with_request s a
-          (in_body w ready c.origin c.runs x.run x.go
+          (in_body w ready c x.run x.go
           (run_on w.tools x.run (go results next) next (with_calls x.so_far keys results))))) t
           h in
-          let z : RequestState P I A = in_body w ready c.origin c.runs x.run x.go
+          let z : RequestState P I A = in_body w ready c x.run x.go
           (run_on w.tools x.run (go results y.0) y.0 (with_calls x.so_far keys results)) in
           put-there s t a z not_it e (some-is (with_request s a z) t y.2)
   back_at-there s t a c _ f g e h = absurd (cc)
@@ -174,13 +174,13 @@ module _ {P I A : Type 0} (w : World P I A) (id node : ℕ) (q : RequestState P 
       let y = and_then-some (at s.requests a) (λ q. resume_at w s a q q.status) t h in
       back_at-there s t a y.0 y.0.status y.1 refl e y.2
 
-  finished-there : (s t : State P I A) (other m : ℕ) (o : Origin) (j : Journal) (runs : List RunId)
+  finished-there : (s t : State P I A) (other m : ℕ) (old : RequestState P I A)
       (x : Within P I A) (made : Record) → (other ≡ id → ⊥) → There s →
-      finished w s other m o j runs x made ≡ Some t → There t
-  finished-there s t other m o j runs x made n e h =
+      finished w s other m old x made ≡ Some t → There t
+  finished-there s t other m old x made n e h =
       let f : FinishedRun = record { run = x.run; made = made } in
       let z : RequestState P I A =
-      goes_on w (assigned m) o runs x.run x.go made (add j (ended x.run made)) in
+      goes_on w (assigned m) old x.run x.go made (add old.journal (ended x.run made)) in
       let u = and_then-some (traverse (woken w (f ∷ s.table) x.run made) (put s.requests other z))
       (λ requests.
       Some
@@ -203,46 +203,46 @@ module _ {P I A : Type 0} (w : World P I A) (id node : ℕ) (q : RequestState P 
       subst (λ (v : State P I A). There v) (some-is last t u.2)
       (y.1 ∙ ap Some (woken-there (f ∷ s.table) x.run made y.0 q.status refl st y.2))
 
-  step_of-there : (s t : State P I A) (event : Event) (o : Origin) (j : Journal) (runs : List RunId)
+  step_of-there : (s t : State P I A) (event : Event) (old : RequestState P I A)
       (u : Status P I A) → (whose event ≡ id → ⊥) → There s →
-      step_of w s event (request_of o j runs u) ≡ Some t → There t
-  step_of-there s t (Assign other m) o j runs (ready a) n e h = put-there s t other
-      (request_of o j runs (assigned m a)) n e
-      (some-is (with_request s other (request_of o j runs (assigned m a))) t h)
-  step_of-there s t (Assign other m) o j runs (assigned k a) n e h = absurd (cc)
-  step_of-there s t (Assign other m) o j runs (waits a b c) n e h = absurd (cc)
-  step_of-there s t (Assign other m) o j runs (calling a b c d) n e h = absurd (cc)
-  step_of-there s t (Assign other m) o j runs (done a) n e h = absurd (cc)
-  step_of-there s t (Claim other run kind) o j runs (assigned m (walking (wants site r b go))) n e
+      step_of w s event (with_status old u) ≡ Some t → There t
+  step_of-there s t (Assign other m) old (ready a) n e h = put-there s t other
+      (with_status old (assigned m a)) n e
+      (some-is (with_request s other (with_status old (assigned m a))) t h)
+  step_of-there s t (Assign other m) old (assigned k a) n e h = absurd (cc)
+  step_of-there s t (Assign other m) old (waits a b c) n e h = absurd (cc)
+  step_of-there s t (Assign other m) old (calling a b c d) n e h = absurd (cc)
+  step_of-there s t (Assign other m) old (done a) n e h = absurd (cc)
+  step_of-there s t (Claim other run kind) old (assigned m (walking (wants site r b go))) n e
       h =
       let x = and_then-some (only_if (same_run r run) r)
-      (λ run. claimed w s other m o j runs run b go kind) t h in
-      claimed-there s t other m o j runs x.0 b go kind n e x.2
-  step_of-there s t (Claim other run kind) o j runs _ n e h = absurd (cc)
-  step_of-there s t (Request other keys) o j runs (assigned m (within x (asks key more go))) n e h =
+      (λ run. claimed w s other m old run b go kind) t h in
+      claimed-there s t other m old x.0 b go kind n e x.2
+  step_of-there s t (Claim other run kind) old _ n e h = absurd (cc)
+  step_of-there s t (Request other keys) old (assigned m (within x (asks key more go))) n e h =
       let y = only_if-some (same_keys (key ∷ more) keys
-      && is_within_limits w s (x.run ∷ o.path) (key ∷ more))
-      (with_children w s other o j runs (key ∷ more) x go) t h in
-      let z : RequestState P I A = request_of o j runs (calling (key ∷ more)
+      && is_within_limits w s (x.run ∷ old.origin.path) (key ∷ more))
+      (with_children w s other old (key ∷ more) x go) t h in
+      let z : RequestState P I A = with_status old (calling (key ∷ more)
       (numbered_from (length s.requests) (key ∷ more)) x go) in
       subst (λ (v : State P I A). There v) y.1 (at-front (put s.requests other z)
-      (map (new_request w (Some other) (x.run ∷ o.path) j) (key ∷ more)) id q
+      (map (new_request w (Some other) (x.run ∷ old.origin.path) old.journal) (key ∷ more)) id q
       (at-put_other s.requests other z id q (λ d. n (sym d)) e))
-  step_of-there s t (Request other keys) o j runs _ n e h = absurd (cc)
-  step_of-there s t (Result other run) o j runs (assigned m (within x (ends outcome))) n e h =
+  step_of-there s t (Request other keys) old _ n e h = absurd (cc)
+  step_of-there s t (Result other run) old (assigned m (within x (ends outcome))) n e h =
       let y = and_then-some (only_if (same_run x.run run) x)
-      (λ x. finished w s other m o j runs x (recorded outcome x.so_far.segments)) t h in
-      finished-there s t other m o j runs y.0 (recorded outcome y.0.so_far.segments) n e y.2
-  step_of-there s t (Result other run) o j runs _ n e h = absurd (cc)
-  step_of-there s t (Done other) o j runs (assigned m (walking (gives reply))) n e h =
-      let z : RequestState P I A = request_of o j runs (done (result_of reply runs)) in
-      back_to-there (with_request s other z) t o.parent
+      (λ x. finished w s other m old x (recorded outcome x.so_far.segments)) t h in
+      finished-there s t other m old y.0 (recorded outcome y.0.so_far.segments) n e y.2
+  step_of-there s t (Result other run) old _ n e h = absurd (cc)
+  step_of-there s t (Done other) old (assigned m (walking (gives reply))) n e h =
+      let z : RequestState P I A = with_status old (done (result_of reply old.runs)) in
+      back_to-there (with_request s other z) t old.origin.parent
       (put-there s (with_request s other z) other z n e refl) h
-  step_of-there s t (Done other) o j runs _ n e h = absurd (cc)
-  step_of-there s t (Retire other m) o j runs (assigned k a) n e h =
-      let z : RequestState P I A = request_of o j runs (ready a) in put-there s t other z n e
+  step_of-there s t (Done other) old _ n e h = absurd (cc)
+  step_of-there s t (Retire other m) old (assigned k a) n e h =
+      let z : RequestState P I A = with_status old (ready a) in put-there s t other z n e
       (only_if-some (k == m) (with_request s other z) t h).1
-  step_of-there s t (Retire other m) o j runs _ n e h = absurd (cc)
+  step_of-there s t (Retire other m) old _ n e h = absurd (cc)
 
   all-there : (events : List Event) (s t : State P I A) → AreOfOthers id events → There s →
       after_all w s events ≡ Some t → There t
@@ -251,7 +251,7 @@ module _ {P I A : Type 0} (w : World P I A) (id node : ℕ) (q : RequestState P 
       let y = and_then-some (step w s event) (λ next. after_all w next events) t h in
       let z = and_then-some (at s.requests (whose event)) (step_of w s event) y.0 y.1 in
       all-there events y.0 t n.1
-      (step_of-there s y.0 event z.0.origin z.0.journal z.0.runs z.0.status n.0 e z.2) y.2
+      (step_of-there s y.0 event z.0 z.0.status n.0 e z.2) y.2
 
 pub stays : {P I A : Type 0} (w : World P I A) (s t : State P I A) (events : List Event)
     (id node : ℕ) (q : RequestState P I A) (p : Place P I A) → at s.requests id ≡ Some q →

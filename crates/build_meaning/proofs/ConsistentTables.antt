@@ -70,6 +70,7 @@ use Rattle.build_meaning.specs.SoFar.{
 }
 use Rattle.build_meaning.specs.Stop.{ends, asks, run_on}
 use Rattle.build_meaning.specs.State.{
+  with_status,
   Within,
   Place,
   walking,
@@ -80,7 +81,6 @@ use Rattle.build_meaning.specs.State.{
   waits,
   calling,
   done,
-  Origin,
   RequestState,
   State,
   with_request,
@@ -172,7 +172,6 @@ use Rattle.build_meaning.proofs.EventsKeepLawful.{
   closed-grows,
   ended-finished,
   run_on-reps,
-  request_of,
   unbegun-unfinished,
   unfinished-fresh,
   put-lawful,
@@ -456,51 +455,51 @@ module _ {P I A : Type 0} (w : World P I A) where
     abbrev pub Next : State P I A → List Start → Type 0
     Next t starts = Traced (events ++ event ∷ []) t starts
 
-    assign-traced : (s : State P I A) (starts : List Start) (id node : ℕ) (o : Origin) (j : Journal)
-        (runs : List RunId) (st : Status P I A) (t : State P I A) → Traced events s starts →
-        at s.requests id ≡ Some (request_of o j runs st)
-        → assign_at w s id node o j runs st ≡ Some t → Next t starts
-    assign-traced s starts id node o j runs (ready p) t v e h =
-        let z : RequestState P I A = request_of o j runs (assigned node p) in
+    assign-traced : (s : State P I A) (starts : List Start) (id node : ℕ) (q : RequestState P I A)
+        (st : Status P I A) (t : State P I A) → Traced events s starts →
+        at s.requests id ≡ Some (with_status q st)
+        → assign_at w s id node q st ≡ Some t → Next t starts
+    assign-traced s starts id node q (ready p) t v e h =
+        let z : RequestState P I A = with_status q (assigned node p) in
         subst (λ (u : State P I A). Next u starts) (some-is (with_request s id z) t h)
-        (put-traced events event s starts id (request_of o j runs (ready p)) z v e
+        (put-traced events event s starts id (with_status q (ready p)) z v e
         (λ a x.
         record {
           key = x.key;
           status = place-later s.table events event starts starts (λ i g h. h)
-              a.key a.journal j runs p x.status;
+              a.key a.journal q.journal q.runs p x.status;
         }))
-    assign-traced s starts id node o j runs _ t v e h = absurd (cc)
+    assign-traced s starts id node q _ t v e h = absurd (cc)
 
-    retire-traced : (s : State P I A) (starts : List Start) (id node : ℕ) (o : Origin) (j : Journal)
-        (runs : List RunId) (st : Status P I A) (t : State P I A) → Traced events s starts →
-        at s.requests id ≡ Some (request_of o j runs st)
-        → retire_at w s id node o j runs st ≡ Some t → Next t starts
-    retire-traced s starts id node o j runs (assigned by p) t v e h =
-        let z : RequestState P I A = request_of o j runs (ready p) in
+    retire-traced : (s : State P I A) (starts : List Start) (id node : ℕ) (q : RequestState P I A)
+        (st : Status P I A) (t : State P I A) → Traced events s starts →
+        at s.requests id ≡ Some (with_status q st)
+        → retire_at w s id node q st ≡ Some t → Next t starts
+    retire-traced s starts id node q (assigned by p) t v e h =
+        let z : RequestState P I A = with_status q (ready p) in
         subst (λ (u : State P I A). Next u starts) (only_if-some (by == node)
-        (with_request s id z) t h).1 (put-traced events event s starts id (request_of o j runs
+        (with_request s id z) t h).1 (put-traced events event s starts id (with_status q
         (assigned by p)) z v e
         (λ a x.
         record {
           key = x.key;
           status = place-later s.table events event starts starts (λ i g h. h)
-              a.key a.journal j runs p x.status;
+              a.key a.journal q.journal q.runs p x.status;
         }))
-    retire-traced s starts id node o j runs _ t v e h = absurd (cc)
+    retire-traced s starts id node q _ t v e h = absurd (cc)
 
-    claimed-traced : (s : State P I A) (starts : List Start) (id node : ℕ) (o : Origin)
-        (j : Journal) (runs : List RunId) (site : P) (r : RunId) (b : Body I A)
+    claimed-traced : (s : State P I A) (starts : List Start) (id node : ℕ)
+        (old : RequestState P I A) (site : P) (r : RunId) (b : Body I A)
         (go : Record → Journal → Walk P I A) (kind : ClaimKind) (t : State P I A) →
         event ≡ Claim id r kind → IsHistory w events s →
-        Lawful s → Traced events s starts → at s.requests id ≡ Some (request_of o j runs
-        (assigned node (walking (wants site r b go)))) → claimed w s id node o j runs r b go
+        Lawful s → Traced events s starts → at s.requests id ≡ Some (with_status old
+        (assigned node (walking (wants site r b go)))) → claimed w s id node old r b go
         kind ≡ Some t → Next t starts
-    claimed-traced s starts id node o j runs site r b go Go t ev hist l v e h =
+    claimed-traced s starts id node old site r b go Go t ev hist l v e h =
         let q : RequestState P I A =
-        request_of o j runs (assigned node (walking (wants site r b go))) in
+        with_status old (assigned node (walking (wants site r b go))) in
         let z : RequestState P I A =
-        in_body w (assigned node) o runs r go (run_on w.tools r b j nothing_yet) in
+        in_body w (assigned node) old r go (run_on w.tools r b old.journal nothing_yet) in
         let x = unless-some (is_begun r s.begun)
         (record {
           requests = put s.requests id z;
@@ -518,15 +517,17 @@ module _ {P I A : Type 0} (w : World P I A) where
                 key = y.key;
                 status = (
                   b,
-                  j,
+                  old.journal,
                   record {
                     from_closed = lq.closed;
-                    fresh = unfinished-fresh w s.table j runs r lq (unbegun-unfinished w s l r x.0);
-                    so_far = run_on-reps (Recorded s.table) w.tools r b j j nothing_yet none;
+                    fresh = unfinished-fresh w s.table old.journal old.runs r lq
+                        (unbegun-unfinished w s l r x.0);
+                    so_far = run_on-reps (Recorded s.table) w.tools r b old.journal old.journal
+                        nothing_yet none;
                     ran = y.status.0;
                     site = site;
                     wanted = y.status.1;
-                    left = λ U n. runs_by U r b j nothing_yet;
+                    left = λ U n. runs_by U r b old.journal nothing_yet;
                     begun = record {
                       before = events;
                       later = [];
@@ -547,46 +548,46 @@ module _ {P I A : Type 0} (w : World P I A) where
               }) s.requests id starts v.each e;
           consistent = consistent-more w events event s.table v.consistent;
         })
-    claimed-traced s starts id node o j runs site r b go Use t ev hist l v e h =
+    claimed-traced s starts id node old site r b go Use t ev hist l v e h =
         let x = and_then-some (found s.table r)
-        (λ made. and_then (replay s.table r j)
-        (λ next. Some (with_request s id (goes_on w (assigned node) o runs r go made next)))) t
+        (λ made. and_then (replay s.table r old.journal)
+        (λ next. Some (with_request s id (goes_on w (assigned node) old r go made next)))) t
         h in
-        let y = and_then-some (replay s.table r j)
-        (λ next. Some (with_request s id (goes_on w (assigned node) o runs r go x.0 next))) t
+        let y = and_then-some (replay s.table r old.journal)
+        (λ next. Some (with_request s id (goes_on w (assigned node) old r go x.0 next))) t
         x.2 in
-        let z : RequestState P I A = goes_on w (assigned node) o runs r go x.0 y.0 in
+        let z : RequestState P I A = goes_on w (assigned node) old r go x.0 y.0 in
         subst (λ (u : State P I A). Next u starts) (some-is (with_request s id z) t y.2)
-        (put-traced events event s starts id (request_of o j runs
+        (put-traced events event s starts id (with_status old
         (assigned node (walking (wants site r b go)))) z v e
         (λ a c. record {
           key = c.key;
-          status = walk-uses s.table l.once a.key a.journal j runs site r b go x.0
+          status = walk-uses s.table l.once a.key a.journal old.journal old.runs site r b go x.0
               y.0 x.1 y.1 c.status;
         }))
-    claimed-traced s starts id node o j runs site r b go Wait t ev hist l v e h =
-        let next : State P I A = waiting w s id o j runs r b go in
+    claimed-traced s starts id node old site r b go Wait t ev hist l v e h =
+        let next : State P I A = waiting w s id old r b go in
         let x = only_if-some
         (may_wait w (is_begun r s.begun) (found s.table r) (is_in_cycle next r)) next t h in
         subst (λ (u : State P I A). Next u starts) x.1 (put-traced events event s starts id
-        (request_of o j runs (assigned node (walking (wants site r b go)))) (request_of o j runs
+        (with_status old (assigned node (walking (wants site r b go)))) (with_status old
         (waits r b go)) v e
         (λ a c. record { key = c.key; status = (site, c.status) }))
 
     claim-traced : (s : State P I A) (starts : List Start) (id : ℕ) (run : RunId) (kind : ClaimKind)
-        (o : Origin) (j : Journal) (runs : List RunId) (st : Status P I A) (t : State P I A) →
+        (q : RequestState P I A) (st : Status P I A) (t : State P I A) →
         event ≡ Claim id run kind → IsHistory w events s →
-        Lawful s → Traced events s starts → at s.requests id ≡ Some (request_of o j runs st)
-        → claim_at w s id run kind o j runs st ≡ Some t → Next t starts
-    claim-traced s starts id run kind o j runs (assigned node (walking (wants site r b go))) t ev
+        Lawful s → Traced events s starts → at s.requests id ≡ Some (with_status q st)
+        → claim_at w s id run kind q st ≡ Some t → Next t starts
+    claim-traced s starts id run kind q (assigned node (walking (wants site r b go))) t ev
         hist l v e h =
         let x = and_then-some (only_if (same_run r run) r)
-        (λ run. claimed w s id node o j runs run b go kind) t h in
+        (λ run. claimed w s id node q run b go kind) t h in
         let y = only_if-some (same_run r run) r x.0 x.1 in
-        claimed-traced s starts id node o j runs site r b go kind t (ev ∙ ap (λ n. Claim id n kind)
+        claimed-traced s starts id node q site r b go kind t (ev ∙ ap (λ n. Claim id n kind)
         (sym (same_run-true r run y.0))) hist l v e
-        (subst (λ n. claimed w s id node o j runs n b go kind ≡ Some t) (sym y.1) x.2)
-    claim-traced s starts id run kind o j runs _ t ev hist l v e h = absurd (cc)
+        (subst (λ n. claimed w s id node q n b go kind ≡ Some t) (sym y.1) x.2)
+    claim-traced s starts id run kind q _ t ev hist l v e h = absurd (cc)
 
     length-more : {X : Type 0} (xs : List X) (x : X) → length (xs ++ x ∷ []) ≡ suc (length xs)
     length-more [] x = refl
@@ -613,56 +614,61 @@ module _ {P I A : Type 0} (w : World P I A) where
               (h ∙ sym (append_assoc goals (g ∷ []) (starts_of j keys)))),
         )
 
-    children-traced : (s : State P I A) (starts : List Start) (id node : ℕ) (o : Origin)
-        (j : Journal) (runs : List RunId) (x : Within P I A) (key : RequestKey)
+    children-traced : (s : State P I A) (starts : List Start) (id node : ℕ)
+        (old : RequestState P I A) (x : Within P I A) (key : RequestKey)
         (more : List RequestKey) (go : List RequestResult → Journal → Body I A) →
         Traced events s starts →
-        at s.requests id ≡ Some (request_of o j runs (assigned node (within x (asks key more go))))
-        → Next (with_children w s id o j runs (key ∷ more) x go)
-        (starts ++ starts_of j (key ∷ more))
-    children-traced s starts id node o j runs x key more go v e =
+        at s.requests id ≡ Some (with_status old (assigned node (within x (asks key more go))))
+        → Next (with_children w s id old (key ∷ more) x go)
+        (starts ++ starts_of old.journal (key ∷ more))
+    children-traced s starts id node old x key more go v e =
         let keys : List RequestKey = key ∷ more in
         let q : RequestState P I A =
-        request_of o j runs (assigned node (within x (asks key more go))) in
+        with_status old (assigned node (within x (asks key more go))) in
         let ids : List ℕ = numbered_from (length s.requests) keys in
-        let z : RequestState P I A = request_of o j runs (calling keys ids x go) in
-        let all : List Start = starts ++ starts_of j keys in
+        let z : RequestState P I A = with_status old (calling keys ids x go) in
+        let all : List Start = starts ++ starts_of old.journal keys in
         let here = Paired-some (Trace s.table events starts) s.requests starts id q v.each e in
-        let kids : Kids all ids keys j = subst (λ (n : ℕ). Kids all (numbered_from n keys) keys j)
+        let kids : Kids all ids keys old.journal = subst
+        (λ (n : ℕ). Kids all (numbered_from n keys) keys old.journal)
         (sym (Paired-length (Trace s.table events starts) s.requests starts v.each))
-        (kids-match starts j keys all refl) in
-        let mine : InTrace s.table (events ++ event ∷ []) here.0.key here.0.journal j runs x
-        (after_calls x.run x.so_far keys go j) =
-        in-later s.table events event starts all (λ i g p. at-front starts (starts_of j keys) i g p)
-        here.0.key here.0.journal j runs x (after_calls x.run x.so_far keys go j) here.1.status
+        (kids-match starts old.journal keys all refl) in
+        let mine : InTrace s.table (events ++ event ∷ []) here.0.key here.0.journal old.journal
+        old.runs x
+        (after_calls x.run x.so_far keys go old.journal) =
+        in-later s.table events event starts all
+        (λ i g p. at-front starts (starts_of old.journal keys) i g p)
+        here.0.key here.0.journal old.journal old.runs x
+        (after_calls x.run x.so_far keys go old.journal) here.1.status
         in
         let front : Paired (Trace s.table (events ++ event ∷ []) all) (put s.requests id z) starts =
         Paired-put_at (Trace s.table events starts) (Trace s.table (events ++ event ∷ []) all)
         (trace-later s.table events event starts all
-        (λ i g p. at-front starts (starts_of j keys) i g p)) z here.0
+        (λ i g p. at-front starts (starts_of old.journal keys) i g p)) z here.0
         (record { key = here.1.key; status = (mine, kids) }) s.requests id starts v.each here.2 in
         record {
           each = Paired-append (Trace s.table (events ++ event ∷ []) all) (put s.requests id z)
-              starts (map (new_request w (Some id) (x.run ∷ o.path) j) keys) (starts_of j keys)
-              front (kids-each s.table all (Some id) (x.run ∷ o.path) j keys);
+              starts (map (new_request w (Some id) (x.run ∷ old.origin.path) old.journal) keys)
+              (starts_of old.journal keys)
+              front (kids-each s.table all (Some id) (x.run ∷ old.origin.path) old.journal keys);
           consistent = consistent-more w events event s.table v.consistent;
         }
 
     request-traced : (s : State P I A) (starts : List Start) (id : ℕ) (keys : List RequestKey)
-        (o : Origin) (j : Journal) (runs : List RunId) (st : Status P I A) (t : State P I A) →
+        (q : RequestState P I A) (st : Status P I A) (t : State P I A) →
         Traced events s starts →
-        at s.requests id ≡ Some (request_of o j runs st)
-        → request_at w s id keys o j runs st ≡ Some t
+        at s.requests id ≡ Some (with_status q st)
+        → request_at w s id keys q st ≡ Some t
         → (starts2 : List Start) × Next t (starts ++ starts2)
-    request-traced s starts id keys o j runs (assigned node (within x (asks key more go))) t v e h =
+    request-traced s starts id keys q (assigned node (within x (asks key more go))) t v e h =
         let y = only_if-some (same_keys (key ∷ more) keys
-        && is_within_limits w s (x.run ∷ o.path) (key ∷ more))
-        (with_children w s id o j runs (key ∷ more) x go) t h in (
-          starts_of j (key ∷ more),
-          subst (λ (u : State P I A). Next u (starts ++ starts_of j
-              (key ∷ more))) y.1 (children-traced s starts id node o j runs x key more go v e),
+        && is_within_limits w s (x.run ∷ q.origin.path) (key ∷ more))
+        (with_children w s id q (key ∷ more) x go) t h in (
+          starts_of q.journal (key ∷ more),
+          subst (λ (u : State P I A). Next u (starts ++ starts_of q.journal
+              (key ∷ more))) y.1 (children-traced s starts id node q x key more go v e),
         )
-    request-traced s starts id keys o j runs _ t v e h = absurd (cc)
+    request-traced s starts id keys q _ t v e h = absurd (cc)
 
     -- a run is finished
     woken-traced : (T : Records) (fin : FinishedRun) → found T fin.run ≡ None → IsOnce (fin ∷ T) →
@@ -688,11 +694,11 @@ module _ {P I A : Type 0} (w : World P I A) where
             })
         f true e h =
             let y = and_then-some (replay (fin ∷ T) r q.journal)
-            (λ next. Some (goes_on w ready q.origin q.runs r go fin.made next)) t h in
+            (λ next. Some (goes_on w ready q r go fin.made next)) t h in
             let rec : Recorded (fin ∷ T) r fin.made = subst (λ x. Recorded (fin ∷ T) x fin.made)
             (sym (same_run-true r fin.run e)) (found-newest T fin) in
             subst (λ (u : RequestState P I A). Trace (fin ∷ T) (events ++ event ∷ []) starts u a)
-            (some-is (goes_on w ready q.origin q.runs r go fin.made y.0) t y.2)
+            (some-is (goes_on w ready q r go fin.made y.0) t y.2)
             (record {
               key = p;
               status = walk-uses (fin ∷ T) once a.key a.journal q.journal q.runs v.0 r b go fin.made
@@ -737,26 +743,26 @@ module _ {P I A : Type 0} (w : World P I A) where
               v.wanted U (step_newer T fin n events [] U u),
         )
 
-    finished-traced : (s : State P I A) (starts : List Start) (id node : ℕ) (o : Origin)
-        (j : Journal) (runs : List RunId) (x : Within P I A) (outcome : Outcome) (t : State P I A) →
+    finished-traced : (s : State P I A) (starts : List Start) (id node : ℕ)
+        (old : RequestState P I A) (x : Within P I A) (outcome : Outcome) (t : State P I A) →
         Lawful s → Traced events s starts →
-        at s.requests id ≡ Some (request_of o j runs (assigned node (within x (ends outcome))))
-        → finished w s id node o j runs x (recorded outcome x.so_far.segments) ≡ Some t
+        at s.requests id ≡ Some (with_status old (assigned node (within x (ends outcome))))
+        → finished w s id node old x (recorded outcome x.so_far.segments) ≡ Some t
         → Next t starts
-    finished-traced s starts id node o j runs x outcome t l v e h =
+    finished-traced s starts id node old x outcome t l v e h =
         let m : Record = recorded outcome x.so_far.segments in
         let fin : FinishedRun = record { run = x.run; made = m } in
         let q : RequestState P I A =
-        request_of o j runs (assigned node (within x (ends outcome))) in
+        with_status old (assigned node (within x (ends outcome))) in
         let z : RequestState P I A =
-        goes_on w (assigned node) o runs x.run x.go m (add j (ended x.run m)) in
+        goes_on w (assigned node) old x.run x.go m (add old.journal (ended x.run m)) in
         let lq = l.each id q e in
         let b = lq.status.1 in
         let n : found s.table x.run ≡ None = b.unfinished in
         let c = reps-closed (Recorded s.table) (one_record s.table) b.so_far b.from_closed in
         let ordered : IsOrdered (fin ∷ s.table) = (
-          (λ r i. ended-finished s.table j runs lq.journal r
-              (HasAll-in (effects_of x.run m) j (replays_run r) c.0 i)),
+          (λ r i. ended-finished s.table old.journal old.runs lq.journal r
+              (HasAll-in (effects_of x.run m) old.journal (replays_run r) c.0 i)),
           l.ordered,
         ) in
         let u = and_then-some (traverse (woken w (fin ∷ s.table) x.run m) (put s.requests id z))
@@ -792,7 +798,7 @@ module _ {P I A : Type 0} (w : World P I A) where
                 refl,
                 record {
                   key = c.key;
-                  status = ends-walk s.table x outcome a.key a.journal j runs n
+                  status = ends-walk s.table x outcome a.key a.journal old.journal old.runs n
                       ordered (n, l.once) c.status;
                 },
               )) s.requests id starts v.each e)
@@ -815,7 +821,8 @@ module _ {P I A : Type 0} (w : World P I A) where
                       (record {
                         key = tz.key;
                         status = walk-newer s.table fin n later starts a.key
-                            a.journal z.journal z.runs (x.go m (add j (ended x.run m))) tz.status;
+                            a.journal z.journal z.runs (x.go m (add old.journal (ended x.run m)))
+                            tz.status;
                       })
                   | inr r ↦ woken-traced s.table fin n (n, l.once) starts y k a d.key
                       (l.each i y r.1).journal y.status d.status d.status woke
@@ -825,7 +832,7 @@ module _ {P I A : Type 0} (w : World P I A) where
             (
               mine.0,
               mine.1,
-              j,
+              old.journal,
               begun-more w events event x.run mine.0 mine.1 mine.2.begun,
               mine.2.left s.table same_table,
             ),
@@ -833,19 +840,19 @@ module _ {P I A : Type 0} (w : World P I A) where
           );
         })
 
-    result-traced : (s : State P I A) (starts : List Start) (id : ℕ) (run : RunId) (o : Origin)
-        (j : Journal) (runs : List RunId) (st : Status P I A) (t : State P I A) → Lawful s →
+    result-traced : (s : State P I A) (starts : List Start) (id : ℕ) (run : RunId)
+        (q : RequestState P I A) (st : Status P I A) (t : State P I A) → Lawful s →
         Traced events s starts →
-        at s.requests id ≡ Some (request_of o j runs st) → result_at w s id run o j runs st ≡ Some t
+        at s.requests id ≡ Some (with_status q st) → result_at w s id run q st ≡ Some t
         → Next t starts
-    result-traced s starts id run o j runs (assigned node (within x (ends outcome))) t l v e h =
+    result-traced s starts id run q (assigned node (within x (ends outcome))) t l v e h =
         let y = and_then-some (only_if (same_run x.run run) x)
-        (λ x. finished w s id node o j runs x (recorded outcome x.so_far.segments)) t h in
+        (λ x. finished w s id node q x (recorded outcome x.so_far.segments)) t h in
         let p : x ≡ y.0 = (only_if-some (same_run x.run run) x y.0 y.1).1 in
-        finished-traced s starts id node o j runs x outcome t l v e
-        (subst (λ (a : Within P I A). finished w s id node o j runs a
+        finished-traced s starts id node q x outcome t l v e
+        (subst (λ (a : Within P I A). finished w s id node q a
         (recorded outcome a.so_far.segments) ≡ Some t) (sym p) y.2)
-    result-traced s starts id run o j runs _ t l v e h = absurd (cc)
+    result-traced s starts id run q _ t l v e h = absurd (cc)
 
     -- what children have told is what their requests give
     told-by : (T : Records) (starts : List Start) (key : RequestKey) (first j : Journal)
@@ -908,28 +915,29 @@ module _ {P I A : Type 0} (w : World P I A) where
     kids-by T all rs starts v j cj a ca f (id ∷ ids) [] results m h = absurd m
 
     -- a request is over, and then its caller may go on
-    answered-traced : (s : State P I A) (starts : List Start) (id : ℕ) (o : Origin) (j : Journal)
-        (runs : List RunId) (keys : List RequestKey) (ids : List ℕ) (x : Within P I A)
+    answered-traced : (s : State P I A) (starts : List Start) (id : ℕ) (old : RequestState P I A)
+        (keys : List RequestKey) (ids : List ℕ) (x : Within P I A)
         (go : List RequestResult → Journal → Body I A) (t : State P I A) → Lawful s →
         Next s starts →
-        at s.requests id ≡ Some (request_of o j runs (calling keys ids x go))
+        at s.requests id ≡ Some (with_status old (calling keys ids x go))
         → (reply : Option (List RequestResult)) → results_of w s.requests ids ≡ reply
-        → answered w s id o j runs keys x go reply ≡ Some t → Next t starts
-    answered-traced s starts id o j runs keys ids x go t l v e None g h =
+        → answered w s id old keys x go reply ≡ Some t → Next t starts
+    answered-traced s starts id old keys ids x go t l v e None g h =
         subst (λ (u : State P I A). Next u starts) (some-is s t h) v
-    answered-traced s starts id o j runs keys ids x go t l v e (Some results) g h =
-        let q : RequestState P I A = request_of o j runs (calling keys ids x go) in
+    answered-traced s starts id old keys ids x go t l v e (Some results) g h =
+        let q : RequestState P I A = with_status old (calling keys ids x go) in
         let lq = (l.each id q e).journal in
-        let y = and_then-some (replay_all s.table (runs_of results) j)
+        let y = and_then-some (replay_all s.table (runs_of results) old.journal)
         (λ next.
         Some
         (with_request s id
-        (in_body w ready o runs x.run x.go
+        (in_body w ready old x.run x.go
         (run_on w.tools x.run (go results next) next (with_calls x.so_far keys results))))) t h
         in
-        let d : Reps (Recorded s.table) (map replays_run (runs_of results)) j y.0 = replay_all-reps
-        s.table l.once (runs_of results) j y.0 y.1 in
-        let z : RequestState P I A = in_body w ready o runs x.run x.go (run_on w.tools x.run
+        let d : Reps (Recorded s.table) (map replays_run (runs_of results)) old.journal y.0 =
+        replay_all-reps
+        s.table l.once (runs_of results) old.journal y.0 y.1 in
+        let z : RequestState P I A = in_body w ready old x.run x.go (run_on w.tools x.run
         (go results y.0) y.0 (with_calls x.so_far keys results)) in
         subst (λ (u : State P I A). Next u starts) (some-is (with_request s id z) t y.2) (record {
           each = Paired-put (Trace s.table (events ++ event ∷ []) starts)
@@ -938,22 +946,25 @@ module _ {P I A : Type 0} (w : World P I A) where
               record {
                 key = c.key;
                 status = back a c.status
-                    (kids-by s.table starts s.requests starts v.each j lq.closed j lq.closed
+                    (kids-by s.table starts s.requests starts v.each old.journal lq.closed
+                    old.journal lq.closed
                     (λ m h. h) ids keys results c.status.1 g) d;
               }) s.requests id starts v.each e;
           consistent = v.consistent;
         })
       where
         back : {k : Journal} (a : Start)
-            → InTrace s.table (events ++ event ∷ []) a.key a.journal j runs x
-            (after_calls x.run x.so_far keys go j) × Kids starts ids keys j →
-            (i : Journal) × Reps (Recorded s.table) (map replays_run (runs_of results)) j i
-            × Equal s.table (λ U. calls_by w U j j keys) (λ U. Some (results, i))
+            → InTrace s.table (events ++ event ∷ []) a.key a.journal old.journal old.runs x
+            (after_calls x.run x.so_far keys go old.journal) × Kids starts ids keys old.journal →
+            (i : Journal)
+            × Reps (Recorded s.table) (map replays_run (runs_of results)) old.journal i
+            × Equal s.table (λ U. calls_by w U old.journal old.journal keys)
+            (λ U. Some (results, i))
             × (length keys ≡ length results)
-            → Reps (Recorded s.table) (map replays_run (runs_of results)) j k →
+            → Reps (Recorded s.table) (map replays_run (runs_of results)) old.journal k →
             InTrace s.table (events ++ event ∷ []) a.key a.journal
             (run_on w.tools x.run (go results k) k (with_calls x.so_far keys results)).journal
-            runs
+            old.runs
             (record {
               run = x.run;
               so_far =
@@ -994,8 +1005,8 @@ module _ {P I A : Type 0} (w : World P I A) where
         (st : Status P I A) (t : State P I A) → Lawful s → Next s starts →
         at s.requests id ≡ Some q → q.status ≡ st → resume_at w s id q st ≡ Some t → Next t starts
     back_at-traced s starts id q (calling keys ids x go) t l v e p h =
-        answered-traced s starts id q.origin q.journal q.runs keys ids x go t l v
-        (e ∙ ap (λ (a : Status P I A). Some (request_of q.origin q.journal q.runs a)) p)
+        answered-traced s starts id q keys ids x go t l v
+        (e ∙ ap (λ (a : Status P I A). Some (with_status q a)) p)
         (results_of w s.requests ids) refl h
     back_at-traced s starts id q _ t l v e p h = absurd (cc)
 
@@ -1007,21 +1018,21 @@ module _ {P I A : Type 0} (w : World P I A) where
         let y = and_then-some (at s.requests id) (λ q. resume_at w s id q q.status) t h in
         back_at-traced s starts id y.0 y.0.status t l v y.1 refl y.2
 
-    done-traced : (s : State P I A) (starts : List Start) (id : ℕ) (o : Origin) (j : Journal)
-        (runs : List RunId) (st : Status P I A) (t : State P I A) → Lawful s →
+    done-traced : (s : State P I A) (starts : List Start) (id : ℕ) (q : RequestState P I A)
+        (st : Status P I A) (t : State P I A) → Lawful s →
         Traced events s starts →
-        at s.requests id ≡ Some (request_of o j runs st) → done_at w s id o j runs st ≡ Some t
+        at s.requests id ≡ Some (with_status q st) → done_at w s id q st ≡ Some t
         → Next t starts
-    done-traced s starts id o j runs (assigned node (walking (gives reply))) t l v e h =
-        let z : RequestState P I A = request_of o j runs (done (result_of reply runs)) in
-        let lq = l.each id (request_of o j runs (assigned node (walking (gives reply)))) e in
+    done-traced s starts id q (assigned node (walking (gives reply))) t l v e h =
+        let z : RequestState P I A = with_status q (done (result_of reply q.runs)) in
+        let lq = l.each id (with_status q (assigned node (walking (gives reply)))) e in
         let zl = put-lawful s id z l (record { journal = lq.journal; status = lq.journal.runs_in })
         in
-        back_to-traced (with_request s id z) starts o.parent t zl
+        back_to-traced (with_request s id z) starts q.origin.parent t zl
         (put-traced events event s starts id
-        (request_of o j runs (assigned node (walking (gives reply)))) z v e
+        (with_status q (assigned node (walking (gives reply)))) z v e
         (λ a c. record { key = c.key; status = c.status })) h
-    done-traced s starts id o j runs _ t l v e h = absurd (cc)
+    done-traced s starts id q _ t l v e h = absurd (cc)
 
   step_of-traced : (events : List Event) (s : State P I A) (starts : List Start) (event : Event)
       (q : RequestState P I A) (t : State P I A) → IsHistory w events s → Lawful s →
@@ -1029,30 +1040,29 @@ module _ {P I A : Type 0} (w : World P I A) where
       (starts2 : List Start) × Traced (events ++ event ∷ []) t starts2
   step_of-traced events s starts (Assign id node) q t hist l v e h = (
     starts,
-    assign-traced events (Assign id node) s starts id node q.origin q.journal q.runs
+    assign-traced events (Assign id node) s starts id node q
         q.status t v e h,
   )
   step_of-traced events s starts (Claim id run kind) q t hist l v e h = (
     starts,
-    claim-traced events (Claim id run kind) s starts id run kind q.origin q.journal
-        q.runs q.status t refl hist l v e h,
+    claim-traced events (Claim id run kind) s starts id run kind q q.status t refl hist l v e h,
   )
   step_of-traced events s starts (Request id keys) q t hist l v e h = let y = request-traced events
-      (Request id keys) s starts id keys q.origin q.journal q.runs q.status t v e h
+      (Request id keys) s starts id keys q q.status t v e h
       in (starts ++ y.0, y.1)
   step_of-traced events s starts (Result id run) q t hist l v e h = (
     starts,
-    result-traced events (Result id run) s starts id run q.origin q.journal q.runs
+    result-traced events (Result id run) s starts id run q
         q.status t l v e h,
   )
   step_of-traced events s starts (Done id) q t hist l v e h = (
     starts,
-    done-traced events (Done id) s starts id q.origin q.journal q.runs q.status t l v e
+    done-traced events (Done id) s starts id q q.status t l v e
         h,
   )
   step_of-traced events s starts (Retire id node) q t hist l v e h = (
     starts,
-    retire-traced events (Retire id node) s starts id node q.origin q.journal q.runs
+    retire-traced events (Retire id node) s starts id node q
         q.status t v e h,
   )
 

@@ -27,6 +27,7 @@ use Rattle.result_cache.specs.Table.{Records, found, BegunRun, is_begun}
 use Rattle.build_meaning.specs.World.{World}
 use Rattle.build_meaning.specs.Walk.{Walk, wants, Body}
 use Rattle.build_meaning.specs.State.{
+  with_status,
   Within,
   walking,
   Status,
@@ -43,7 +44,7 @@ use Rattle.build_meaning.specs.History.{IsHistory}
 use Rattle.build_meaning.proofs.RunPaths.{Path, last_one, step_on}
 use Rattle.build_meaning.proofs.ListPlaces.{at-put}
 use Rattle.build_meaning.proofs.LawfulStates.{beginner-begun, LawfulStatus, Lawful}
-use Rattle.build_meaning.proofs.EventsKeepLawful.{request_of, put-lawful, start-lawful, all-lawful}
+use Rattle.build_meaning.proofs.EventsKeepLawful.{put-lawful, start-lawful, all-lawful}
 use Rattle.build_meaning.proofs.NeedsOfRuns.{need, leads-path}
 use Rattle.build_meaning.proofs.OpenRequests.{circle-tested, path-first}
 
@@ -73,13 +74,13 @@ module _ {P I A : Type 0} where
       (b : Body I A) (go : Record → Journal → Walk P I A) →
       at s.requests id ≡ Some q → q.status ≡ assigned node (walking (wants site run b go)) →
       is_begun run s.begun ≡ true → found s.table run ≡ None →
-      Decides (is_in_cycle (waiting w s id q.origin q.journal q.runs run b go) run)
-      (ShowsCycle (waiting w s id q.origin q.journal q.runs run b go) run)
+      Decides (is_in_cycle (waiting w s id q run b go) run)
+      (ShowsCycle (waiting w s id q run b go) run)
   cycles_are_shown w events s h id node q site run b go e st begun none =
       let v = all-lawful w events (start w) s (start-lawful w) h in
       let l = v.each id q e in
-      shown w (waiting w s id q.origin q.journal q.runs run b go)
-      (put-lawful s id (request_of q.origin q.journal q.runs (waits run b go)) v
+      shown w (waiting w s id q run b go)
+      (put-lawful s id (with_status q (waits run b go)) v
       (record { journal = l.journal; status = (begun, none) })) run
 
   status-open : (begun : List BegunRun) (table : Records) (id : ℕ) (j : Journal) (st : Status P I A)
@@ -94,15 +95,15 @@ module _ {P I A : Type 0} where
   pub cycles_need_open : (w : World P I A) (events : List Event) (s : State P I A) →
       IsHistory w events s → (id : ℕ) (q : RequestState P I A) (run : RunId) (b : Body I A)
       (go : Record → Journal → Walk P I A) →
-      is_in_cycle (waiting w s id q.origin q.journal q.runs run b go) run ≡ true
+      is_in_cycle (waiting w s id q run b go) run ≡ true
       → (is_begun run s.begun ≡ true) × (found s.table run ≡ None)
   cycles_need_open w events s h id q run b go c =
       let v = all-lawful w events (start w) s (start-lawful w) h in
-      let next : State P I A = waiting w s id q.origin q.journal q.runs run b go in
+      let next : State P I A = waiting w s id q run b go in
       let n = need next run (path-first (leads-path next (length s.begun) run run c)).0
       (path-first (leads-path next (length s.begun) run run c)).1 in
       elim
-      (at-put s.requests id (request_of q.origin q.journal q.runs (waits run b go)) n.caller
+      (at-put s.requests id (with_status q (waits run b go)) n.caller
       n.req n.req_at) [
         | inl p ↦
             absurd (waits-calls run b go n.keys n.ids n.x n.go

@@ -72,6 +72,7 @@ use Rattle.build_meaning.specs.SoFar.{
 }
 use Rattle.build_meaning.specs.Stop.{ends, asks, run_on}
 use Rattle.build_meaning.specs.State.{
+  with_status,
   Within,
   Place,
   walking,
@@ -82,7 +83,6 @@ use Rattle.build_meaning.specs.State.{
   waits,
   calling,
   done,
-  Origin,
   RequestState,
   State,
   with_request,
@@ -375,8 +375,8 @@ module _ {P I A : Type 0} where
       → woken_if w y (f ∷ table) q f.made r go ≡ Some t → LawfulRequest begun (f ∷ table) id t
   woken_if-lawful w begun table f id n once q t r b go v e true y h =
       let x = and_then-some (replay (f ∷ table) r q.journal)
-      (λ next. Some (goes_on w ready q.origin q.runs r go f.made next)) t h in
-      let z : RequestState P I A = goes_on w ready q.origin q.runs r go f.made x.0 in
+      (λ next. Some (goes_on w ready q r go f.made next)) t h in
+      let z : RequestState P I A = goes_on w ready q r go f.made x.0 in
       let p : z ≡ t = some-is z t x.2 in
       let zl : LawfulRequest begun (f ∷ table) id z = record {
         journal = journal-ran (f ∷ table) r q.journal x.0 q.runs
@@ -461,37 +461,34 @@ module _ {P I A : Type 0} where
     table_begun = v.table_begun;
   }
 
-  abbrev pub request_of : Origin → Journal → List RunId → Status P I A → RequestState P I A
-  request_of o j runs st = record { origin = o; journal = j; runs = runs; status = st }
-
 module _ {P I A : Type 0} (w : World P I A) where
-  abbrev pub Moves : (State P I A → Status P I A → Option (State P I A)) → Origin → ℕ → Journal →
-      List RunId → Type 0
-  Moves event o id j runs =
+  abbrev pub Moves : (State P I A → Status P I A → Option (State P I A)) → RequestState P I A → ℕ →
+      Type 0
+  Moves event q id =
       (s t : State P I A) (st : Status P I A) → Lawful s → at s.requests id ≡ Some
-      (request_of o j runs st) → event s st ≡ Some t → Lawful t
+      (with_status q st) → event s st ≡ Some t → Lawful t
 
-  assign-lawful : (s : State P I A) (id node : ℕ) (o : Origin) (j : Journal) (runs : List RunId)
+  assign-lawful : (s : State P I A) (id node : ℕ) (q : RequestState P I A)
       (st : Status P I A) (t : State P I A) → Lawful s →
-      at s.requests id ≡ Some (request_of o j runs st) → assign_at w s id node o j runs st ≡ Some t
+      at s.requests id ≡ Some (with_status q st) → assign_at w s id node q st ≡ Some t
       → Lawful t
-  assign-lawful s id node o j runs (ready p) t v e h =
-      let z : RequestState P I A = request_of o j runs (assigned node p) in
-      let l = v.each id (request_of o j runs (ready p)) e in
+  assign-lawful s id node q (ready p) t v e h =
+      let z : RequestState P I A = with_status q (assigned node p) in
+      let l = v.each id (with_status q (ready p)) e in
       subst (λ (u : State P I A). Lawful u) (some-is (with_request s id z) t h) (put-lawful s id z v
       (record { journal = l.journal; status = l.status }))
-  assign-lawful s id node o j runs _ t v e h = absurd (cc)
+  assign-lawful s id node q _ t v e h = absurd (cc)
 
-  retire-lawful : (s : State P I A) (id node : ℕ) (o : Origin) (j : Journal) (runs : List RunId)
+  retire-lawful : (s : State P I A) (id node : ℕ) (q : RequestState P I A)
       (st : Status P I A) (t : State P I A) → Lawful s →
-      at s.requests id ≡ Some (request_of o j runs st) → retire_at w s id node o j runs st ≡ Some t
+      at s.requests id ≡ Some (with_status q st) → retire_at w s id node q st ≡ Some t
       → Lawful t
-  retire-lawful s id node o j runs (assigned by p) t v e h =
-      let z : RequestState P I A = request_of o j runs (ready p) in
-      let l = v.each id (request_of o j runs (assigned by p)) e in
+  retire-lawful s id node q (assigned by p) t v e h =
+      let z : RequestState P I A = with_status q (ready p) in
+      let l = v.each id (with_status q (assigned by p)) e in
       subst (λ (u : State P I A). Lawful u) (only_if-some (by == node) (with_request s id z) t h).1
       (put-lawful s id z v (record { journal = l.journal; status = l.status }))
-  retire-lawful s id node o j runs _ t v e h = absurd (cc)
+  retire-lawful s id node q _ t v e h = absurd (cc)
 
   -- a run is begun
   pub unbegun-unfinished : (s : State P I A) → Lawful s → (r : RunId) → is_begun r s.begun ≡ false →
@@ -516,41 +513,44 @@ module _ {P I A : Type 0} (w : World P I A) where
   distinct-begun (b ∷ begun) r h = let x = or_neither (same_run b.run r) (is_begun r begun) h in rw
       (x.0, distinct-begun begun r x.1)
 
-  begin-lawful : (s : State P I A) (id node : ℕ) (o : Origin) (j : Journal) (runs : List RunId)
+  begin-lawful : (s : State P I A) (id node : ℕ) (old : RequestState P I A)
       (site : P) (r : RunId) (b : Body I A) (go : Record → Journal → Walk P I A) → Lawful s →
-      at s.requests id ≡ Some (request_of o j runs (assigned node (walking (wants site r b go)))) →
+      at s.requests id ≡ Some (with_status old (assigned node (walking (wants site r b go)))) →
       is_begun r s.begun ≡ false →
       Lawful
       (record {
         requests = put s.requests id
-            (in_body w (assigned node) o runs r go (run_on w.tools r b j nothing_yet));
+            (in_body w (assigned node) old r go (run_on w.tools r b old.journal nothing_yet));
         begun = record
             { run = r; by = id } ∷ s.begun;
         table = s.table;
         tools_used = s.tools_used;
       })
-  begin-lawful s id node o j runs site r b go v e n =
+  begin-lawful s id node old site r b go v e n =
       let new_one : BegunRun = record { run = r; by = id } in
-      let l = v.each id (request_of o j runs (assigned node (walking (wants site r b go)))) e in
+      let l = v.each id (with_status old (assigned node (walking (wants site r b go)))) e in
       let none_yet = unbegun-unfinished s v r n in
-      let added = run_on-adds (Recorded s.table) w.tools r b j nothing_yet in
+      let added = run_on-adds (Recorded s.table) w.tools r b old.journal nothing_yet in
       record {
         each = λ k q h.
             elim
             (at-put s.requests id
-            (in_body w (assigned node) o runs r go (run_on w.tools r b j nothing_yet)) k q h) [
+            (in_body w (assigned node) old r go (run_on w.tools r b old.journal nothing_yet)) k q h) [
               | inl p ↦
                   subst (λ n. LawfulRequest (new_one ∷ s.begun) s.table n q) (sym p.0)
-                  (subst (λ (y : RequestState P I A). LawfulRequest (new_one ∷ s.begun) s.table id y)
+                  (subst
+                  (λ (y : RequestState P I A). LawfulRequest (new_one ∷ s.begun) s.table id y)
                   p.1 (record {
-                    journal = journal-replayed s.table added.0 j
-                        (run_on w.tools r b j nothing_yet).journal runs added.1 l.journal;
+                    journal = journal-replayed s.table added.0 old.journal
+                        (run_on w.tools r b old.journal nothing_yet).journal old.runs added.1
+                        l.journal;
                     status = (
-                      j,
+                      old.journal,
                       record {
                         from_closed = l.journal.closed;
-                        fresh = unfinished-fresh s.table j runs r l.journal none_yet;
-                        so_far = run_on-reps (Recorded s.table) w.tools r b j j nothing_yet none;
+                        fresh = unfinished-fresh s.table old.journal old.runs r l.journal none_yet;
+                        so_far = run_on-reps (Recorded s.table) w.tools r b old.journal old.journal
+                            nothing_yet none;
                         mine = beginner-newest s.begun new_one;
                         unfinished = none_yet;
                       },
@@ -571,83 +571,87 @@ module _ {P I A : Type 0} (w : World P I A) where
   may_wait-so true (Some m) c h = absurd (cc)
   may_wait-so false o c h = absurd (cc)
 
-  claimed-lawful : (s : State P I A) (id node : ℕ) (o : Origin) (j : Journal) (runs : List RunId)
+  claimed-lawful : (s : State P I A) (id node : ℕ) (q : RequestState P I A)
       (site : P) (r : RunId) (b : Body I A) (go : Record → Journal → Walk P I A) (kind : ClaimKind)
       (t : State P I A) → Lawful s →
-      at s.requests id ≡ Some (request_of o j runs (assigned node (walking (wants site r b go)))) →
-      claimed w s id node o j runs r b go kind ≡ Some t → Lawful t
-  claimed-lawful s id node o j runs site r b go Go t v e h =
+      at s.requests id ≡ Some (with_status q (assigned node (walking (wants site r b go)))) →
+      claimed w s id node q r b go kind ≡ Some t → Lawful t
+  claimed-lawful s id node q site r b go Go t v e h =
       let x = unless-some (is_begun r s.begun)
       (record {
         requests = put s.requests id
-            (in_body w (assigned node) o runs r go (run_on w.tools r b j nothing_yet));
+            (in_body w (assigned node) q r go (run_on w.tools r b q.journal nothing_yet));
         begun = record
             { run = r; by = id } ∷ s.begun;
         table = s.table;
         tools_used = s.tools_used;
       }) t h in
       subst (λ (u : State P I A). Lawful u) x.1
-      (begin-lawful s id node o j runs site r b go v e x.0)
-  claimed-lawful s id node o j runs site r b go Use t v e h =
+      (begin-lawful s id node q site r b go v e x.0)
+  claimed-lawful s id node q site r b go Use t v e h =
       let x = and_then-some (found s.table r)
-      (λ made. and_then (replay s.table r j)
-      (λ next. Some (with_request s id (goes_on w (assigned node) o runs r go made next)))) t h
+      (λ made. and_then (replay s.table r q.journal)
+      (λ next. Some (with_request s id (goes_on w (assigned node) q r go made next)))) t h
       in
-      let y = and_then-some (replay s.table r j)
-      (λ next. Some (with_request s id (goes_on w (assigned node) o runs r go x.0 next))) t x.2
+      let y = and_then-some (replay s.table r q.journal)
+      (λ next. Some (with_request s id (goes_on w (assigned node) q r go x.0 next))) t x.2
       in
-      let z : RequestState P I A = goes_on w (assigned node) o runs r go x.0 y.0 in
-      let l = v.each id (request_of o j runs (assigned node (walking (wants site r b go)))) e in
+      let z : RequestState P I A = goes_on w (assigned node) q r go x.0 y.0 in
+      let l = v.each id (with_status q (assigned node (walking (wants site r b go)))) e in
       subst (λ (u : State P I A). Lawful u) (some-is (with_request s id z) t y.2)
       (put-lawful s id z v
       (record {
-        journal = journal-ran s.table r j y.0 runs (replay-rep s.table v.once r j y.0 y.1)
+        journal = journal-ran s.table r q.journal y.0 q.runs
+            (replay-rep s.table v.once r q.journal y.0 y.1)
             l.journal;
         status = tt;
       }))
-  claimed-lawful s id node o j runs site r b go Wait t v e h =
-      let next : State P I A = waiting w s id o j runs r b go in
+  claimed-lawful s id node q site r b go Wait t v e h =
+      let next : State P I A = waiting w s id q r b go in
       let x = only_if-some (may_wait w (is_begun r s.begun) (found s.table r) (is_in_cycle next r))
       next t h in
       let y = may_wait-so (is_begun r s.begun) (found s.table r) (is_in_cycle next r) x.0 in
-      let l = v.each id (request_of o j runs (assigned node (walking (wants site r b go)))) e in
+      let l = v.each id (with_status q (assigned node (walking (wants site r b go)))) e in
       subst (λ (u : State P I A). Lawful u) x.1
-      (put-lawful s id (request_of o j runs (waits r b go)) v (record {
+      (put-lawful s id (with_status q (waits r b go)) v (record {
         journal = l.journal;
         status = (y.0, y.1);
       }))
 
-  claim-lawful : (s : State P I A) (id : ℕ) (run : RunId) (kind : ClaimKind) (o : Origin)
-      (j : Journal) (runs : List RunId) (st : Status P I A) (t : State P I A) → Lawful s →
-      at s.requests id ≡ Some (request_of o j runs st)
-      → claim_at w s id run kind o j runs st ≡ Some t → Lawful t
-  claim-lawful s id run kind o j runs (assigned node (walking (wants site r b go))) t v e h =
+  claim-lawful : (s : State P I A) (id : ℕ) (run : RunId) (kind : ClaimKind)
+      (q : RequestState P I A) (st : Status P I A) (t : State P I A) → Lawful s →
+      at s.requests id ≡ Some (with_status q st)
+      → claim_at w s id run kind q st ≡ Some t → Lawful t
+  claim-lawful s id run kind q (assigned node (walking (wants site r b go))) t v e h =
       let x = and_then-some (only_if (same_run r run) r)
-      (λ run. claimed w s id node o j runs run b go kind) t h in
+      (λ run. claimed w s id node q run b go kind) t h in
       let y : r ≡ x.0 = (only_if-some (same_run r run) r x.0 x.1).1 in
-      claimed-lawful s id node o j runs site r b go kind t v e
-      (subst (λ n. claimed w s id node o j runs n b go kind ≡ Some t) (sym y) x.2)
-  claim-lawful s id run kind o j runs _ t v e h = absurd (cc)
+      claimed-lawful s id node q site r b go kind t v e
+      (subst (λ n. claimed w s id node q n b go kind ≡ Some t) (sym y) x.2)
+  claim-lawful s id run kind q _ t v e h = absurd (cc)
 
   -- calls are made
-  children-lawful : (s : State P I A) (id : ℕ) (o : Origin) (j : Journal) (runs : List RunId)
+  children-lawful : (s : State P I A) (id : ℕ) (old : RequestState P I A)
       (keys : List RequestKey) (x : Within P I A) (go : List RequestResult → Journal → Body I A) →
       Lawful s →
-      LawfulJournal s.table j runs → (from : Journal) × LawfulBody s.begun s.table id j x from
-      → Lawful (with_children w s id o j runs keys x go)
-  children-lawful s id o j runs keys x go v l b =
+      LawfulJournal s.table old.journal old.runs
+      → (from : Journal) × LawfulBody s.begun s.table id old.journal x from
+      → Lawful (with_children w s id old keys x go)
+  children-lawful s id old keys x go v l b =
       let z : RequestState P I A =
-      request_of o j runs (calling keys (numbered_from (length s.requests) keys) x go) in
+      with_status old (calling keys (numbered_from (length s.requests) keys) x go) in
       let p = put-lawful s id z v
       (record { journal = l; status = (b, sym (numbered-length (length s.requests) keys)) }) in
       record {
         each = λ k q h.
             elim
-            (at-append (put s.requests id z) (map (new_request w (Some id) (x.run ∷ o.path) j) keys)
+            (at-append (put s.requests id z)
+            (map (new_request w (Some id) (x.run ∷ old.origin.path) old.journal) keys)
             k q h) [
               | inl a ↦ p.each k q a
               | inr a ↦
-                  let c = at-map (new_request w (Some id) (x.run ∷ o.path) j) keys a.0 q a.1 in
+                  let c = at-map (new_request w (Some id) (x.run ∷ old.origin.path) old.journal)
+                  keys a.0 q a.1 in
                   subst (λ (y : RequestState P I A). LawfulRequest s.begun s.table k y) c.2
                   (record {
                     journal = record { closed = l.closed; entries = l.entries; runs_in = tt };
@@ -660,30 +664,30 @@ module _ {P I A : Type 0} (w : World P I A) where
         table_begun = v.table_begun;
       }
 
-  request-lawful : (s : State P I A) (id : ℕ) (keys : List RequestKey) (o : Origin) (j : Journal)
-      (runs : List RunId) (st : Status P I A) (t : State P I A) → Lawful s →
-      at s.requests id ≡ Some (request_of o j runs st) → request_at w s id keys o j runs st ≡ Some t
+  request-lawful : (s : State P I A) (id : ℕ) (keys : List RequestKey) (q : RequestState P I A)
+      (st : Status P I A) (t : State P I A) → Lawful s →
+      at s.requests id ≡ Some (with_status q st) → request_at w s id keys q st ≡ Some t
       → Lawful t
-  request-lawful s id keys o j runs (assigned node (within x (asks key more go))) t v e h =
+  request-lawful s id keys q (assigned node (within x (asks key more go))) t v e h =
       let y = only_if-some (same_keys (key ∷ more) keys
-      && is_within_limits w s (x.run ∷ o.path) (key ∷ more))
-      (with_children w s id o j runs (key ∷ more) x go) t h in
-      let l = v.each id (request_of o j runs (assigned node (within x (asks key more go)))) e in
-      subst (λ (u : State P I A). Lawful u) y.1 (children-lawful s id o j runs
+      && is_within_limits w s (x.run ∷ q.origin.path) (key ∷ more))
+      (with_children w s id q (key ∷ more) x go) t h in
+      let l = v.each id (with_status q (assigned node (within x (asks key more go)))) e in
+      subst (λ (u : State P I A). Lawful u) y.1 (children-lawful s id q
       (key ∷ more) x go v l.journal l.status)
-  request-lawful s id keys o j runs _ t v e h = absurd (cc)
+  request-lawful s id keys q _ t v e h = absurd (cc)
 
   -- a run is finished
-  finished-lawful : (s : State P I A) (id node : ℕ) (o : Origin) (j : Journal) (runs : List RunId)
+  finished-lawful : (s : State P I A) (id node : ℕ) (old : RequestState P I A)
       (x : Within P I A) (outcome : Outcome) (t : State P I A) → Lawful s →
-      at s.requests id ≡ Some (request_of o j runs (assigned node (within x (ends outcome))))
-      → finished w s id node o j runs x (recorded outcome x.so_far.segments) ≡ Some t → Lawful t
-  finished-lawful s id node o j runs x outcome t v e h =
+      at s.requests id ≡ Some (with_status old (assigned node (within x (ends outcome))))
+      → finished w s id node old x (recorded outcome x.so_far.segments) ≡ Some t → Lawful t
+  finished-lawful s id node old x outcome t v e h =
       let m : Record = recorded outcome x.so_far.segments in
       let f : FinishedRun = record { run = x.run; made = m } in
       let z : RequestState P I A =
-      goes_on w (assigned node) o runs x.run x.go m (add j (ended x.run m)) in
-      let l = v.each id (request_of o j runs (assigned node (within x (ends outcome)))) e in
+      goes_on w (assigned node) old x.run x.go m (add old.journal (ended x.run m)) in
+      let l = v.each id (with_status old (assigned node (within x (ends outcome)))) e in
       let b = l.status.1 in
       let n : found s.table x.run ≡ None = b.unfinished in
       let c = reps-closed (Recorded s.table) (one_record s.table) b.so_far b.from_closed in
@@ -715,14 +719,17 @@ module _ {P I A : Type 0} (w : World P I A) where
                   subst (λ n. LawfulRequest s.begun (f ∷ s.table) n q) (sym p.0)
                   (subst (λ (g : RequestState P I A). LawfulRequest s.begun (f ∷ s.table) id g)
                   (some-is z q zy)
-                  (record
-                  { journal = journal-ended s.table f n j runs l.journal c.0; status = tt }))
+                  (record {
+                    journal = journal-ended s.table f n old.journal old.runs l.journal c.0;
+                    status =
+                        tt;
+                  }))
               | inr p ↦ woken_at-lawful s.begun s.table f id k n (n, v.once) b.mine p.0 y.0 q
                   (v.each k y.0 p.1) w y.0.status refl y.2
             ];
         ordered = (
-          (λ r i. ended-finished s.table j runs l.journal r
-              (HasAll-in (effects_of x.run m) j (replays_run r) c.0 i)),
+          (λ r i. ended-finished s.table old.journal old.runs l.journal r
+              (HasAll-in (effects_of x.run m) old.journal (replays_run r) c.0 i)),
           v.ordered,
         );
         once = (n, v.once);
@@ -734,49 +741,50 @@ module _ {P I A : Type 0} (w : World P I A) where
         ];
       })
 
-  result-lawful : (s : State P I A) (id : ℕ) (run : RunId) (o : Origin) (j : Journal)
-      (runs : List RunId) (st : Status P I A) (t : State P I A) → Lawful s →
-      at s.requests id ≡ Some (request_of o j runs st) → result_at w s id run o j runs st ≡ Some t
+  result-lawful : (s : State P I A) (id : ℕ) (run : RunId) (q : RequestState P I A)
+      (st : Status P I A) (t : State P I A) → Lawful s →
+      at s.requests id ≡ Some (with_status q st) → result_at w s id run q st ≡ Some t
       → Lawful t
-  result-lawful s id run o j runs (assigned node (within x (ends outcome))) t v e h =
+  result-lawful s id run q (assigned node (within x (ends outcome))) t v e h =
       let y = and_then-some (only_if (same_run x.run run) x)
-      (λ x. finished w s id node o j runs x (recorded outcome x.so_far.segments)) t h in
+      (λ x. finished w s id node q x (recorded outcome x.so_far.segments)) t h in
       let p : x ≡ y.0 = (only_if-some (same_run x.run run) x y.0 y.1).1 in
-      finished-lawful s id node o j runs x outcome t v e
-      (subst (λ (a : Within P I A). finished w s id node o j runs a
+      finished-lawful s id node q x outcome t v e
+      (subst (λ (a : Within P I A). finished w s id node q a
       (recorded outcome a.so_far.segments) ≡ Some t) (sym p) y.2)
-  result-lawful s id run o j runs _ t v e h = absurd (cc)
+  result-lawful s id run q _ t v e h = absurd (cc)
 
   -- a request is over
-  answered-lawful : (s : State P I A) (id : ℕ) (o : Origin) (j : Journal) (runs : List RunId)
+  answered-lawful : (s : State P I A) (id : ℕ) (old : RequestState P I A)
       (keys : List RequestKey) (ids : List ℕ) (x : Within P I A) (go : List RequestResult →
       Journal → Body I A) (t : State P I A) → Lawful s →
-      at s.requests id ≡ Some (request_of o j runs (calling keys ids x go))
+      at s.requests id ≡ Some (with_status old (calling keys ids x go))
       → (found : Option (List RequestResult)) → results_of w s.requests ids ≡ found
-      → answered w s id o j runs keys x go found ≡ Some t → Lawful t
-  answered-lawful s id o j runs keys ids x go t v e None g h =
+      → answered w s id old keys x go found ≡ Some t → Lawful t
+  answered-lawful s id old keys ids x go t v e None g h =
       subst (λ (u : State P I A). Lawful u) (some-is s t h) v
-  answered-lawful s id o j runs keys ids x go t v e (Some results) g h =
-      let l = v.each id (request_of o j runs (calling keys ids x go)) e in
+  answered-lawful s id old keys ids x go t v e (Some results) g h =
+      let l = v.each id (with_status old (calling keys ids x go)) e in
       let b = l.status.0.1 in
-      let y = and_then-some (replay_all s.table (runs_of results) j)
+      let y = and_then-some (replay_all s.table (runs_of results) old.journal)
       (λ next.
       Some
       (with_request s id
-      (in_body w ready o runs x.run x.go
+      (in_body w ready old x.run x.go
       (run_on w.tools x.run (go results next) next (with_calls x.so_far keys results))))) t h in
-      let d = replay_all-reps s.table v.once (runs_of results) j y.0 y.1 in
+      let d = replay_all-reps s.table v.once (runs_of results) old.journal y.0 y.1 in
       let k = run_on w.tools x.run (go results y.0) y.0 (with_calls x.so_far keys results) in
       let added = run_on-adds (Recorded s.table) w.tools x.run (go results y.0) y.0
       (with_calls x.so_far keys results) in
-      let z : RequestState P I A = in_body w ready o runs x.run x.go k in
+      let z : RequestState P I A = in_body w ready old x.run x.go k in
       let many : length keys ≡ length results = l.status.1
       ∙ traverse-length (λ id. and_then (at s.requests id) (λ q. result_in w q.status)) ids
       results g in
       subst (λ (u : State P I A). Lawful u) (some-is (with_request s id z) t y.2)
       (put-lawful s id z v (record {
-        journal = journal-replayed s.table added.0 y.0 k.journal runs added.1
-            (journal-replayed s.table (map replays_run (runs_of results)) j y.0 runs d l.journal);
+        journal = journal-replayed s.table added.0 y.0 k.journal old.runs added.1
+            (journal-replayed s.table (map replays_run (runs_of results)) old.journal y.0 old.runs d
+            l.journal);
         status = (
           l.status.0.0,
           record {
@@ -795,8 +803,8 @@ module _ {P I A : Type 0} (w : World P I A) where
       (t : State P I A) → Lawful s → at s.requests id ≡ Some q → q.status ≡ st →
       resume_at w s id q st ≡ Some t → Lawful t
   back_at-lawful s id q (calling keys ids x go) t v e p h =
-      answered-lawful s id q.origin q.journal q.runs keys ids x go t v
-      (e ∙ ap (λ (a : Status P I A). Some (request_of q.origin q.journal q.runs a)) p)
+      answered-lawful s id q keys ids x go t v
+      (e ∙ ap (λ (a : Status P I A). Some (with_status q a)) p)
       (results_of w s.requests ids) refl h
   back_at-lawful s id q _ t v e p h = absurd (cc)
 
@@ -807,30 +815,29 @@ module _ {P I A : Type 0} (w : World P I A) where
       let y = and_then-some (at s.requests id) (λ q. resume_at w s id q q.status) t h in
       back_at-lawful s id y.0 y.0.status t v y.1 refl y.2
 
-  done-lawful : (s : State P I A) (id : ℕ) (o : Origin) (j : Journal) (runs : List RunId)
+  done-lawful : (s : State P I A) (id : ℕ) (q : RequestState P I A)
       (st : Status P I A) (t : State P I A) → Lawful s →
-      at s.requests id ≡ Some (request_of o j runs st) → done_at w s id o j runs st ≡ Some t
+      at s.requests id ≡ Some (with_status q st) → done_at w s id q st ≡ Some t
       → Lawful t
-  done-lawful s id o j runs (assigned node (walking (gives reply))) t v e h =
-      let z : RequestState P I A = request_of o j runs (done (result_of reply runs)) in
-      let l = v.each id (request_of o j runs (assigned node (walking (gives reply)))) e in
-      back_to-lawful (with_request s id z) o.parent t
+  done-lawful s id q (assigned node (walking (gives reply))) t v e h =
+      let z : RequestState P I A = with_status q (done (result_of reply q.runs)) in
+      let l = v.each id (with_status q (assigned node (walking (gives reply)))) e in
+      back_to-lawful (with_request s id z) q.origin.parent t
       (put-lawful s id z v (record { journal = l.journal; status = l.journal.runs_in })) h
-  done-lawful s id o j runs _ t v e h = absurd (cc)
+  done-lawful s id q _ t v e h = absurd (cc)
 
   pub step_of-lawful : (s : State P I A) (event : Event) (q : RequestState P I A)
       (t : State P I A) → Lawful s → at s.requests (whose event) ≡ Some q →
       step_of w s event q ≡ Some t → Lawful t
-  step_of-lawful s (Assign id node) q t v e h = assign-lawful s id node q.origin q.journal q.runs
+  step_of-lawful s (Assign id node) q t v e h = assign-lawful s id node q
       q.status t v e h
-  step_of-lawful s (Claim id run kind) q t v e h = claim-lawful s id run kind q.origin q.journal
-      q.runs q.status t v e h
-  step_of-lawful s (Request id keys) q t v e h = request-lawful s id keys q.origin q.journal q.runs
+  step_of-lawful s (Claim id run kind) q t v e h = claim-lawful s id run kind q q.status t v e h
+  step_of-lawful s (Request id keys) q t v e h = request-lawful s id keys q
       q.status t v e h
-  step_of-lawful s (Result id run) q t v e h = result-lawful s id run q.origin q.journal q.runs
+  step_of-lawful s (Result id run) q t v e h = result-lawful s id run q
       q.status t v e h
-  step_of-lawful s (Done id) q t v e h = done-lawful s id q.origin q.journal q.runs q.status t v e h
-  step_of-lawful s (Retire id node) q t v e h = retire-lawful s id node q.origin q.journal q.runs
+  step_of-lawful s (Done id) q t v e h = done-lawful s id q q.status t v e h
+  step_of-lawful s (Retire id node) q t v e h = retire-lawful s id node q
       q.status t v e h
 
   pub step-lawful : (s : State P I A) (event : Event) (t : State P I A) → Lawful s →

@@ -60,6 +60,7 @@ use Rattle.build_meaning.specs.Walk.{Walk, gives, wants, Body, Outcome, Reply}
 use Rattle.build_meaning.specs.SoFar.{nothing_yet, with_calls, runs_of, recorded, result_of}
 use Rattle.build_meaning.specs.Stop.{ends, asks, run_on}
 use Rattle.build_meaning.specs.State.{
+  with_status,
   Within,
   Place,
   walking,
@@ -70,7 +71,6 @@ use Rattle.build_meaning.specs.State.{
   waits,
   calling,
   done,
-  Origin,
   RequestState,
   State,
   with_request,
@@ -127,7 +127,6 @@ use Rattle.build_meaning.proofs.LawfulStates.{
 use Rattle.build_meaning.proofs.EventsKeepLawful.{
   ended-finished,
   some-is,
-  request_of,
   put-lawful,
   start-lawful,
   all-lawful,
@@ -235,17 +234,18 @@ module _ {P I A : Type 0} (w : World P I A) where
           (subst (λ (b : RequestResult). HasAll (map replays_run b.runs) j) (some-is a res e) l)
       reply id j res _ l e f = absurd (cc)
 
-  answered-total : (s : State P I A) → Lawful s → (id : ℕ) (o : Origin) (j : Journal)
-      (runs : List RunId) (keys : List RequestKey) (ids : List ℕ) (x : Within P I A)
+  answered-total : (s : State P I A) → Lawful s
+      → (id : ℕ) (q : RequestState P I A) (keys : List RequestKey) (ids : List ℕ) (x : Within P I A)
       (go : List RequestResult → Journal → Body I A) →
       (found : Option (List RequestResult)) → results_of w s.requests ids ≡ found →
-      (t : State P I A) × (answered w s id o j runs keys x go found ≡ Some t)
-  answered-total s v id o j runs keys ids x go None h = (s, refl)
-  answered-total s v id o j runs keys ids x go (Some results) h =
-      let y = replay_all-total s.table v.ordered (runs_of results) j (done-runs s v ids results h)
+      (t : State P I A) × (answered w s id q keys x go found ≡ Some t)
+  answered-total s v id q keys ids x go None h = (s, refl)
+  answered-total s v id q keys ids x go (Some results) h =
+      let y = replay_all-total s.table v.ordered (runs_of results) q.journal
+      (done-runs s v ids results h)
       in (
         with_request s id
-            (in_body w ready o runs x.run x.go
+            (in_body w ready q x.run x.go
             (run_on w.tools x.run (go results y.0) y.0 (with_calls x.so_far keys results))),
         ap
             (λ p.
@@ -253,7 +253,7 @@ module _ {P I A : Type 0} (w : World P I A) where
             (λ next.
             Some
             (with_request s id
-            (in_body w ready o runs x.run x.go
+            (in_body w ready q x.run x.go
             (run_on w.tools x.run (go results next) next (with_calls x.so_far keys results))))))
             y.1,
       )
@@ -267,35 +267,36 @@ module _ {P I A : Type 0} (w : World P I A) where
   back-total s v (Some a) h =
       let y = h a refl in
       let q : RequestState P I A = y.0 in
-      let z = answered-total s v a q.origin q.journal q.runs y.1 y.2 y.3 y.4
+      let z = answered-total s v a q y.1 y.2 y.3 y.4
       (results_of w s.requests y.2) refl in (
         z.0,
         ap (λ o. and_then o (λ q. resume_at w s a q q.status)) y.5
             ∙ (ap (resume_at w s a q) y.6 ∙ z.1),
       )
 
-  abbrev pub At : State P I A → ℕ → Origin → Journal → List RunId → Status P I A → Type 0
-  At s id o j runs st = at s.requests id ≡ Some (request_of o j runs st)
+  abbrev pub At : State P I A → ℕ → RequestState P I A → Status P I A → Type 0
+  At s id q st = at s.requests id ≡ Some (with_status q st)
 
-  done-possible : (s : State P I A) (id node : ℕ) (o : Origin) (j : Journal) (runs : List RunId)
+  done-possible : (s : State P I A) (id node : ℕ) (old : RequestState P I A)
       (reply : Reply) → Lawful s → Kindred s →
-      At s id o j runs (assigned node (walking (gives reply))) → IsPossible w s (Done id)
-  done-possible s id node o j runs reply v k e =
-      let z : RequestState P I A = request_of o j runs (done (result_of reply runs)) in
-      let q : RequestState P I A = request_of o j runs (assigned node (walking (gives reply))) in
+      At s id old (assigned node (walking (gives reply))) → IsPossible w s (Done id)
+  done-possible s id node old reply v k e =
+      let z : RequestState P I A = with_status old (done (result_of reply old.runs)) in
+      let q : RequestState P I A = with_status old (assigned node (walking (gives reply))) in
       let l = v.each id q e in
       let b = back-total (with_request s id z)
       (put-lawful s id z v (record { journal = l.journal; status = l.journal.runs_in }))
-      o.parent (λ a p. caller a p) in
+      old.origin.parent (λ a p. caller a p) in
       (b.0, ap (λ o. and_then o (step_of w s (Done id))) e ∙ b.1)
     where
-      caller : (a : ℕ) → o.parent ≡ Some a → (q : RequestState P I A) × (keys : List RequestKey)
+      caller : (a : ℕ) → old.origin.parent ≡ Some a
+          → (q : RequestState P I A) × (keys : List RequestKey)
           × (ids : List ℕ) × (x : Within P I A) × (go : List RequestResult → Journal → Body I A) ×
-          (at (put s.requests id (request_of o j runs (done (result_of reply runs)))) a ≡ Some q)
+          (at (put s.requests id (with_status old (done (result_of reply old.runs)))) a ≡ Some q)
           × (q.status ≡ calling keys ids x go)
       caller a p =
           let q : RequestState P I A =
-          request_of o j runs (assigned node (walking (gives reply))) in
+          with_status old (assigned node (walking (gives reply))) in
           let y = k.family.up id (kin_of q) (kins-at s.requests id q e) refl a p in
           let c = at-kins s.requests a y.0 y.2 in
           let cs = calling-so c.0.status y.1 (ap (λ (b : Kin). b.calls) c.2 ∙ y.3) in
@@ -308,7 +309,7 @@ module _ {P I A : Type 0} (w : World P I A) where
             cs.1,
             cs.2,
             at-put_other s.requests id
-                (request_of o j runs (done (result_of reply runs))) a c.0 n c.1,
+                (with_status old (done (result_of reply old.runs))) a c.0 n c.1,
             cs.3,
           )
 
@@ -323,26 +324,26 @@ module _ {P I A : Type 0} (w : World P I A) where
       go_on true e =
           let x = replay-total table o r q.journal
           (subst (λ a. IsFinished table a) (sym (same_run-true r f e)) fin) in (
-            goes_on w ready q.origin q.runs r go m x.0,
+            goes_on w ready q r go m x.0,
             ap
-                (λ p. and_then p (λ next. Some (goes_on w ready q.origin q.runs r go m next))) x.1,
+                (λ p. and_then p (λ next. Some (goes_on w ready q r go m next))) x.1,
           )
   woken-total table o f m fin q _ = (q, refl)
 
-  result-possible : (s : State P I A) (id node : ℕ) (o : Origin) (j : Journal) (runs : List RunId)
+  result-possible : (s : State P I A) (id node : ℕ) (old : RequestState P I A)
       (x : Within P I A) (outcome : Outcome) → Lawful s →
-      At s id o j runs (assigned node (within x (ends outcome))) → IsPossible w s (Result id x.run)
-  result-possible s id node o j runs x outcome v e =
+      At s id old (assigned node (within x (ends outcome))) → IsPossible w s (Result id x.run)
+  result-possible s id node old x outcome v e =
       let m : Record = recorded outcome x.so_far.segments in
       let f : FinishedRun = record { run = x.run; made = m } in
       let z : RequestState P I A =
-      goes_on w (assigned node) o runs x.run x.go m (add j (ended x.run m)) in
-      let l = v.each id (request_of o j runs (assigned node (within x (ends outcome)))) e in
+      goes_on w (assigned node) old x.run x.go m (add old.journal (ended x.run m)) in
+      let l = v.each id (with_status old (assigned node (within x (ends outcome)))) e in
       let b = l.status.1 in
       let c = reps-closed (Recorded s.table) (one_record s.table) b.so_far b.from_closed in
       let ordered : IsOrdered (f ∷ s.table) = (
-        (λ r i. ended-finished s.table j runs l.journal r
-            (HasAll-in (effects_of x.run m) j (replays_run r) c.0 i)),
+        (λ r i. ended-finished s.table old.journal old.runs l.journal r
+            (HasAll-in (effects_of x.run m) old.journal (replays_run r) c.0 i)),
         v.ordered,
       ) in
       let u = traverse-total (woken w (f ∷ s.table) x.run m) (put s.requests id z)
@@ -360,7 +361,7 @@ module _ {P I A : Type 0} (w : World P I A) where
             ∙ (ap
             (λ y.
             and_then (only_if y x)
-            (λ x. finished w s id node o j runs x (recorded outcome x.so_far.segments)))
+            (λ x. finished w s id node old x (recorded outcome x.so_far.segments)))
             (same_run-refl x.run)
             ∙ ap
             (λ p.
@@ -377,36 +378,36 @@ module _ {P I A : Type 0} (w : World P I A) where
             }))) u.1),
       )
 
-  claim-is : (s : State P I A) (id node : ℕ) (o : Origin) (j : Journal) (runs : List RunId)
+  claim-is : (s : State P I A) (id node : ℕ) (q : RequestState P I A)
       (site : P) (r : RunId) (b : Body I A) (go : Record → Journal → Walk P I A)
-      (kind : ClaimKind) → At s id o j runs (assigned node (walking (wants site r b go))) →
-      (t : State P I A) → claimed w s id node o j runs r b go kind ≡ Some t →
+      (kind : ClaimKind) → At s id q (assigned node (walking (wants site r b go))) →
+      (t : State P I A) → claimed w s id node q r b go kind ≡ Some t →
       step w s (Claim id r kind) ≡ Some t
-  claim-is s id node o j runs site r b go kind e t h =
+  claim-is s id node q site r b go kind e t h =
       ap (λ p. and_then p (step_of w s (Claim id r kind))) e
-      ∙ (ap (λ y. and_then (only_if y r) (λ run. claimed w s id node o j runs run b go kind))
+      ∙ (ap (λ y. and_then (only_if y r) (λ run. claimed w s id node q run b go kind))
       (same_run-refl r) ∙ h)
 
-  claim-possible : (s : State P I A) (id node : ℕ) (o : Origin) (j : Journal) (runs : List RunId)
+  claim-possible : (s : State P I A) (id node : ℕ) (q : RequestState P I A)
       (site : P) (r : RunId) (b : Body I A) (go : Record → Journal → Walk P I A) → Lawful s →
-      At s id o j runs (assigned node (walking (wants site r b go))) →
+      At s id q (assigned node (walking (wants site r b go))) →
       CanGoOn w s id (walking (wants site r b go)) ⊎ ((is_begun r s.begun ≡ true)
-      × (found s.table r ≡ None) × (is_in_cycle (waiting w s id o j runs r b go) r ≡ true))
-  claim-possible s id node o j runs site r b go v e = by_record (found s.table r) refl
+      × (found s.table r ≡ None) × (is_in_cycle (waiting w s id q r b go) r ≡ true))
+  claim-possible s id node q site r b go v e = by_record (found s.table r) refl
     where
       next : State P I A
-      next = waiting w s id o j runs r b go
+      next = waiting w s id q r b go
 
       by_test : found s.table r ≡ None → is_begun r s.begun ≡ true →
-          (y : Bool) → is_in_cycle (waiting w s id o j runs r b go) r ≡ y →
+          (y : Bool) → is_in_cycle (waiting w s id q r b go) r ≡ y →
           CanGoOn w s id (walking (wants site r b go)) ⊎ ((is_begun r s.begun ≡ true)
-          × (found s.table r ≡ None) × (is_in_cycle (waiting w s id o j runs r b go) r ≡ true))
+          × (found s.table r ≡ None) × (is_in_cycle (waiting w s id q r b go) r ≡ true))
       by_test n h true c = inr (h, n, c)
       by_test n h false c =
-          let t : State P I A = waiting w s id o j runs r b go in
+          let t : State P I A = waiting w s id q r b go in
           inl (inr (inr (
             t,
-            claim-is s id node o j runs site r b go Wait e t
+            claim-is s id node q site r b go Wait e t
                 (ap (λ y. only_if y t) (ap (λ a. may_wait w a (found s.table r) (is_in_cycle t r)) h
                 ∙ (ap (λ a. may_wait w true a (is_in_cycle t r)) n
                 ∙ ap (λ a. may_wait w true None a) c))),
@@ -414,78 +415,78 @@ module _ {P I A : Type 0} (w : World P I A) where
 
       by_begun : found s.table r ≡ None → (y : Bool) → is_begun r s.begun ≡ y →
           CanGoOn w s id (walking (wants site r b go)) ⊎ ((is_begun r s.begun ≡ true)
-          × (found s.table r ≡ None) × (is_in_cycle (waiting w s id o j runs r b go) r ≡ true))
-      by_begun n true h = by_test n h (is_in_cycle (waiting w s id o j runs r b go) r) refl
+          × (found s.table r ≡ None) × (is_in_cycle (waiting w s id q r b go) r ≡ true))
+      by_begun n true h = by_test n h (is_in_cycle (waiting w s id q r b go) r) refl
       by_begun n false h =
           let t : State P I A =
           record {
-            requests = put s.requests id (in_body w (assigned node) o runs r go
-                (run_on w.tools r b j nothing_yet));
+            requests = put s.requests id (in_body w (assigned node) q r go
+                (run_on w.tools r b q.journal nothing_yet));
             begun = record { run = r; by = id } ∷ s.begun;
             table = s.table;
             tools_used = s.tools_used;
           } in
-          inl (inl (t, claim-is s id node o j runs site r b go Go e t (ap (λ y. unless y t) h)))
+          inl (inl (t, claim-is s id node q site r b go Go e t (ap (λ y. unless y t) h)))
 
       by_record : (p : Option Record) → found s.table r ≡ p →
           CanGoOn w s id (walking (wants site r b go)) ⊎ ((is_begun r s.begun ≡ true)
-          × (found s.table r ≡ None) × (is_in_cycle (waiting w s id o j runs r b go) r ≡ true))
+          × (found s.table r ≡ None) × (is_in_cycle (waiting w s id q r b go) r ≡ true))
       by_record None h = by_begun h (is_begun r s.begun) refl
       by_record (Some m) h =
-          let y = replay-total s.table v.ordered r j (m, h) in
-          let t : State P I A = with_request s id (goes_on w (assigned node) o runs r go m y.0) in
+          let y = replay-total s.table v.ordered r q.journal (m, h) in
+          let t : State P I A = with_request s id (goes_on w (assigned node) q r go m y.0) in
           inl (inr (inl (
             t,
-            claim-is s id node o j runs site r b go Use e t
+            claim-is s id node q site r b go Use e t
                 (ap
                 (λ p.
                 and_then p
-                (λ made. and_then (replay s.table r j)
+                (λ made. and_then (replay s.table r q.journal)
                 (λ next.
-                Some (with_request s id (goes_on w (assigned node) o runs r go made next))))) h
+                Some (with_request s id (goes_on w (assigned node) q r go made next))))) h
                 ∙ ap
                 (λ p.
                 and_then p
                 (λ next.
-                Some (with_request s id (goes_on w (assigned node) o runs r go m next)))) y.1),
+                Some (with_request s id (goes_on w (assigned node) q r go m next)))) y.1),
           )))
 
-  request-possible : (s : State P I A) (id node : ℕ) (o : Origin) (j : Journal) (runs : List RunId)
+  request-possible : (s : State P I A) (id node : ℕ) (q : RequestState P I A)
       (x : Within P I A) (key : RequestKey) (more : List RequestKey) (go : List RequestResult →
-      Journal → Body I A) → At s id o j runs (assigned node (within x (asks key more go))) →
-      (y : Bool) → is_within_limits w s (x.run ∷ o.path) (key ∷ more) ≡ y
+      Journal → Body I A) → At s id q (assigned node (within x (asks key more go))) →
+      (y : Bool) → is_within_limits w s (x.run ∷ q.origin.path) (key ∷ more) ≡ y
       → IsPossible w s (Request id (key ∷ more))
-      ⊎ (is_within_limits w s (x.run ∷ o.path) (key ∷ more) ≡ false)
-  request-possible s id node o j runs x key more go e false h = inr h
-  request-possible s id node o j runs x key more go e true h =
-      let t : State P I A = with_children w s id o j runs (key ∷ more) x go in
+      ⊎ (is_within_limits w s (x.run ∷ q.origin.path) (key ∷ more) ≡ false)
+  request-possible s id node q x key more go e false h = inr h
+  request-possible s id node q x key more go e true h =
+      let t : State P I A = with_children w s id q (key ∷ more) x go in
       inl (
         t,
         ap (λ p. and_then p (step_of w s (Request id (key ∷ more)))) e
-            ∙ (ap (λ y. only_if (y && is_within_limits w s (x.run ∷ o.path) (key ∷ more)) t)
+            ∙ (ap (λ y. only_if (y && is_within_limits w s (x.run ∷ q.origin.path) (key ∷ more)) t)
             ((keys-exact (key ∷ more) (key ∷ more)).1 refl) ∙ ap (λ y. only_if y t) h),
       )
 
-  place-goes : (s : State P I A) (id node : ℕ) (o : Origin) (j : Journal) (runs : List RunId)
-      (place : Place P I A) → Lawful s → Kindred s → At s id o j runs (assigned node place) →
-      CanGoOn w s id place ⊎ IsRefused w s id (request_of o j runs (assigned node place)) place
-  place-goes s id node o j runs (walking (gives reply)) v k e = inl
-      (done-possible s id node o j runs reply v k e)
-  place-goes s id node o j runs (walking (wants site r b go)) v k e =
-      claim-possible s id node o j runs site r b go v e
-  place-goes s id node o j runs (within x (ends outcome)) v k e = inl
-      (result-possible s id node o j runs x outcome v e)
-  place-goes s id node o j runs (within x (asks key more go)) v k e = request-possible s id node o j
-      runs x key more go e (is_within_limits w s (x.run ∷ o.path) (key ∷ more)) refl
+  place-goes : (s : State P I A) (id node : ℕ) (q : RequestState P I A)
+      (place : Place P I A) → Lawful s → Kindred s → At s id q (assigned node place) →
+      CanGoOn w s id place ⊎ IsRefused w s id (with_status q (assigned node place)) place
+  place-goes s id node q (walking (gives reply)) v k e = inl
+      (done-possible s id node q reply v k e)
+  place-goes s id node q (walking (wants site r b go)) v k e =
+      claim-possible s id node q site r b go v e
+  place-goes s id node q (within x (ends outcome)) v k e = inl
+      (result-possible s id node q x outcome v e)
+  place-goes s id node q (within x (asks key more go)) v k e = request-possible s id node q x key
+      more go e (is_within_limits w s (x.run ∷ q.origin.path) (key ∷ more)) refl
 
   pub goes : (events : List Event) (s : State P I A) → IsHistory w events s → GoesOn w s
   goes events s h id node q place e st =
       let v = all-lawful w events (start w) s (start-lawful w) h in
       let k = all-kindred w events (start w) s (start-lawful w) (start-kindred w) h in
-      let d : q ≡ request_of q.origin q.journal q.runs (assigned node place) =
-      ap (λ (a : Status P I A). request_of q.origin q.journal q.runs a) st in
+      let d : q ≡ with_status q (assigned node place) =
+      ap (λ (a : Status P I A). with_status q a) st in
       subst (λ (a : RequestState P I A). CanGoOn w s id place ⊎ IsRefused w s id a place) (sym d)
-      (place-goes s id node q.origin q.journal q.runs place v k (e ∙ ap Some d))
+      (place-goes s id node q place v k (e ∙ ap Some d))
 
   -- some request may go on, or none
   going_or_not : (rs : List (RequestState P I A)) →

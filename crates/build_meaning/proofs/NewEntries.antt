@@ -78,6 +78,7 @@ use Rattle.build_meaning.specs.SoFar.{
 }
 use Rattle.build_meaning.specs.Stop.{Stop, ends, asks, run_on}
 use Rattle.build_meaning.specs.State.{
+  with_status,
   Within,
   Place,
   walking,
@@ -160,7 +161,6 @@ use Rattle.build_meaning.proofs.EventsKeepLawful.{
   only_if-some,
   unless-some,
   some-is,
-  request_of,
   unfinished-fresh,
   put-lawful,
   step-lawful,
@@ -365,28 +365,28 @@ module _ {P I A : Type 0} where
   }
 
 module _ {P I A : Type 0} (w : World P I A) where
-  assign-known : (s : State P I A) (id node : ℕ) (o : Origin) (j : Journal) (runs : List RunId)
+  assign-known : (s : State P I A) (id node : ℕ) (q : RequestState P I A)
       (st : Status P I A) (t : State P I A) → AllKnown s → at s.requests id ≡ Some
-      (request_of o j runs st) → assign_at w s id node o j runs st ≡ Some t → AllKnown t
-  assign-known s id node o j runs (ready p) t v e h =
-      let z : RequestState P I A = request_of o j runs (assigned node p) in
-      let k = v id (request_of o j runs (ready p)) e in
+      (with_status q st) → assign_at w s id node q st ≡ Some t → AllKnown t
+  assign-known s id node q (ready p) t v e h =
+      let z : RequestState P I A = with_status q (assigned node p) in
+      let k = v id (with_status q (ready p)) e in
       subst (λ (u : State P I A). AllKnown u) (some-is (with_request s id z) t h)
       (put-known s s.begun id z v (record { acted_by = k.acted_by; before = k.before }))
-  assign-known s id node o j runs _ t v e h = absurd (cc)
+  assign-known s id node q _ t v e h = absurd (cc)
 
-  retire-known : (s : State P I A) (id node : ℕ) (o : Origin) (j : Journal) (runs : List RunId)
+  retire-known : (s : State P I A) (id node : ℕ) (q : RequestState P I A)
       (st : Status P I A) (t : State P I A) → AllKnown s → at s.requests id ≡ Some
-      (request_of o j runs st) → retire_at w s id node o j runs st ≡ Some t → AllKnown t
-  retire-known s id node o j runs (assigned by p) t v e h =
-      let z : RequestState P I A = request_of o j runs (ready p) in
-      let k = v id (request_of o j runs (assigned by p)) e in
+      (with_status q st) → retire_at w s id node q st ≡ Some t → AllKnown t
+  retire-known s id node q (assigned by p) t v e h =
+      let z : RequestState P I A = with_status q (ready p) in
+      let k = v id (with_status q (assigned by p)) e in
       subst (λ (u : State P I A). AllKnown u) (only_if-some (by == node)
       (with_request s id z) t h).1 (put-known s s.begun id z v (record {
         acted_by = k.acted_by;
         before = k.before;
       }))
-  retire-known s id node o j runs _ t v e h = absurd (cc)
+  retire-known s id node q _ t v e h = absurd (cc)
 
   run_on-keeps : (r : RunId) (b : Body I A) (j : Journal) (so_far : SoFar I) (m : Mark) → Has m j
       → Has m (run_on w.tools r b j so_far).journal
@@ -398,16 +398,16 @@ module _ {P I A : Type 0} (w : World P I A) where
       (with_tool so_far name input) m h
   run_on-keeps r (calls key keys go) j so_far m h = h
 
-  claimed-known : (s : State P I A) (id node : ℕ) (o : Origin) (j : Journal) (runs : List RunId)
+  claimed-known : (s : State P I A) (id node : ℕ) (earlier : RequestState P I A)
       (site : P) (r : RunId) (b : Body I A) (go : Record → Journal → Walk P I A) (kind : ClaimKind)
       (t : State P I A) → Lawful s → AllKnown s →
-      at s.requests id ≡ Some (request_of o j runs (assigned node (walking (wants site r b go)))) →
-      claimed w s id node o j runs r b go kind ≡ Some t → AllKnown t
-  claimed-known s id node o j runs site r b go Go t l v e h =
+      at s.requests id ≡ Some (with_status earlier (assigned node (walking (wants site r b go)))) →
+      claimed w s id node earlier r b go kind ≡ Some t → AllKnown t
+  claimed-known s id node earlier site r b go Go t l v e h =
       let q : RequestState P I A =
-      request_of o j runs (assigned node (walking (wants site r b go))) in
+      with_status earlier (assigned node (walking (wants site r b go))) in
       let z : RequestState P I A =
-      in_body w (assigned node) o runs r go (run_on w.tools r b j nothing_yet) in
+      in_body w (assigned node) earlier r go (run_on w.tools r b earlier.journal nothing_yet) in
       let one : BegunRun = record { run = r; by = id } in
       let x = unless-some (is_begun r s.begun)
       (record {
@@ -420,69 +420,71 @@ module _ {P I A : Type 0} (w : World P I A) where
       let grown : (k : ℕ) (q : RequestState P I A) → at s.requests k ≡ Some q →
       Known (one ∷ s.begun) k q = λ k q a. known-begun s.begun one x.0 k q (v k q a) in
       let mine : Known (one ∷ s.begun) id z = gained (one ∷ s.begun) id q z (grown id q e) refl
-      (λ s n a. absurd a) (run_on-keeps r b j nothing_yet)
-      (λ s n a. elim (run_on-acts w.tools r b j nothing_yet s n a)
+      (λ s n a. absurd a) (run_on-keeps r b earlier.journal nothing_yet)
+      (λ s n a. elim (run_on-acts w.tools r b earlier.journal nothing_yet s n a)
       [ inl c ↦ inl c | inr c ↦ inr (inr c) ]) in
       subst (λ (u : State P I A). AllKnown u) x.1 (put-known s (one ∷ s.begun) id z grown mine)
-  claimed-known s id node o j runs site r b go Use t l v e h =
+  claimed-known s id node earlier site r b go Use t l v e h =
       let x = and_then-some (found s.table r)
-      (λ made. and_then (replay s.table r j)
-      (λ next. Some (with_request s id (goes_on w (assigned node) o runs r go made next)))) t h
+      (λ made. and_then (replay s.table r earlier.journal)
+      (λ next. Some (with_request s id (goes_on w (assigned node) earlier r go made next)))) t h
       in
-      let y = and_then-some (replay s.table r j)
-      (λ next. Some (with_request s id (goes_on w (assigned node) o runs r go x.0 next))) t x.2
+      let y = and_then-some (replay s.table r earlier.journal)
+      (λ next. Some (with_request s id (goes_on w (assigned node) earlier r go x.0 next))) t x.2
       in
       let q : RequestState P I A =
-      request_of o j runs (assigned node (walking (wants site r b go))) in
-      let z : RequestState P I A = goes_on w (assigned node) o runs r go x.0 y.0 in
-      let d = replay-rep s.table l.once r j y.0 y.1 in
+      with_status earlier (assigned node (walking (wants site r b go))) in
+      let z : RequestState P I A = goes_on w (assigned node) earlier r go x.0 y.0 in
+      let d = replay-rep s.table l.once r earlier.journal y.0 y.1 in
       subst (λ (u : State P I A). AllKnown u) (some-is (with_request s id z) t y.2)
       (put-known s s.begun id z v
       (gained s.begun id q z (v id q e) refl (λ s n a. absurd a) (rep-keeps (Recorded s.table) d)
       (λ a n c. elim (run-acts (Recorded s.table) d a n c)
       [ inl u ↦ inl u | inr u ↦ inr (inl u) ])))
-  claimed-known s id node o j runs site r b go Wait t l v e h =
-      let next : State P I A = waiting w s id o j runs r b go in
+  claimed-known s id node earlier site r b go Wait t l v e h =
+      let next : State P I A = waiting w s id earlier r b go in
       let x = only_if-some (may_wait w (is_begun r s.begun) (found s.table r) (is_in_cycle next r))
       next t h in
-      let k = v id (request_of o j runs (assigned node (walking (wants site r b go)))) e in
-      subst (λ (u : State P I A). AllKnown u) x.1 (put-known s s.begun id (request_of o j runs
+      let k = v id (with_status earlier (assigned node (walking (wants site r b go)))) e in
+      subst (λ (u : State P I A). AllKnown u) x.1 (put-known s s.begun id (with_status earlier
       (waits r b go)) v (record { acted_by = k.acted_by; before = k.before }))
 
-  claim-known : (s : State P I A) (id : ℕ) (run : RunId) (kind : ClaimKind) (o : Origin)
-      (j : Journal) (runs : List RunId) (st : Status P I A) (t : State P I A) → Lawful s →
+  claim-known : (s : State P I A) (id : ℕ) (run : RunId) (kind : ClaimKind) (q : RequestState P I A)
+      (st : Status P I A) (t : State P I A) → Lawful s →
       AllKnown s →
-      at s.requests id ≡ Some (request_of o j runs st)
-      → claim_at w s id run kind o j runs st ≡ Some t → AllKnown t
-  claim-known s id run kind o j runs (assigned node (walking (wants site r b go))) t l v e h =
+      at s.requests id ≡ Some (with_status q st)
+      → claim_at w s id run kind q st ≡ Some t → AllKnown t
+  claim-known s id run kind q (assigned node (walking (wants site r b go))) t l v e h =
       let x = and_then-some (only_if (same_run r run) r)
-      (λ run. claimed w s id node o j runs run b go kind) t h in
+      (λ run. claimed w s id node q run b go kind) t h in
       let y : r ≡ x.0 = (only_if-some (same_run r run) r x.0 x.1).1 in
-      claimed-known s id node o j runs site r b go kind t l v e
-      (subst (λ n. claimed w s id node o j runs n b go kind ≡ Some t) (sym y) x.2)
-  claim-known s id run kind o j runs _ t l v e h = absurd (cc)
+      claimed-known s id node q site r b go kind t l v e
+      (subst (λ n. claimed w s id node q n b go kind ≡ Some t) (sym y) x.2)
+  claim-known s id run kind q _ t l v e h = absurd (cc)
 
-  request-known : (s : State P I A) (id : ℕ) (keys : List RequestKey) (o : Origin) (j : Journal)
-      (runs : List RunId) (st : Status P I A) (t : State P I A) → Lawful s → AllKnown s →
-      at s.requests id ≡ Some (request_of o j runs st) → request_at w s id keys o j runs st ≡ Some t
+  request-known : (s : State P I A) (id : ℕ) (keys : List RequestKey) (earlier : RequestState P I A)
+      (st : Status P I A) (t : State P I A) → Lawful s → AllKnown s →
+      at s.requests id ≡ Some (with_status earlier st) → request_at w s id keys earlier st ≡ Some t
       → AllKnown t
-  request-known s id keys o j runs (assigned node (within x (asks key more go))) t l v e h =
+  request-known s id keys earlier (assigned node (within x (asks key more go))) t l v e h =
       let y = only_if-some (same_keys (key ∷ more) keys
-      && is_within_limits w s (x.run ∷ o.path) (key ∷ more))
-      (with_children w s id o j runs (key ∷ more) x go) t h in
+      && is_within_limits w s (x.run ∷ earlier.origin.path) (key ∷ more))
+      (with_children w s id earlier (key ∷ more) x go) t h in
       let q : RequestState P I A =
-      request_of o j runs (assigned node (within x (asks key more go))) in
-      let z : RequestState P I A = request_of o j runs (calling (key ∷ more)
+      with_status earlier (assigned node (within x (asks key more go))) in
+      let z : RequestState P I A = with_status earlier (calling (key ∷ more)
       (numbered_from (length s.requests) (key ∷ more)) x go) in
       let k = v id q e in
       let mine : beginner s.begun x.run ≡ Some id = (l.each id q e).status.1.mine in
       let front = put-known s s.begun id z v (record { acted_by = k.acted_by; before = k.before })
       in
       subst (λ (u : State P I A). AllKnown u) y.1 (λ n c a. elim (at-append (put s.requests id z)
-      (map (new_request w (Some id) (x.run ∷ o.path) j) (key ∷ more)) n c a) [
+      (map (new_request w (Some id) (x.run ∷ earlier.origin.path) earlier.journal) (key ∷ more)) n c
+      a) [
         | inl b ↦ front n c b
         | inr b ↦
-            let d = at-map (new_request w (Some id) (x.run ∷ o.path) j) (key ∷ more) b.0 c b.1 in
+            let d = at-map (new_request w (Some id) (x.run ∷ earlier.origin.path) earlier.journal)
+            (key ∷ more) b.0 c b.1 in
             let far : id < n = above id (length s.requests) (length (put s.requests id z)) b.0 n
             (at-less s.requests id q e) (put-length s.requests id z) b.2 in
             subst (λ (u : RequestState P I A). Known s.begun n u) d.2 (record {
@@ -502,7 +504,7 @@ module _ {P I A : Type 0} (w : World P I A) where
 
       through : (k id n : ℕ) → k < id → id < n → k < n
       through k id n h g = omega arith
-  request-known s id keys o j runs _ t l v e h = absurd (cc)
+  request-known s id keys earlier _ t l v e h = absurd (cc)
 
   woken-known : (begun : List BegunRun) (table : Records) → IsOnce table →
       (run : RunId) (m : Record) (id : ℕ) (q t : RequestState P I A) (st : Status P I A) →
@@ -513,9 +515,9 @@ module _ {P I A : Type 0} (w : World P I A) where
       f false h = subst (λ (u : RequestState P I A). Known begun id u) (some-is q t h) v
       f true h =
           let y = and_then-some (replay table r q.journal)
-          (λ next. Some (goes_on w ready q.origin q.runs r go m next)) t h in
+          (λ next. Some (goes_on w ready q r go m next)) t h in
           let d = replay-rep table once r q.journal y.0 y.1 in
-          let z : RequestState P I A = goes_on w ready q.origin q.runs r go m y.0 in
+          let z : RequestState P I A = goes_on w ready q r go m y.0 in
           subst (λ (u : RequestState P I A). Known begun id u) (some-is z t y.2)
           (gained begun id q z v refl
           (λ s n a. absurd (subst (λ (x : Status P I A). Own x s n) e a))
@@ -525,17 +527,17 @@ module _ {P I A : Type 0} (w : World P I A) where
   woken-known begun table once run m id q t _ e v h =
       subst (λ (u : RequestState P I A). Known begun id u) (some-is q t h) v
 
-  finished-known : (s : State P I A) (id node : ℕ) (o : Origin) (j : Journal) (runs : List RunId)
+  finished-known : (s : State P I A) (id node : ℕ) (earlier : RequestState P I A)
       (x : Within P I A) (outcome : Outcome) (t : State P I A) → Lawful s → AllKnown s →
-      at s.requests id ≡ Some (request_of o j runs (assigned node (within x (ends outcome))))
-      → finished w s id node o j runs x (recorded outcome x.so_far.segments) ≡ Some t
+      at s.requests id ≡ Some (with_status earlier (assigned node (within x (ends outcome))))
+      → finished w s id node earlier x (recorded outcome x.so_far.segments) ≡ Some t
       → AllKnown t
-  finished-known s id node o j runs x outcome t l v e h =
+  finished-known s id node earlier x outcome t l v e h =
       let m : Record = recorded outcome x.so_far.segments in
       let fin : FinishedRun = record { run = x.run; made = m } in
-      let q : RequestState P I A = request_of o j runs (assigned node (within x (ends outcome))) in
+      let q : RequestState P I A = with_status earlier (assigned node (within x (ends outcome))) in
       let z : RequestState P I A =
-      goes_on w (assigned node) o runs x.run x.go m (add j (ended x.run m)) in
+      goes_on w (assigned node) earlier x.run x.go m (add earlier.journal (ended x.run m)) in
       let n : found s.table x.run ≡ None = (l.each id q e).status.1.unfinished in
       let u = and_then-some (traverse (woken w (fin ∷ s.table) x.run m) (put s.requests id z))
       (λ requests.
@@ -557,9 +559,10 @@ module _ {P I A : Type 0} (w : World P I A) where
       let mine : Known s.begun id z = gained s.begun id q z (v id q e) refl
       (λ s k a.
       inl
-      (subst (λ b. Has (end_of b) (add j (ended x.run m))) a.0 (has-added j (ended x.run m))))
-      (λ a. has-add a j (ended x.run m))
-      (λ s k a. elim (of-add (act_of s k) j (ended x.run m) a)
+      (subst (λ b. Has (end_of b) (add earlier.journal (ended x.run m))) a.0
+      (has-added earlier.journal (ended x.run m))))
+      (λ a. has-add a earlier.journal (ended x.run m))
+      (λ s k a. elim (of-add (act_of s k) earlier.journal (ended x.run m) a)
       [ inl c ↦ absurd (cc) | inr c ↦ inl c ]) in
       let front = put-known s s.begun id z v mine in
       subst (λ (u : State P I A). AllKnown u) (some-is last t u.2) (λ k c a.
@@ -567,39 +570,39 @@ module _ {P I A : Type 0} (w : World P I A) where
       woken-known s.begun (fin ∷ s.table) (n, l.once) x.run m k y.0 c y.0.status refl
       (front k y.0 y.1) y.2)
 
-  result-known : (s : State P I A) (id : ℕ) (run : RunId) (o : Origin) (j : Journal)
-      (runs : List RunId) (st : Status P I A) (t : State P I A) → Lawful s → AllKnown s →
-      at s.requests id ≡ Some (request_of o j runs st) → result_at w s id run o j runs st ≡ Some t
+  result-known : (s : State P I A) (id : ℕ) (run : RunId) (q : RequestState P I A)
+      (st : Status P I A) (t : State P I A) → Lawful s → AllKnown s →
+      at s.requests id ≡ Some (with_status q st) → result_at w s id run q st ≡ Some t
       → AllKnown t
-  result-known s id run o j runs (assigned node (within x (ends outcome))) t l v e h =
+  result-known s id run q (assigned node (within x (ends outcome))) t l v e h =
       let y = and_then-some (only_if (same_run x.run run) x)
-      (λ x. finished w s id node o j runs x (recorded outcome x.so_far.segments)) t h in
+      (λ x. finished w s id node q x (recorded outcome x.so_far.segments)) t h in
       let p : x ≡ y.0 = (only_if-some (same_run x.run run) x y.0 y.1).1 in
-      finished-known s id node o j runs x outcome t l v e
-      (subst (λ (a : Within P I A). finished w s id node o j runs a
+      finished-known s id node q x outcome t l v e
+      (subst (λ (a : Within P I A). finished w s id node q a
       (recorded outcome a.so_far.segments) ≡ Some t) (sym p) y.2)
-  result-known s id run o j runs _ t l v e h = absurd (cc)
+  result-known s id run q _ t l v e h = absurd (cc)
 
-  answered-known : (s : State P I A) (id : ℕ) (o : Origin) (j : Journal) (runs : List RunId)
+  answered-known : (s : State P I A) (id : ℕ) (earlier : RequestState P I A)
       (keys : List RequestKey) (ids : List ℕ) (x : Within P I A) (go : List RequestResult →
       Journal → Body I A) (t : State P I A) → Lawful s → AllKnown s →
-      at s.requests id ≡ Some (request_of o j runs (calling keys ids x go))
+      at s.requests id ≡ Some (with_status earlier (calling keys ids x go))
       → (reply : Option (List RequestResult))
-      → answered w s id o j runs keys x go reply ≡ Some t → AllKnown t
-  answered-known s id o j runs keys ids x go t l v e None h =
+      → answered w s id earlier keys x go reply ≡ Some t → AllKnown t
+  answered-known s id earlier keys ids x go t l v e None h =
       subst (λ (u : State P I A). AllKnown u) (some-is s t h) v
-  answered-known s id o j runs keys ids x go t l v e (Some results) h =
-      let q : RequestState P I A = request_of o j runs (calling keys ids x go) in
-      let y = and_then-some (replay_all s.table (runs_of results) j)
+  answered-known s id earlier keys ids x go t l v e (Some results) h =
+      let q : RequestState P I A = with_status earlier (calling keys ids x go) in
+      let y = and_then-some (replay_all s.table (runs_of results) earlier.journal)
       (λ next.
       Some
       (with_request s id
-      (in_body w ready o runs x.run x.go
+      (in_body w ready earlier x.run x.go
       (run_on w.tools x.run (go results next) next (with_calls x.so_far keys results))))) t h in
-      let d = replay_all-reps s.table l.once (runs_of results) j y.0 y.1 in
+      let d = replay_all-reps s.table l.once (runs_of results) earlier.journal y.0 y.1 in
       let so_far : SoFar I = with_calls x.so_far keys results in
       let z : RequestState P I A =
-      in_body w ready o runs x.run x.go (run_on w.tools x.run (go results y.0) y.0 so_far) in
+      in_body w ready earlier x.run x.go (run_on w.tools x.run (go results y.0) y.0 so_far) in
       let longer = run_on-least w.tools x.run (go results y.0) y.0 so_far in
       subst (λ (u : State P I A). AllKnown u) (some-is (with_request s id z) t y.2)
       (put-known s s.begun id z v (gained s.begun id q z (v id q e) refl
@@ -628,8 +631,8 @@ module _ {P I A : Type 0} (w : World P I A) where
       (t : State P I A) → Lawful s → AllKnown s → at s.requests id ≡ Some q → q.status ≡ st →
       resume_at w s id q st ≡ Some t → AllKnown t
   back_at-known s id q (calling keys ids x go) t l v e p h =
-      answered-known s id q.origin q.journal q.runs keys ids x go t l v
-      (e ∙ ap (λ (a : Status P I A). Some (request_of q.origin q.journal q.runs a)) p)
+      answered-known s id q keys ids x go t l v
+      (e ∙ ap (λ (a : Status P I A). Some (with_status q a)) p)
       (results_of w s.requests ids) h
   back_at-known s id q _ t l v e p h = absurd (cc)
 
@@ -640,34 +643,33 @@ module _ {P I A : Type 0} (w : World P I A) where
       let y = and_then-some (at s.requests id) (λ q. resume_at w s id q q.status) t h in
       back_at-known s id y.0 y.0.status t l v y.1 refl y.2
 
-  done-known : (s : State P I A) (id : ℕ) (o : Origin) (j : Journal) (runs : List RunId)
+  done-known : (s : State P I A) (id : ℕ) (earlier : RequestState P I A)
       (st : Status P I A) (t : State P I A) → Lawful s → AllKnown s →
-      at s.requests id ≡ Some (request_of o j runs st) → done_at w s id o j runs st ≡ Some t
+      at s.requests id ≡ Some (with_status earlier st) → done_at w s id earlier st ≡ Some t
       → AllKnown t
-  done-known s id o j runs (assigned node (walking (gives reply))) t l v e h =
-      let z : RequestState P I A = request_of o j runs (done (result_of reply runs)) in
-      let q : RequestState P I A = request_of o j runs (assigned node (walking (gives reply))) in
+  done-known s id earlier (assigned node (walking (gives reply))) t l v e h =
+      let z : RequestState P I A = with_status earlier (done (result_of reply earlier.runs)) in
+      let q : RequestState P I A = with_status earlier (assigned node (walking (gives reply))) in
       let lq = l.each id q e in
       let k = v id q e in
-      back_to-known (with_request s id z) o.parent t
+      back_to-known (with_request s id z) earlier.origin.parent t
       (put-lawful s id z l (record { journal = lq.journal; status = lq.journal.runs_in }))
       (put-known s s.begun id z v (record { acted_by = k.acted_by; before = k.before })) h
-  done-known s id o j runs _ t l v e h = absurd (cc)
+  done-known s id earlier _ t l v e h = absurd (cc)
 
   step_of-known : (s : State P I A) (event : Event) (q : RequestState P I A) (t : State P I A) →
       Lawful s → AllKnown s → at s.requests (whose event) ≡ Some q → step_of w s event q ≡ Some t →
       AllKnown t
-  step_of-known s (Assign id node) q t l v e h = assign-known s id node q.origin q.journal q.runs
+  step_of-known s (Assign id node) q t l v e h = assign-known s id node q
       q.status t v e h
-  step_of-known s (Claim id run kind) q t l v e h = claim-known s id run kind q.origin q.journal
-      q.runs q.status t l v e h
-  step_of-known s (Request id keys) q t l v e h = request-known s id keys q.origin q.journal q.runs
+  step_of-known s (Claim id run kind) q t l v e h = claim-known s id run kind q q.status t l v e h
+  step_of-known s (Request id keys) q t l v e h = request-known s id keys q
       q.status t l v e h
-  step_of-known s (Result id run) q t l v e h = result-known s id run q.origin q.journal q.runs
+  step_of-known s (Result id run) q t l v e h = result-known s id run q
       q.status t l v e h
-  step_of-known s (Done id) q t l v e h = done-known s id q.origin q.journal q.runs q.status t l v e
+  step_of-known s (Done id) q t l v e h = done-known s id q q.status t l v e
       h
-  step_of-known s (Retire id node) q t l v e h = retire-known s id node q.origin q.journal q.runs
+  step_of-known s (Retire id node) q t l v e h = retire-known s id node q
       q.status t v e h
 
   start-known : AllKnown (start w)

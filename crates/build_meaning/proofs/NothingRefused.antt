@@ -59,13 +59,13 @@ use Rattle.build_meaning.specs.Demand.{
 }
 use Rattle.build_meaning.specs.Stop.{ends, asks}
 use Rattle.build_meaning.specs.State.{
+  with_status,
   Place,
   walking,
   within,
   Status,
   assigned,
   waits,
-  Origin,
   RequestState,
   State,
 }
@@ -76,7 +76,7 @@ use Rattle.build_meaning.specs.Progress.{CanGoOn, IsRefused}
 use Rattle.result_cache.proofs.RunTests.{clash, or_left, or_right, or_cases}
 use Rattle.build_meaning.specs.Derived.{OfCalls, no_calls, one_call}
 use Rattle.build_meaning.proofs.PairedLists.{Paired-some}
-use Rattle.build_meaning.proofs.EventsKeepLawful.{request_of, put-lawful}
+use Rattle.build_meaning.proofs.EventsKeepLawful.{put-lawful}
 use Rattle.build_meaning.proofs.NeedsOfRuns.{in-append, no_cycle}
 use Rattle.build_meaning.specs.Stands.{Contained, Goal, Stands}
 use Rattle.build_meaning.proofs.RequestsStand.{Standing, called_in, put-stands}
@@ -272,29 +272,31 @@ module _ {P I A : Type 0} (w : World P I A) (out : Given P I RequestResult) (who
       low a b c h g = omega arith
 
   place-free : (s : State P I A) (goals : List Goal) → S s goals →
-      (id node : ℕ) (o : Origin) (j : Journal) (runs : List RunId) (place : Place P I A) →
-      at s.requests id ≡ Some (request_of o j runs (assigned node place)) →
-      IsRefused w s id (request_of o j runs (assigned node place)) place → ⊥
-  place-free s goals v id node o j runs (walking (gives reply)) e h = h
-  place-free s goals v id node o j runs (walking (wants site r b go)) e h =
+      (id node : ℕ) (old : RequestState P I A) (place : Place P I A) →
+      at s.requests id ≡ Some (with_status old (assigned node place)) →
+      IsRefused w s id (with_status old (assigned node place)) place → ⊥
+  place-free s goals v id node old (walking (gives reply)) e h = h
+  place-free s goals v id node old (walking (wants site r b go)) e h =
       let q : RequestState P I A =
-      request_of o j runs (assigned node (walking (wants site r b go))) in
+      with_status old (assigned node (walking (wants site r b go))) in
       let l = v.lawful.each id q e in
-      let lw = put-lawful s id (request_of o j runs (waits r b go)) v.lawful
+      let lw = put-lawful s id (with_status old (waits r b go)) v.lawful
       (record { journal = l.journal; status = (h.0, h.1) }) in
-      let t = put-stands w (Contained out) (one_made out steady) s goals id q (request_of o j runs
+      let t = put-stands w (Contained out) (one_made out steady) s goals id q (with_status old
       (waits r b go)) v e lw
       (λ g a. record { asked = a.asked; stands = (site, a.stands) }) in
-      clash (is_in_cycle (waiting w s id o j runs r b go) r) h.2
-      (no_cycle w (Contained out) (one_made out steady) (waiting w s id o j runs r b go) goals r
+      clash (is_in_cycle (waiting w s id old r b go) r) h.2
+      (no_cycle w (Contained out) (one_made out steady) (waiting w s id old r b go) goals r
       t)
-  place-free s goals v id node o j runs (within x (ends outcome)) e h = h
-  place-free s goals v id node o j runs (within x (asks key more go)) e h =
+  place-free s goals v id node old (within x (ends outcome)) e h = h
+  place-free s goals v id node old (within x (asks key more go)) e h =
       let here = Paired-some (Stands w (Contained out) goals) s.requests goals id
-      (request_of o j runs (assigned node (within x (asks key more go)))) v.each e in
-      let y = called_in w (Contained out) (one_made out steady) o.path j runs x.run x.so_far key
+      (with_status old (assigned node (within x (asks key more go)))) v.each e in
+      let y = called_in w (Contained out) (one_made out steady) old.origin.path old.journal old.runs
+      x.run x.so_far key
       more go x.go here.0 here.1.stands in
-      clash (is_within_limits w s (x.run ∷ o.path) (key ∷ more)) (within-limits s goals v y.2) h
+      clash (is_within_limits w s (x.run ∷ old.origin.path) (key ∷ more))
+      (within-limits s goals v y.2) h
 
   -- nothing that a request with a node asks for is refused
   pub nothing_refused : (events : List Event) (s : State P I A) → IsHistory w events s →
@@ -302,11 +304,11 @@ module _ {P I A : Type 0} (w : World P I A) (out : Given P I RequestResult) (who
       q.status ≡ assigned node place → CanGoOn w s id place
   nothing_refused events s h id node q place e st =
       let k = stands w out whole steady events s h in
-      let d : q ≡ request_of q.origin q.journal q.runs (assigned node place) =
-      ap (λ (a : Status P I A). request_of q.origin q.journal q.runs a) st in
+      let d : q ≡ with_status q (assigned node place) =
+      ap (λ (a : Status P I A). with_status q a) st in
       elim (goes w events s h id node q place e st) [
         | inl y ↦ y
         | inr y ↦
-            absurd (place-free s k.0 k.1 id node q.origin q.journal q.runs place (e ∙ ap Some d)
+            absurd (place-free s k.0 k.1 id node q place (e ∙ ap Some d)
             (subst (λ (a : RequestState P I A). IsRefused w s id a place) d y))
       ]

@@ -59,6 +59,7 @@ use Rattle.build_meaning.specs.Walk.{Walk, gives, wants, Body, Outcome, Reply}
 use Rattle.build_meaning.specs.SoFar.{nothing_yet, with_calls, runs_of, recorded, result_of}
 use Rattle.build_meaning.specs.Stop.{ends, asks, run_on}
 use Rattle.build_meaning.specs.State.{
+  with_status,
   Within,
   Place,
   walking,
@@ -69,7 +70,6 @@ use Rattle.build_meaning.specs.State.{
   waits,
   calling,
   done,
-  Origin,
   RequestState,
   State,
   with_request,
@@ -138,7 +138,6 @@ use Rattle.build_meaning.proofs.EventsKeepLawful.{
   only_if-some,
   unless-some,
   some-is,
-  request_of,
   may_wait-so,
   step-lawful,
 }
@@ -413,46 +412,46 @@ module _ {P I A : Type 0} where
       }
 
 module _ {P I A : Type 0} (w : World P I A) where
-  assign-kindred : (s : State P I A) (id node : ℕ) (o : Origin) (j : Journal) (runs : List RunId)
+  assign-kindred : (s : State P I A) (id node : ℕ) (q : RequestState P I A)
       (st : Status P I A) (t : State P I A) → Kindred s →
-      at s.requests id ≡ Some (request_of o j runs st) → assign_at w s id node o j runs st ≡ Some t
+      at s.requests id ≡ Some (with_status q st) → assign_at w s id node q st ≡ Some t
       → Kindred t
-  assign-kindred s id node o j runs (ready p) t v e h =
+  assign-kindred s id node q (ready p) t v e h =
       subst (λ (u : State P I A). Kindred u)
-      (some-is (with_request s id (request_of o j runs (assigned node p))) t h)
-      (same-kin s id (request_of o j runs (ready p)) (request_of o j runs (assigned node p)) v e
+      (some-is (with_request s id (with_status q (assigned node p))) t h)
+      (same-kin s id (with_status q (ready p)) (with_status q (assigned node p)) v e
       refl)
-  assign-kindred s id node o j runs _ t v e h = absurd (cc)
+  assign-kindred s id node q _ t v e h = absurd (cc)
 
-  retire-kindred : (s : State P I A) (id node : ℕ) (o : Origin) (j : Journal) (runs : List RunId)
+  retire-kindred : (s : State P I A) (id node : ℕ) (q : RequestState P I A)
       (st : Status P I A) (t : State P I A) → Kindred s →
-      at s.requests id ≡ Some (request_of o j runs st) → retire_at w s id node o j runs st ≡ Some t
+      at s.requests id ≡ Some (with_status q st) → retire_at w s id node q st ≡ Some t
       → Kindred t
-  retire-kindred s id node o j runs (assigned by p) t v e h =
+  retire-kindred s id node q (assigned by p) t v e h =
       subst (λ (u : State P I A). Kindred u) (only_if-some (by == node)
-      (with_request s id (request_of o j runs (ready p))) t h).1
-      (same-kin s id (request_of o j runs (assigned by p)) (request_of o j runs (ready p)) v e refl)
-  retire-kindred s id node o j runs _ t v e h = absurd (cc)
+      (with_request s id (with_status q (ready p))) t h).1
+      (same-kin s id (with_status q (assigned by p)) (with_status q (ready p)) v e refl)
+  retire-kindred s id node q _ t v e h = absurd (cc)
 
-  begin-kindred : (s : State P I A) (id node : ℕ) (o : Origin) (j : Journal) (runs : List RunId)
+  begin-kindred : (s : State P I A) (id node : ℕ) (old : RequestState P I A)
       (site : P) (r : RunId) (b : Body I A) (go : Record → Journal → Walk P I A) → Lawful s →
       Kindred s →
-      at s.requests id ≡ Some (request_of o j runs (assigned node (walking (wants site r b go)))) →
+      at s.requests id ≡ Some (with_status old (assigned node (walking (wants site r b go)))) →
       is_begun r s.begun ≡ false →
       Kindred
       (record {
         requests = put s.requests id
-            (in_body w (assigned node) o runs r go (run_on w.tools r b j nothing_yet));
+            (in_body w (assigned node) old r go (run_on w.tools r b old.journal nothing_yet));
         begun = record
             { run = r; by = id } ∷ s.begun;
         table = s.table;
         tools_used = s.tools_used;
       })
-  begin-kindred s id node o j runs site r b go l v e n =
+  begin-kindred s id node old site r b go l v e n =
       let q : RequestState P I A =
-      request_of o j runs (assigned node (walking (wants site r b go))) in
+      with_status old (assigned node (walking (wants site r b go))) in
       let z : RequestState P I A =
-      in_body w (assigned node) o runs r go (run_on w.tools r b j nothing_yet) in
+      in_body w (assigned node) old r go (run_on w.tools r b old.journal nothing_yet) in
       let p = put-kins s.requests id q z e in
       record {
         family = tied-family
@@ -530,17 +529,17 @@ module _ {P I A : Type 0} (w : World P I A) where
       (circle-found (λ a. needed s.requests a s.requests) (begun_runs s.begun) (needs-begun s l) r
       p)
 
-  wait-kindred : (s : State P I A) (id node : ℕ) (o : Origin) (j : Journal) (runs : List RunId)
+  wait-kindred : (s : State P I A) (id node : ℕ) (old : RequestState P I A)
       (site : P) (r : RunId) (b : Body I A) (go : Record → Journal → Walk P I A) →
-      Lawful (waiting w s id o j runs r b go) → Kindred s →
-      at s.requests id ≡ Some (request_of o j runs (assigned node (walking (wants site r b go)))) →
-      is_in_cycle (waiting w s id o j runs r b go) r ≡ false →
-      Kindred (waiting w s id o j runs r b go)
-  wait-kindred s id node o j runs site r b go l v e n =
+      Lawful (waiting w s id old r b go) → Kindred s →
+      at s.requests id ≡ Some (with_status old (assigned node (walking (wants site r b go)))) →
+      is_in_cycle (waiting w s id old r b go) r ≡ false →
+      Kindred (waiting w s id old r b go)
+  wait-kindred s id node old site r b go l v e n =
       let q : RequestState P I A =
-      request_of o j runs (assigned node (walking (wants site r b go))) in
-      let z : RequestState P I A = request_of o j runs (waits r b go) in
-      let t : State P I A = waiting w s id o j runs r b go in
+      with_status old (assigned node (walking (wants site r b go))) in
+      let z : RequestState P I A = with_status old (waits r b go) in
+      let t : State P I A = waiting w s id old r b go in
       let p = put-kins s.requests id q z e in
       record {
         family = tied-family
@@ -561,74 +560,74 @@ module _ {P I A : Type 0} (w : World P I A) where
         };
       }
 
-  claimed-kindred : (s : State P I A) (id node : ℕ) (o : Origin) (j : Journal) (runs : List RunId)
+  claimed-kindred : (s : State P I A) (id node : ℕ) (q : RequestState P I A)
       (site : P) (r : RunId) (b : Body I A) (go : Record → Journal → Walk P I A) (kind : ClaimKind)
       (t : State P I A) → Lawful s → Kindred s → Lawful t →
-      at s.requests id ≡ Some (request_of o j runs (assigned node (walking (wants site r b go)))) →
-      claimed w s id node o j runs r b go kind ≡ Some t → Kindred t
-  claimed-kindred s id node o j runs site r b go Go t l v lt e h =
+      at s.requests id ≡ Some (with_status q (assigned node (walking (wants site r b go)))) →
+      claimed w s id node q r b go kind ≡ Some t → Kindred t
+  claimed-kindred s id node q site r b go Go t l v lt e h =
       let x = unless-some (is_begun r s.begun)
       (record {
         requests = put s.requests id
-            (in_body w (assigned node) o runs r go (run_on w.tools r b j nothing_yet));
+            (in_body w (assigned node) q r go (run_on w.tools r b q.journal nothing_yet));
         begun = record
             { run = r; by = id } ∷ s.begun;
         table = s.table;
         tools_used = s.tools_used;
       }) t h in
       subst (λ (u : State P I A). Kindred u) x.1
-      (begin-kindred s id node o j runs site r b go l v e x.0)
-  claimed-kindred s id node o j runs site r b go Use t l v lt e h =
+      (begin-kindred s id node q site r b go l v e x.0)
+  claimed-kindred s id node q site r b go Use t l v lt e h =
       let x = and_then-some (found s.table r)
-      (λ made. and_then (replay s.table r j)
-      (λ next. Some (with_request s id (goes_on w (assigned node) o runs r go made next)))) t h
+      (λ made. and_then (replay s.table r q.journal)
+      (λ next. Some (with_request s id (goes_on w (assigned node) q r go made next)))) t h
       in
-      let y = and_then-some (replay s.table r j)
-      (λ next. Some (with_request s id (goes_on w (assigned node) o runs r go x.0 next))) t x.2
+      let y = and_then-some (replay s.table r q.journal)
+      (λ next. Some (with_request s id (goes_on w (assigned node) q r go x.0 next))) t x.2
       in
-      let z : RequestState P I A = goes_on w (assigned node) o runs r go x.0 y.0 in
+      let z : RequestState P I A = goes_on w (assigned node) q r go x.0 y.0 in
       subst (λ (u : State P I A). Kindred u) (some-is (with_request s id z) t y.2)
-      (same-kin s id (request_of o j runs (assigned node (walking (wants site r b go)))) z v e refl)
-  claimed-kindred s id node o j runs site r b go Wait t l v lt e h =
-      let next : State P I A = waiting w s id o j runs r b go in
+      (same-kin s id (with_status q (assigned node (walking (wants site r b go)))) z v e refl)
+  claimed-kindred s id node q site r b go Wait t l v lt e h =
+      let next : State P I A = waiting w s id q r b go in
       let x = only_if-some (may_wait w (is_begun r s.begun) (found s.table r) (is_in_cycle next r))
       next t h in
       let y = may_wait-so w (is_begun r s.begun) (found s.table r) (is_in_cycle next r) x.0 in
-      subst (λ (u : State P I A). Kindred u) x.1 (wait-kindred s id node o j runs site r b go
+      subst (λ (u : State P I A). Kindred u) x.1 (wait-kindred s id node q site r b go
       (subst (λ (u : State P I A). Lawful u) (sym x.1) lt) v e y.2)
 
-  claim-kindred : (s : State P I A) (id : ℕ) (run : RunId) (kind : ClaimKind) (o : Origin)
-      (j : Journal) (runs : List RunId) (st : Status P I A) (t : State P I A) → Lawful s →
+  claim-kindred : (s : State P I A) (id : ℕ) (run : RunId) (kind : ClaimKind)
+      (q : RequestState P I A) (st : Status P I A) (t : State P I A) → Lawful s →
       Kindred s → Lawful t →
-      at s.requests id ≡ Some (request_of o j runs st)
-      → claim_at w s id run kind o j runs st ≡ Some t → Kindred t
-  claim-kindred s id run kind o j runs (assigned node (walking (wants site r b go))) t l v lt e h =
+      at s.requests id ≡ Some (with_status q st)
+      → claim_at w s id run kind q st ≡ Some t → Kindred t
+  claim-kindred s id run kind q (assigned node (walking (wants site r b go))) t l v lt e h =
       let x = and_then-some (only_if (same_run r run) r)
-      (λ run. claimed w s id node o j runs run b go kind) t h in
+      (λ run. claimed w s id node q run b go kind) t h in
       let y : r ≡ x.0 = (only_if-some (same_run r run) r x.0 x.1).1 in
-      claimed-kindred s id node o j runs site r b go kind t l v lt e
-      (subst (λ n. claimed w s id node o j runs n b go kind ≡ Some t) (sym y) x.2)
-  claim-kindred s id run kind o j runs _ t l v lt e h = absurd (cc)
+      claimed-kindred s id node q site r b go kind t l v lt e
+      (subst (λ n. claimed w s id node q n b go kind ≡ Some t) (sym y) x.2)
+  claim-kindred s id run kind q _ t l v lt e h = absurd (cc)
 
   -- calls
-  children-calls : (s : State P I A) (id node : ℕ) (o : Origin) (j : Journal) (runs : List RunId)
+  children-calls : (s : State P I A) (id node : ℕ) (old : RequestState P I A)
       (key : RequestKey) (more : List RequestKey) (x : Within P I A) (go : List RequestResult →
       Journal → Body I A) →
-      at s.requests id ≡ Some (request_of o j runs (assigned node (within x (asks key more go)))) →
+      at s.requests id ≡ Some (with_status old (assigned node (within x (asks key more go)))) →
       Calls (kins_of s.requests)
-      (kins_of (with_children w s id o j runs (key ∷ more) x go).requests) id
-      (kin_of (request_of o j runs (assigned node (within x (asks key more go)))))
+      (kins_of (with_children w s id old (key ∷ more) x go).requests) id
+      (kin_of (with_status old (assigned node (within x (asks key more go)))))
       (kin_of
-      (request_of o j runs
+      (with_status old
       (calling (key ∷ more) (numbered_from (length s.requests) (key ∷ more)) x go)))
       (numbered_from (length s.requests) (key ∷ more))
-  children-calls s id node o j runs key more x go e =
+  children-calls s id node old key more x go e =
       let keys : List RequestKey = key ∷ more in
       let q : RequestState P I A =
-      request_of o j runs (assigned node (within x (asks key more go))) in
+      with_status old (assigned node (within x (asks key more go))) in
       let ids : List ℕ = numbered_from (length s.requests) keys in
-      let z : RequestState P I A = request_of o j runs (calling keys ids x go) in
-      let kid = new_request w (Some id) (x.run ∷ o.path) j in
+      let z : RequestState P I A = with_status old (calling keys ids x go) in
+      let kid = new_request w (Some id) (x.run ∷ old.origin.path) old.journal in
       let front : List (RequestState P I A) = put s.requests id z in
       let all : List (RequestState P I A) = front ++ map kid keys in
       record {
@@ -679,16 +678,16 @@ module _ {P I A : Type 0} (w : World P I A) where
       above : (id m i n : ℕ) → id < m → n ≡ m + i → id < n
       above id m i n h e = omega arith
 
-  children-kindred : (s : State P I A) (id node : ℕ) (o : Origin) (j : Journal) (runs : List RunId)
+  children-kindred : (s : State P I A) (id node : ℕ) (old : RequestState P I A)
       (key : RequestKey) (more : List RequestKey) (x : Within P I A) (go : List RequestResult →
       Journal → Body I A) → Kindred s →
-      at s.requests id ≡ Some (request_of o j runs (assigned node (within x (asks key more go))))
-      → Kindred (with_children w s id o j runs (key ∷ more) x go)
-  children-kindred s id node o j runs key more x go v e =
-      let q : Kin = kin_of (request_of o j runs (assigned node (within x (asks key more go)))) in
+      at s.requests id ≡ Some (with_status old (assigned node (within x (asks key more go))))
+      → Kindred (with_children w s id old (key ∷ more) x go)
+  children-kindred s id node old key more x go v e =
+      let q : Kin = kin_of (with_status old (assigned node (within x (asks key more go)))) in
       let ids : List ℕ = numbered_from (length s.requests) (key ∷ more) in
-      let z : Kin = kin_of (request_of o j runs (calling (key ∷ more) ids x go)) in
-      let c = children-calls s id node o j runs key more x go e in
+      let z : Kin = kin_of (with_status old (calling (key ∷ more) ids x go)) in
+      let c = children-calls s id node old key more x go e in
       record {
         family = calls-family id q z ids c v.family;
         free = record {
@@ -710,17 +709,17 @@ module _ {P I A : Type 0} (w : World P I A) where
         };
       }
 
-  request-kindred : (s : State P I A) (id : ℕ) (keys : List RequestKey) (o : Origin) (j : Journal)
-      (runs : List RunId) (st : Status P I A) (t : State P I A) → Kindred s →
-      at s.requests id ≡ Some (request_of o j runs st) → request_at w s id keys o j runs st ≡ Some t
+  request-kindred : (s : State P I A) (id : ℕ) (keys : List RequestKey) (q : RequestState P I A)
+      (st : Status P I A) (t : State P I A) → Kindred s →
+      at s.requests id ≡ Some (with_status q st) → request_at w s id keys q st ≡ Some t
       → Kindred t
-  request-kindred s id keys o j runs (assigned node (within x (asks key more go))) t v e h =
+  request-kindred s id keys q (assigned node (within x (asks key more go))) t v e h =
       let y = only_if-some (same_keys (key ∷ more) keys
-      && is_within_limits w s (x.run ∷ o.path) (key ∷ more))
-      (with_children w s id o j runs (key ∷ more) x go) t h in
+      && is_within_limits w s (x.run ∷ q.origin.path) (key ∷ more))
+      (with_children w s id q (key ∷ more) x go) t h in
       subst (λ (u : State P I A). Kindred u) y.1
-      (children-kindred s id node o j runs key more x go v e)
-  request-kindred s id keys o j runs _ t v e h = absurd (cc)
+      (children-kindred s id node q key more x go v e)
+  request-kindred s id keys q _ t v e h = absurd (cc)
 
   woken_if-less : (y : Bool) (table : Records) (q t : RequestState P I A) (m : Record) (r : RunId)
       (b : Body I A) (go : Record → Journal → Walk P I A) → q.status ≡ waits r b go →
@@ -732,8 +731,8 @@ module _ {P I A : Type 0} (w : World P I A) where
       (record { ties = refl-ties (kin_of q); inside = λ t a. a; waits_less = λ t a. a }, refl)
   woken_if-less true table q t m r b go e h =
       let y = and_then-some (replay table r q.journal)
-      (λ next. Some (goes_on w ready q.origin q.runs r go m next)) t h in
-      let z : RequestState P I A = goes_on w ready q.origin q.runs r go m y.0 in
+      (λ next. Some (goes_on w ready q r go m next)) t h in
+      let z : RequestState P I A = goes_on w ready q r go m y.0 in
       subst (λ (u : RequestState P I A). Less (kin_of q) (kin_of u)
       × (inside_of q.status ≡ inside_of u.status)) (some-is z t y.2) (
         record {
@@ -802,17 +801,17 @@ module _ {P I A : Type 0} (w : World P I A) where
           | inr e ↦ (y.0, e.1, k)
         ]
 
-  finished-kindred : (s : State P I A) (id node : ℕ) (o : Origin) (j : Journal) (runs : List RunId)
+  finished-kindred : (s : State P I A) (id node : ℕ) (old : RequestState P I A)
       (x : Within P I A) (outcome : Outcome) (t : State P I A) → Kindred s →
-      at s.requests id ≡ Some (request_of o j runs (assigned node (within x (ends outcome))))
-      → finished w s id node o j runs x (recorded outcome x.so_far.segments) ≡ Some t
+      at s.requests id ≡ Some (with_status old (assigned node (within x (ends outcome))))
+      → finished w s id node old x (recorded outcome x.so_far.segments) ≡ Some t
       → Kindred t
-  finished-kindred s id node o j runs x outcome t v e h =
+  finished-kindred s id node old x outcome t v e h =
       let m : Record = recorded outcome x.so_far.segments in
       let f : FinishedRun = record { run = x.run; made = m } in
-      let q : RequestState P I A = request_of o j runs (assigned node (within x (ends outcome))) in
+      let q : RequestState P I A = with_status old (assigned node (within x (ends outcome))) in
       let z : RequestState P I A =
-      goes_on w (assigned node) o runs x.run x.go m (add j (ended x.run m)) in
+      goes_on w (assigned node) old x.run x.go m (add old.journal (ended x.run m)) in
       let u = and_then-some (traverse (woken w (f ∷ s.table) x.run m) (put s.requests id z))
       (λ requests.
       Some
@@ -892,18 +891,18 @@ module _ {P I A : Type 0} (w : World P I A) where
         };
       })
 
-  result-kindred : (s : State P I A) (id : ℕ) (run : RunId) (o : Origin) (j : Journal)
-      (runs : List RunId) (st : Status P I A) (t : State P I A) → Kindred s →
-      at s.requests id ≡ Some (request_of o j runs st) → result_at w s id run o j runs st ≡ Some t
+  result-kindred : (s : State P I A) (id : ℕ) (run : RunId) (q : RequestState P I A)
+      (st : Status P I A) (t : State P I A) → Kindred s →
+      at s.requests id ≡ Some (with_status q st) → result_at w s id run q st ≡ Some t
       → Kindred t
-  result-kindred s id run o j runs (assigned node (within x (ends outcome))) t v e h =
+  result-kindred s id run q (assigned node (within x (ends outcome))) t v e h =
       let y = and_then-some (only_if (same_run x.run run) x)
-      (λ x. finished w s id node o j runs x (recorded outcome x.so_far.segments)) t h in
+      (λ x. finished w s id node q x (recorded outcome x.so_far.segments)) t h in
       let p : x ≡ y.0 = (only_if-some (same_run x.run run) x y.0 y.1).1 in
-      finished-kindred s id node o j runs x outcome t v e
-      (subst (λ (a : Within P I A). finished w s id node o j runs a
+      finished-kindred s id node q x outcome t v e
+      (subst (λ (a : Within P I A). finished w s id node q a
       (recorded outcome a.so_far.segments) ≡ Some t) (sym p) y.2)
-  result-kindred s id run o j runs _ t v e h = absurd (cc)
+  result-kindred s id run q _ t v e h = absurd (cc)
 
   -- a request is over
   told-kins : (rs : List (RequestState P I A)) (id : ℕ) → and_then (at rs id)
@@ -919,14 +918,14 @@ module _ {P I A : Type 0} (w : World P I A) where
       go None = refl
       go (Some q) = same q.status
 
-  module _ (s : State P I A) (id node : ℕ) (o : Origin) (j : Journal) (runs : List RunId)
-      (reply : Reply) (v : Kindred s) (e : at s.requests id ≡ Some (request_of o j runs
+  module _ (s : State P I A) (id node : ℕ) (old : RequestState P I A)
+      (reply : Reply) (v : Kindred s) (e : at s.requests id ≡ Some (with_status old
       (assigned node (walking (gives reply))))) where
     abbrev before : RequestState P I A
-    before = request_of o j runs (assigned node (walking (gives reply)))
+    before = with_status old (assigned node (walking (gives reply)))
 
     abbrev over : RequestState P I A
-    over = request_of o j runs (done (result_of reply runs))
+    over = with_status old (done (result_of reply old.runs))
 
     abbrev then_state : State P I A
     then_state = with_request s id over
@@ -941,12 +940,12 @@ module _ {P I A : Type 0} (w : World P I A) where
       acyclic = λ r c. v.free.acyclic r (path-mono (done-needs over-put refl refl refl) c);
     }
 
-    over-family : ((a : ℕ) → o.parent ≡ Some a
+    over-family : ((a : ℕ) → old.origin.parent ≡ Some a
         → (q : Kin) × (ids : List ℕ) × (kins_of s.requests a ≡ Some q) × (q.calls ≡ Some ids)
         × ((m : ℕ) × In m ids × (told_at (kins_of (put s.requests id over)) m ≡ None))) →
         Family (kins_of (put s.requests id over))
     over-family f = done-family id (kin_of before) (kin_of over) over-put refl refl refl refl
-        (result_of reply runs) refl v.family f
+        (result_of reply old.runs) refl v.family f
 
     -- its caller
     caller-was : (a : ℕ) (q : RequestState P I A) (ids : List ℕ) →
@@ -958,20 +957,20 @@ module _ {P I A : Type 0} (w : World P I A) where
           | inr x ↦ x.1
         ]
 
-    answered-kindred : (a : ℕ) → o.parent ≡ Some a →
-        (po : Origin) (pj : Journal) (pruns : List RunId) (keys : List RequestKey) (ids : List ℕ)
+    answered-kindred : (a : ℕ) → old.origin.parent ≡ Some a →
+        (caller : RequestState P I A) (keys : List RequestKey) (ids : List ℕ)
         (x : Within P I A) (go : List RequestResult → Journal → Body I A) (t : State P I A) →
-        at (put s.requests id over) a ≡ Some (request_of po pj pruns (calling keys ids x go))
+        at (put s.requests id over) a ≡ Some (with_status caller (calling keys ids x go))
         → (found : Option (List RequestResult))
         → results_of w (put s.requests id over) ids ≡ found
-        → answered w then_state a po pj pruns keys x go found ≡ Some t → Kindred t
-    answered-kindred a pa po pj pruns keys ids x go t h None g k =
+        → answered w then_state a caller keys x go found ≡ Some t → Kindred t
+    answered-kindred a pa caller keys ids x go t h None g k =
         let y = traverse-none
         (λ n. and_then (at (put s.requests id over) n) (λ q. result_in w q.status)) ids g in
         subst (λ (u : State P I A). Kindred u) (some-is then_state t k) (record {
           family = over-family (λ b i.
-              let ab : a ≡ b = same_some o.parent a b pa i in
-              let c : RequestState P I A = request_of po pj pruns (calling keys ids x go) in (
+              let ab : a ≡ b = same_some old.origin.parent a b pa i in
+              let c : RequestState P I A = with_status caller (calling keys ids x go) in (
                 kin_of c,
                 ids,
                 subst (λ n. kins_of s.requests n ≡ Some (kin_of c)) ab
@@ -981,22 +980,22 @@ module _ {P I A : Type 0} (w : World P I A) where
               ));
           free = over-free;
         })
-    answered-kindred a pa po pj pruns keys ids x go t h (Some results) g k =
-        let c : RequestState P I A = request_of po pj pruns (calling keys ids x go) in
-        let y = and_then-some (replay_all s.table (runs_of results) pj)
+    answered-kindred a pa caller keys ids x go t h (Some results) g k =
+        let c : RequestState P I A = with_status caller (calling keys ids x go) in
+        let y = and_then-some (replay_all s.table (runs_of results) caller.journal)
         (λ next.
         Some
         (with_request then_state a
-        (in_body w ready po pruns x.run x.go
+        (in_body w ready caller x.run x.go
         (run_on w.tools x.run (go results next) next (with_calls x.so_far keys results))))) t k
         in
-        let z : RequestState P I A = in_body w ready po pruns x.run x.go (run_on w.tools x.run
+        let z : RequestState P I A = in_body w ready caller x.run x.go (run_on w.tools x.run
         (go results y.0) y.0 (with_calls x.so_far keys results)) in
         let p2 = put-kins (put s.requests id over) a c z h in
         subst (λ (u : State P I A). Kindred u) (some-is (with_request then_state a z) t y.2)
         (record {
           family = last-family id (kin_of before) (kin_of over) over-put refl refl refl refl
-              (result_of reply runs) refl v.family
+              (result_of reply old.runs) refl v.family
               (kins_of (put (put s.requests id over) a z)) a (kin_of c) (kin_of z) ids p2 pa refl
               refl refl refl
               (λ m i.
@@ -1012,48 +1011,46 @@ module _ {P I A : Type 0} (w : World P I A) where
           };
         })
 
-    back_at-kindred : (a : ℕ) → o.parent ≡ Some a → (q : RequestState P I A) (st : Status P I A)
+    back_at-kindred : (a : ℕ) → old.origin.parent ≡ Some a
+        → (q : RequestState P I A) (st : Status P I A)
         (t : State P I A) → at (put s.requests id over) a ≡ Some q → q.status ≡ st →
         resume_at w then_state a q st ≡ Some t → Kindred t
     back_at-kindred a pa q (calling keys ids x go) t h p k =
-        answered-kindred a pa q.origin q.journal q.runs keys ids x go t
-        (h ∙ ap (λ (b : Status P I A). Some (request_of q.origin q.journal q.runs b)) p)
+        answered-kindred a pa q keys ids x go t
+        (h ∙ ap (λ (b : Status P I A). Some (with_status q b)) p)
         (results_of w (put s.requests id over) ids) refl k
     back_at-kindred a pa q _ t h p k = absurd (cc)
 
-    back_to-kindred : (u : Option ℕ) → o.parent ≡ u → (t : State P I A) →
+    back_to-kindred : (u : Option ℕ) → old.origin.parent ≡ u → (t : State P I A) →
         resume_caller w then_state u ≡ Some t → Kindred t
     back_to-kindred None p t h =
         subst (λ (u : State P I A). Kindred u) (some-is then_state t h)
-        (record { family = over-family (λ a i. none_some o.parent a i p); free = over-free })
+        (record
+        { family = over-family (λ a i. none_some old.origin.parent a i p); free = over-free })
     back_to-kindred (Some a) p t h =
         let y = and_then-some (at (put s.requests id over) a)
         (λ q. resume_at w then_state a q q.status) t h in
         back_at-kindred a p y.0 y.0.status t y.1 refl y.2
 
-  done-kindred : (s : State P I A) (id : ℕ) (o : Origin) (j : Journal) (runs : List RunId)
+  done-kindred : (s : State P I A) (id : ℕ) (q : RequestState P I A)
       (st : Status P I A) (t : State P I A) → Kindred s →
-      at s.requests id ≡ Some (request_of o j runs st) → done_at w s id o j runs st ≡ Some t
+      at s.requests id ≡ Some (with_status q st) → done_at w s id q st ≡ Some t
       → Kindred t
-  done-kindred s id o j runs (assigned node (walking (gives reply))) t v e h = back_to-kindred s id
-      node o j runs reply v e o.parent refl t h
-  done-kindred s id o j runs _ t v e h = absurd (cc)
+  done-kindred s id q (assigned node (walking (gives reply))) t v e h = back_to-kindred s id
+      node q reply v e q.origin.parent refl t h
+  done-kindred s id q _ t v e h = absurd (cc)
 
   pub step_of-kindred : (s : State P I A) (event : Event) (q : RequestState P I A)
       (t : State P I A) → Lawful s → Kindred s → Lawful t → at s.requests (whose event) ≡ Some q →
       step_of w s event q ≡ Some t → Kindred t
-  step_of-kindred s (Assign id node) q t l v lt e h = assign-kindred s id node q.origin q.journal
-      q.runs q.status t v e h
-  step_of-kindred s (Claim id run kind) q t l v lt e h = claim-kindred s id run kind q.origin
-      q.journal q.runs q.status t l v lt e h
-  step_of-kindred s (Request id keys) q t l v lt e h = request-kindred s id keys q.origin q.journal
-      q.runs q.status t v e h
-  step_of-kindred s (Result id run) q t l v lt e h = result-kindred s id run q.origin q.journal
-      q.runs q.status t v e h
-  step_of-kindred s (Done id) q t l v lt e h = done-kindred s id q.origin q.journal q.runs q.status
+  step_of-kindred s (Assign id node) q t l v lt e h = assign-kindred s id node q q.status t v e h
+  step_of-kindred s (Claim id run kind) q t l v lt e h = claim-kindred s id run kind q q.status t l
+      v lt e h
+  step_of-kindred s (Request id keys) q t l v lt e h = request-kindred s id keys q q.status t v e h
+  step_of-kindred s (Result id run) q t l v lt e h = result-kindred s id run q q.status t v e h
+  step_of-kindred s (Done id) q t l v lt e h = done-kindred s id q q.status
       t v e h
-  step_of-kindred s (Retire id node) q t l v lt e h = retire-kindred s id node q.origin q.journal
-      q.runs q.status t v e h
+  step_of-kindred s (Retire id node) q t l v lt e h = retire-kindred s id node q q.status t v e h
 
   pub start-kindred : Kindred (start w)
   start-kindred = record {

@@ -50,6 +50,7 @@ use Rattle.build_meaning.specs.Walk.{Walk, gives, wants, Body}
 use Rattle.build_meaning.specs.SoFar.{nothing_yet, with_calls, runs_of, recorded, result_of}
 use Rattle.build_meaning.specs.Stop.{ends, asks, run_on}
 use Rattle.build_meaning.specs.State.{
+  with_status,
   Within,
   walking,
   within,
@@ -58,7 +59,6 @@ use Rattle.build_meaning.specs.State.{
   assigned,
   calling,
   done,
-  Origin,
   RequestState,
   ToolsUsed,
   State,
@@ -109,7 +109,6 @@ use Rattle.build_meaning.proofs.EventsKeepLawful.{
   only_if-some,
   unless-some,
   some-is,
-  request_of,
   step-lawful,
   start-lawful,
   all-lawful,
@@ -145,34 +144,34 @@ module _ {P I A : Type 0} (w : World P I A) where
     stays = subst (λ x. Newer s.table x) q same_table;
   }
 
-  assign-changes : (s : State P I A) (id node : ℕ) (o : Origin) (j : Journal) (runs : List RunId)
-      (st : Status P I A) (t : State P I A) → assign_at w s id node o j runs st ≡ Some t →
+  assign-changes : (s : State P I A) (id node : ℕ) (q : RequestState P I A)
+      (st : Status P I A) (t : State P I A) → assign_at w s id node q st ≡ Some t →
       Changes (Assign id node) s t
-  assign-changes s id node o j runs (ready p) t h =
-      let e = some-is (with_request s id (request_of o j runs (assigned node p))) t h in
+  assign-changes s id node q (ready p) t h =
+      let e = some-is (with_request s id (with_status q (assigned node p))) t h in
       same_lists (Assign id node) s t refl refl (ap (λ (u : State P I A). u.begun) e)
       (ap (λ (u : State P I A). u.table) e) (ap (λ (u : State P I A). u.tools_used) e)
-  assign-changes s id node o j runs _ t h = absurd (cc)
+  assign-changes s id node q _ t h = absurd (cc)
 
-  retire-changes : (s : State P I A) (id node : ℕ) (o : Origin) (j : Journal) (runs : List RunId)
-      (st : Status P I A) (t : State P I A) → retire_at w s id node o j runs st ≡ Some t →
+  retire-changes : (s : State P I A) (id node : ℕ) (q : RequestState P I A)
+      (st : Status P I A) (t : State P I A) → retire_at w s id node q st ≡ Some t →
       Changes (Retire id node) s t
-  retire-changes s id node o j runs (assigned by p) t h =
-      let e = (only_if-some (by == node) (with_request s id (request_of o j runs (ready p))) t h).1
+  retire-changes s id node q (assigned by p) t h =
+      let e = (only_if-some (by == node) (with_request s id (with_status q (ready p))) t h).1
       in
       same_lists (Retire id node) s t refl refl (ap (λ (u : State P I A). u.begun) e)
       (ap (λ (u : State P I A). u.table) e) (ap (λ (u : State P I A). u.tools_used) e)
-  retire-changes s id node o j runs _ t h = absurd (cc)
+  retire-changes s id node q _ t h = absurd (cc)
 
-  claimed-changes : (s : State P I A) (id node : ℕ) (o : Origin) (j : Journal) (runs : List RunId)
+  claimed-changes : (s : State P I A) (id node : ℕ) (q : RequestState P I A)
       (r : RunId) (b : Body I A) (go : Record → Journal → Walk P I A) (kind : ClaimKind)
       (t : State P I A) →
-      claimed w s id node o j runs r b go kind ≡ Some t → Changes (Claim id r kind) s t
-  claimed-changes s id node o j runs r b go Go t h =
+      claimed w s id node q r b go kind ≡ Some t → Changes (Claim id r kind) s t
+  claimed-changes s id node q r b go Go t h =
       let u : State P I A =
       record {
-        requests = put s.requests id (in_body w (assigned node) o runs r go
-            (run_on w.tools r b j nothing_yet));
+        requests = put s.requests id (in_body w (assigned node) q r go
+            (run_on w.tools r b q.journal nothing_yet));
         begun = record { run = r; by = id } ∷ s.begun;
         table = s.table;
         tools_used = s.tools_used;
@@ -185,63 +184,63 @@ module _ {P I A : Type 0} (w : World P I A) where
         tools_used =
             λ g. subst (λ (u : State P I A). tooled_runs u.tools_used ≡ finished_runs u.table) e g;
       }
-  claimed-changes s id node o j runs r b go Use t h =
+  claimed-changes s id node q r b go Use t h =
       let x = and_then-some (found s.table r)
-      (λ made. and_then (replay s.table r j)
-      (λ next. Some (with_request s id (goes_on w (assigned node) o runs r go made next)))) t h
+      (λ made. and_then (replay s.table r q.journal)
+      (λ next. Some (with_request s id (goes_on w (assigned node) q r go made next)))) t h
       in
-      let y = and_then-some (replay s.table r j)
-      (λ next. Some (with_request s id (goes_on w (assigned node) o runs r go x.0 next))) t x.2
+      let y = and_then-some (replay s.table r q.journal)
+      (λ next. Some (with_request s id (goes_on w (assigned node) q r go x.0 next))) t x.2
       in
-      let e = some-is (with_request s id (goes_on w (assigned node) o runs r go x.0 y.0)) t y.2 in
+      let e = some-is (with_request s id (goes_on w (assigned node) q r go x.0 y.0)) t y.2 in
       same_lists (Claim id r Use) s t refl refl (ap (λ (u : State P I A). u.begun) e)
       (ap (λ (u : State P I A). u.table) e) (ap (λ (u : State P I A). u.tools_used) e)
-  claimed-changes s id node o j runs r b go Wait t h =
-      let next : State P I A = waiting w s id o j runs r b go in
+  claimed-changes s id node q r b go Wait t h =
+      let next : State P I A = waiting w s id q r b go in
       let e =
       (only_if-some (may_wait w (is_begun r s.begun) (found s.table r) (is_in_cycle next r))
       next t h).1 in
       same_lists (Claim id r Wait) s t refl refl (ap (λ (u : State P I A). u.begun) e)
       (ap (λ (u : State P I A). u.table) e) (ap (λ (u : State P I A). u.tools_used) e)
 
-  claim-changes : (s : State P I A) (id : ℕ) (run : RunId) (kind : ClaimKind) (o : Origin)
-      (j : Journal) (runs : List RunId) (st : Status P I A) (t : State P I A) →
-      claim_at w s id run kind o j runs st ≡ Some t → Changes (Claim id run kind) s t
-  claim-changes s id run kind o j runs (assigned node (walking (wants site r b go))) t h =
+  claim-changes : (s : State P I A) (id : ℕ) (run : RunId) (kind : ClaimKind)
+      (q : RequestState P I A) (st : Status P I A) (t : State P I A) →
+      claim_at w s id run kind q st ≡ Some t → Changes (Claim id run kind) s t
+  claim-changes s id run kind q (assigned node (walking (wants site r b go))) t h =
       let x = and_then-some (only_if (same_run r run) r)
-      (λ run. claimed w s id node o j runs run b go kind) t h in
+      (λ run. claimed w s id node q run b go kind) t h in
       let y = only_if-some (same_run r run) r x.0 x.1 in
       subst (λ n. Changes (Claim id n kind) s t) (same_run-true r run y.0)
-      (claimed-changes s id node o j runs r b go kind t
-      (subst (λ n. claimed w s id node o j runs n b go kind ≡ Some t) (sym y.1) x.2))
-  claim-changes s id run kind o j runs _ t h = absurd (cc)
+      (claimed-changes s id node q r b go kind t
+      (subst (λ n. claimed w s id node q n b go kind ≡ Some t) (sym y.1) x.2))
+  claim-changes s id run kind q _ t h = absurd (cc)
 
-  request-changes : (s : State P I A) (id : ℕ) (keys : List RequestKey) (o : Origin) (j : Journal)
-      (runs : List RunId) (st : Status P I A) (t : State P I A) →
-      request_at w s id keys o j runs st ≡ Some t → Changes (Request id keys) s t
-  request-changes s id keys o j runs (assigned node (within x (asks key more go))) t h =
+  request-changes : (s : State P I A) (id : ℕ) (keys : List RequestKey) (q : RequestState P I A)
+      (st : Status P I A) (t : State P I A) →
+      request_at w s id keys q st ≡ Some t → Changes (Request id keys) s t
+  request-changes s id keys q (assigned node (within x (asks key more go))) t h =
       let e =
       (only_if-some (same_keys (key ∷ more) keys
-      && is_within_limits w s (x.run ∷ o.path) (key ∷ more))
-      (with_children w s id o j runs (key ∷ more) x go) t h).1 in
+      && is_within_limits w s (x.run ∷ q.origin.path) (key ∷ more))
+      (with_children w s id q (key ∷ more) x go) t h).1 in
       same_lists (Request id keys) s t refl refl (ap (λ (u : State P I A). u.begun) e)
       (ap (λ (u : State P I A). u.table) e) (ap (λ (u : State P I A). u.tools_used) e)
-  request-changes s id keys o j runs _ t h = absurd (cc)
+  request-changes s id keys q _ t h = absurd (cc)
 
-  result-changes : (s : State P I A) (id : ℕ) (run : RunId) (o : Origin) (j : Journal)
-      (runs : List RunId) (st : Status P I A) (t : State P I A) → Lawful s → at s.requests id ≡ Some
-      (request_of o j runs st) →
-      result_at w s id run o j runs st ≡ Some t → Changes (Result id run) s t
-  result-changes s id run o j runs (assigned node (within x (ends outcome))) t v e h =
+  result-changes : (s : State P I A) (id : ℕ) (run : RunId) (old : RequestState P I A)
+      (st : Status P I A) (t : State P I A) → Lawful s → at s.requests id ≡ Some
+      (with_status old st) →
+      result_at w s id run old st ≡ Some t → Changes (Result id run) s t
+  result-changes s id run old (assigned node (within x (ends outcome))) t v e h =
       let m : Record = recorded outcome x.so_far.segments in
       let f : FinishedRun = record { run = x.run; made = m } in
       let y = and_then-some (only_if (same_run x.run run) x)
-      (λ x. finished w s id node o j runs x (recorded outcome x.so_far.segments)) t h in
+      (λ x. finished w s id node old x (recorded outcome x.so_far.segments)) t h in
       let p = only_if-some (same_run x.run run) x y.0 y.1 in
-      let g = subst (λ (a : Within P I A). finished w s id node o j runs a
+      let g = subst (λ (a : Within P I A). finished w s id node old a
       (recorded outcome a.so_far.segments) ≡ Some t) (sym p.1) y.2 in
       let z : RequestState P I A =
-      goes_on w (assigned node) o runs x.run x.go m (add j (ended x.run m)) in
+      goes_on w (assigned node) old x.run x.go m (add old.journal (ended x.run m)) in
       let u = and_then-some (traverse (woken w (f ∷ s.table) x.run m) (put s.requests id z))
       (λ requests.
       Some
@@ -262,7 +261,7 @@ module _ {P I A : Type 0} (w : World P I A) where
       let q : last ≡ t = some-is last t u.2 in
       let n : found s.table x.run
       ≡ None =
-      (v.each id (request_of o j runs (assigned node (within x (ends outcome))))
+      (v.each id (with_status old (assigned node (within x (ends outcome))))
       e).status.1.unfinished in
       subst (λ r. Changes (Result id r) s t) (same_run-true x.run run p.0) (record {
         begins = ap (λ (u : State P I A). begun_runs u.begun) (sym q);
@@ -272,32 +271,32 @@ module _ {P I A : Type 0} (w : World P I A) where
             λ g. subst (λ (u : State P I A). tooled_runs u.tools_used ≡ finished_runs u.table) q
             (ap (λ rs. x.run ∷ rs) g);
       })
-  result-changes s id run o j runs _ t v e h = absurd (cc)
+  result-changes s id run old _ t v e h = absurd (cc)
 
   abbrev pub Same : State P I A → State P I A → Type 0
   Same s t = (s.begun ≡ t.begun) × (s.table ≡ t.table) × (s.tools_used ≡ t.tools_used)
 
-  answered-same : (s : State P I A) (id : ℕ) (o : Origin) (j : Journal) (runs : List RunId)
+  answered-same : (s : State P I A) (id : ℕ) (q : RequestState P I A)
       (keys : List RequestKey) (x : Within P I A) (go : List RequestResult → Journal → Body I A)
       (reply : Option (List RequestResult)) (t : State P I A) →
-      answered w s id o j runs keys x go reply ≡ Some t → Same s t
-  answered-same s id o j runs keys x go None t h =
+      answered w s id q keys x go reply ≡ Some t → Same s t
+  answered-same s id q keys x go None t h =
       let e = some-is s t h in (
         ap (λ (u : State P I A). u.begun) e,
         ap (λ (u : State P I A). u.table) e,
         ap
             (λ (u : State P I A). u.tools_used) e,
       )
-  answered-same s id o j runs keys x go (Some results) t h =
-      let y = and_then-some (replay_all s.table (runs_of results) j)
+  answered-same s id q keys x go (Some results) t h =
+      let y = and_then-some (replay_all s.table (runs_of results) q.journal)
       (λ next.
       Some
       (with_request s id
-      (in_body w ready o runs x.run x.go
+      (in_body w ready q x.run x.go
       (run_on w.tools x.run (go results next) next (with_calls x.so_far keys results))))) t h in
       let e = some-is
       (with_request s id
-      (in_body w ready o runs x.run x.go
+      (in_body w ready q x.run x.go
       (run_on w.tools x.run (go results y.0) y.0 (with_calls x.so_far keys results)))) t y.2
       in (
         ap (λ (u : State P I A). u.begun) e,
@@ -308,7 +307,7 @@ module _ {P I A : Type 0} (w : World P I A) where
 
   back_at-same : (s : State P I A) (id : ℕ) (q : RequestState P I A) (st : Status P I A)
       (t : State P I A) → resume_at w s id q st ≡ Some t → Same s t
-  back_at-same s id q (calling keys ids x go) t h = answered-same s id q.origin q.journal q.runs
+  back_at-same s id q (calling keys ids x go) t h = answered-same s id q
       keys x go (results_of w s.requests ids) t h
   back_at-same s id q _ t h = absurd (cc)
 
@@ -324,27 +323,25 @@ module _ {P I A : Type 0} (w : World P I A) where
   back_to-same s (Some id) t h = let y = and_then-some (at s.requests id)
       (λ q. resume_at w s id q q.status) t h in back_at-same s id y.0 y.0.status t y.2
 
-  done-changes : (s : State P I A) (id : ℕ) (o : Origin) (j : Journal) (runs : List RunId)
-      (st : Status P I A) (t : State P I A) → done_at w s id o j runs st ≡ Some t →
+  done-changes : (s : State P I A) (id : ℕ) (q : RequestState P I A)
+      (st : Status P I A) (t : State P I A) → done_at w s id q st ≡ Some t →
       Changes (Done id) s t
-  done-changes s id o j runs (assigned node (walking (gives reply))) t h =
-      let e = back_to-same (with_request s id (request_of o j runs (done (result_of reply runs))))
-      o.parent t h in same_lists (Done id) s t refl refl e.0 e.1 e.2
-  done-changes s id o j runs _ t h = absurd (cc)
+  done-changes s id q (assigned node (walking (gives reply))) t h =
+      let e = back_to-same (with_request s id (with_status q (done (result_of reply q.runs))))
+      q.origin.parent t h in same_lists (Done id) s t refl refl e.0 e.1 e.2
+  done-changes s id q _ t h = absurd (cc)
 
   step_of-changes : (s : State P I A) (event : Event) (q : RequestState P I A) (t : State P I A) →
       Lawful s → at s.requests (whose event) ≡ Some q → step_of w s event q ≡ Some t →
       Changes event s t
-  step_of-changes s (Assign id node) q t v e h = assign-changes s id node q.origin q.journal q.runs
+  step_of-changes s (Assign id node) q t v e h = assign-changes s id node q
       q.status t h
-  step_of-changes s (Claim id run kind) q t v e h = claim-changes s id run kind q.origin q.journal
-      q.runs q.status t h
-  step_of-changes s (Request id keys) q t v e h = request-changes s id keys q.origin q.journal
-      q.runs q.status t h
-  step_of-changes s (Result id run) q t v e h = result-changes s id run q.origin q.journal q.runs
+  step_of-changes s (Claim id run kind) q t v e h = claim-changes s id run kind q q.status t h
+  step_of-changes s (Request id keys) q t v e h = request-changes s id keys q q.status t h
+  step_of-changes s (Result id run) q t v e h = result-changes s id run q
       q.status t v e h
-  step_of-changes s (Done id) q t v e h = done-changes s id q.origin q.journal q.runs q.status t h
-  step_of-changes s (Retire id node) q t v e h = retire-changes s id node q.origin q.journal q.runs
+  step_of-changes s (Done id) q t v e h = done-changes s id q q.status t h
+  step_of-changes s (Retire id node) q t v e h = retire-changes s id node q
       q.status t h
 
   begun_one : (event : Event) (events : List Event) (runs : List RunId)

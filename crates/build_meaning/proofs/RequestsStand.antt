@@ -78,6 +78,7 @@ use Rattle.build_meaning.specs.SoFar.{
 use Rattle.build_meaning.specs.Meaning.{Demanded, requested, built}
 use Rattle.build_meaning.specs.Stop.{ends, asks, run_on}
 use Rattle.build_meaning.specs.State.{
+  with_status,
   Within,
   walking,
   within,
@@ -87,7 +88,6 @@ use Rattle.build_meaning.specs.State.{
   waits,
   calling,
   done,
-  Origin,
   RequestState,
   ToolsUsed,
   State,
@@ -183,7 +183,6 @@ use Rattle.build_meaning.proofs.EventsKeepLawful.{
   some-is,
   journal-grows,
   journal-ended,
-  request_of,
   unbegun-unfinished,
   unfinished-fresh,
   put-lawful,
@@ -346,38 +345,39 @@ module _ {P I A : Type 0} (w : World P I A) (D : Demanded P I → Type 0)
     tools_used = v.tools_used;
   }
 
-  assign-stands : (s : State P I A) (goals : List Goal) (id node : ℕ) (o : Origin) (j : Journal)
-      (runs : List RunId) (st : Status P I A) (t : State P I A) → Standing s goals → Lawful t →
-      at s.requests id ≡ Some (request_of o j runs st) → assign_at w s id node o j runs st ≡ Some t
+  assign-stands : (s : State P I A) (goals : List Goal) (id node : ℕ) (earlier : RequestState P I A)
+      (st : Status P I A) (t : State P I A) → Standing s goals → Lawful t →
+      at s.requests id ≡ Some (with_status earlier st) → assign_at w s id node earlier st ≡ Some t
       → Standing t goals
-  assign-stands s goals id node o j runs (ready p) t v l e h =
-      let z : RequestState P I A = request_of o j runs (assigned node p) in
+  assign-stands s goals id node earlier (ready p) t v l e h =
+      let z : RequestState P I A = with_status earlier (assigned node p) in
       let q : with_request s id z ≡ t = some-is (with_request s id z) t h in
-      subst (λ (u : State P I A). Standing u goals) q (put-stands s goals id (request_of o j runs
+      subst (λ (u : State P I A). Standing u goals) q (put-stands s goals id (with_status earlier
       (ready p)) z v e (subst (λ (u : State P I A). Lawful u) (sym q) l)
       (λ g x. record { asked = x.asked; stands = x.stands }))
-  assign-stands s goals id node o j runs _ t v l e h = absurd (cc)
+  assign-stands s goals id node earlier _ t v l e h = absurd (cc)
 
-  retire-stands : (s : State P I A) (goals : List Goal) (id node : ℕ) (o : Origin) (j : Journal)
-      (runs : List RunId) (st : Status P I A) (t : State P I A) → Standing s goals → Lawful t →
-      at s.requests id ≡ Some (request_of o j runs st) → retire_at w s id node o j runs st ≡ Some t
+  retire-stands : (s : State P I A) (goals : List Goal) (id node : ℕ) (earlier : RequestState P I A)
+      (st : Status P I A) (t : State P I A) → Standing s goals → Lawful t →
+      at s.requests id ≡ Some (with_status earlier st) → retire_at w s id node earlier st ≡ Some t
       → Standing t goals
-  retire-stands s goals id node o j runs (assigned by p) t v l e h =
-      let z : RequestState P I A = request_of o j runs (ready p) in
+  retire-stands s goals id node earlier (assigned by p) t v l e h =
+      let z : RequestState P I A = with_status earlier (ready p) in
       let q : with_request s id z ≡ t = (only_if-some (by == node) (with_request s id z) t h).1 in
-      subst (λ (u : State P I A). Standing u goals) q (put-stands s goals id (request_of o j runs
+      subst (λ (u : State P I A). Standing u goals) q (put-stands s goals id (with_status earlier
       (assigned by p)) z v e (subst (λ (u : State P I A). Lawful u) (sym q) l)
       (λ g x. record { asked = x.asked; stands = x.stands }))
-  retire-stands s goals id node o j runs _ t v l e h = absurd (cc)
+  retire-stands s goals id node earlier _ t v l e h = absurd (cc)
 
-  claimed-stands : (s : State P I A) (goals : List Goal) (id node : ℕ) (o : Origin) (j : Journal)
-      (runs : List RunId) (site : P) (r : RunId) (b : Body I A) (go : Record → Journal → Walk P I A)
+  claimed-stands : (s : State P I A) (goals : List Goal) (id node : ℕ)
+      (earlier : RequestState P I A)
+      (site : P) (r : RunId) (b : Body I A) (go : Record → Journal → Walk P I A)
       (kind : ClaimKind) (t : State P I A) → Standing s goals → Lawful t →
-      at s.requests id ≡ Some (request_of o j runs (assigned node (walking (wants site r b go)))) →
-      claimed w s id node o j runs r b go kind ≡ Some t → Standing t goals
-  claimed-stands s goals id node o j runs site r b go Go t v l e h =
+      at s.requests id ≡ Some (with_status earlier (assigned node (walking (wants site r b go)))) →
+      claimed w s id node earlier r b go kind ≡ Some t → Standing t goals
+  claimed-stands s goals id node earlier site r b go Go t v l e h =
       let z : RequestState P I A =
-      in_body w (assigned node) o runs r go (run_on w.tools r b j nothing_yet) in
+      in_body w (assigned node) earlier r go (run_on w.tools r b earlier.journal nothing_yet) in
       let u : State P I A = record {
         requests = put s.requests id z;
         begun = record {
@@ -389,65 +389,66 @@ module _ {P I A : Type 0} (w : World P I A) (D : Demanded P I → Type 0)
       } in
       let x = unless-some (is_begun r s.begun) u t h in
       let lq =
-      v.lawful.each id (request_of o j runs (assigned node (walking (wants site r b go)))) e in
-      let fresh = unfinished-fresh w s.table j runs r lq.journal
+      v.lawful.each id (with_status earlier (assigned node (walking (wants site r b go)))) e in
+      let fresh = unfinished-fresh w s.table earlier.journal earlier.runs r lq.journal
       (unbegun-unfinished w s v.lawful r x.0) in
       subst (λ (u : State P I A). Standing u goals) x.1 (record {
         lawful = subst (λ (u : State P I A). Lawful u) (sym x.1) l;
         each =
-            Paired-put (Stands w D goals) (Stands w D goals) (λ x y h. h) (request_of o j runs
+            Paired-put (Stands w D goals) (Stands w D goals) (λ x y h. h) (with_status earlier
             (assigned node (walking (wants site r b go)))) z
             (λ g y. record {
               asked = y.asked;
-              stands = runs_in o.path j runs r nothing_yet b go g
-                  (wants_builds o.path j runs site r b go g fresh y.stands);
+              stands = runs_in earlier.origin.path earlier.journal earlier.runs r nothing_yet b go g
+                  (wants_builds earlier.origin.path earlier.journal earlier.runs site r b go g fresh
+                  y.stands);
             })
             s.requests id goals v.each e;
         known = v.known;
         tools_used = v.tools_used;
       })
-  claimed-stands s goals id node o j runs site r b go Use t v l e h =
+  claimed-stands s goals id node earlier site r b go Use t v l e h =
       let x = and_then-some (found s.table r)
-      (λ made. and_then (replay s.table r j)
-      (λ next. Some (with_request s id (goes_on w (assigned node) o runs r go made next)))) t h
+      (λ made. and_then (replay s.table r earlier.journal)
+      (λ next. Some (with_request s id (goes_on w (assigned node) earlier r go made next)))) t h
       in
-      let y = and_then-some (replay s.table r j)
-      (λ next. Some (with_request s id (goes_on w (assigned node) o runs r go x.0 next))) t x.2
+      let y = and_then-some (replay s.table r earlier.journal)
+      (λ next. Some (with_request s id (goes_on w (assigned node) earlier r go x.0 next))) t x.2
       in
-      let z : RequestState P I A = goes_on w (assigned node) o runs r go x.0 y.0 in
+      let z : RequestState P I A = goes_on w (assigned node) earlier r go x.0 y.0 in
       let q : with_request s id z ≡ t = some-is (with_request s id z) t y.2 in
       let lq =
-      v.lawful.each id (request_of o j runs (assigned node (walking (wants site r b go)))) e in
-      subst (λ (u : State P I A). Standing u goals) q (put-stands s goals id (request_of o j runs
+      v.lawful.each id (with_status earlier (assigned node (walking (wants site r b go)))) e in
+      subst (λ (u : State P I A). Standing u goals) q (put-stands s goals id (with_status earlier
       (assigned node (walking (wants site r b go)))) z v e (subst (λ (u : State P I A). Lawful u)
       (sym q) l)
       (λ g a. record {
         asked = a.asked;
-        stands = uses_table s.table v.lawful.once v.known o.path j
-            runs site r b go g x.0 y.0 lq.journal a.stands (v.known r x.0 x.1) y.1;
+        stands = uses_table s.table v.lawful.once v.known earlier.origin.path earlier.journal
+            earlier.runs site r b go g x.0 y.0 lq.journal a.stands (v.known r x.0 x.1) y.1;
       }))
-  claimed-stands s goals id node o j runs site r b go Wait t v l e h =
-      let next : State P I A = waiting w s id o j runs r b go in
+  claimed-stands s goals id node earlier site r b go Wait t v l e h =
+      let next : State P I A = waiting w s id earlier r b go in
       let x = only_if-some (may_wait w (is_begun r s.begun) (found s.table r) (is_in_cycle next r))
       next t h in
-      subst (λ (u : State P I A). Standing u goals) x.1 (put-stands s goals id (request_of o j runs
-      (assigned node (walking (wants site r b go)))) (request_of o j runs (waits r b go)) v e
+      subst (λ (u : State P I A). Standing u goals) x.1 (put-stands s goals id (with_status earlier
+      (assigned node (walking (wants site r b go)))) (with_status earlier (waits r b go)) v e
       (subst (λ (u : State P I A). Lawful u) (sym x.1) l)
       (λ g a. record { asked = a.asked; stands = (site, a.stands) }))
 
   claim-stands : (s : State P I A) (goals : List Goal) (id : ℕ) (run : RunId) (kind : ClaimKind)
-      (o : Origin) (j : Journal) (runs : List RunId) (st : Status P I A) (t : State P I A) →
+      (q : RequestState P I A) (st : Status P I A) (t : State P I A) →
       Standing s goals → Lawful t →
-      at s.requests id ≡ Some (request_of o j runs st)
-      → claim_at w s id run kind o j runs st ≡ Some t → Standing t goals
-  claim-stands s goals id run kind o j runs (assigned node (walking (wants site r b go))) t v l e
+      at s.requests id ≡ Some (with_status q st)
+      → claim_at w s id run kind q st ≡ Some t → Standing t goals
+  claim-stands s goals id run kind q (assigned node (walking (wants site r b go))) t v l e
       h =
       let x = and_then-some (only_if (same_run r run) r)
-      (λ run. claimed w s id node o j runs run b go kind) t h in
+      (λ run. claimed w s id node q run b go kind) t h in
       let y : r ≡ x.0 = (only_if-some (same_run r run) r x.0 x.1).1 in
-      claimed-stands s goals id node o j runs site r b go kind t v l e
-      (subst (λ n. claimed w s id node o j runs n b go kind ≡ Some t) (sym y) x.2)
-  claim-stands s goals id run kind o j runs _ t v l e h = absurd (cc)
+      claimed-stands s goals id node q site r b go kind t v l e
+      (subst (λ n. claimed w s id node q n b go kind ≡ Some t) (sym y) x.2)
+  claim-stands s goals id run kind q _ t v l e h = absurd (cc)
 
   -- a request that waits goes on
   woken_if-stands : (goals : List Goal) (table : Records) → IsOnce table →
@@ -459,8 +460,8 @@ module _ {P I A : Type 0} (w : World P I A) (D : Demanded P I → Type 0)
       woken_if w true table q m r go ≡ Some t → Stands w D goals t g
   woken_if-stands goals table once known q t g site r b go m l p a x h =
       let y = and_then-some (replay table r q.journal)
-      (λ next. Some (goes_on w ready q.origin q.runs r go m next)) t h in
-      let z : RequestState P I A = goes_on w ready q.origin q.runs r go m y.0 in
+      (λ next. Some (goes_on w ready q r go m next)) t h in
+      let z : RequestState P I A = goes_on w ready q r go m y.0 in
       subst (λ (u : RequestState P I A). Stands w D goals u g) (some-is z t y.2)
       (record {
         asked = a;
@@ -535,19 +536,20 @@ module _ {P I A : Type 0} (w : World P I A) (D : Demanded P I → Type 0)
       (site, from, m, subst (λ (x : ToolsUsed I). D (built site x.run from m x.tools)) e p)
   tooled-more f site from m tools_used p k t (inr i) = k t i
 
-  finished-stands : (s : State P I A) (goals : List Goal) (id node : ℕ) (o : Origin) (j : Journal)
-      (runs : List RunId) (x : Within P I A) (outcome : Outcome) (t : State P I A) →
+  finished-stands : (s : State P I A) (goals : List Goal) (id node : ℕ)
+      (earlier : RequestState P I A)
+      (x : Within P I A) (outcome : Outcome) (t : State P I A) →
       Standing s goals → Lawful t →
-      at s.requests id ≡ Some (request_of o j runs (assigned node (within x (ends outcome))))
-      → finished w s id node o j runs x (recorded outcome x.so_far.segments) ≡ Some t
+      at s.requests id ≡ Some (with_status earlier (assigned node (within x (ends outcome))))
+      → finished w s id node earlier x (recorded outcome x.so_far.segments) ≡ Some t
       → Standing t goals
-  finished-stands s goals id node o j runs x outcome t v l e h =
+  finished-stands s goals id node earlier x outcome t v l e h =
       let m : Record = recorded outcome x.so_far.segments in
       let f : FinishedRun = record { run = x.run; made = m } in
       let old_q : RequestState P I A =
-      request_of o j runs (assigned node (within x (ends outcome))) in
+      with_status earlier (assigned node (within x (ends outcome))) in
       let z : RequestState P I A =
-      goes_on w (assigned node) o runs x.run x.go m (add j (ended x.run m)) in
+      goes_on w (assigned node) earlier x.run x.go m (add earlier.journal (ended x.run m)) in
       let lq = v.lawful.each id old_q e in
       let b = lq.status.1 in
       let n : found s.table x.run ≡ None = b.unfinished in
@@ -570,7 +572,9 @@ module _ {P I A : Type 0} (w : World P I A) (D : Demanded P I → Type 0)
       } in
       let q : last ≡ t = some-is last t u.2 in
       let here = Paired-some (Stands w D goals) s.requests goals id old_q v.each e in
-      let told = made_in o.path j runs x.run x.so_far outcome x.go here.0 here.1.stands in
+      let told = made_in earlier.origin.path earlier.journal earlier.runs x.run x.so_far outcome
+      x.go here.0
+      here.1.stands in
       let mine : Made D x.run m = (told.0, told.1, (x.so_far.tools, told.2)) in
       let known = known-more s.table f mine v.known in
       let c = reps-closed (Recorded s.table) (one_record s.table) b.so_far b.from_closed in
@@ -581,7 +585,10 @@ module _ {P I A : Type 0} (w : World P I A) (D : Demanded P I → Type 0)
             (Paired-put (Stands w D goals) (Stands w D goals) (λ x y a. a) old_q z
             (λ g y. record {
               asked = y.asked;
-              stands = (made_in o.path j runs x.run x.so_far outcome x.go g y.stands).3;
+              stands =
+                  (made_in earlier.origin.path earlier.journal earlier.runs x.run x.so_far outcome
+                  x.go g
+                  y.stands).3;
             }) s.requests id goals v.each e)
             u.1
             (λ i a y g at_i stands woke.
@@ -589,7 +596,7 @@ module _ {P I A : Type 0} (w : World P I A) (D : Demanded P I → Type 0)
             (at-put s.requests id z i a at_i) [
               | inl r ↦
                   subst (λ (k : RequestState P I A). LawfulJournal (f ∷ s.table) k.journal k.runs)
-                  r.1 (journal-ended s.table f n j runs lq.journal c.0)
+                  r.1 (journal-ended s.table f n earlier.journal earlier.runs lq.journal c.0)
               | inr r ↦ journal-grows s.table f n a.journal a.runs (v.lawful.each i a r.1).journal
             ] in
             woken_at-stands goals (f ∷ s.table) (n, v.lawful.once) known x.run m mine a y g lj
@@ -600,19 +607,19 @@ module _ {P I A : Type 0} (w : World P I A) (D : Demanded P I → Type 0)
             s.tools_used told.2 v.tools_used;
       })
 
-  result-stands : (s : State P I A) (goals : List Goal) (id : ℕ) (run : RunId) (o : Origin)
-      (j : Journal) (runs : List RunId) (st : Status P I A) (t : State P I A) → Standing s goals →
+  result-stands : (s : State P I A) (goals : List Goal) (id : ℕ) (run : RunId)
+      (q : RequestState P I A) (st : Status P I A) (t : State P I A) → Standing s goals →
       Lawful t →
-      at s.requests id ≡ Some (request_of o j runs st) → result_at w s id run o j runs st ≡ Some t
+      at s.requests id ≡ Some (with_status q st) → result_at w s id run q st ≡ Some t
       → Standing t goals
-  result-stands s goals id run o j runs (assigned node (within x (ends outcome))) t v l e h =
+  result-stands s goals id run q (assigned node (within x (ends outcome))) t v l e h =
       let y = and_then-some (only_if (same_run x.run run) x)
-      (λ x. finished w s id node o j runs x (recorded outcome x.so_far.segments)) t h in
+      (λ x. finished w s id node q x (recorded outcome x.so_far.segments)) t h in
       let p : x ≡ y.0 = (only_if-some (same_run x.run run) x y.0 y.1).1 in
-      finished-stands s goals id node o j runs x outcome t v l e
-      (subst (λ (a : Within P I A). finished w s id node o j runs a
+      finished-stands s goals id node q x outcome t v l e
+      (subst (λ (a : Within P I A). finished w s id node q a
       (recorded outcome a.so_far.segments) ≡ Some t) (sym p) y.2)
-  result-stands s goals id run o j runs _ t v l e h = absurd (cc)
+  result-stands s goals id run q _ t v l e h = absurd (cc)
 
   -- a body that calls
   calls_so : (path : List RunId) (r : RunId) (j : Journal) (so_far : SoFar I) (key : RequestKey)
@@ -669,30 +676,32 @@ module _ {P I A : Type 0} (w : World P I A) (D : Demanded P I → Type 0)
   abbrev pub Keeps : Goal → State P I A → Type 0
   Keeps g s = (goals : List Goal) × Standing s goals × (at goals 0 ≡ Some g)
 
-  children-stand : (s : State P I A) (goals : List Goal) (id node : ℕ) (o : Origin) (j : Journal)
-      (runs : List RunId) (x : Within P I A) (key : RequestKey) (more : List RequestKey)
+  children-stand : (s : State P I A) (goals : List Goal) (id node : ℕ) (q : RequestState P I A)
+      (x : Within P I A) (key : RequestKey) (more : List RequestKey)
       (go : List RequestResult → Journal → Body I A) → Standing s goals →
-      Lawful (with_children w s id o j runs (key ∷ more) x go)
+      Lawful (with_children w s id q (key ∷ more) x go)
       → at s.requests id
-      ≡ Some (request_of o j runs (assigned node (within x (asks key more go)))) → (root : Goal)
+      ≡ Some (with_status q (assigned node (within x (asks key more go)))) → (root : Goal)
       → at goals 0 ≡ Some root →
-      Keeps root (with_children w s id o j runs (key ∷ more) x go)
-  children-stand s goals id node o j runs x key more go v l e root at_root =
+      Keeps root (with_children w s id q (key ∷ more) x go)
+  children-stand s goals id node q x key more go v l e root at_root =
       let keys : List RequestKey = key ∷ more in
       let old_q : RequestState P I A =
-      request_of o j runs (assigned node (within x (asks key more go))) in
+      with_status q (assigned node (within x (asks key more go))) in
       let ids : List ℕ = numbered_from (length s.requests) keys in
-      let z : RequestState P I A = request_of o j runs (calling keys ids x go) in
+      let z : RequestState P I A = with_status q (calling keys ids x go) in
       let here = Paired-some (Stands w D goals) s.requests goals id old_q v.each e in
       let g : Goal = here.0 in
       let st : Stands w D goals old_q g = here.1 in
-      let y = called_in o.path j runs x.run x.so_far key more go x.go g st.stands in
+      let y = called_in q.origin.path q.journal q.runs x.run x.so_far key more go x.go g st.stands
+      in
       let kids0 = children y.2 (Some id) [] goals in
       let all : List Goal = goals ++ kids0.0 in
-      let kids : Paired (Stands w D all) (map (new_request w (Some id) (x.run ∷ o.path) j) keys)
+      let kids : Paired (Stands w D all)
+      (map (new_request w (Some id) (x.run ∷ q.origin.path) q.journal) keys)
       kids0.0 =
       Paired-mono (Stands w D []) (Stands w D all) (stands-mono [] all (λ i g p. absurd (cc)))
-      (map (new_request w (Some id) (x.run ∷ o.path) j) keys) kids0.0 kids0.1 in
+      (map (new_request w (Some id) (x.run ∷ q.origin.path) q.journal) keys) kids0.0 kids0.1 in
       let matched : Match all ids y.0 = subst (λ (n : ℕ). Match all (numbered_from n keys) y.0)
       (sym (Paired-length (Stands w D goals) s.requests goals v.each)) (kids0.2 all refl) in
       let zst : Stands w D all z g = record {
@@ -708,7 +717,8 @@ module _ {P I A : Type 0} (w : World P I A) (D : Demanded P I → Type 0)
         record {
           lawful = l;
           each = Paired-append (Stands w D all) (put s.requests id z) goals
-              (map (new_request w (Some id) (x.run ∷ o.path) j) keys) kids0.0 front kids;
+              (map (new_request w (Some id) (x.run ∷ q.origin.path) q.journal) keys) kids0.0 front
+              kids;
           known = v.known;
           tools_used = v.tools_used;
         },
@@ -716,19 +726,19 @@ module _ {P I A : Type 0} (w : World P I A) (D : Demanded P I → Type 0)
       )
 
   request-stands : (s : State P I A) (goals : List Goal) (id : ℕ) (keys : List RequestKey)
-      (o : Origin) (j : Journal) (runs : List RunId) (st : Status P I A) (t : State P I A) →
+      (q : RequestState P I A) (st : Status P I A) (t : State P I A) →
       Standing s goals → Lawful t →
-      at s.requests id ≡ Some (request_of o j runs st) → request_at w s id keys o j runs st ≡ Some t
+      at s.requests id ≡ Some (with_status q st) → request_at w s id keys q st ≡ Some t
       → (root : Goal) → at goals 0 ≡ Some root → Keeps root t
-  request-stands s goals id keys o j runs (assigned node (within x (asks key more go))) t v l e h
+  request-stands s goals id keys q (assigned node (within x (asks key more go))) t v l e h
       root at_root =
       let y = only_if-some (same_keys (key ∷ more) keys
-      && is_within_limits w s (x.run ∷ o.path) (key ∷ more))
-      (with_children w s id o j runs (key ∷ more) x go) t h in
+      && is_within_limits w s (x.run ∷ q.origin.path) (key ∷ more))
+      (with_children w s id q (key ∷ more) x go) t h in
       subst (λ (u : State P I A). Keeps root u) y.1
-      (children-stand s goals id node o j runs x key more go v
+      (children-stand s goals id node q x key more go v
       (subst (λ (u : State P I A). Lawful u) (sym y.1) l) e root at_root)
-  request-stands s goals id keys o j runs _ t v l e h root at_root = absurd (cc)
+  request-stands s goals id keys q _ t v l e h root at_root = absurd (cc)
 
   -- results of calls
   result_in-goal : (goals : List Goal) (path : List RunId) (j : Journal) (runs : List RunId)
@@ -757,68 +767,82 @@ module _ {P I A : Type 0} (w : World P I A) (D : Demanded P I → Type 0)
   results_of-match all requests goals v [] (res ∷ results) reply m h = absurd m
   results_of-match all requests goals v (id ∷ ids) [] reply m h = absurd m
 
-  answered-stands : (s : State P I A) (goals : List Goal) (id : ℕ) (o : Origin) (j : Journal)
-      (runs : List RunId) (keys : List RequestKey) (ids : List ℕ) (x : Within P I A)
+  answered-stands : (s : State P I A) (goals : List Goal) (id : ℕ) (earlier : RequestState P I A)
+      (keys : List RequestKey) (ids : List ℕ) (x : Within P I A)
       (go : List RequestResult → Journal → Body I A) (t : State P I A) → Standing s goals →
       Lawful t →
-      at s.requests id ≡ Some (request_of o j runs (calling keys ids x go))
+      at s.requests id ≡ Some (with_status earlier (calling keys ids x go))
       → (reply : Option (List RequestResult)) → results_of w s.requests ids ≡ reply
-      → answered w s id o j runs keys x go reply ≡ Some t → Standing t goals
-  answered-stands s goals id o j runs keys ids x go t v l e None g h =
+      → answered w s id earlier keys x go reply ≡ Some t → Standing t goals
+  answered-stands s goals id earlier keys ids x go t v l e None g h =
       subst (λ (u : State P I A). Standing u goals) (some-is s t h) v
-  answered-stands s goals id o j runs keys ids x go t v l e (Some reply) g h =
-      let lq = v.lawful.each id (request_of o j runs (calling keys ids x go)) e in
-      let y = and_then-some (replay_all s.table (runs_of reply) j)
+  answered-stands s goals id earlier keys ids x go t v l e (Some reply) g h =
+      let lq = v.lawful.each id (with_status earlier (calling keys ids x go)) e in
+      let y = and_then-some (replay_all s.table (runs_of reply) earlier.journal)
       (λ next.
       Some
       (with_request s id
-      (in_body w ready o runs x.run x.go
+      (in_body w ready earlier x.run x.go
       (run_on w.tools x.run (go reply next) next (with_calls x.so_far keys reply))))) t h in
-      let d : Reps (Made D) (map replays_run (runs_of reply)) j y.0 = reps-map (Recorded s.table)
-      (Made D) v.known (replay_all-reps s.table v.lawful.once (runs_of reply) j y.0 y.1) in
-      let c = closed-made s.table v.known j runs lq.journal in
-      let z : RequestState P I A = in_body w ready o runs x.run x.go (run_on w.tools x.run
+      let d : Reps (Made D) (map replays_run (runs_of reply)) earlier.journal y.0 = reps-map
+      (Recorded s.table)
+      (Made D) v.known
+      (replay_all-reps s.table v.lawful.once (runs_of reply) earlier.journal y.0 y.1)
+      in
+      let c = closed-made s.table v.known earlier.journal earlier.runs lq.journal in
+      let z : RequestState P I A = in_body w ready earlier x.run x.go (run_on w.tools x.run
       (go reply y.0) y.0 (with_calls x.so_far keys reply)) in
       let q : with_request s id z ≡ t = some-is (with_request s id z) t y.2 in
-      subst (λ (u : State P I A). Standing u goals) q (put-stands s goals id (request_of o j runs
+      subst (λ (u : State P I A). Standing u goals) q (put-stands s goals id (with_status earlier
       (calling keys ids x go)) z v e (subst (λ (u : State P I A). Lawful u) (sym q) l)
       (λ a b.
       record {
         asked = b.asked;
         stands = back a
-            (results_of-match goals s.requests goals v.each ids b.stands.0 reply b.stands.2.matched g)
+            (results_of-match goals s.requests goals v.each ids b.stands.0 reply b.stands.2.matched
+            g)
             c d b.stands.2;
       }))
     where
       back : {results : List RequestResult} {i k : Journal} (a : Goal) → reply ≡ results
-          → Closed (Made D) one j → Reps (Made D) (map replays_run (runs_of reply)) j k
-          → Calling w D goals o.path j runs keys ids x go a results i →
-          InSome w D o.path
-          (run_on w.tools x.run (go reply k) k (with_calls x.so_far keys reply)).journal runs
+          → Closed (Made D) one earlier.journal
+          → Reps (Made D) (map replays_run (runs_of reply)) earlier.journal k
+          → Calling w D goals earlier.origin.path earlier.journal earlier.runs keys ids x go a
+          results i →
+          InSome w D earlier.origin.path
+          (run_on w.tools x.run (go reply k) k (with_calls x.so_far keys reply)).journal
+          earlier.runs
           x.run (run_on w.tools x.run (go reply k) k (with_calls x.so_far keys reply)).so_far
           (body_of (run_on w.tools x.run (go reply k) k (with_calls x.so_far keys reply)).stop) x.go
           a
       back {results} {i} {k} a e c d y =
-          let d2 : Reps (Made D) (map replays_run (runs_of reply)) j i = subst
-          (λ (n : List RequestResult). Reps (Made D) (map replays_run (runs_of n)) j i) (sym e)
+          let d2 : Reps (Made D) (map replays_run (runs_of reply)) earlier.journal i = subst
+          (λ (n : List RequestResult). Reps (Made D) (map replays_run (runs_of n)) earlier.journal
+          i)
+          (sym e)
           (agree_calls w D one y.asked (λ s h. h) c c) in
           let p : i ≡ k = reps-one (Made D) one d2 k d in
-          let n : InSome w D o.path k runs x.run (with_calls x.so_far keys reply) (go reply k) x.go
+          let n : InSome w D earlier.origin.path k earlier.runs x.run
+          (with_calls x.so_far keys reply)
+          (go reply k) x.go
           a =
           subst
-          (λ (l : Journal). InSome w D o.path l runs x.run (with_calls x.so_far keys reply)
+          (λ (l : Journal). InSome w D earlier.origin.path l earlier.runs x.run
+          (with_calls x.so_far keys reply)
           (go reply l) x.go a) p
           (subst
-          (λ (n : List RequestResult). InSome w D o.path i runs x.run
+          (λ (n : List RequestResult). InSome w D earlier.origin.path i earlier.runs x.run
           (with_calls x.so_far keys n) (go n i) x.go a) (sym e) y.then_in) in
-          runs_in o.path k runs x.run (with_calls x.so_far keys reply) (go reply k) x.go a n
+          runs_in earlier.origin.path k earlier.runs x.run (with_calls x.so_far keys reply)
+          (go reply k)
+          x.go a n
 
   back_at-stands : (s : State P I A) (goals : List Goal) (id : ℕ) (q : RequestState P I A)
       (st : Status P I A) (t : State P I A) → Standing s goals → Lawful t →
       at s.requests id ≡ Some q → q.status ≡ st → resume_at w s id q st ≡ Some t → Standing t goals
   back_at-stands s goals id q (calling keys ids x go) t v l e p h =
-      answered-stands s goals id q.origin q.journal q.runs keys ids x go t v l
-      (e ∙ ap (λ (a : Status P I A). Some (request_of q.origin q.journal q.runs a)) p)
+      answered-stands s goals id q keys ids x go t v l
+      (e ∙ ap (λ (a : Status P I A). Some (with_status q a)) p)
       (results_of w s.requests ids) refl h
   back_at-stands s goals id q _ t v l e p h = absurd (cc)
 
@@ -835,55 +859,58 @@ module _ {P I A : Type 0} (w : World P I A) (D : Demanded P I → Type 0)
       → (res ≡ result_of reply runs) × (k ≡ j)
   gives_so path j runs reply res k over = (refl, refl)
 
-  done-stands : (s : State P I A) (goals : List Goal) (id : ℕ) (o : Origin) (j : Journal)
-      (runs : List RunId) (st : Status P I A) (t : State P I A) → Standing s goals → Lawful t →
-      at s.requests id ≡ Some (request_of o j runs st) → done_at w s id o j runs st ≡ Some t
+  done-stands : (s : State P I A) (goals : List Goal) (id : ℕ) (q : RequestState P I A)
+      (st : Status P I A) (t : State P I A) → Standing s goals → Lawful t →
+      at s.requests id ≡ Some (with_status q st) → done_at w s id q st ≡ Some t
       → Standing t goals
-  done-stands s goals id o j runs (assigned node (walking (gives reply))) t v l e h =
-      let z : RequestState P I A = request_of o j runs (done (result_of reply runs)) in
-      let lq = v.lawful.each id (request_of o j runs (assigned node (walking (gives reply)))) e in
+  done-stands s goals id q (assigned node (walking (gives reply))) t v l e h =
+      let z : RequestState P I A = with_status q (done (result_of reply q.runs)) in
+      let lq = v.lawful.each id (with_status q (assigned node (walking (gives reply)))) e in
       let zl = put-lawful s id z v.lawful
       (record { journal = lq.journal; status = lq.journal.runs_in }) in
-      back_to-stands (with_request s id z) goals o.parent t
-      (put-stands s goals id (request_of o j runs (assigned node (walking (gives reply)))) z v e zl
+      back_to-stands (with_request s id z) goals q.origin.parent t
+      (put-stands s goals id (with_status q (assigned node (walking (gives reply)))) z v e zl
       (λ g x.
-      record
-      { asked = x.asked; stands = gives_so o.path j runs reply g.res g.journal x.stands })) l h
-  done-stands s goals id o j runs _ t v l e h = absurd (cc)
+      record {
+        asked = x.asked;
+        stands = gives_so q.origin.path q.journal q.runs reply g.res g.journal
+            x.stands;
+      })) l h
+  done-stands s goals id q _ t v l e h = absurd (cc)
 
   step_of-stands : (s : State P I A) (goals : List Goal) (event : Event) (q : RequestState P I A)
       (t : State P I A) (root : Goal) → at goals 0 ≡ Some root → Standing s goals →
       at s.requests (whose event) ≡ Some q → step_of w s event q ≡ Some t → Keeps root t
   step_of-stands s goals (Assign id node) q t root z v e h = (
     goals,
-    assign-stands s goals id node q.origin q.journal q.runs q.status t v
+    assign-stands s goals id node q q.status t v
         (step_of-lawful w s (Assign id node) q t v.lawful e h) e h,
     z,
   )
   step_of-stands s goals (Claim id run kind) q t root z v e h = (
     goals,
-    claim-stands s goals id run kind q.origin q.journal q.runs q.status t v
+    claim-stands s goals id run kind q q.status t v
         (step_of-lawful w s (Claim id run kind) q t v.lawful e h) e h,
     z,
   )
   step_of-stands s goals (Request id keys) q t root z v e h = request-stands s goals id keys
-      q.origin q.journal q.runs q.status t v (step_of-lawful w s (Request id keys) q t v.lawful e h)
+      q q.status t v (step_of-lawful w s (Request id keys) q t v.lawful e h)
       e h root z
   step_of-stands s goals (Result id run) q t root z v e h = (
     goals,
-    result-stands s goals id run q.origin q.journal q.runs q.status t v
+    result-stands s goals id run q q.status t v
         (step_of-lawful w s (Result id run) q t v.lawful e h) e h,
     z,
   )
   step_of-stands s goals (Done id) q t root z v e h = (
     goals,
-    done-stands s goals id q.origin q.journal q.runs q.status t v
+    done-stands s goals id q q.status t v
         (step_of-lawful w s (Done id) q t v.lawful e h) e h,
     z,
   )
   step_of-stands s goals (Retire id node) q t root z v e h = (
     goals,
-    retire-stands s goals id node q.origin q.journal q.runs q.status t v
+    retire-stands s goals id node q q.status t v
         (step_of-lawful w s (Retire id node) q t v.lawful e h) e h,
     z,
   )

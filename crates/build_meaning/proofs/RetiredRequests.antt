@@ -117,7 +117,7 @@ module _ {P I A : Type 0} where
 module _ {P I A : Type 0} (w : World P I A) where
   -- the request, as it goes back
   pub retired_at : (s : State P I A) (id node : ℕ) (q : RequestState P I A) (st : Status P I A)
-      (t : State P I A) → retire_at w s id node q.origin q.journal q.runs st ≡ Some t →
+      (t : State P I A) → retire_at w s id node q st ≡ Some t →
       (by : ℕ) × (place : Place P I A) × (st ≡ assigned by place) × (with_request s id
       (with_status q (ready place)) ≡ t)
   retired_at s id node q (assigned by place) t h = (

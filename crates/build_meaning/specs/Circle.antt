@@ -1,5 +1,6 @@
 -- A worked world that is not whole: three projects call each other in a circle.
 use Rattle.std.specs.Prelude.{ℕ, zero, suc, List, [], ◌∷◌, Option, Some}
+use Rattle.msb_laws.specs.Words.{Path}
 use Rattle.msb_laws.specs.Asking.{and_then}
 use Rattle.build_meaning.specs.declared.event.Event.{Event}
 use Rattle.build_meaning.specs.declared.event.Event.TheVariants.{Assign, Claim, Request}
@@ -21,7 +22,7 @@ walk_at zero = calls_next 0 1
 walk_at (suc zero) = calls_next 1 2
 walk_at (suc (suc n)) = calls_next 2 0
 
-abbrev pub walk_of : List ℕ → Walk ℕ ℕ ℕ
+abbrev pub walk_of : Path → Walk ℕ ℕ ℕ
 walk_of [] = walk_at 0
 walk_of (n ∷ path) = walk_at n
 

@@ -1,6 +1,7 @@
 -- The meaning as a derivation, where D holds of all that it contains. (MSBuild task; Target build
 -- order)
-use Rattle.std.specs.Prelude.{ℕ, ◌≡◌, true, false, List, [], ◌∷◌, ◌++◌, length, Some, nat_lt}
+use Rattle.std.specs.Prelude.{◌≡◌, true, false, List, [], ◌∷◌, ◌++◌, length, Some, nat_lt}
+use Rattle.msb_laws.specs.Words.{Name}
 use Rattle.msb_values.specs.declared.act.Act.{Act}
 use Rattle.result_cache.specs.declared.run.RunId.{RunId}
 use Rattle.result_cache.specs.declared.request.RequestKey.{RequestKey}
@@ -66,7 +67,7 @@ mutual
         (go (add j (acted r (length so_far.segments) act))) m tools k →
         OfBody w D path r j so_far (does act go) m tools k
     used_tool : {path : List RunId} {r : RunId} {j k : Journal} {so_far : SoFar I}
-        {name : List ℕ} {input : I} {go : A → Body I A} {m : Record} {tools : List (ToolUse I)} →
+        {name : Name} {input : I} {go : A → Body I A} {m : Record} {tools : List (ToolUse I)} →
         OfBody w D path r j (with_tool so_far name input) (go (w.tools name input)) m tools k →
         OfBody w D path r j so_far (uses name input go) m tools k
     called_all : {path : List RunId} {r : RunId} {j i k : Journal} {so_far : SoFar I}

@@ -42,7 +42,7 @@ abbrev pub IsRefused : {P I A : Type 0} → World P I A → State P I A → ℕ 
 IsRefused w s id q (walking (gives reply)) = ⊥
 IsRefused w s id q (walking (wants site run b go)) =
     (is_begun run s.begun ≡ true) × (found s.table run ≡ None)
-    × (is_in_cycle (waiting w s id q.origin q.journal q.runs run b go) run ≡ true)
+    × (is_in_cycle (waiting w s id q run b go) run ≡ true)
 IsRefused w s id q (within x (ends outcome)) = ⊥
 IsRefused w s id q (within x (asks key more go)) = is_within_limits w s (x.run ∷ q.origin.path)
     (key ∷ more) ≡ false

@@ -1,5 +1,6 @@
 -- A worked world, whole and steady: a root calls two requests at once, and both want one run.
 use Rattle.std.specs.Prelude.{ℕ, suc, true, false, List, [], ◌∷◌, map, Option, None, Some}
+use Rattle.msb_laws.specs.Words.{Name}
 use Rattle.msb_laws.specs.Asking.{and_then}
 use Rattle.msb_values.specs.declared.key.InstanceKey.{InstanceKey}
 use Rattle.msb_values.specs.declared.act.Act.{Act}
@@ -66,7 +67,7 @@ child_walk =
     wants 1 (run_of 1) (uses (7 ∷ []) 3 (λ answer. does (file_of answer) (λ k. makes good)))
     (λ made k. gives good_reply)
 
-abbrev pub walk_for : List (List ℕ) → Walk ℕ ℕ ℕ
+abbrev pub walk_for : List Name → Walk ℕ ℕ ℕ
 walk_for [] = root_walk
 walk_for (t ∷ targets) = child_walk
 

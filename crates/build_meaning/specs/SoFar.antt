@@ -1,5 +1,6 @@
 -- What a run has done so far, and how it becomes the run's record and the request's result.
-use Rattle.std.specs.Prelude.{ℕ, List, [], ◌∷◌, ◌++◌}
+use Rattle.std.specs.Prelude.{List, [], ◌∷◌, ◌++◌}
+use Rattle.msb_laws.specs.Words.{Name}
 use Rattle.msb_values.specs.declared.act.Act.{Act}
 use Rattle.result_cache.specs.declared.run.RunId.{RunId}
 use Rattle.result_cache.specs.declared.request.RequestKey.{RequestKey}
@@ -11,7 +12,7 @@ use Rattle.build_meaning.specs.Walk.{Outcome, Reply}
 
 -- a use of a tool: its name, and what it is given
 pub record ToolUse (I : Type 0) : Type 0 where
-  pub name : List ℕ
+  pub name : Name
   pub input : I
 
 -- the acts and calls of a body so far, and the tools that it has used, each in order
@@ -28,7 +29,7 @@ abbrev pub with_act : {I : Type 0} → SoFar I → Act → SoFar I
 with_act so_far act = record { segments = so_far.segments ++ File act ∷ []; tools = so_far.tools }
 
 -- after it has used a tool
-abbrev pub with_tool : {I : Type 0} → SoFar I → List ℕ → I → SoFar I
+abbrev pub with_tool : {I : Type 0} → SoFar I → Name → I → SoFar I
 with_tool so_far name input = record {
   segments = so_far.segments;
   tools = so_far.tools ++ record { name = name; input = input }

@@ -58,10 +58,10 @@ use Rattle.build_meaning.specs.State.{
   waits,
   calling,
   done,
-  Origin,
   RequestState,
   State,
   with_request,
+  with_status,
   new_request,
 }
 use Rattle.build_meaning.specs.Cycle.{is_in_cycle}
@@ -87,49 +87,43 @@ whose (Retire id node) = id
 
 module _ {P I A : Type 0} (w : World P I A) where
   -- Assign: a request that is ready goes to a node
-  abbrev pub assign_at : State P I A → ℕ → ℕ → Origin → Journal → List RunId → Status P I A →
+  abbrev pub assign_at : State P I A → ℕ → ℕ → RequestState P I A → Status P I A →
       Option (State P I A)
-  assign_at s id node origin journal runs (ready place) =
-      Some
-      (with_request s id
-      (record
-      { origin = origin; journal = journal; runs = runs; status = assigned node place }))
-  assign_at s id node origin journal runs status = None
+  assign_at s id node q (ready place) =
+      Some (with_request s id (with_status q (assigned node place)))
+  assign_at s id node q status = None
 
   -- Retire: a request goes back from the node that has it, and is ready as it was
-  abbrev pub retire_at : State P I A → ℕ → ℕ → Origin → Journal → List RunId → Status P I A →
+  abbrev pub retire_at : State P I A → ℕ → ℕ → RequestState P I A → Status P I A →
       Option (State P I A)
-  retire_at s id node origin journal runs (assigned by place) =
-      only_if (by == node)
-      (with_request s id
-      (record { origin = origin; journal = journal; runs = runs; status = ready place }))
-  retire_at s id node origin journal runs status = None
+  retire_at s id node q (assigned by place) =
+      only_if (by == node) (with_request s id (with_status q (ready place)))
+  retire_at s id node q status = None
 
   -- the request whose body has stopped
-  abbrev pub in_body : (Place P I A → Status P I A) → Origin → List RunId → RunId →
+  abbrev pub in_body : (Place P I A → Status P I A) → RequestState P I A → RunId →
       (Record → Journal → Walk P I A) → Stopped I A → RequestState P I A
-  in_body status origin runs run go x = record {
-    origin = origin;
+  in_body status q run go x = record {
+    origin = q.origin;
     journal = x.journal;
-    runs = runs;
+    runs = q.runs;
     status = status (within (record { run = run; so_far = x.so_far; go = go }) x.stop);
   }
 
   -- the request that goes on by the record of a run
-  abbrev pub goes_on : (Place P I A → Status P I A) → Origin → List RunId → RunId →
+  abbrev pub goes_on : (Place P I A → Status P I A) → RequestState P I A → RunId →
       (Record → Journal → Walk P I A) → Record → Journal → RequestState P I A
-  goes_on status origin runs run go made journal = record {
-    origin = origin;
+  goes_on status q run go made journal = record {
+    origin = q.origin;
     journal = journal;
-    runs = runs ++ run ∷ [];
+    runs = q.runs ++ run ∷ [];
     status = status (walking (go made journal));
   }
 
   -- the state in which a request waits for a run
-  abbrev pub waiting : State P I A → ℕ → Origin → Journal → List RunId → RunId → Body I A →
+  abbrev pub waiting : State P I A → ℕ → RequestState P I A → RunId → Body I A →
       (Record → Journal → Walk P I A) → State P I A
-  waiting s id origin journal runs run b go = with_request s id
-      (record { origin = origin; journal = journal; runs = runs; status = waits run b go })
+  waiting s id q run b go = with_request s id (with_status q (waits run b go))
 
   -- a run may be waited for: it is begun, it has no record, and it does not need itself
   abbrev pub may_wait : Bool → Option Record → Bool → Bool
@@ -141,43 +135,37 @@ module _ {P I A : Type 0} (w : World P I A) where
   -- Claim: Go where the run is not begun, and its body runs on until it stops; Use where the run is
   -- finished, and its record is replayed; Wait where it is begun and not finished, unless it needed
   -- itself then
-  abbrev pub claimed : State P I A → ℕ → ℕ → Origin → Journal → List RunId → RunId → Body I A →
+  abbrev pub claimed : State P I A → ℕ → ℕ → RequestState P I A → RunId → Body I A →
       (Record → Journal → Walk P I A) → ClaimKind → Option (State P I A)
-  claimed s id node origin journal runs run b go Go = unless (is_begun run s.begun) (record {
+  claimed s id node q run b go Go = unless (is_begun run s.begun) (record {
     requests = put s.requests id
-        (in_body (assigned node) origin runs run go (run_on w.tools run b journal nothing_yet));
+        (in_body (assigned node) q run go (run_on w.tools run b q.journal nothing_yet));
     begun = record { run = run; by = id } ∷ s.begun;
     table = s.table;
     tools_used = s.tools_used;
   })
-  claimed s id node origin journal runs run b go Use =
-      and_then (found s.table run) (λ made. and_then (replay s.table run journal) (λ next.
-      Some (with_request s id (goes_on (assigned node) origin runs run go made next))))
-  claimed s id node origin journal runs run b go Wait =
-      let next : State P I A = waiting s id origin journal runs run b go in
+  claimed s id node q run b go Use =
+      and_then (found s.table run) (λ made. and_then (replay s.table run q.journal) (λ next.
+      Some (with_request s id (goes_on (assigned node) q run go made next))))
+  claimed s id node q run b go Wait =
+      let next : State P I A = waiting s id q run b go in
       only_if (may_wait (is_begun run s.begun) (found s.table run) (is_in_cycle next run)) next
 
   -- the claim of the run that a request with a node wants
-  abbrev pub claim_at : State P I A → ℕ → RunId → ClaimKind → Origin → Journal → List RunId →
-      Status P I A → Option (State P I A)
-  claim_at s id run kind origin journal runs (assigned node (walking (wants site wanted b go))) =
+  abbrev pub claim_at : State P I A → ℕ → RunId → ClaimKind → RequestState P I A → Status P I A →
+      Option (State P I A)
+  claim_at s id run kind q (assigned node (walking (wants site wanted b go))) =
       and_then (only_if (same_run wanted run) wanted)
-      (λ run. claimed s id node origin journal runs run b go kind)
-  claim_at s id run kind origin journal runs status = None
+      (λ run. claimed s id node q run b go kind)
+  claim_at s id run kind q status = None
 
   -- the calls are made: each has a new request, which is ready and begins with its caller's journal
-  abbrev pub with_children : State P I A → ℕ → Origin → Journal → List RunId → List RequestKey →
-      Within P I A → (List RequestResult → Journal → Body I A) → State P I A
-  with_children s id origin journal runs keys x go = record {
+  abbrev pub with_children : State P I A → ℕ → RequestState P I A → List RequestKey → Within P I A →
+      (List RequestResult → Journal → Body I A) → State P I A
+  with_children s id q keys x go = record {
     requests = put s.requests id
-        (record {
-          origin = origin;
-          journal = journal;
-          runs = runs;
-          status = calling keys
-              (numbered_from (length s.requests) keys) x go;
-        })
-        ++ map (new_request w (Some id) (x.run ∷ origin.path) journal) keys;
+        (with_status q (calling keys (numbered_from (length s.requests) keys) x go))
+        ++ map (new_request w (Some id) (x.run ∷ q.origin.path) q.journal) keys;
     begun = s.begun;
     table = s.table;
     tools_used = s.tools_used;
@@ -196,18 +184,19 @@ module _ {P I A : Type 0} (w : World P I A) where
       most_instances
 
   -- Request: the calls that the body of a request with a node asks for, within the limits
-  abbrev pub request_at : State P I A → ℕ → List RequestKey → Origin → Journal → List RunId →
-      Status P I A → Option (State P I A)
-  request_at s id keys origin journal runs (assigned node (within x (asks key more go))) =
-      only_if (same_keys (key ∷ more) keys && is_within_limits s (x.run ∷ origin.path) (key ∷ more))
-      (with_children s id origin journal runs (key ∷ more) x go)
-  request_at s id keys origin journal runs status = None
+  abbrev pub request_at : State P I A → ℕ → List RequestKey → RequestState P I A → Status P I A →
+      Option (State P I A)
+  request_at s id keys q (assigned node (within x (asks key more go))) =
+      only_if
+      (same_keys (key ∷ more) keys && is_within_limits s (x.run ∷ q.origin.path) (key ∷ more))
+      (with_children s id q (key ∷ more) x go)
+  request_at s id keys q status = None
 
   -- a waiting request, by whether it waits for that run
   abbrev pub woken_if : Bool → Records → RequestState P I A → Record → RunId →
       (Record → Journal → Walk P I A) → Option (RequestState P I A)
   woken_if true table q made run go = and_then (replay table run q.journal)
-      (λ next. Some (goes_on ready q.origin q.runs run go made next))
+      (λ next. Some (goes_on ready q run go made next))
   woken_if false table q made run go = Some q
 
   -- a request that waits for the run is ready, with its record replayed
@@ -222,14 +211,14 @@ module _ {P I A : Type 0} (w : World P I A) where
   woken table run made q = woken_at table run made q q.status
 
   -- the run is finished: its request goes on with the record, and so do all that wait for it
-  abbrev pub finished : State P I A → ℕ → ℕ → Origin → Journal → List RunId → Within P I A →
-      Record → Option (State P I A)
-  finished s id node origin journal runs x made =
+  abbrev pub finished : State P I A → ℕ → ℕ → RequestState P I A → Within P I A → Record →
+      Option (State P I A)
+  finished s id node q x made =
       let table : Records = record { run = x.run; made = made } ∷ s.table in
       and_then
       (traverse (woken table x.run made)
       (put s.requests id
-      (goes_on (assigned node) origin runs x.run x.go made (add journal (ended x.run made)))))
+      (goes_on (assigned node) q x.run x.go made (add q.journal (ended x.run made)))))
       (λ requests.
       Some
       (record {
@@ -241,12 +230,12 @@ module _ {P I A : Type 0} (w : World P I A) where
       }))
 
   -- Result: the record of the run whose body has come to its end in a request with a node
-  abbrev pub result_at : State P I A → ℕ → RunId → Origin → Journal → List RunId → Status P I A →
+  abbrev pub result_at : State P I A → ℕ → RunId → RequestState P I A → Status P I A →
       Option (State P I A)
-  result_at s id run origin journal runs (assigned node (within x (ends outcome))) =
+  result_at s id run q (assigned node (within x (ends outcome))) =
       and_then (only_if (same_run x.run run) x)
-      (λ x. finished s id node origin journal runs x (recorded outcome x.so_far.segments))
-  result_at s id run origin journal runs status = None
+      (λ x. finished s id node q x (recorded outcome x.so_far.segments))
+  result_at s id run q status = None
 
   -- the result of a request that is done
   abbrev pub result_in : Status P I A → Option RequestResult
@@ -259,20 +248,20 @@ module _ {P I A : Type 0} (w : World P I A) where
 
   -- a caller goes on with the results of its calls, once all are there; its journal is that of
   -- before with their runs replayed in call order
-  abbrev pub answered : State P I A → ℕ → Origin → Journal → List RunId → List RequestKey →
-      Within P I A → (List RequestResult → Journal → Body I A) → Option (List RequestResult) →
+  abbrev pub answered : State P I A → ℕ → RequestState P I A → List RequestKey → Within P I A →
+      (List RequestResult → Journal → Body I A) → Option (List RequestResult) →
       Option (State P I A)
-  answered s id origin journal runs keys x go None = Some s
-  answered s id origin journal runs keys x go (Some results) =
-      and_then (replay_all s.table (runs_of results) journal) (λ next.
+  answered s id q keys x go None = Some s
+  answered s id q keys x go (Some results) =
+      and_then (replay_all s.table (runs_of results) q.journal) (λ next.
       Some
       (with_request s id
-      (in_body ready origin runs x.run x.go
+      (in_body ready q x.run x.go
       (run_on w.tools x.run (go results next) next (with_calls x.so_far keys results)))))
 
   -- a caller as it stands, after one of its calls is done
   abbrev pub resume_at : State P I A → ℕ → RequestState P I A → Status P I A → Option (State P I A)
-  resume_at s id q (calling keys ids x go) = answered s id q.origin q.journal q.runs keys x go
+  resume_at s id q (calling keys ids x go) = answered s id q keys x go
       (results_of s.requests ids)
   resume_at s id q status = None
 
@@ -282,27 +271,20 @@ module _ {P I A : Type 0} (w : World P I A) where
   resume_caller s (Some id) = and_then (at s.requests id) (λ q. resume_at s id q q.status)
 
   -- Done: a request with a node is over
-  abbrev pub done_at : State P I A → ℕ → Origin → Journal → List RunId → Status P I A →
-      Option (State P I A)
-  done_at s id origin journal runs (assigned node (walking (gives reply))) =
-      resume_caller
-      (with_request s id
-      (record {
-        origin = origin;
-        journal = journal;
-        runs = runs;
-        status = done (result_of reply runs);
-      })) origin.parent
-  done_at s id origin journal runs status = None
+  abbrev pub done_at : State P I A → ℕ → RequestState P I A → Status P I A → Option (State P I A)
+  done_at s id q (assigned node (walking (gives reply))) =
+      resume_caller (with_request s id (with_status q (done (result_of reply q.runs))))
+      q.origin.parent
+  done_at s id q status = None
 
   -- an event of this request, as it stands
   abbrev pub step_of : State P I A → Event → RequestState P I A → Option (State P I A)
-  step_of s (Assign id node) q = assign_at s id node q.origin q.journal q.runs q.status
-  step_of s (Claim id run kind) q = claim_at s id run kind q.origin q.journal q.runs q.status
-  step_of s (Request id keys) q = request_at s id keys q.origin q.journal q.runs q.status
-  step_of s (Result id run) q = result_at s id run q.origin q.journal q.runs q.status
-  step_of s (Done id) q = done_at s id q.origin q.journal q.runs q.status
-  step_of s (Retire id node) q = retire_at s id node q.origin q.journal q.runs q.status
+  step_of s (Assign id node) q = assign_at s id node q q.status
+  step_of s (Claim id run kind) q = claim_at s id run kind q q.status
+  step_of s (Request id keys) q = request_at s id keys q q.status
+  step_of s (Result id run) q = result_at s id run q q.status
+  step_of s (Done id) q = done_at s id q q.status
+  step_of s (Retire id node) q = retire_at s id node q q.status
 
   -- the state after an event, where it is possible
   abbrev pub step : State P I A → Event → Option (State P I A)

@@ -1,5 +1,6 @@
 -- Where the body of a run stops: at its end, or at calls, which others answer.
-use Rattle.std.specs.Prelude.{ℕ, List, length}
+use Rattle.std.specs.Prelude.{List, length}
+use Rattle.msb_laws.specs.Words.{Name}
 use Rattle.result_cache.specs.declared.run.RunId.{RunId}
 use Rattle.result_cache.specs.declared.request.RequestKey.{RequestKey}
 use Rattle.result_cache.specs.declared.request.RequestResult.{RequestResult}
@@ -19,7 +20,7 @@ pub record Stopped (I A : Type 0) : Type 0 where
   pub so_far : SoFar I
 
 -- files are written and removed and tools are used until the body stops
-abbrev pub run_on : {I A : Type 0} → (List ℕ → I → A) → RunId → Body I A → Journal → SoFar I
+abbrev pub run_on : {I A : Type 0} → (Name → I → A) → RunId → Body I A → Journal → SoFar I
     → Stopped I A
 run_on tools run (makes outcome) journal so_far = record
     { stop = ends outcome; journal = journal; so_far = so_far }

@@ -1,6 +1,7 @@
 -- A worked world, whole but not steady: of two requests made at once one writes a file first, and
 -- both want a run that tells whether it is there.
 use Rattle.std.specs.Prelude.{ℕ, zero, suc, List, [], ◌∷◌, Option, None, Some}
+use Rattle.msb_laws.specs.Words.{Text, Path}
 use Rattle.msb_laws.specs.Asking.{and_then}
 use Rattle.msb_values.specs.declared.act.Act.{Act}
 use Rattle.msb_values.specs.declared.act.Act.TheVariants.{Write}
@@ -31,7 +32,7 @@ abbrev pub tells : ℕ → Act
 tells byte = Write (record { path = 7 ∷ []; bytes = byte ∷ [] })
 
 -- with the byte 1 where a file is there, and else 0
-abbrev pub told_by : Option (Option (List ℕ)) → Act
+abbrev pub told_by : Option (Option Text) → Act
 told_by None = tells 0
 told_by (Some None) = tells 0
 told_by (Some (Some bytes)) = tells 1
@@ -57,7 +58,7 @@ walk_at zero journal = root_walk
 walk_at (suc zero) journal = looks journal
 walk_at (suc (suc n)) journal = writes_and_looks
 
-abbrev pub walk_of : List ℕ → Journal → Walk ℕ ℕ ℕ
+abbrev pub walk_of : Path → Journal → Walk ℕ ℕ ℕ
 walk_of [] journal = root_walk
 walk_of (n ∷ path) journal = walk_at n journal
 
@@ -118,6 +119,6 @@ looker_first =
     ∷ Assign 0 0 ∷ Result 0 (run_of 0) ∷ Done 0 ∷ []
 
 -- what the last act on a path left, by the root's journal after these events
-abbrev pub left_by : List Event → List ℕ → Option (Option (List ℕ))
+abbrev pub left_by : List Event → Path → Option (Option Text)
 left_by events path = and_then (after_all unsteady (start unsteady) events)
     (λ s. and_then (at s.requests 0) (λ q. content q.journal path))

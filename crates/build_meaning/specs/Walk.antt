@@ -1,7 +1,8 @@
 -- A request and a run as trees of what they do and ask. P is the site of a run, which target is run
 -- and in what scope; I is what a tool is given, and A what it answers. (Target build order; MSBuild
 -- targets.)
-use Rattle.std.specs.Prelude.{ℕ, Bool, List, Option}
+use Rattle.std.specs.Prelude.{Bool, List, Option}
+use Rattle.msb_laws.specs.Words.{Text, Name}
 use Rattle.msb_values.specs.declared.item.Item.{Item}
 use Rattle.msb_values.specs.declared.change.Change.{Change}
 use Rattle.msb_values.specs.declared.note.Note.{Note}
@@ -29,7 +30,7 @@ pub record Reply : Type 0 where
   pub ok : Bool
   pub evaluated : Bool
   pub returned : List Returned
-  pub error : Option (List ℕ)
+  pub error : Option Text
 
 -- the body of a run, by what it does next. It is over; it writes or removes a file, and goes on by
 -- the journal then; it uses a tool by name, and goes on by the answer; it calls requests at once, a
@@ -38,7 +39,7 @@ pub record Reply : Type 0 where
 pub data Body (I A : Type 0) : Type 0 where
   makes : Outcome → Body I A
   does : Act → (Journal → Body I A) → Body I A
-  uses : List ℕ → I → (A → Body I A) → Body I A
+  uses : Name → I → (A → Body I A) → Body I A
   calls : RequestKey → List RequestKey → (List RequestResult → Journal → Body I A) → Body I A
 
 -- a request, by what it does next. It is over; or it wants a run at a site, and goes on by the

@@ -1,5 +1,5 @@
 -- What a build is of: the root request, the tools, and what each request does.
-use Rattle.std.specs.Prelude.{ℕ, List}
+use Rattle.msb_laws.specs.Words.{Name}
 use Rattle.result_cache.specs.declared.request.RequestKey.{RequestKey}
 use Rattle.result_cache.specs.Journal.{Journal}
 use Rattle.build_meaning.specs.Walk.{Walk}
@@ -8,5 +8,5 @@ use Rattle.build_meaning.specs.Walk.{Walk}
 -- does, by its caller's journal
 pub record World (P I A : Type 0) : Type 0 where
   pub root : RequestKey
-  pub tools : List ℕ → I → A
+  pub tools : Name → I → A
   pub walks : RequestKey → Journal → Walk P I A

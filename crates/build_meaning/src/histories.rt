@@ -104,11 +104,11 @@ pub fn cycles_are_shown<P, I, A>()
         at s.requests id ≡ Some q →
         q.status ≡ assigned node (walking (wants site run b go)) → is_begun run s.begun ≡ true →
         found s.table run ≡ None →
-        Decides (is_in_cycle (waiting w s id q.origin q.journal q.runs run b go) run)
-        (ShowsCycle (waiting w s id q.origin q.journal q.runs run b go) run) }
+        Decides (is_in_cycle (waiting w s id q run b go) run)
+        (ShowsCycle (waiting w s id q run b go) run) }
     ensures open { (w : World P I A) (events : List Event) (s : State P I A) →
         IsHistory w events s → (id : ℕ) (q : RequestState P I A)
         (run : RunId) (b : Body I A) (go : Record → Journal → Walk P I A) →
-        is_in_cycle (waiting w s id q.origin q.journal q.runs run b go) run ≡ true →
+        is_in_cycle (waiting w s id q run b go) run ≡ true →
         (is_begun run s.begun ≡ true) × (found s.table run ≡ None) }
 {}

@@ -42,8 +42,9 @@ use Rattle.build_scheduler.specs.declared.slot.Origin.{Origin}
 use Rattle.build_scheduler.specs.declared.slot.Slot.{Slot}
 use Rattle.build_scheduler.specs.declared.slot.End.{End}
 use Rattle.build_scheduler.specs.Learnt.{ArePartOf}
-use Rattle.build_scheduler.specs.Log.{Logged}
+use Rattle.build_scheduler.specs.History.{History}
 use Rattle.build_scheduler.specs.Own.{Seen, placed, IsOut, IsOwn}
+use Rattle.build_scheduler.specs.Drivers.{AreAlike}
 use Rattle.build_scheduler.specs.Position.{Position, ask_of, answered, IsInTurn}
 use Rattle.build_scheduler.specs.Ready.{IsAssignedTo}
 use Rattle.build_scheduler.specs.Shown.{Shown}
@@ -53,7 +54,7 @@ use Rattle.build_nodes.specs.declared.turn.Asking.{Asking}
 use Rattle.build_nodes.specs.declared.turn.Answered.{Answered}
 use Rattle.build_nodes.specs.Leaving.{has_left}
 use Rattle.build_nodes.specs.Marked.{marked}
-use Rattle.build_nodes.specs.Turns.{AreAlike, CanGoBack, IsAnswered, IsAsking}
+use Rattle.build_nodes.specs.Turns.{CanGoBack, IsAnswered, IsAsking}
 use Rattle.build_nodes.proofs.Here.{still-here}
 use Rattle.build_nodes.proofs.HistoryParts.{goes-on}
 use Rattle.build_nodes.proofs.Marks.{none-more, continues-of, drop-front}
@@ -146,7 +147,7 @@ seen-same s t world position asked learnt = λ i.
 
 module _ {W P I A : Type 0} (seen : W → Seen P I A) (earlier : W → Option (Position P I A × ℕ))
     (node : ℕ) (w : World P I A) where
-  module _ {log : Logged} {origins : List Origin} {slots : List (Slot W)}
+  module _ {log : History} {origins : List Origin} {slots : List (Slot W)}
       {making : List (Option RunId)} {table : TableRuns} {end : Option End}
       (x : Shown seen w log origins slots making table end) where
     -- none of the events behind the node's own is of the request

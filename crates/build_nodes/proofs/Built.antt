@@ -19,10 +19,10 @@ use Rattle.build_scheduler.specs.declared.slot.End.TheVariants.{
 use Rattle.build_scheduler.specs.declared.slot.Origin.{Origin}
 use Rattle.build_scheduler.specs.declared.slot.Slot.{Slot}
 use Rattle.build_scheduler.specs.Ends.{IsEnd, IsRootOver}
-use Rattle.build_scheduler.specs.Log.{Logged}
+use Rattle.build_scheduler.specs.History.{History}
 use Rattle.build_scheduler.specs.Own.{Seen}
 use Rattle.build_scheduler.specs.Shown.{Shown}
-use Rattle.build_nodes.specs.Driven.{Continues, IsLegal}
+use Rattle.build_scheduler.specs.Drivers.{Continues, IsLegal}
 use Rattle.build_nodes.specs.Marked.{marked}
 use Rattle.build_nodes.proofs.Marks.{continues-of}
 
@@ -33,7 +33,7 @@ pub built-continues : (before after : List Event) (b a : Option End)
 built-continues before after b a first last f p l = ∣ continues-of before after b a
     (subst (λ x. IsPrefix x (marked after a)) f (subst (IsPrefix first) (sym l) p)) ∣₁
 
-pub built-legal : {W P I A : Type 0} (seen : W → Seen P I A) (w v : World P I A) {log : Logged}
+pub built-legal : {W P I A : Type 0} (seen : W → Seen P I A) (w v : World P I A) {log : History}
     {origins : List Origin} {slots : List (Slot W)} {making : List (Option RunId)}
     {table : TableRuns} {end : Option End} →
     ∥ Shown seen w log origins slots making table end ∥₁ → ∥ w ≡ v ∥₁ → ∥ IsLegal v log.events ∥₁

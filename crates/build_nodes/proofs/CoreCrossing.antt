@@ -34,8 +34,9 @@ use Rattle.build_scheduler.specs.contracts.instances.Instances as Instances
 use Rattle.build_scheduler.specs.contracts.kept.InstanceEnd as InstanceEnd
 use Rattle.build_scheduler.specs.contracts.kept.Kept as Kept
 use Rattle.build_scheduler.specs.contracts.kept.KeptEnds as KeptEnds
-use Rattle.build_scheduler.specs.contracts.log.Log as Log
-use Rattle.build_scheduler.specs.contracts.numbers.Numbers as Numbers
+use Rattle.build_scheduler.specs.contracts.history.History as History
+use Rattle.build_scheduler.specs.contracts.released.Released as Released
+use Rattle.build_scheduler.specs.contracts.request_set.RequestSet as RequestSet
 use Rattle.build_scheduler.specs.contracts.slot.Calls as Calls
 use Rattle.build_scheduler.specs.contracts.slot.End as End
 use Rattle.build_scheduler.specs.contracts.slot.Origin as Origin
@@ -92,11 +93,11 @@ Event-send = recorded_send _ _ _ Event.the_type.to_one (enum_send (Enum.shape Ev
   ),
 ))
 
-Log-send : IsSend Log.the_row
-Log-send = search (Event-send, owned, sendable) depth 20
+History-send : IsSend History.the_row
+History-send = search (Event-send, owned, sendable) depth 20
 
-Numbers-send : IsSend Numbers.the_row
-Numbers-send = search (owned, sendable) depth 20
+RequestSet-send : IsSend RequestSet.the_row
+RequestSet-send = search (owned, sendable) depth 20
 
 Origin-send : IsSend Origin.the_row
 Origin-send = recorded_send _ _ _ Origin.the_type.to_one
@@ -160,6 +161,10 @@ ends-send W s = struct_send (Struct.shape (KeptEnds.the_type W)) (
   (Vec-send (InstanceEnd.the_row W) (instance-send W s), tt),
 )
 
+released-send : (W : RattleType) → IsSend W → IsSend (Released.the_field W).row
+released-send W s = struct_send (Struct.shape (Released.the_type W))
+    (Vec-send (Kept.the_row W) (Kept-send W s), (Vec-send W s, tt))
+
 module _ (S V K P : RattleType) (g : TableRule.Ghosts P.Denot S.Denot V.Denot K.Denot)
     (s : IsSend S) where
   table-sync : IsSync (Table.the_field S V K P Heap.the_row g heap).row
@@ -201,7 +206,7 @@ module _ (W P O : RattleType) (g : Walker.Ghosts W.Denot P.Denot O.Denot) (s : I
   core-send = struct_send (Struct.shape (Core.the_type W P O g)) (
     o,
     (
-      Log-send,
+      History-send,
       (
         Table-send,
         (
@@ -211,12 +216,15 @@ module _ (W P O : RattleType) (g : Walker.Ghosts W.Denot P.Denot O.Denot) (s : I
             (
               search (RunId-send, owned, sendable) depth 20,
               (
-                Numbers-send,
+                RequestSet-send,
                 (
-                  Vec-send Numbers.the_row Numbers-send,
+                  Vec-send RequestSet.the_row RequestSet-send,
                   (
                     Instances-send,
-                    (search (End-send, owned, sendable) depth 20, (ends-send W s, tt)),
+                    (
+                      search (End-send, owned, sendable) depth 20,
+                      (ends-send W s, (released-send W s, tt)),
+                    ),
                   ),
                 ),
               ),

@@ -21,7 +21,7 @@ use Rattle.msb_laws.specs.Traverse.{traverse}
 use Rattle.result_cache.specs.declared.run.RunId.{RunId}
 use Rattle.result_cache.specs.declared.record.Record.{Record}
 use Rattle.result_cache.specs.Same.{same_run}
-use Rattle.result_cache.specs.Journal.{Journal, add, ended}
+use Rattle.result_cache.specs.Journal.{add, ended}
 use Rattle.result_cache.specs.Replay.{replay}
 use Rattle.result_cache.specs.Table.{found, is_begun, FinishedRun, TableRuns}
 use Rattle.result_cache.proofs.RunTests.{and_then-some}
@@ -34,6 +34,7 @@ use Rattle.build_meaning.specs.Stop.{ends, asks, run_on}
 use Rattle.build_meaning.specs.Walk.{gives, wants}
 use Rattle.build_meaning.specs.World.{World}
 use Rattle.build_meaning.specs.State.{
+  with_status,
   Place,
   walking,
   within,
@@ -62,12 +63,12 @@ use Rattle.build_meaning.specs.Step.{
 }
 use Rattle.build_meaning.specs.History.{IsHistory, AreOfOthers}
 use Rattle.build_meaning.proofs.AssignedRequests.{stays}
-use Rattle.build_meaning.proofs.EventsKeepLawful.{request_of, some-is, unless-some}
+use Rattle.build_meaning.proofs.EventsKeepLawful.{some-is, unless-some}
 use Rattle.build_meaning.proofs.ListPlaces.{at-put_same, traverse-at}
 use Rattle.build_scheduler.specs.declared.slot.End.{End}
 use Rattle.build_scheduler.specs.declared.slot.Origin.{Origin as Kept}
 use Rattle.build_scheduler.specs.declared.slot.Slot.{Slot}
-use Rattle.build_scheduler.specs.Log.{Logged}
+use Rattle.build_scheduler.specs.History.{History}
 use Rattle.build_scheduler.specs.Own.{Seen}
 use Rattle.build_scheduler.specs.Ready.{IsAssignedTo}
 use Rattle.build_scheduler.specs.Shown.{Shown}
@@ -88,27 +89,27 @@ module _ {P I A : Type 0} (w : World P I A) where
   put-it s t id node q z p e st h = subst (λ (u : State P I A). HasIt u id node) h
       (record { request = z; place = p; there = at-put_same s.requests id q z e; is = st })
 
-  assign-it : (s t : State P I A) (id node : ℕ) (o : Origin) (j : Journal) (runs : List RunId)
-      (u : Status P I A) → at s.requests id ≡ Some (request_of o j runs u)
-      → step_of w s (Assign id node) (request_of o j runs u) ≡ Some t → HasIt t id node
-  assign-it s t id node o j runs (ready p) e h =
-      put-it s t id node (request_of o j runs (ready p)) (request_of o j runs (assigned node p)) p e
-      refl (some-is (with_request s id (request_of o j runs (assigned node p))) t h)
-  assign-it s t id node o j runs (assigned m p) e h = absurd (cc)
-  assign-it s t id node o j runs (waits a b c) e h = absurd (cc)
-  assign-it s t id node o j runs (calling a b c d) e h = absurd (cc)
-  assign-it s t id node o j runs (done a) e h = absurd (cc)
+  assign-it : (s t : State P I A) (id node : ℕ) (q : RequestState P I A)
+      (u : Status P I A) → at s.requests id ≡ Some (with_status q u)
+      → step_of w s (Assign id node) (with_status q u) ≡ Some t → HasIt t id node
+  assign-it s t id node q (ready p) e h =
+      put-it s t id node (with_status q (ready p)) (with_status q (assigned node p)) p e
+      refl (some-is (with_request s id (with_status q (assigned node p))) t h)
+  assign-it s t id node q (assigned m p) e h = absurd (cc)
+  assign-it s t id node q (waits a b c) e h = absurd (cc)
+  assign-it s t id node q (calling a b c d) e h = absurd (cc)
+  assign-it s t id node q (done a) e h = absurd (cc)
 
-  go-it : (s t : State P I A) (id node : ℕ) (o : Origin) (j : Journal) (runs : List RunId)
+  go-it : (s t : State P I A) (id node : ℕ) (q : RequestState P I A)
       (p : Place P I A) (run : RunId) → at s.requests id
-      ≡ Some (request_of o j runs (assigned node p)) →
-      step_of w s (Claim id run Go) (request_of o j runs (assigned node p)) ≡ Some t
+      ≡ Some (with_status q (assigned node p)) →
+      step_of w s (Claim id run Go) (with_status q (assigned node p)) ≡ Some t
       → HasIt t id node
-  go-it s t id node o j runs (walking (wants site r b go)) run e h =
+  go-it s t id node q (walking (wants site r b go)) run e h =
       let x = and_then-some (only_if (same_run r run) r)
-      (λ run. claimed w s id node o j runs run b go Go) t h in
-      let stopped = run_on w.tools x.0 b j nothing_yet in
-      let z : RequestState P I A = in_body w (assigned node) o runs x.0 go stopped in
+      (λ run. claimed w s id node q run b go Go) t h in
+      let stopped = run_on w.tools x.0 b q.journal nothing_yet in
+      let z : RequestState P I A = in_body w (assigned node) q x.0 go stopped in
       let y = unless-some (is_begun x.0 s.begun)
       (record {
         requests = put s.requests id z;
@@ -121,44 +122,44 @@ module _ {P I A : Type 0} (w : World P I A) where
         request = z;
         place = within (record { run = x.0; so_far = stopped.so_far; go = go }) stopped.stop;
         there = at-put_same s.requests id
-            (request_of o j runs (assigned node (walking (wants site r b go)))) z e;
+            (with_status q (assigned node (walking (wants site r b go)))) z e;
         is = refl;
       })
-  go-it s t id node o j runs (walking (gives reply)) run e h = absurd (cc)
-  go-it s t id node o j runs (within x stop) run e h = absurd (cc)
+  go-it s t id node q (walking (gives reply)) run e h = absurd (cc)
+  go-it s t id node q (within x stop) run e h = absurd (cc)
 
-  use-it : (s t : State P I A) (id node : ℕ) (o : Origin) (j : Journal) (runs : List RunId)
+  use-it : (s t : State P I A) (id node : ℕ) (q : RequestState P I A)
       (p : Place P I A) (run : RunId) → at s.requests id
-      ≡ Some (request_of o j runs (assigned node p)) →
-      step_of w s (Claim id run Use) (request_of o j runs (assigned node p)) ≡ Some t
+      ≡ Some (with_status q (assigned node p)) →
+      step_of w s (Claim id run Use) (with_status q (assigned node p)) ≡ Some t
       → HasIt t id node
-  use-it s t id node o j runs (walking (wants site r b go)) run e h =
+  use-it s t id node q (walking (wants site r b go)) run e h =
       let x = and_then-some (only_if (same_run r run) r)
-      (λ run. claimed w s id node o j runs run b go Use) t h in
+      (λ run. claimed w s id node q run b go Use) t h in
       let m = and_then-some (found s.table x.0)
-      (λ made. and_then (replay s.table x.0 j)
-      (λ next. Some (with_request s id (goes_on w (assigned node) o runs x.0 go made next)))) t
+      (λ made. and_then (replay s.table x.0 q.journal)
+      (λ next. Some (with_request s id (goes_on w (assigned node) q x.0 go made next)))) t
       x.2 in
-      let n = and_then-some (replay s.table x.0 j)
-      (λ next. Some (with_request s id (goes_on w (assigned node) o runs x.0 go m.0 next))) t
+      let n = and_then-some (replay s.table x.0 q.journal)
+      (λ next. Some (with_request s id (goes_on w (assigned node) q x.0 go m.0 next))) t
       m.2 in
-      let z : RequestState P I A = goes_on w (assigned node) o runs x.0 go m.0 n.0 in
-      put-it s t id node (request_of o j runs (assigned node (walking (wants site r b go)))) z
+      let z : RequestState P I A = goes_on w (assigned node) q x.0 go m.0 n.0 in
+      put-it s t id node (with_status q (assigned node (walking (wants site r b go)))) z
       (walking (go m.0 n.0)) e refl (some-is (with_request s id z) t n.2)
-  use-it s t id node o j runs (walking (gives reply)) run e h = absurd (cc)
-  use-it s t id node o j runs (within x stop) run e h = absurd (cc)
+  use-it s t id node q (walking (gives reply)) run e h = absurd (cc)
+  use-it s t id node q (within x stop) run e h = absurd (cc)
 
-  result-it : (s t : State P I A) (id node : ℕ) (o : Origin) (j : Journal) (runs : List RunId)
+  result-it : (s t : State P I A) (id node : ℕ) (q : RequestState P I A)
       (p : Place P I A) (run : RunId) → at s.requests id
-      ≡ Some (request_of o j runs (assigned node p)) →
-      step_of w s (Result id run) (request_of o j runs (assigned node p)) ≡ Some t → HasIt t id node
-  result-it s t id node o j runs (within x (ends outcome)) run e h =
+      ≡ Some (with_status q (assigned node p)) →
+      step_of w s (Result id run) (with_status q (assigned node p)) ≡ Some t → HasIt t id node
+  result-it s t id node q (within x (ends outcome)) run e h =
       let y = and_then-some (only_if (same_run x.run run) x)
-      (λ x. finished w s id node o j runs x (recorded outcome x.so_far.segments)) t h in
+      (λ x. finished w s id node q x (recorded outcome x.so_far.segments)) t h in
       let made : Record = recorded outcome y.0.so_far.segments in
       let f : FinishedRun = record { run = y.0.run; made = made } in
-      let z : RequestState P I A = goes_on w (assigned node) o runs y.0.run y.0.go made
-      (add j (ended y.0.run made)) in
+      let z : RequestState P I A = goes_on w (assigned node) q y.0.run y.0.go made
+      (add q.journal (ended y.0.run made)) in
       let u = and_then-some (traverse (woken w (f ∷ s.table) y.0.run made) (put s.requests id z))
       (λ requests.
       Some
@@ -179,18 +180,18 @@ module _ {P I A : Type 0} (w : World P I A) where
             ∷ s.tools_used;
       } in
       let k = traverse-at (woken w (f ∷ s.table) y.0.run made) (put s.requests id z) u.0 u.1 id z
-      (at-put_same s.requests id (request_of o j runs (assigned node (within x (ends outcome))))
+      (at-put_same s.requests id (with_status q (assigned node (within x (ends outcome))))
       z e) in
       subst (λ (v : State P I A). HasIt v id node) (some-is last t u.2)
       (record {
         request = z;
-        place = walking (y.0.go made (add j (ended y.0.run made)));
+        place = walking (y.0.go made (add q.journal (ended y.0.run made)));
         there = k.1
             ∙ ap Some (sym (some-is z k.0 k.2));
         is = refl;
       })
-  result-it s t id node o j runs (within x (asks key more go)) run e h = absurd (cc)
-  result-it s t id node o j runs (walking tree) run e h = absurd (cc)
+  result-it s t id node q (within x (asks key more go)) run e h = absurd (cc)
+  result-it s t id node q (walking tree) run e h = absurd (cc)
 
   -- the state before the last event of a history, and the request of the event then
   pub record Before (events : List Event) (event : Event) (t : State P I A) : Type 0 where
@@ -218,7 +219,7 @@ module _ {P I A : Type 0} (w : World P I A) where
   assigned-here events after t id node e h =
       let b = before-last events (Assign id node) t (subst (λ es. IsHistory w es t) e h) in
       has-here after t id node h
-      (assign-it b.state t id node b.request.origin b.request.journal b.request.runs
+      (assign-it b.state t id node b.request
       b.request.status b.there b.goes)
 
   module _ (events after : List Event) (t : State P I A) (id node : ℕ)
@@ -226,7 +227,7 @@ module _ {P I A : Type 0} (w : World P I A) where
     own-before : (event : Event) → whose event ≡ id → (b : Before events event t)
         → at b.state.requests id
         ≡ Some
-        (request_of here.request.origin here.request.journal here.request.runs
+        (with_status here.request
         (assigned node here.place))
     own-before event is b =
         let same : here.state ≡ b.state = one_state w events here.state b.state here.history
@@ -234,12 +235,12 @@ module _ {P I A : Type 0} (w : World P I A) where
         ap (λ (s : State P I A). at s.requests id) (sym same)
         ∙ (here.there
         ∙ ap
-        (λ u. Some (request_of here.request.origin here.request.journal here.request.runs u))
+        (λ u. Some (with_status here.request u))
         here.is)
 
     stepped : (event : Event) → whose event ≡ id → (b : Before events event t)
         → step_of w b.state event
-        (request_of here.request.origin here.request.journal here.request.runs
+        (with_status here.request
         (assigned node here.place)) ≡ Some t
     stepped event is b =
         let there : at b.state.requests id ≡ Some b.request = ap (at b.state.requests) (sym is)
@@ -253,7 +254,7 @@ module _ {P I A : Type 0} (w : World P I A) where
     going-here run e h =
         let b = before-last events (Claim id run Go) t (subst (λ es. IsHistory w es t) e h) in
         has-here after t id node h
-        (go-it b.state t id node here.request.origin here.request.journal here.request.runs
+        (go-it b.state t id node here.request
         here.place run (own-before (Claim id run Go) refl b) (stepped (Claim id run Go) refl b))
 
     pub using-here : (run : RunId) → after ≡ events ++ Claim id run Use ∷ [] → IsHistory w after t
@@ -261,7 +262,7 @@ module _ {P I A : Type 0} (w : World P I A) where
     using-here run e h =
         let b = before-last events (Claim id run Use) t (subst (λ es. IsHistory w es t) e h) in
         has-here after t id node h
-        (use-it b.state t id node here.request.origin here.request.journal here.request.runs
+        (use-it b.state t id node here.request
         here.place run (own-before (Claim id run Use) refl b)
         (stepped (Claim id run Use) refl b))
 
@@ -270,7 +271,7 @@ module _ {P I A : Type 0} (w : World P I A) where
     finished-here run e h =
         let b = before-last events (Result id run) t (subst (λ es. IsHistory w es t) e h) in
         has-here after t id node h
-        (result-it b.state t id node here.request.origin here.request.journal here.request.runs
+        (result-it b.state t id node here.request
         here.place run (own-before (Result id run) refl b) (stepped (Result id run) refl b))
 
   -- and through the events of others
@@ -309,7 +310,7 @@ module _ {P I A : Type 0} (w : World P I A) where
       some-is node other (sym (ap assigned-of x.is)
       ∙ (ap (λ (r : RequestState P I A). assigned-of r.status) q ∙ ap assigned-of y.is))
 
-module _ {W P I A : Type 0} (seen : W → Seen P I A) (w : World P I A) {log : Logged}
+module _ {W P I A : Type 0} (seen : W → Seen P I A) (w : World P I A) {log : History}
     {origins : List Kept} {slots : List (Slot W)} {making : List (Option RunId)} {table : TableRuns}
     {end : Option End} where
   pub assign-shown : (events : List Event) (id node : ℕ)

@@ -2,7 +2,6 @@ pub mod Either
 pub mod HistoryParts
 pub mod Here
 pub mod Marks
-pub mod OthersBehind
 pub mod Away
 pub mod Stops
 pub mod Turning
@@ -14,5 +13,3 @@ pub mod Leaves
 pub mod Active
 pub mod Fitting
 pub mod Repeats
-pub mod SameShown
-pub mod NoRecords

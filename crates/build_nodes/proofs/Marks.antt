@@ -32,7 +32,7 @@ use mathlib.Core.List.{IsPrefix}
 use Rattle.build_meaning.specs.declared.event.Event.{Event}
 use Rattle.build_meaning.proofs.BuildingReplays.{map-append}
 use Rattle.build_scheduler.specs.declared.slot.End.{End}
-use Rattle.build_nodes.specs.Driven.{Continues}
+use Rattle.build_scheduler.specs.Drivers.{Continues}
 use Rattle.build_nodes.specs.Marked.{mark_of, marked, has_mark}
 
 -- more events, or an end, continue a history without one

@@ -15,7 +15,7 @@ use Rattle.build_scheduler.specs.declared.slot.End.TheVariants.{Circular}
 use Rattle.build_scheduler.specs.Claims.{ClosesCycle}
 use Rattle.build_scheduler.specs.Ends.{IsStop}
 use Rattle.build_scheduler.specs.Requests.{IsRefused}
-use Rattle.build_nodes.specs.Turns.{refusal_end}
+use Rattle.build_scheduler.specs.Drivers.{refusal_end}
 
 module _ {P I A : Type 0} (w v : World P I A) (events after : List Event) (same_world : v ≡ w)
     (same_events : after ≡ events) where

@@ -1,4 +1,3 @@
-pub mod Driven
 pub mod Leaving
 pub mod Marked
 pub mod Seats

@@ -5,18 +5,6 @@ use mathlib.Core.List.{IsPrefix}
 use Rattle.result_cache.specs.Table.{Records}
 use Rattle.build_meaning.specs.declared.event.Event.{Event}
 use Rattle.build_meaning.specs.World.{World}
-use Rattle.build_scheduler.specs.declared.slot.End.{End}
-use Rattle.build_scheduler.specs.declared.slot.End.TheVariants.{
-  TooDeep as EndsTooDeep,
-  TooMany as EndsTooMany,
-  NoMemory as EndsNoMemory,
-}
-use Rattle.build_scheduler.specs.declared.request.RequestFault.{RequestFault}
-use Rattle.build_scheduler.specs.declared.request.RequestFault.TheVariants.{
-  TooDeep,
-  TooMany,
-  Memory,
-}
 use Rattle.build_scheduler.specs.declared.walker.Answer.{Answer}
 use Rattle.build_scheduler.specs.Own.{Seen, IsOut, IsOwn}
 use Rattle.build_scheduler.specs.Position.{Position, ask_of, answered}
@@ -30,22 +18,11 @@ use Rattle.build_nodes.specs.declared.turn.Next.TheVariants.{Missed, Advance, Pa
 use Rattle.build_nodes.specs.Leaving.{has_left}
 use Rattle.build_nodes.specs.Marked.{marked}
 
--- how the build ends where calls are refused
-abbrev pub refusal_end : RequestFault → End
-refusal_end (TooDeep keys) = EndsTooDeep keys
-refusal_end (TooMany instance) = EndsTooMany instance
-refusal_end Memory = EndsNoMemory
-
 -- the number of events when the node had the core last
 abbrev pub number_of : {W : Type 0} → Brought W → ℕ
 number_of (Nothing number) = number
 number_of (Walk a) = a.number
 number_of (Refused a) = a.number
-
--- an answer takes a walk to the same place by these records and by those
-abbrev pub AreAlike : {P I A : Type 0} →
-    World P I A → Records → Records → Position P I A → Answer → Type 0
-AreAlike w these those p answer = answered w these p answer ≡ answered w those p answer
 
 module _ {W P I A : Type 0} (seen : W → Seen P I A) (earlier : W → Option (Position P I A × ℕ))
   where

@@ -1,40 +1,27 @@
 //! What a node does with the core while it has it.
-ghost use Rattle.std.specs.Prelude.{
-  ◌≡◌,
-  ◌<◌,
-  ◌^◌,
-  false,
-  true,
-  drop,
-  length,
-  IsSome,
-  None,
-  OnErr,
-  OnOk,
-  Some,
-};
+ghost use Rattle.std.specs.Prelude.{◌≡◌, ◌<◌, ◌^◌, false, drop, length, None, Some};
 ghost use Rattle.std.specs.List.{list_any};
 ghost use mathlib.Core.List.{IsPrefix};
-ghost use Rattle.build_meaning.specs.History.{AreOfOthers};
 ghost use Rattle.build_meaning.specs.Step.{whose};
 ghost use Rattle.build_scheduler.specs.declared.walker.Answer.TheVariants.{Use};
 ghost use Rattle.build_scheduler.specs.declared.walker.Ask.TheVariants.{Call, Done, Finished, Want};
+ghost use Rattle.build_scheduler.specs.Drivers.{AreAlike, refusal_end};
 ghost use Rattle.build_scheduler.specs.Ends.{IsStop};
 ghost use Rattle.build_scheduler.specs.Kept.{IsRepeated};
-ghost use Rattle.build_scheduler.specs.Learnt.{AreInOrder, ArePartOf};
 ghost use Rattle.build_scheduler.specs.Own.{IsOut, IsOwn, seen_by};
 ghost use Rattle.build_scheduler.specs.Position.{answered, ask_of};
 ghost use Rattle.build_scheduler.specs.Ready.{IsAssignedTo, IsLeastReady};
 ghost use Rattle.build_nodes.specs.Leaving.{IsCaused, IsSpent, has_left, is_retire_of};
 ghost use Rattle.build_nodes.specs.Marked.{marked};
-ghost use Rattle.build_nodes.specs.Turns.{AreAlike, CanGoBack, IsAnswered, IsAsking, IsBrought};
-ghost use Rattle.build_nodes.specs.Turns.{IsNext, refusal_end};
+ghost use Rattle.build_nodes.specs.Turns.{CanGoBack, IsAnswered, IsAsking, IsBrought, IsNext};
 
 use crate::shared::few_events;
 use crate::turn::{Answered, Asking, Brought, Discarded, Held, Next};
-use build_scheduler::{Answer, Ask, Claimed, Core, End, Event, RequestFault, Walker};
+use build_scheduler::{
+    Answer, Ask, Claimed, Core, End, Event, RequestFault, Walker, are_of_others, learn_records,
+};
 use msb_values::{List, NoMemory};
-use result_cache::{RecordRef, RequestKey, RequestResult, RunId, Table};
+use result_cache::{RecordRef, RequestKey, RequestResult, RunId};
 
 /// One turn of a node: what it brings goes on, and where its request can't, the least request that
 /// is ready is assigned to the node. There is nothing to do next once the end is told, or the node
@@ -134,32 +121,6 @@ fn bring_back<W: Walker>(
         } = asking;
         discarded.put(walk, answer);
         assign_least(core, node)
-    }
-}
-
-/// Whether no event from this number on is of the request.
-fn are_of_others(events: &[Event], id: u64, number: usize) -> bool
-    ensures { result ≡ true → AreOfOthers id (drop number events.now) }
-{
-    for at in number..events.len() {
-        if request_of(&events[at]) == id {
-            return false;
-        }
-    }
-    true
-}
-
-/// The request that an event is of.
-fn request_of(event: &Event) -> u64
-    ensures { result ≡ whose event.now }
-{
-    match event {
-        Event::Assign(id, _) => *id,
-        Event::Claim(id, _, _) => *id,
-        Event::Request(id, _) => *id,
-        Event::Result(id, _) => *id,
-        Event::Done(id) => *id,
-        Event::Retire(id, _) => *id,
     }
 }
 
@@ -373,9 +334,7 @@ fn end_request<W: Walker>(
 {
     let Held { id, walk, answer } = held;
     discarded.answer = Some(answer);
-    // Where there is no memory, nothing is kept.
-    let _ = core.keep(id, &walk, &told);
-    discarded.walk = core.done(id, walk, told);
+    discarded.walk = core.end_request(id, walk, told);
     if core.end().is_some() {
         return None;
     }
@@ -470,29 +429,6 @@ fn give_answer<W: Walker>(core: &mut Core<W>, node: u32, held: Held<W>) -> Optio
     match learn_records(&mut walk, core.table(), &answer) {
         Ok(()) => hand_over(core, node, Held { id, walk, answer }),
         Err(NoMemory) => retire(core, node, Held { id, walk, answer }),
-    }
-}
-
-/// Lets a walk learn the records that an answer needs. The first answer needs none, nor does one
-/// by which the walk makes a run.
-fn learn_records<W: Walker>(walk: &mut W, table: &Table, answer: &Answer) -> Result<(), NoMemory>
-    requires in_order { AreInOrder table.now.finished }
-    requires known { ArePartOf (W.learnt walk.old) table.now.finished }
-    requires fits { IsSome (answered (W.world walk.old) table.now.finished
-        (W.position walk.old) answer.now) }
-    ensures learns { OnOk result (AreAlike (W.world walk.old) (W.learnt walk.new)
-        table.now.finished (W.position walk.old) answer.now) }
-    ensures known { ArePartOf (W.learnt walk.new) table.now.finished }
-    ensures err { OnErr result (W.learnt walk.new ≡ W.learnt walk.old) }
-    ensures world { W.world walk.new ≡ W.world walk.old }
-    ensures position { W.position walk.new ≡ W.position walk.old }
-    ensures asked { W.asked walk.new ≡ W.asked walk.old }
-{
-    match answer {
-        Answer::First => Ok(()),
-        Answer::Go => Ok(()),
-        Answer::Use => walk.learn(table, answer),
-        Answer::Results(_) => walk.learn(table, answer),
     }
 }
 

@@ -25,7 +25,7 @@ ghost use Rattle.build_scheduler.specs.Ends.{IsEnd};
 ghost use Rattle.build_scheduler.specs.Own.{seen_by};
 ghost use Rattle.build_meaning.specs.History.{AreOfNodes};
 ghost use Rattle.build_nodes.specs.Leaving.{IsSpent, has_left};
-ghost use Rattle.build_nodes.specs.Driven.{Continues, IsLegal};
+ghost use Rattle.build_scheduler.specs.Drivers.{Continues, IsLegal};
 ghost use Rattle.build_nodes.specs.Marked.{marked};
 ghost use Rattle.turn_board.specs.Seats.{opening_seat};
 ghost use Rattle.build_nodes.specs.Seats.{HasLeft, IsSeated, numbers_below};

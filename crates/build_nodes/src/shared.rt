@@ -60,6 +60,7 @@ impl<W: Walker> Shared<W> {
         ensures few { length (marked self.new.core.history.events self.new.core.end) < 2 ^ 63 }
     {
         let next = turn(&mut self.core, node, brought, discarded);
+        discarded.released = Some(self.core.take_released());
         few_events(&self.core);
         next
     }

@@ -1,7 +1,7 @@
 ghost use Rattle.std.specs.Prelude.{◌≡◌};
 ghost use Rattle.build_nodes.specs.Turns.{number_of};
 
-use build_scheduler::{Answer, Ask};
+use build_scheduler::{Answer, Ask, Released};
 
 /// The walk of a request that a node has, and its next answer, or its last one.
 #[derive(Drop)]
@@ -81,6 +81,8 @@ pub(crate) struct Discarded<W> {
     pub walk: Option<W>,
     /// An answer that no walk goes back to.
     pub answer: Option<Answer>,
+    /// What the core holds no longer.
+    pub released: Option<Released<W>>,
 }
 
 impl<W: Drop> Discarded<W> {
@@ -88,6 +90,7 @@ impl<W: Drop> Discarded<W> {
         Discarded {
             walk: None,
             answer: None,
+            released: None,
         }
     }
 

@@ -30,7 +30,8 @@ use Rattle.build_meaning.specs.declared.event.Event.TheVariants.{
 use Rattle.build_meaning.specs.World.{World}
 use Rattle.build_meaning.specs.History.{retires}
 use Rattle.build_meaning.proofs.RetiredRequests.{retires-append}
-use Rattle.build_plain.specs.Driven.{TakesLeast, AssignsLeast, Drives, Continues}
+use Rattle.build_plain.specs.Driven.{TakesLeast, AssignsLeast, Drives}
+use Rattle.build_scheduler.specs.Drivers.{Continues}
 
 module _ {P I A : Type 0} (w : World P I A) where
   least-more : (before more others : List Event) → AssignsLeast w before more

@@ -37,7 +37,8 @@ use Rattle.build_scheduler.specs.declared.slot.End.TheVariants.{Root}
 use Rattle.build_scheduler.specs.Own.{Seen}
 use Rattle.build_scheduler.specs.Ready.{IsReady, IsAssigned, IsLeastReady}
 use Rattle.build_scheduler.specs.Shown.{Shown, ShowsEnd}
-use Rattle.build_plain.specs.Driven.{NoneAssigned, OnlyAssigned, IsFree, IsLegal}
+use Rattle.build_plain.specs.Driven.{NoneAssigned, OnlyAssigned, IsFree}
+use Rattle.build_scheduler.specs.Drivers.{IsLegal}
 use Rattle.build_plain.proofs.RequestsMove.{Leaves, HasNode, step-moves}
 
 first_there : {X : Type 0} (xs : List X) → 0 < length xs → (x : X) × (at xs 0 ≡ Some x)

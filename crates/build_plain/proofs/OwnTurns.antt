@@ -28,7 +28,7 @@ use Rattle.build_scheduler.specs.Position.{ask_of, answered, IsInTurn}
 use Rattle.build_scheduler.specs.Requests.{IsRefused}
 use Rattle.build_scheduler.specs.declared.slot.End.TheVariants.{Circular}
 use Rattle.build_scheduler.proofs.HistoryFacts.{some-prop, in_order-prop}
-use Rattle.build_plain.specs.Driven.{end_of}
+use Rattle.build_scheduler.specs.Drivers.{refusal_end}
 
 shared-prop : (part table : Records) (p q : (run : RunId) (made : Record)
     → found part run ≡ Some made → found table run ≡ Some made) → p ≡ q
@@ -94,7 +94,7 @@ module _ {P I A : Type 0} (w : World P I A) (events : List Event) (table : Recor
 module _ {P I A : Type 0} (w : World P I A) (events : List Event) (id : ℕ) where
   -- calls that are refused end the build
   pub refused-shown : (calls : List RequestKey) (fault : RequestFault)
-      → IsRefused w events id calls fault → IsStop w events (end_of fault)
+      → IsRefused w events id calls fault → IsStop w events (refusal_end fault)
   refused-shown calls (TooDeep keys) h = ∥∥₁_map h (λ x. (id, calls, x))
   refused-shown calls (TooMany instance) h = ∥∥₁_map h (λ x. (id, calls, x))
   refused-shown calls Memory h = tt
@@ -103,12 +103,3 @@ module _ {P I A : Type 0} (w : World P I A) (events : List Event) (id : ℕ) whe
   pub cycle-shown : (run : RunId) (runs : List RunId) → ∥ ClosesCycle w events id run runs ∥₁
       → IsStop w events (Circular runs)
   cycle-shown run runs h = ∥∥₁_map h (λ x. (id, run, x))
-
--- nothing of this has changed
-pub own-same : {P I A : Type 0} (w v : World P I A) (before after : List Event)
-    (table records : Records) (id : ℕ) (walk : Seen P I A) → v ≡ w → after ≡ before →
-    records ≡ table → ∥ IsOwn w before table id walk ∥₁ → ∥ IsOwn v after records id walk ∥₁
-own-same w v before after table records id walk world events known own =
-    subst (λ x. ∥ IsOwn x after records id walk ∥₁) (sym world)
-    (subst (λ es. ∥ IsOwn w es records id walk ∥₁) (sym events)
-    (subst (λ t. ∥ IsOwn w before t id walk ∥₁) (sym known) own))

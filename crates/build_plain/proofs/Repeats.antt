@@ -32,7 +32,6 @@ use Rattle.std.proofs.Props.{props}
 use Rattle.std.proofs.lemmas.List.{length-append}
 use Rattle.std.specs.Coded.{codes, Coded-set}
 use Rattle.result_cache.specs.declared.run.RunId.{RunId}
-use Rattle.result_cache.specs.Journal.{Journal}
 use Rattle.result_cache.specs.Table.{Records}
 use Rattle.result_cache.proofs.RunTests.{and_then-some}
 use Rattle.build_meaning.specs.declared.event.Event.{Event}
@@ -50,10 +49,10 @@ use Rattle.build_meaning.specs.World.{World}
 use Rattle.build_meaning.specs.Walk.{gives, wants}
 use Rattle.build_meaning.specs.SoFar.{ToolUse}
 use Rattle.build_meaning.specs.State.{
+  with_status,
   walking,
   Status,
   assigned,
-  Origin,
   RequestState,
   State,
   start,
@@ -61,7 +60,7 @@ use Rattle.build_meaning.specs.State.{
 use Rattle.build_meaning.specs.Step.{whose, step_of, step, after_all}
 use Rattle.build_meaning.specs.History.{IsHistory}
 use Rattle.build_meaning.proofs.ConsistentTables.{after-more}
-use Rattle.build_meaning.proofs.EventsKeepLawful.{some-is, request_of}
+use Rattle.build_meaning.proofs.EventsKeepLawful.{some-is}
 use Rattle.build_meaning.proofs.ParentsAndChildren.{same_some}
 use Rattle.build_history.specs.Repeated.{uses_of_all}
 use Rattle.build_history.specs.Uses.{body_at, new_uses, uses_in}
@@ -69,14 +68,8 @@ use Rattle.build_history.proofs.BodiesMove.{IsGo, Own, rests, goes, begins, fini
 use Rattle.build_history.proofs.UsesTold.{event-uses}
 use Rattle.build_scheduler.specs.Kept.{repeats, IsRepeat}
 use Rattle.build_scheduler.specs.Ready.{IsLeastReady}
-use Rattle.build_plain.specs.Driven.{
-  NoneAssigned,
-  OnlyAssigned,
-  IsLegal,
-  TakesLeast,
-  AssignsLeast,
-  Drives,
-}
+use Rattle.build_plain.specs.Driven.{NoneAssigned, OnlyAssigned, TakesLeast, AssignsLeast, Drives}
+use Rattle.build_scheduler.specs.Drivers.{IsLegal}
 use Rattle.build_plain.specs.Used.{Uses}
 use Rattle.build_plain.proofs.OneAtATime.{one-assigned, one-stays, none-stays}
 
@@ -109,14 +102,14 @@ drop-front (x ∷ xs) ys = drop-front xs ys
 
 module _ {P I A : Type 0} (w : World P I A) where
   -- a request that uses a record, or is over, is in no body
-  bodiless-of : (s t : State P I A) (event : Event) (o : Origin) (j : Journal) (runs : List RunId)
-      (u : Status P I A) → IsBetween event → step_of w s event (request_of o j runs u) ≡ Some t →
+  bodiless-of : (s t : State P I A) (event : Event) (q : RequestState P I A)
+      (u : Status P I A) → IsBetween event → step_of w s event (with_status q u) ≡ Some t →
       body_at u ≡ None
-  bodiless-of s t (Claim id run Use) o j runs (assigned m (walking (wants site r b go))) f h = refl
-  bodiless-of s t (Claim id run Use) o j runs _ f h = absurd (cc)
-  bodiless-of s t (Done id) o j runs (assigned m (walking (gives reply))) f h = refl
-  bodiless-of s t (Done id) o j runs _ f h = absurd (cc)
-  bodiless-of s t _ o j runs u f h = absurd f
+  bodiless-of s t (Claim id run Use) q (assigned m (walking (wants site r b go))) f h = refl
+  bodiless-of s t (Claim id run Use) q _ f h = absurd (cc)
+  bodiless-of s t (Done id) q (assigned m (walking (gives reply))) f h = refl
+  bodiless-of s t (Done id) q _ f h = absurd (cc)
+  bodiless-of s t _ q u f h = absurd f
 
   bodiless : (s t : State P I A) (event : Event) (q : RequestState P I A) → IsBetween event →
       at s.requests (whose event) ≡ Some q → step w s event ≡ Some t → body_at q.status ≡ None
@@ -124,7 +117,7 @@ module _ {P I A : Type 0} (w : World P I A) where
       let z = and_then-some (at s.requests (whose event)) (step_of w s event) t h in
       let same : z.0 ≡ q = same_some (at s.requests (whose event)) z.0 q z.1 there in
       ap (λ (x : RequestState P I A). body_at x.status) (sym same)
-      ∙ bodiless-of s t event z.0.origin z.0.journal z.0.runs z.0.status f z.2
+      ∙ bodiless-of s t event z.0 z.0.status f z.2
 
   -- and stays in none where it begins no run
   stays-bodiless : (s t : State P I A) (event : Event) (q b : RequestState P I A) →

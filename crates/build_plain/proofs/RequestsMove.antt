@@ -55,6 +55,7 @@ use Rattle.build_meaning.specs.Walk.{Walk, gives, wants, Body}
 use Rattle.build_meaning.specs.SoFar.{nothing_yet, with_calls, runs_of, recorded, result_of}
 use Rattle.build_meaning.specs.Stop.{ends, asks, run_on}
 use Rattle.build_meaning.specs.State.{
+  with_status,
   Within,
   walking,
   within,
@@ -64,7 +65,6 @@ use Rattle.build_meaning.specs.State.{
   waits,
   calling,
   done,
-  Origin,
   RequestState,
   State,
   with_request,
@@ -100,7 +100,7 @@ use Rattle.build_meaning.proofs.ListPlaces.{
   traverse-length,
   put-length,
 }
-use Rattle.build_meaning.proofs.EventsKeepLawful.{only_if-some, unless-some, some-is, request_of}
+use Rattle.build_meaning.proofs.EventsKeepLawful.{only_if-some, unless-some, some-is}
 
 -- the request of the event is not with a node after it
 abbrev pub Leaves : Event → Type 0
@@ -152,13 +152,13 @@ module _ {P I A : Type 0} where
   then-same s m t event v e = subst (λ (u : State P I A). Moves s u event) e v
 
 module _ {P I A : Type 0} (w : World P I A) where
-  claimed-moves : (s t : State P I A) (id m : ℕ) (o : Origin) (j : Journal) (runs : List RunId)
+  claimed-moves : (s t : State P I A) (id m : ℕ) (q : RequestState P I A)
       (claims r : RunId) (b : Body I A) (go : Record → Journal → Walk P I A) (kind : ClaimKind)
-      → claimed w s id m o j runs r b go kind ≡ Some t →
+      → claimed w s id m q r b go kind ≡ Some t →
       Moves s t (Claim id claims kind)
-  claimed-moves s t id m o j runs claims r b go Go h =
-      let z : RequestState P I A = in_body w (assigned m) o runs r go
-      (run_on w.tools r b j nothing_yet) in
+  claimed-moves s t id m q claims r b go Go h =
+      let z : RequestState P I A = in_body w (assigned m) q r go
+      (run_on w.tools r b q.journal nothing_yet) in
       let x = unless-some (is_begun r s.begun)
       (record {
         requests = put s.requests id z;
@@ -169,40 +169,42 @@ module _ {P I A : Type 0} (w : World P I A) where
       }) t h in
       put-moves s t (Claim id claims Go) z (ap (λ (u : State P I A). u.requests) (sym x.1))
       (λ l. absurd l)
-  claimed-moves s t id m o j runs claims r b go Use h =
+  claimed-moves s t id m q claims r b go Use h =
       let x = and_then-some (found s.table r)
-      (λ made. and_then (replay s.table r j)
-      (λ next. Some (with_request s id (goes_on w (assigned m) o runs r go made next)))) t h in
-      let y = and_then-some (replay s.table r j)
-      (λ next. Some (with_request s id (goes_on w (assigned m) o runs r go x.0 next))) t x.2 in
-      let z : RequestState P I A = goes_on w (assigned m) o runs r go x.0 y.0 in
+      (λ made. and_then (replay s.table r q.journal)
+      (λ next. Some (with_request s id (goes_on w (assigned m) q r go made next)))) t h in
+      let y = and_then-some (replay s.table r q.journal)
+      (λ next. Some (with_request s id (goes_on w (assigned m) q r go x.0 next))) t x.2 in
+      let z : RequestState P I A = goes_on w (assigned m) q r go x.0 y.0 in
       put-moves s t (Claim id claims Use) z
       (ap (λ (u : State P I A). u.requests) (sym (some-is (with_request s id z) t y.2)))
       (λ l. absurd l)
-  claimed-moves s t id m o j runs claims r b go Wait h =
-      let next : State P I A = waiting w s id o j runs r b go in
+  claimed-moves s t id m q claims r b go Wait h =
+      let next : State P I A = waiting w s id q r b go in
       let x = only_if-some (may_wait w (is_begun r s.begun) (found s.table r) (is_in_cycle next r))
       next t h in
-      put-moves s t (Claim id claims Wait) (request_of o j runs (waits r b go))
+      put-moves s t (Claim id claims Wait) (with_status q (waits r b go))
       (ap (λ (u : State P I A). u.requests) (sym x.1)) (λ l n. n)
 
-  called-moves : (s t : State P I A) (id : ℕ) (calls : List RequestKey) (o : Origin) (j : Journal)
-      (runs : List RunId) (keys : List RequestKey) (x : Within P I A)
-      (go : List RequestResult → Journal → Body I A) → with_children w s id o j runs keys x go ≡ t →
+  called-moves : (s t : State P I A) (id : ℕ) (calls : List RequestKey) (old : RequestState P I A)
+      (keys : List RequestKey) (x : Within P I A)
+      (go : List RequestResult → Journal → Body I A) → with_children w s id old keys x go ≡ t →
       Moves s t (Request id calls)
-  called-moves s t id calls o j runs keys x go e =
-      let z : RequestState P I A = request_of o j runs
+  called-moves s t id calls old keys x go e =
+      let z : RequestState P I A = with_status old
       (calling keys (numbered_from (length s.requests) keys) x go) in
-      let more : List (RequestState P I A) = map (new_request w (Some id) (x.run ∷ o.path) j) keys
+      let more : List (RequestState P I A) = map
+      (new_request w (Some id) (x.run ∷ old.origin.path) old.journal) keys
       in
-      then-same s (with_children w s id o j runs keys x go) t (Request id calls) (record {
+      then-same s (with_children w s id old keys x go) t (Request id calls) (record {
         grows = let a = length-append (put s.requests id z) more in let b = put-length s.requests id
             z in omega arith;
         after = λ n b at_n h. elim (at-append (put s.requests id z) more n b at_n) [
           | inl y ↦ (put-moves s (with_request s id z) (Request id calls) z refl (λ l a. a)).after n
               b y h
           | inr y ↦
-              (let c = at-map (new_request w (Some id) (x.run ∷ o.path) j) keys y.0 b y.1 in absurd
+              (let c = at-map (new_request w (Some id) (x.run ∷ old.origin.path) old.journal) keys
+              y.0 b y.1 in absurd
               (subst (λ (q : RequestState P I A). HasNode q.status) (sym c.2) h))
         ];
       }) e
@@ -215,23 +217,23 @@ module _ {P I A : Type 0} (w : World P I A) where
       by_test : (t : Bool) → woken_if w t table q m wanted go ≡ Some z → q ≡ z
       by_test true h =
           let y = and_then-some (replay table wanted q.journal)
-          (λ next. Some (goes_on w ready q.origin q.runs wanted go m next)) z h in
+          (λ next. Some (goes_on w ready q wanted go m next)) z h in
           absurd
           (subst (λ (p : RequestState P I A). HasNode p.status)
-          (sym (some-is (goes_on w ready q.origin q.runs wanted go m y.0) z y.2)) n)
+          (sym (some-is (goes_on w ready q wanted go m y.0) z y.2)) n)
       by_test false h = some-is q z h
   woken-stays table r m q z (ready a) e h n = some-is q z h
   woken-stays table r m q z (assigned k a) e h n = some-is q z h
   woken-stays table r m q z (calling a b c d) e h n = some-is q z h
   woken-stays table r m q z (done a) e h n = some-is q z h
 
-  finished-moves : (s t : State P I A) (id m : ℕ) (run : RunId) (o : Origin) (j : Journal)
-      (runs : List RunId) (x : Within P I A) (made : Record)
-      → finished w s id m o j runs x made ≡ Some t → Moves s t (Result id run)
-  finished-moves s t id m run o j runs x made h =
+  finished-moves : (s t : State P I A) (id m : ℕ) (run : RunId) (q : RequestState P I A)
+      (x : Within P I A) (made : Record)
+      → finished w s id m q x made ≡ Some t → Moves s t (Result id run)
+  finished-moves s t id m run q x made h =
       let f : FinishedRun = record { run = x.run; made = made } in
-      let z : RequestState P I A = goes_on w (assigned m) o runs x.run x.go made
-      (add j (ended x.run made)) in
+      let z : RequestState P I A = goes_on w (assigned m) q x.run x.go made
+      (add q.journal (ended x.run made)) in
       let wakes = woken w (f ∷ s.table) x.run made in
       let u = and_then-some (traverse wakes (put s.requests id z))
       (λ requests.
@@ -268,17 +270,17 @@ module _ {P I A : Type 0} (w : World P I A) where
       (results_of w m.requests ids) h
     where
       by_results : (o : Option (List RequestResult))
-          → answered w m a c.origin c.journal c.runs keys x go o ≡ Some t → Moves s t event
+          → answered w m a c keys x go o ≡ Some t → Moves s t event
       by_results None h = then-same s m t event v (some-is m t h)
       by_results (Some results) h =
           let y = and_then-some (replay_all m.table (runs_of results) c.journal)
           (λ next.
           Some
           (with_request m a
-          (in_body w ready c.origin c.runs x.run x.go
+          (in_body w ready c x.run x.go
           (run_on w.tools x.run (go results next) next (with_calls x.so_far keys results))))) t
           h in
-          let z : RequestState P I A = in_body w ready c.origin c.runs x.run x.go
+          let z : RequestState P I A = in_body w ready c x.run x.go
           (run_on w.tools x.run (go results y.0) y.0 (with_calls x.so_far keys results)) in
           then-put s m t event a z v
           (ap (λ (u : State P I A). u.requests) (sym (some-is (with_request m a z) t y.2)))
@@ -292,43 +294,43 @@ module _ {P I A : Type 0} (w : World P I A) where
       let y = and_then-some (at m.requests a) (λ q. resume_at w m a q q.status) t h in
       resumed-moves s m t event a y.0 y.0.status v y.2
 
-  step_of-moves : (s t : State P I A) (event : Event) (o : Origin) (j : Journal) (runs : List RunId)
-      (u : Status P I A) → step_of w s event (request_of o j runs u) ≡ Some t → Moves s t event
-  step_of-moves s t (Assign id m) o j runs (ready a) h =
-      let z : RequestState P I A = request_of o j runs (assigned m a) in
+  step_of-moves : (s t : State P I A) (event : Event) (q : RequestState P I A)
+      (u : Status P I A) → step_of w s event (with_status q u) ≡ Some t → Moves s t event
+  step_of-moves s t (Assign id m) q (ready a) h =
+      let z : RequestState P I A = with_status q (assigned m a) in
       put-moves s t (Assign id m) z
       (ap (λ (u : State P I A). u.requests) (sym (some-is (with_request s id z) t h)))
       (λ l. absurd l)
-  step_of-moves s t (Assign id m) o j runs _ h = absurd (cc)
-  step_of-moves s t (Claim id run kind) o j runs (assigned m (walking (wants site r b go))) h =
+  step_of-moves s t (Assign id m) q _ h = absurd (cc)
+  step_of-moves s t (Claim id run kind) q (assigned m (walking (wants site r b go))) h =
       let x = and_then-some (only_if (same_run r run) r)
-      (λ run. claimed w s id m o j runs run b go kind) t h in
-      claimed-moves s t id m o j runs run x.0 b go kind x.2
-  step_of-moves s t (Claim id run kind) o j runs _ h = absurd (cc)
-  step_of-moves s t (Request id keys) o j runs (assigned m (within x (asks key more go))) h =
+      (λ run. claimed w s id m q run b go kind) t h in
+      claimed-moves s t id m q run x.0 b go kind x.2
+  step_of-moves s t (Claim id run kind) q _ h = absurd (cc)
+  step_of-moves s t (Request id keys) q (assigned m (within x (asks key more go))) h =
       let y = only_if-some (same_keys (key ∷ more) keys
-      && is_within_limits w s (x.run ∷ o.path) (key ∷ more))
-      (with_children w s id o j runs (key ∷ more) x go) t h in
-      called-moves s t id keys o j runs (key ∷ more) x go y.1
-  step_of-moves s t (Request id keys) o j runs _ h = absurd (cc)
-  step_of-moves s t (Result id run) o j runs (assigned m (within x (ends outcome))) h =
+      && is_within_limits w s (x.run ∷ q.origin.path) (key ∷ more))
+      (with_children w s id q (key ∷ more) x go) t h in
+      called-moves s t id keys q (key ∷ more) x go y.1
+  step_of-moves s t (Request id keys) q _ h = absurd (cc)
+  step_of-moves s t (Result id run) q (assigned m (within x (ends outcome))) h =
       let y = and_then-some (only_if (same_run x.run run) x)
-      (λ x. finished w s id m o j runs x (recorded outcome x.so_far.segments)) t h in
-      finished-moves s t id m run o j runs y.0 (recorded outcome y.0.so_far.segments) y.2
-  step_of-moves s t (Result id run) o j runs _ h = absurd (cc)
-  step_of-moves s t (Done id) o j runs (assigned m (walking (gives reply))) h =
-      let z : RequestState P I A = request_of o j runs (done (result_of reply runs)) in
-      caller-moves s (with_request s id z) t (Done id) o.parent
+      (λ x. finished w s id m q x (recorded outcome x.so_far.segments)) t h in
+      finished-moves s t id m run q y.0 (recorded outcome y.0.so_far.segments) y.2
+  step_of-moves s t (Result id run) q _ h = absurd (cc)
+  step_of-moves s t (Done id) q (assigned m (walking (gives reply))) h =
+      let z : RequestState P I A = with_status q (done (result_of reply q.runs)) in
+      caller-moves s (with_request s id z) t (Done id) q.origin.parent
       (put-moves s (with_request s id z) (Done id) z refl (λ l n. n)) h
-  step_of-moves s t (Done id) o j runs _ h = absurd (cc)
-  step_of-moves s t (Retire id m) o j runs (assigned by a) h =
-      let z : RequestState P I A = request_of o j runs (ready a) in
+  step_of-moves s t (Done id) q _ h = absurd (cc)
+  step_of-moves s t (Retire id m) q (assigned by a) h =
+      let z : RequestState P I A = with_status q (ready a) in
       put-moves s t (Retire id m) z
       (ap (λ (u : State P I A). u.requests)
       (sym (only_if-some (by == m) (with_request s id z) t h).1)) (λ l n. n)
-  step_of-moves s t (Retire id m) o j runs _ h = absurd (cc)
+  step_of-moves s t (Retire id m) q _ h = absurd (cc)
 
   pub step-moves : (s t : State P I A) (event : Event) → step w s event ≡ Some t → Moves s t event
   step-moves s t event h =
       let z = and_then-some (at s.requests (whose event)) (step_of w s event) t h in
-      step_of-moves s t event z.0.origin z.0.journal z.0.runs z.0.status z.2
+      step_of-moves s t event z.0 z.0.status z.2

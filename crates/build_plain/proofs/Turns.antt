@@ -38,7 +38,8 @@ use Rattle.build_scheduler.specs.Own.{Seen, IsOut}
 use Rattle.build_scheduler.specs.Requests.{IsRefused}
 use Rattle.build_plain.specs.declared.alone.Turn.{Turn}
 use Rattle.build_plain.specs.declared.alone.Turn.TheVariants.{GoesOn, Over}
-use Rattle.build_plain.specs.Driven.{OnlyAssigned, IsFree, IsLegal, IsTurn, end_of}
+use Rattle.build_plain.specs.Driven.{OnlyAssigned, IsFree, IsTurn}
+use Rattle.build_scheduler.specs.Drivers.{IsLegal, refusal_end}
 use Rattle.build_plain.proofs.OneAtATime.{one-stays, none-stays, free-of}
 use Rattle.build_plain.proofs.OwnTurns.{refused-shown, cycle-shown}
 use Rattle.build_plain.proofs.RequestsMove.{Leaves}
@@ -68,7 +69,7 @@ module _ {P I A : Type 0} (w v : World P I A) (before after : List Event) (same 
       (subst (λ u. IsStop u before end) (sym same) h)
 
   pub refused-stop : (calls : List RequestKey) (fault : RequestFault) (end : End)
-      → end ≡ end_of fault → IsRefused w before id calls fault → IsStop v after end
+      → end ≡ refusal_end fault → IsRefused w before id calls fault → IsStop v after end
   refused-stop calls fault end is h = moved end
       (subst (λ x. IsStop w before x) (sym is) (refused-shown w before id calls fault h))
 

@@ -81,7 +81,7 @@ use Rattle.build_scheduler.specs.Own.{Seen, placed, IsOwn, IsOut}
 use Rattle.build_scheduler.specs.Position.{Position, answered, tools_in, used_between}
 use Rattle.build_plain.specs.declared.alone.Turn.{Turn}
 use Rattle.build_plain.specs.declared.alone.Turn.TheVariants.{GoesOn, Over}
-use Rattle.build_plain.specs.Driven.{IsLegal}
+use Rattle.build_scheduler.specs.Drivers.{IsLegal}
 use Rattle.build_plain.specs.Used.{Uses, UnlessMemory, due_to, due, due_in}
 use Rattle.build_plain.proofs.OneAtATime.{last-step}
 

@@ -4,16 +4,8 @@ use Rattle.result_cache.specs.Table.{Records}
 use Rattle.build_meaning.specs.declared.event.Event.{Event}
 use Rattle.build_meaning.specs.declared.event.Event.TheVariants.{Assign, Retire}
 use Rattle.build_meaning.specs.World.{World}
-use Rattle.build_meaning.specs.State.{State}
-use Rattle.build_meaning.specs.History.{IsHistory}
-use Rattle.build_scheduler.specs.declared.request.RequestFault.{RequestFault}
-use Rattle.build_scheduler.specs.declared.request.RequestFault.TheVariants.{
-  TooDeep as IsTooDeep,
-  TooMany as AreTooMany,
-  Memory,
-}
 use Rattle.build_scheduler.specs.declared.slot.End.{End}
-use Rattle.build_scheduler.specs.declared.slot.End.TheVariants.{Root, TooDeep, TooMany, NoMemory}
+use Rattle.build_scheduler.specs.declared.slot.End.TheVariants.{Root}
 use Rattle.build_scheduler.specs.Own.{Seen, IsOut}
 use Rattle.build_scheduler.specs.Ready.{IsAssigned, IsLeastReady}
 use Rattle.build_plain.specs.declared.alone.Turn.{Turn}
@@ -32,14 +24,6 @@ abbrev pub IsFree : {P I A : Type 0} → World P I A → List Event → Option E
 IsFree w events None = NoneAssigned w events
 IsFree w events (Some (Root result)) = NoneAssigned w events
 IsFree w events (Some end) = Unit {0}
-
--- the events lead from the start of the world to a state
-abbrev pub IsLegal : {P I A : Type 0} → World P I A → List Event → Type 0
-IsLegal {P} {I} {A} w events = (s : State P I A) × IsHistory w events s
-
--- more events came after these
-abbrev pub Continues : List Event → List Event → Type 0
-Continues before events = (more : List Event) × (events ≡ before ++ more)
 
 -- where the event hands a request to a node, no request is with a node, it is the least one that is
 -- ready, and the node is the first; and the node doesn't retire
@@ -74,9 +58,3 @@ IsTurn seen w events table end id Over = IsFree w events end
 abbrev pub HasGrown : {W : Type 0} → List Event → List Event → Turn W → Type 0
 HasGrown before events (GoesOn walk answer) = length before < length events
 HasGrown before events Over = Unit {0}
-
--- the end of a build whose calls are refused
-abbrev pub end_of : RequestFault → End
-end_of (IsTooDeep keys) = TooDeep keys
-end_of (AreTooMany instance) = TooMany instance
-end_of Memory = NoMemory

@@ -1,17 +1,4 @@
-ghost use Rattle.std.specs.Prelude.{
-  ◌≡◌,
-  ◌+◌,
-  ◌^◌,
-  ◌<◌,
-  ◌++◌,
-  [],
-  None,
-  Some,
-  IfOk,
-  IsSome,
-  OnOk,
-  length,
-};
+ghost use Rattle.std.specs.Prelude.{◌≡◌, ◌+◌, ◌^◌, ◌<◌, ◌++◌, [], None, Some, IsSome, length};
 ghost use mathlib.Core.List.{IsPrefix};
 ghost use Rattle.build_meaning.specs.declared.event.Event.{Event};
 ghost use Rattle.build_meaning.specs.History.{retires};
@@ -19,27 +6,24 @@ ghost use Rattle.build_plain.specs.declared.alone.Turn.TheVariants.{Over};
 ghost use Rattle.build_plain.specs.Used.{UnlessMemory, Uses, due, due_in};
 ghost use Rattle.build_plain.specs.Driven.{
   AssignsLeast,
-  Continues,
   Drives,
   HasGrown,
   IsFree,
-  IsLegal,
   IsTurn,
   NoneAssigned,
   OnlyAssigned,
-  end_of,
 };
+ghost use Rattle.build_scheduler.specs.Drivers.{Continues, IsLegal};
 ghost use Rattle.build_scheduler.specs.declared.walker.Ask.TheVariants.{Want, Call, Done as IsOver};
 ghost use Rattle.build_scheduler.specs.Ends.{IsStop};
 ghost use Rattle.build_scheduler.specs.Kept.{IsRepeated};
-ghost use Rattle.build_scheduler.specs.Learnt.{AreInOrder, ArePartOf};
 ghost use Rattle.build_scheduler.specs.Own.{IsOut, IsOwn, seen_by};
-ghost use Rattle.build_scheduler.specs.Position.{IsInTurn, answered, ask_of, used_between};
+ghost use Rattle.build_scheduler.specs.Position.{answered, ask_of};
 ghost use Rattle.build_scheduler.specs.Ready.{IsLeastReady};
 
-use build_scheduler::{Answer, Ask, Claimed, Core, End, RequestFault, Walker};
+use build_scheduler::{Answer, Ask, Claimed, Core, End, Walker, go_on, refusal_end};
 use msb_values::{List, NoMemory};
-use result_cache::{RequestKey, RequestResult, RunId, Table};
+use result_cache::{RequestKey, RequestResult, RunId};
 
 /// What becomes of the request with the node.
 #[derive(Drop)]
@@ -217,38 +201,6 @@ fn few_events<W: Walker>(core: &Core<W>)
     let _events = core.history();
 }
 
-/// The walk learns the records that its answer needs, and goes on to its next ask.
-fn go_on<W: Walker>(
-    table: &Table,
-    place: &mut W::Place,
-    walk: &mut W,
-    answer: &Answer,
-) -> Result<Ask, NoMemory>
-    requires in_order { AreInOrder table.now.finished }
-    requires known { ArePartOf (W.learnt walk.old) table.now.finished }
-    requires fits { IsSome
-        (answered (W.world walk.old) table.now.finished (W.position walk.old) answer.now) }
-    requires turn { IsInTurn (W.asked walk.old) answer.now }
-    requires room { W.asked walk.old < 2 ^ 63 }
-    requires place { W.Fits place.old (W.world walk.old) }
-    ensures asks { IfOk result (λ ask. ask ≡ ask_of (W.position walk.new)) }
-    ensures goes_on { OnOk result
-        (answered (W.world walk.old) table.now.finished (W.position walk.old) answer.now
-        ≡ Some (W.position walk.new)) }
-    ensures asked { OnOk result (W.asked walk.new ≡ W.asked walk.old + 1) }
-    ensures known { ArePartOf (W.learnt walk.new) table.now.finished }
-    ensures used { OnOk result (W.used place.new
-        ≡ W.used place.old ++ used_between (W.position walk.old).place
-        (W.position walk.new).place) }
-    ensures world { W.world walk.new ≡ W.world walk.old }
-    ensures front { IsPrefix (W.used place.old) (W.used place.new) }
-    ensures place { W.Fits place.new (W.world walk.old) }
-    ensures lent { W.lent place.new ≡ W.lent place.old }
-{
-    walk.learn(table, answer)?;
-    walk.advance(place, answer)
-}
-
 /// Answers what the request with the node asks.
 fn answer_ask<W: Walker>(core: &mut Core<W>, id: u64, walk: W, ask: Ask) -> Turn<W>
     requires running { core.old.end ≡ None }
@@ -296,8 +248,7 @@ fn end_request<W: Walker>(core: &mut Core<W>, id: u64, walk: W, told: RequestRes
     ensures uses { ∥ Uses (W.world_of core.old.world)
         core.old.history.events core.new.history.events [] [] ∥₁ }
 {
-    let _ = core.keep(id, &walk, &told);
-    let _left = core.done(id, walk, told);
+    let _left = core.end_request(id, walk, told);
 }
 
 /// Claims the run that a request wants: it goes on, or waits, or a cycle of runs ends the build.
@@ -349,18 +300,7 @@ fn call<W: Walker>(core: &mut Core<W>, id: u64, walk: W, calls: List<RequestKey>
 {
     match core.request(id, walk, calls) {
         Ok(()) => Turn::Over,
-        Err((_, fault)) => stop(core, refused(fault)),
-    }
-}
-
-/// The end of a build whose calls are refused.
-fn refused(fault: RequestFault) -> End
-    ensures { result ≡ end_of fault }
-{
-    match fault {
-        RequestFault::TooDeep(keys) => End::TooDeep(keys),
-        RequestFault::TooMany(instance) => End::TooMany(instance),
-        RequestFault::Memory => End::NoMemory,
+        Err((_, fault)) => stop(core, refusal_end(fault)),
     }
 }
 

@@ -39,7 +39,7 @@ use Rattle.build_scheduler.specs.declared.slot.Origin.{Origin}
 use Rattle.build_scheduler.specs.declared.slot.Slot.{Slot}
 use Rattle.build_scheduler.specs.declared.slot.Slot.TheVariants.{Ready, Assigned}
 use Rattle.build_scheduler.specs.declared.slot.End.{End}
-use Rattle.build_scheduler.specs.Log.{Logged}
+use Rattle.build_scheduler.specs.History.{History}
 use Rattle.build_scheduler.specs.Numbers.{among, Numbered}
 use Rattle.build_scheduler.specs.Own.{Seen, placed, IsOut}
 use Rattle.build_scheduler.specs.Learnt.{ArePartOf}
@@ -61,7 +61,7 @@ use Rattle.build_scheduler.proofs.ReadyRequests.{listed-of}
 use Rattle.build_scheduler.proofs.OneRequest.{owed-at, map-put, result-put, shown-put, one-more}
 use Rattle.build_scheduler.proofs.SlotsStay.{map-alike}
 
-module _ {W P I A : Type 0} (seen : W → Seen P I A) (w : World P I A) (log after : Logged)
+module _ {W P I A : Type 0} (seen : W → Seen P I A) (w : World P I A) (log after : History)
     {origins : List Origin} {slots : List (Slot W)} {making : List (Option RunId)}
     {table : TableRuns} {end : Option End} (id node : ℕ) (walk : W) (answer : Answer) where
   -- the request of a slot that is ready
@@ -134,7 +134,7 @@ module _ {W P I A : Type 0} (seen : W → Seen P I A) (w : World P I A) (log aft
             ≤ length log.events = g.few in omega arith;
       }
 
-module _ {W P I A : Type 0} (seen : W → Seen P I A) (w : World P I A) {log : Logged}
+module _ {W P I A : Type 0} (seen : W → Seen P I A) (w : World P I A) {log : History}
     {origins : List Origin} {slots : List (Slot W)} {making : List (Option RunId)}
     {table : TableRuns} {end : Option End} where
   -- a ready request is listed, and there is room for its event

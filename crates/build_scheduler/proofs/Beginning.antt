@@ -37,7 +37,7 @@ use Rattle.build_meaning.specs.Meaning.{most_instances}
 use Rattle.msb_values.specs.declared.key.InstanceKey.{InstanceKey}
 use Rattle.build_scheduler.specs.Instances.{AreCounted, instance_asked}
 use Rattle.build_scheduler.specs.Learnt.{ArePartOf}
-use Rattle.build_scheduler.specs.Log.{Logged}
+use Rattle.build_scheduler.specs.History.{History}
 use Rattle.build_scheduler.specs.Numbers.{among, Numbered}
 use Rattle.build_scheduler.specs.Own.{Seen}
 use Rattle.build_scheduler.specs.Position.{begins, answered}
@@ -57,7 +57,7 @@ none_part : (table : Records) → ArePartOf [] table
 none_part table = record { in_order = tt; shared = λ run made h. absurd (cc) }
 
 module _ {W P I A : Type 0} (seen : W → Seen P I A) (walk : W) (key : RequestKey)
-    {told : World P I A} {log : Logged} {origins : List Origin} {slots : List (Slot W)}
+    {told : World P I A} {log : History} {origins : List Origin} {slots : List (Slot W)}
     {making : List (Option RunId)} {table : TableRuns} where
   -- the core shows the start of the world
   pub shown-start : told ≡ (seen walk).world → key ≡ (seen walk).world.root

@@ -74,7 +74,7 @@ use Rattle.build_scheduler.specs.declared.request.Children.{Children}
 use Rattle.build_scheduler.specs.Behind.{AreBehind, walk_in, AreKept}
 use Rattle.build_scheduler.specs.Calls.{IsTold, IsResumed}
 use Rattle.build_scheduler.specs.Entered.{AreEntered}
-use Rattle.build_scheduler.specs.Log.{Logged}
+use Rattle.build_scheduler.specs.History.{History}
 use Rattle.build_scheduler.specs.Numbers.{Numbered}
 use Rattle.build_scheduler.specs.Own.{Seen}
 use Rattle.build_scheduler.specs.Position.{tools_in}
@@ -206,7 +206,7 @@ module _ {W P I A : Type 0} (seen : W → Seen P I A) (w : World P I A) where
       last-step events event y.0 s t y.2
       (subst (λ (x : State P I A). after_all w x (events ++ event ∷ []) ≡ Some t) same z.2)
 
-  module _ {log after : Logged} {origins asked : List Origin} {slots outs : List (Slot W)}
+  module _ {log after : History} {origins asked : List Origin} {slots outs : List (Slot W)}
       {making bodies : List (Option RunId)} {table runs : TableRuns} {end told_end : Option End}
       (event : Event)
       (x : Shown seen w log origins slots making table end)
@@ -281,7 +281,7 @@ module _ {W P I A : Type 0} (seen : W → Seen P I A) (w : World P I A) where
             ∙ (sym was ∙ ap (λ run. uses_of run (uses_in w log.events)) run_is)
 
   -- an event keeps it
-  pub behind-event : {log after : Logged} {origins asked : List Origin} {slots outs : List (Slot W)}
+  pub behind-event : {log after : History} {origins asked : List Origin} {slots outs : List (Slot W)}
       {making bodies : List (Option RunId)} {table runs : TableRuns} {end told_end : Option End}
       (event : Event) →
       ∥ Shown seen w log origins slots making table end ∥₁

@@ -94,7 +94,7 @@ use Rattle.build_scheduler.specs.declared.slot.End.{End}
 use Rattle.build_scheduler.specs.Children.{IsChildSlot, child_origin, no_run, HasDepth}
 use Rattle.build_scheduler.specs.Instances.{AreCounted, instance_asked, with_all}
 use Rattle.build_scheduler.specs.Learnt.{ArePartOf}
-use Rattle.build_scheduler.specs.Log.{Logged}
+use Rattle.build_scheduler.specs.History.{History}
 use Rattle.build_scheduler.specs.Own.{Seen, placed, IsOwn}
 use Rattle.build_scheduler.specs.Position.{Position, begins, answered}
 use Rattle.build_scheduler.specs.Requests.{HasSpare}
@@ -179,7 +179,7 @@ part-of-part a b = record
     { in_order = a.in_order; shared = λ run made e. b.shared run made (a.shared run made e) }
 
 -- how many instances there are with some calls
-pub how-many : {W P I A : Type 0} (seen : W → Seen P I A) (w : World P I A) {log : Logged}
+pub how-many : {W P I A : Type 0} (seen : W → Seen P I A) (w : World P I A) {log : History}
     {origins : List Origin} {slots : List (Slot W)} {making : List (Option RunId)}
     {table : TableRuns} {end : Option End} (x : Shown seen w log origins slots making table end)
     (instances : List InstanceKey) → AreCounted instances (map instance_asked origins)
@@ -197,7 +197,7 @@ how-many seen w {origins = origins} x instances k calls =
     (map instance_asked origins ++ map (λ (call : RequestKey). call.instance) calls)
     (counted-all instances (map instance_asked origins) calls k)
 
-module _ {W P I A : Type 0} (seen : W → Seen P I A) (w : World P I A) (log after : Logged)
+module _ {W P I A : Type 0} (seen : W → Seen P I A) (w : World P I A) (log after : History)
     {origins : List Origin} {slots : List (Slot W)} {making : List (Option RunId)}
     {table : TableRuns} {end : Option End}
     (id : ℕ) (walk : W) (calls : List RequestKey)
@@ -229,7 +229,8 @@ module _ {W P I A : Type 0} (seen : W → Seen P I A) (w : World P I A) (log aft
   new_ones = map (new_request w (Some id) path p.journal) (c.key ∷ c.keys)
 
   abbrev after_state : State P I A
-  after_state = with_children w x.state id h.origin p.journal p.runs (c.key ∷ c.keys) c.inside c.go
+  after_state = with_children w x.state id (placed h.origin p (assigned h.node))
+      (c.key ∷ c.keys) c.inside c.go
 
   at_calling : at x.state.requests id
       ≡ Some

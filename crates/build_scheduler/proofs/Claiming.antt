@@ -58,7 +58,7 @@ use Rattle.build_scheduler.specs.declared.slot.Slot.{Slot}
 use Rattle.build_scheduler.specs.declared.slot.Slot.TheVariants.{Assigned}
 use Rattle.build_scheduler.specs.declared.slot.End.{End}
 use Rattle.build_scheduler.specs.Learnt.{ArePartOf}
-use Rattle.build_scheduler.specs.Log.{Logged}
+use Rattle.build_scheduler.specs.History.{History}
 use Rattle.build_scheduler.specs.Own.{Seen, placed, IsWith, IsOwn, IsOut}
 use Rattle.build_scheduler.specs.Position.{
   Position,
@@ -111,7 +111,7 @@ not_begun table (b ∷ begun) run f r = go (same_run b.run run) refl (found tabl
         (sym (ap (λ t. this_or t (request_of (unfinished table begun) run) b.by) e) ∙ h)
     go false e (Some made) g h ih = ih h
 
-module _ {W P I A : Type 0} (seen : W → Seen P I A) (w : World P I A) (log after : Logged)
+module _ {W P I A : Type 0} (seen : W → Seen P I A) (w : World P I A) (log after : History)
     {origins : List Origin} {slots : List (Slot W)} {making : List (Option RunId)}
     {table : TableRuns} {end : Option End}
     (id : ℕ) (walk : W) (run : RunId) where
@@ -132,8 +132,9 @@ module _ {W P I A : Type 0} (seen : W → Seen P I A) (w : World P I A) (log aft
   -- what a claim comes to
   pub claim-step : (x : Shown seen w log origins slots making table end) (c : Claims x)
       (kind : ClaimKind) → step w x.state (Claim id run kind)
-      ≡ claimed w x.state id c.there.node c.there.origin (seen walk).position.journal
-      (seen walk).position.runs run c.wanted.body c.wanted.go kind
+      ≡ claimed w x.state id c.there.node
+      (placed c.there.origin (seen walk).position (assigned c.there.node))
+      run c.wanted.body c.wanted.go kind
   claim-step x c kind =
       ap (λ o. and_then o (step_of w x.state (Claim id run kind)))
       (c.there.at_state
@@ -150,8 +151,9 @@ module _ {W P I A : Type 0} (seen : W → Seen P I A) (w : World P I A) (log aft
       ∙ ap
       (λ t.
       and_then (only_if t run)
-      (λ run. claimed w x.state id c.there.node c.there.origin (seen walk).position.journal
-      (seen walk).position.runs run c.wanted.body c.wanted.go kind)) (same_run-refl run)
+      (λ run. claimed w x.state id c.there.node
+      (placed c.there.origin (seen walk).position (assigned c.there.node))
+      run c.wanted.body c.wanted.go kind)) (same_run-refl run)
 
   -- the other requests stand as before where a run is begun
   others-alike : (x : Shown seen w log origins slots making table end) (z : RequestState P I A)
@@ -412,7 +414,7 @@ module _ {W P I A : Type 0} (seen : W → Seen P I A) (w : World P I A) (log aft
 
 module _ {W P I A : Type 0} (seen : W → Seen P I A) (w : World P I A) where
   -- there may be more room
-  pub shown-room : {log after : Logged} {origins : List Origin} {slots : List (Slot W)}
+  pub shown-room : {log after : History} {origins : List Origin} {slots : List (Slot W)}
       {making : List (Option RunId)} {table runs : TableRuns} {end : Option End}
       → after.events ≡ log.events → log.room ≤ after.room →
       runs.finished ≡ table.finished → runs.begun ≡ table.begun
@@ -433,7 +435,7 @@ module _ {W P I A : Type 0} (seen : W → Seen P I A) (w : World P I A) where
   }
 
   -- a request with a node has a place in the list of bodies
-  pub placed-there : {log : Logged} {origins : List Origin} {slots : List (Slot W)}
+  pub placed-there : {log : History} {origins : List Origin} {slots : List (Slot W)}
       {making : List (Option RunId)} {table : TableRuns} {end : Option End}
       (x : Shown seen w log origins slots making table end) (id : ℕ) (p : Position P I A) →
       IsWith w log.events id p → id < length making
@@ -444,7 +446,7 @@ module _ {W P I A : Type 0} (seen : W → Seen P I A) (w : World P I A) where
       ∙ length-map x.state.requests making_of in omega arith
 
   -- so has that of a walk which is its own
-  pub making-there : {log : Logged} {origins : List Origin} {slots : List (Slot W)}
+  pub making-there : {log : History} {origins : List Origin} {slots : List (Slot W)}
       {making : List (Option RunId)} {table : TableRuns} {records : Records} {end : Option End}
       (id : ℕ) (walk : W) → ∥ Shown seen w log origins slots making table end ∥₁ →
       ∥ IsOwn w log.events records id (seen walk) ∥₁ → id < length making

@@ -107,7 +107,7 @@ use Rattle.build_scheduler.specs.declared.slot.Slot.TheVariants.{
   Done,
 }
 use Rattle.build_scheduler.specs.declared.slot.End.{End}
-use Rattle.build_scheduler.specs.Log.{Logged}
+use Rattle.build_scheduler.specs.History.{History}
 use Rattle.build_scheduler.specs.Free.{AreFree, IsFree, NeedsNothing}
 use Rattle.build_scheduler.specs.Dependents.{caller_at, CallsOver, AreFound, AreApart, AreOver}
 use Rattle.build_scheduler.specs.Numbers.{among, Numbered}
@@ -280,7 +280,7 @@ module _ {f g : Kins} (id : ℕ) (old new : Kin) (run : RunId) (p : PutAt f g id
     ]
   ]
 
-module _ {W P I A : Type 0} (seen : W → Seen P I A) (w : World P I A) {log : Logged}
+module _ {W P I A : Type 0} (seen : W → Seen P I A) (w : World P I A) {log : History}
     {origins : List Origin} {slots : List (Slot W)} {making : List (Option RunId)}
     {table : TableRuns} {end : Option End} {ready_ones : Numbered} {waiting_ones : List Numbered}
     (x : Shown seen w log origins slots making table end)
@@ -593,7 +593,7 @@ module _ {W P I A : Type 0} (seen : W → Seen P I A) (w : World P I A) {log : L
         (begun : request_of table.begun run ≡ Some by) (open_run : found table.finished run ≡ None)
       where
         abbrev then : State P I A
-        then = waiting w x.state id q.origin q.journal q.runs run body go
+        then = waiting w x.state id q run body go
 
         abbrev new : RequestState P I A
         new = record

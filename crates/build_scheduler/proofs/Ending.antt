@@ -98,7 +98,7 @@ use Rattle.build_scheduler.specs.declared.slot.End.{End}
 use Rattle.build_scheduler.specs.declared.slot.End.TheVariants.{Root}
 use Rattle.build_scheduler.specs.Learnt.{ArePartOf}
 use Rattle.build_scheduler.specs.Calls.{HasOpen, HasParent, IsResumed, IsTold}
-use Rattle.build_scheduler.specs.Log.{Logged}
+use Rattle.build_scheduler.specs.History.{History}
 use Rattle.build_scheduler.specs.Numbers.{among, Numbered}
 use Rattle.build_scheduler.specs.Own.{Seen, placed, Asks}
 use Rattle.build_scheduler.specs.Position.{Position, IsInTurn, stopped_in, answered}
@@ -173,7 +173,7 @@ pub none-root : (origins : List Origin) (o : Origin) → AreRooted origins → a
 none-root [] o h e = absurd (cc)
 none-root (x ∷ origins) o h e = let q : x ≡ o = cc in ap (λ (y : Origin). y.parent) (sym q) ∙ h.0
 
-module _ {W P I A : Type 0} (seen : W → Seen P I A) (w : World P I A) (log after : Logged)
+module _ {W P I A : Type 0} (seen : W → Seen P I A) (w : World P I A) (log after : History)
     {origins : List Origin} {slots : List (Slot W)} {making : List (Option RunId)}
     {table : TableRuns} {end : Option End}
     (id : ℕ) (told : RequestResult) (p : Position P I A)
@@ -472,15 +472,15 @@ module _ {W P I A : Type 0} (seen : W → Seen P I A) (w : World P I A) (log aft
     results-are = traverse-alike _ _ ids same_result
 
     -- the caller's turn
-    told-step : step w x.state (Done id) ≡ steps.answered w over_state caller c.request.origin
-        c.request.journal c.request.runs (c.shows.key ∷ c.shows.keys) c.shows.inside c.shows.go
+    told-step : step w x.state (Done id) ≡ steps.answered w over_state caller c.request
+        (c.shows.key ∷ c.shows.keys) c.shows.inside c.shows.go
         (traverse (result_at (put x.state.requests id over_request)) ids)
     told-step = over-step
         ∙ (ap (resume_caller w over_state) par
         ∙ (ap (λ o. and_then o (λ q. steps.resume_at w over_state caller q q.status)) caller_there
         ∙ (ap (steps.resume_at w over_state caller c.request) c.shows.is
         ∙ ap
-        (steps.answered w over_state caller c.request.origin c.request.journal c.request.runs
+        (steps.answered w over_state caller c.request
         (c.shows.key ∷ c.shows.keys) c.shows.inside c.shows.go) results-are)))
 
     -- some calls are still open
@@ -490,7 +490,7 @@ module _ {W P I A : Type 0} (seen : W → Seen P I A) (w : World P I A) (log aft
         → step w x.state (Done id) ≡ Some (told_state c.request)
     open-step n s = told-step
         ∙ (ap
-        (steps.answered w over_state caller c.request.origin c.request.journal c.request.runs
+        (steps.answered w over_state caller c.request
         (c.shows.key ∷ c.shows.keys) c.shows.inside c.shows.go)
         (some-open (result_at (put x.state.requests id over_request)) ids
         (put c.calls.results.items c.place told) n s)
@@ -521,7 +521,7 @@ module _ {W P I A : Type 0} (seen : W → Seen P I A) (w : World P I A) (log aft
         (λ next. Some (told_state (placed c.request.origin (resumed_position next) ready)))
     resumed_step s = told-step
         ∙ ap
-        (steps.answered w over_state caller c.request.origin c.request.journal c.request.runs
+        (steps.answered w over_state caller c.request
         (c.shows.key ∷ c.shows.keys) c.shows.inside c.shows.go)
         (all-told (result_at (put x.state.requests id over_request)) ids all_results s)
 
@@ -691,7 +691,7 @@ zero-prop : (n : ℕ) → IsProp (n ≡ 0)
 zero-prop n = hlevel props
 
 -- of a core that shows a state
-module _ {W P I A : Type 0} (seen : W → Seen P I A) (w : World P I A) {log : Logged}
+module _ {W P I A : Type 0} (seen : W → Seen P I A) (w : World P I A) {log : History}
     {origins : List Origin} {slots : List (Slot W)} {making : List (Option RunId)}
     {table : TableRuns} {end : Option End} (id : ℕ) (told : RequestResult) where
   -- the request that is over, its reply and its caller
@@ -792,7 +792,7 @@ module _ {W P I A : Type 0} (seen : W → Seen P I A) (w : World P I A) {log : L
         (y.listed caller ∙ ap is_ready c.at_slots, omega arith))))
 
     -- the core shows the state after the event
-    pub ended-shown : {after : Logged} {outs : List (Slot W)} {told_end : Option End}
+    pub ended-shown : {after : History} {outs : List (Slot W)} {told_end : Option End}
         → HasParent (at origins id) None → after.events ≡ log.events ++ Done id ∷ []
         → log.room ≡ after.room + 1 → outs ≡ put slots id Over → told_end ≡ Some (Root told) →
         ∥ Shown seen w after origins outs making table told_end ∥₁
@@ -800,7 +800,7 @@ module _ {W P I A : Type 0} (seen : W → Seen P I A) (w : World P I A) {log : L
         (λ x a. let y = over-now x None a p in root-over seen w log after id told y.position x
         y.gives_so y.there y.parent_is ev room os en)
 
-    pub resumed-shown : {after : Logged} {outs after_slots : List (Slot W)} {ready next : Numbered}
+    pub resumed-shown : {after : History} {outs after_slots : List (Slot W)} {ready next : Numbered}
         (caller : ℕ) → HasParent (at origins id) (Some caller) → end ≡ None
         → after.events ≡ log.events ++ Done id ∷ [] → log.room ≡ after.room + 1 →
         outs ≡ put slots id Over → IsResumed outs after_slots ready next caller id told

@@ -47,7 +47,7 @@ use Rattle.build_scheduler.specs.declared.slot.End.{End}
 use Rattle.build_scheduler.specs.Children.{IsChildSlot, child_origin}
 use Rattle.build_scheduler.specs.Entered.{AreNew, AreEntered}
 use Rattle.build_scheduler.specs.Instances.{AreCounted, instance_asked, with_all}
-use Rattle.build_scheduler.specs.Log.{Logged}
+use Rattle.build_scheduler.specs.History.{History}
 use Rattle.build_scheduler.specs.Numbers.{among, Numbered}
 use Rattle.build_scheduler.specs.Own.{Seen, IsOwn}
 use Rattle.build_scheduler.specs.Position.{ask_of}
@@ -73,7 +73,7 @@ absent-beyond {W} slots ready waiting first e indexed n l = ∥∥₁_elim index
     beyond (y ∷ xs) zero l = absurd (omega arith)
     beyond (y ∷ xs) (suc j) l = beyond xs j (omega arith)
 
-pub spare-room : {P I A : Type 0} (w : World P I A) (log : Logged) (more : ℕ)
+pub spare-room : {P I A : Type 0} (w : World P I A) (log : History) (more : ℕ)
     → ∥ HasSpare w log (2 + more) ∥₁ → 0 < log.room
 spare-room w log more h = ∥∥₁_elim h (λ p q. le_prop p q)
     (λ s. let l : owed_by s.state.requests + (2 + more) ≤ log.room = s.spare in omega arith)
@@ -106,7 +106,7 @@ module _ {W P I A : Type 0} (seen : W → Seen P I A) {origins : List Origin} (i
   entered-nested os v = subst AreNested (sym (os ∙ ap (λ l. origins ++ l) n.origins))
       (nested-append origins id n.depth calls n.has_depth n.not_deep v)
 
-module _ {W P I A : Type 0} (seen : W → Seen P I A) (w : World P I A) {log : Logged}
+module _ {W P I A : Type 0} (seen : W → Seen P I A) (w : World P I A) {log : History}
     {origins : List Origin} {slots : List (Slot W)} {making : List (Option RunId)}
     {table : TableRuns} {end : Option End} (id : ℕ) (walk : W) where
   pub slot-there : ∥ Shown seen w log origins slots making table end ∥₁
@@ -115,7 +115,7 @@ module _ {W P I A : Type 0} (seen : W → Seen P I A) (w : World P I A) {log : L
       (λ x. ∥∥₁_elim own (λ p q. le_prop p q)
       (λ o. at-less slots id _ (there-of seen w x id (seen walk).position o.stands).at_slots))
 
-  module _ (after : Logged) (calls : List RequestKey) (children : Children W)
+  module _ (after : History) (calls : List RequestKey) (children : Children W)
       (n : AreNew seen (seen walk) id calls origins children) where
     pub entered-shown : (instances : List InstanceKey) {origins_now : List Origin}
         {outs : List (Slot W)} {bodies : List (Option RunId)} → end ≡ None

@@ -113,7 +113,7 @@ use Rattle.build_scheduler.specs.declared.slot.Slot.TheVariants.{
 }
 use Rattle.build_scheduler.specs.declared.slot.End.{End}
 use Rattle.build_scheduler.specs.Learnt.{ArePartOf}
-use Rattle.build_scheduler.specs.Log.{Logged}
+use Rattle.build_scheduler.specs.History.{History}
 use Rattle.build_scheduler.specs.Own.{Seen, placed, IsWith, IsOwn, IsOut, Asks}
 use Rattle.build_scheduler.specs.Position.{Position, ask_of, after_run, answered_at, answered}
 use Rattle.build_scheduler.specs.Shown.{Shown, ShowsEnd, woken_by, woken_if as woken_if_slot}
@@ -196,8 +196,8 @@ module _ {P I A : Type 0} (w : World P I A) (table : Records) (f : FinishedRun) 
   }
   kept-if true q z run b go st e =
       let y = and_then-some (replay table run q.journal)
-      (λ next. Some (goes_on w ready q.origin q.runs run go f.made next)) z e in
-      let p : goes_on w ready q.origin q.runs run go f.made y.0 ≡ z = some-is _ z y.2 in record {
+      (λ next. Some (goes_on w ready q run go f.made next)) z e in
+      let p : goes_on w ready q run go f.made y.0 ≡ z = some-is _ z y.2 in record {
         origin = ap (λ (a : RequestState P I A). a.origin) (sym p);
         run = ap (λ (a : RequestState P I A). run_at a.status) (sym p) ∙ sym (ap run_at st);
         told = ap (λ (a : RequestState P I A). result_in a.status) (sym p) ∙ sym (ap result_in st);
@@ -255,7 +255,7 @@ waits-same : {P I A : Type 0} (r s : RunId) (b c : Body I A) (g h : Record → J
     → waits r b g ≡ waits s c h → r ≡ s
 waits-same r s b c g h e = cc
 
-module _ {W P I A : Type 0} (seen : W → Seen P I A) (w : World P I A) (log after : Logged)
+module _ {W P I A : Type 0} (seen : W → Seen P I A) (w : World P I A) (log after : History)
     {origins : List Origin} {slots : List (Slot W)} {making : List (Option RunId)}
     {table : TableRuns} {end : Option End}
     (id : ℕ) (run : RunId) (made : Record) (p : Position P I A)
@@ -316,7 +316,7 @@ module _ {W P I A : Type 0} (seen : W → Seen P I A) (w : World P I A) (log aft
     result-step = ap (λ o. and_then o (step_of w x.state (Result id e.inside.run))) at_within
         ∙ ap
         (λ t. and_then (only_if t e.inside)
-        (λ y. finished w x.state id h.node h.origin p.journal p.runs y
+        (λ y. finished w x.state id h.node was_request y
         (recorded e.outcome y.so_far.segments))) (same_run-refl e.inside.run)
 
     result-possible : IsPossible w x.state (Result id e.inside.run)
@@ -438,7 +438,7 @@ module _ {W P I A : Type 0} (seen : W → Seen P I A) (w : World P I A) (log aft
             → ShowsReady w (state_after requests) count (seen walk) Use z
         is_ready_now same =
             let y = and_then-some (replay records_after s.run q.journal)
-            (λ next. Some (goes_on w ready q.origin q.runs s.run s.go finished_run.made next)) z
+            (λ next. Some (goes_on w ready q s.run s.go finished_run.made next)) z
             (sym
             (ap (λ t. woken_if w t records_after q finished_run.made s.run s.go)
             (same_run-eq s.run e.inside.run same)) ∙ woken_now) in
@@ -619,7 +619,7 @@ module _ {W P I A : Type 0} (seen : W → Seen P I A) (w : World P I A) (log aft
         }
 
 -- the run of a request whose body has ended
-module _ {W P I A : Type 0} (seen : W → Seen P I A) (w : World P I A) (log after : Logged)
+module _ {W P I A : Type 0} (seen : W → Seen P I A) (w : World P I A) (log after : History)
     {origins : List Origin} {slots : List (Slot W)} {making : List (Option RunId)}
     {table : TableRuns} {end : Option End} (id : ℕ) (run : RunId) (made : Record) where
   pub finish-shown : {outs : List (Slot W)} {bodies : List (Option RunId)} {runs : TableRuns}
@@ -713,7 +713,7 @@ run-prop : (r s : RunId) → IsProp (r ≡ s)
 run-prop r s = hlevel props
 
 -- the same of a core that shows a state
-module _ {W P I A : Type 0} (seen : W → Seen P I A) (w : World P I A) {log : Logged}
+module _ {W P I A : Type 0} (seen : W → Seen P I A) (w : World P I A) {log : History}
     {origins : List Origin} {slots : List (Slot W)} {making : List (Option RunId)}
     {table : TableRuns} {end : Option End} (id : ℕ) (run : RunId) (made : Record)
     (shown : ∥ Shown seen w log origins slots making table end ∥₁)

@@ -45,7 +45,7 @@ use Rattle.build_scheduler.specs.Calls.{HasParent}
 use Rattle.build_scheduler.specs.Claims.{ClosesCycle}
 use Rattle.build_scheduler.specs.Dependents.{caller_at}
 use Rattle.build_scheduler.specs.Free.{NeedsNothing}
-use Rattle.build_scheduler.specs.Log.{Logged}
+use Rattle.build_scheduler.specs.History.{History}
 use Rattle.build_scheduler.specs.Numbers.{Numbered}
 use Rattle.build_scheduler.specs.Own.{Seen}
 use Rattle.build_scheduler.specs.Shown.{Shown, Indexed}
@@ -54,7 +54,7 @@ use Rattle.build_scheduler.proofs.ClosingCycles.{calls-within, free-open}
 use Rattle.build_scheduler.proofs.HistoryFacts.{one_state}
 use Rattle.build_scheduler.proofs.Waiting.{begun-there}
 
-module _ {W P I A : Type 0} (seen : W → Seen P I A) (w : World P I A) {log : Logged}
+module _ {W P I A : Type 0} (seen : W → Seen P I A) (w : World P I A) {log : History}
     {origins : List Origin} {slots : List (Slot W)} {making : List (Option RunId)}
     {table : TableRuns} {end : Option End} where
   -- there is a body or none for each slot
@@ -66,7 +66,7 @@ module _ {W P I A : Type 0} (seen : W → Seen P I A) (w : World P I A) {log : L
       let b : length making ≡ length x.state.requests =
       ap length x.bodies ∙ length-map x.state.requests making_of in omega arith)
 
-module _ {W P I A : Type 0} (seen : W → Seen P I A) (w : World P I A) {log : Logged}
+module _ {W P I A : Type 0} (seen : W → Seen P I A) (w : World P I A) {log : History}
     {origins : List Origin} {slots : List (Slot W)} {making : List (Option RunId)}
     {table : TableRuns} {end : Option End} {ready_ones : Numbered} {waiting_ones : List Numbered}
     (shown : ∥ Shown seen w log origins slots making table end ∥₁)
@@ -89,8 +89,9 @@ module _ {W P I A : Type 0} (seen : W → Seen P I A) (w : World P I A) {log : L
       free-open seen w x y id c.node c.request (walking (wants c.site run c.body c.go))
       (subst (λ (s : State P I A). at s.requests id ≡ Some c.request) one c.there) c.wants_so
       run c.body c.go by b f (λ e. other (called e)) free c.between
-      (subst (λ (s : State P I A). IsChain (waiting w s id c.request.origin c.request.journal
-      c.request.runs run c.body c.go) run c.between run) one c.closes))))
+      (subst
+      (λ (s : State P I A). IsChain (waiting w s id c.request run c.body c.go) run c.between
+      run) one c.closes))))
     where
       called : caller_at origins id ≡ Some by → HasParent (at origins id) (Some by)
       called e = go (at origins id) refl e

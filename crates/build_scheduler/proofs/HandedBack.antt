@@ -43,7 +43,7 @@ use Rattle.build_scheduler.specs.declared.slot.Slot.TheVariants.{
 use Rattle.build_scheduler.specs.declared.slot.End.{End}
 use Rattle.build_scheduler.specs.Calls.{HasParent}
 use Rattle.build_scheduler.specs.HandedBack.{IsFirstCall, IsHandedBack, IsLeft}
-use Rattle.build_scheduler.specs.Log.{Logged}
+use Rattle.build_scheduler.specs.History.{History}
 use Rattle.build_scheduler.specs.Own.{Seen}
 use Rattle.build_scheduler.specs.Shown.{Shown}
 use Rattle.build_scheduler.specs.Slots.{origin_of, ShowsSlot}
@@ -63,7 +63,7 @@ same-first : {P I A : Type 0} (keys others : List RequestKey) (a b : ℕ) (more 
     calling keys (a ∷ more) y go ≡ calling others (b ∷ rest) z next → a ≡ b
 same-first keys others a b more rest y z go next e = cc
 
-module _ {W P I A : Type 0} (seen : W → Seen P I A) (w : World P I A) {log : Logged}
+module _ {W P I A : Type 0} (seen : W → Seen P I A) (w : World P I A) {log : History}
     {origins : List Origin} {slots : List (Slot W)} {making : List (Option RunId)}
     {table : TableRuns} {end : Option End} where
   -- a first call is a call of the one that awaits it

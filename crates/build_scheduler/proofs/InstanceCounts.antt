@@ -51,8 +51,8 @@ use Rattle.build_scheduler.specs.Instances.{
   IsGrown,
   IsGrownBy,
 }
-use Rattle.build_scheduler.specs.declared.instances.Crowd.{Crowd}
-use Rattle.build_scheduler.specs.declared.instances.Crowd.TheVariants.{TooMany, Memory}
+use Rattle.build_scheduler.specs.declared.instances.InstanceFault.{InstanceFault}
+use Rattle.build_scheduler.specs.declared.instances.InstanceFault.TheVariants.{TooMany, Memory}
 
 flip : (a b : InstanceKey) → same_instance a b ≡ same_instance b a
 flip a b = elim (tells (same_instance a b)) [
@@ -337,7 +337,7 @@ take_front (x ∷ xs) ys = ap (λ l. x ∷ l) (take_front xs ys)
 
 -- where one more is not added, some of the calls are
 pub not-added : (old seen next : List InstanceKey) (calls : List RequestKey) (i : ℕ)
-    (call : RequestKey) (crowd : Crowd) → i < length calls → call ≡ get_or calls i call
+    (call : RequestKey) (crowd : InstanceFault) → i < length calls → call ≡ get_or calls i call
     → seen ≡ with_all old (take i calls) → length seen ≤ most_instances →
     IsGrownBy seen next call.instance (Err crowd) → IsGrown old next calls (Err crowd)
 not-added old seen next calls i call (TooMany instance) l e s f h =
@@ -369,7 +369,8 @@ not-added old seen next calls i call Memory l e s f h =
     )
 
 -- what was added is taken away again
-pub added-or-not : (old grown after : List InstanceKey) (calls : List RequestKey) (crowd : Crowd)
+pub added-or-not : (old grown after : List InstanceKey) (calls : List RequestKey)
+    (crowd : InstanceFault)
     → IsGrown old grown calls (Err crowd) → after ≡ take (length old) grown
     → IsAdded old after calls (Err crowd)
 added-or-not old grown after calls (TooMany instance) h t =

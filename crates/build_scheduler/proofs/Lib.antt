@@ -12,16 +12,18 @@ pub mod FreeCalls
 pub mod GrowingAnswers
 pub mod HandedBack
 pub mod HistoryFacts
+pub mod HistoryRoom
 pub mod InstanceCounts
 pub mod KeptLists
 pub mod LeftRuns
-pub mod LogRoom
 pub mod Looking
 pub mod ManyUses
 pub mod Nesting
 pub mod NewRequests
 pub mod NewSlots
+pub mod NoRecords
 pub mod OneRequest
+pub mod OthersBehind
 pub mod OverAtOnce
 pub mod OwnWalks
 pub mod Passing
@@ -31,6 +33,7 @@ pub mod Repeating
 pub mod Retiring
 pub mod RisingNumbers
 pub mod Rooms
+pub mod SameShown
 pub mod Served
 pub mod SlotNumbers
 pub mod SlotsStay

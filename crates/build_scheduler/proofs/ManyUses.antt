@@ -62,11 +62,11 @@ module _ {P I A : Type 0} (w : World P I A) where
       go y.0 y.0.status y.1 y.2
     where
       go : (q : RequestState P I A) (st : Status P I A) → at s.requests id ≡ Some q →
-          claim_at w s id run Use q.origin q.journal q.runs st ≡ Some t →
+          claim_at w s id run Use q st ≡ Some t →
           body_of (at t.requests id) ≡ None
       go q (assigned node (walking (wants site wanted b next))) e k =
           let a = and_then-some (only_if (same_run wanted run) wanted)
-          (λ run. claimed w s id node q.origin q.journal q.runs run b next Use) t k in
+          (λ run. claimed w s id node q run b next Use) t k in
           let f = and_then-some (found s.table a.0) _ t a.2 in
           let g = and_then-some (replay s.table a.0 q.journal) _ t f.2 in
           let z : RequestState P I A = record {

@@ -42,7 +42,7 @@ use Rattle.build_scheduler.specs.declared.slot.Origin.{Origin}
 use Rattle.build_scheduler.specs.declared.slot.Slot.{Slot}
 use Rattle.build_scheduler.specs.declared.slot.End.{End}
 use Rattle.build_scheduler.specs.declared.slot.End.TheVariants.{Root}
-use Rattle.build_scheduler.specs.Log.{Logged}
+use Rattle.build_scheduler.specs.History.{History}
 use Rattle.build_scheduler.specs.Own.{Seen}
 use Rattle.build_scheduler.specs.Position.{answered}
 use Rattle.build_scheduler.specs.Shown.{Shown, ShowsEnd}
@@ -164,7 +164,7 @@ module _ {W P I A : Type 0} (seen : W → Seen P I A) (w : World P I A) where
   }
 
   -- one request changes, whatever end is told then
-  pub shown-change : {log after : Logged} {origins : List Origin} {slots : List (Slot W)}
+  pub shown-change : {log after : History} {origins : List Origin} {slots : List (Slot W)}
       {making bodies : List (Option RunId)} {table runs : TableRuns} {end told : Option End}
       (event : Event) (id : ℕ) (q z : RequestState P I A) (t : State P I A)
       (slot : Slot W) → (x : Shown seen w log origins slots making table end)
@@ -207,7 +207,7 @@ module _ {W P I A : Type 0} (seen : W → Seen P I A) (w : World P I A) where
         ends = ends;
       }
 
-  pub shown-put : {log after : Logged} {origins : List Origin} {slots : List (Slot W)}
+  pub shown-put : {log after : History} {origins : List Origin} {slots : List (Slot W)}
       {making bodies : List (Option RunId)} {table runs : TableRuns} {end : Option End}
       (event : Event) (id : ℕ) (q z : RequestState P I A) (t : State P I A)
       (slot : Slot W) → (x : Shown seen w log origins slots making table end)

@@ -89,7 +89,7 @@ use Rattle.build_scheduler.specs.Kept.{
   used_in,
 }
 use Rattle.build_scheduler.specs.KeptEnds.{IsPut, kept_for}
-use Rattle.build_scheduler.specs.Log.{Logged}
+use Rattle.build_scheduler.specs.History.{History}
 use Rattle.build_scheduler.specs.Own.{Seen, Asks, IsOwn}
 use Rattle.build_scheduler.specs.Position.{HasEnded, ask_of}
 use Rattle.build_scheduler.specs.Ready.{IsReady}
@@ -122,7 +122,7 @@ none-of None e = refl
 none-of (Some x) e = absurd (let a : true ≡ false = e in cc)
 
 -- the room that is left for the records, once the request is assigned
-pub uses-room : {P I A : Type 0} (w : World P I A) {log : Logged} (id node room : ℕ)
+pub uses-room : {P I A : Type 0} (w : World P I A) {log : History} (id node room : ℕ)
     (rest : List RunId) → ∥ EndsAlike w log id node rest ∥₁ → log.room ≡ room + 1 →
     length rest ≤ room
 uses-room w {log} id node room rest ends r = ∥∥₁_elim ends (λ p q. le_prop p q) (λ e.
@@ -194,7 +194,7 @@ module _ {W P I A : Type 0} (seen : W → Seen P I A) (table : Records) where
   one-journal (Some (Calling calls)) runs j k a b = absurd a
   one-journal (Some Over) runs j k a b = absurd a
 
-module _ {W P I A : Type 0} (seen : W → Seen P I A) (w : World P I A) {log : Logged}
+module _ {W P I A : Type 0} (seen : W → Seen P I A) (w : World P I A) {log : History}
     {origins : List Origin} {slots : List (Slot W)} {making : List (Option RunId)}
     {table : TableRuns} {end : Option End}
     (shown : ∥ Shown seen w log origins slots making table end ∥₁) where
@@ -449,7 +449,7 @@ module _ {W P I A : Type 0} (seen : W → Seen P I A) (w : World P I A) {log : L
 -- the walk and the result of a request that is over at once
 module _ {W P I A : Type 0} (seen : W → Seen P I A) (w : World P I A) (before : List Event)
     (known : Records) (id node : ℕ) (how : AtOnce W) where
-  abbrev ends-of : (a : IsAtOnce seen w known before id how) (after : Logged) →
+  abbrev ends-of : (a : IsAtOnce seen w known before id how) (after : History) →
       after.events ≡ before →
       owed_by a.state.requests + length how.claims.items ≤ after.room →
       EndsAlike w after id node how.claims.items
@@ -469,8 +469,8 @@ module _ {W P I A : Type 0} (seen : W → Seen P I A) (w : World P I A) (before 
 
   module _ (comes_so : ∥ IsAtOnce seen w known before id how ∥₁) where
     -- there is room for its events
-    pub ends-now : {log : Logged} {origins : List Origin} {slots : List (Slot W)}
-        {making : List (Option RunId)} {table : TableRuns} {end : Option End} (after : Logged) →
+    pub ends-now : {log : History} {origins : List Origin} {slots : List (Slot W)}
+        {making : List (Option RunId)} {table : TableRuns} {end : Option End} (after : History) →
         ∥ Shown seen w log origins slots making table end ∥₁ → log.events ≡ before →
         after.events ≡ before → after.room ≡ log.room + length how.claims.items →
         ∥ EndsAlike w after id node how.claims.items ∥₁
@@ -488,7 +488,7 @@ module _ {W P I A : Type 0} (seen : W → Seen P I A) (w : World P I A) (before 
         events ≡ before ++ Assign id node ∷ uses_of_all id how.claims.items →
         ∥ IsOwn w events records id (seen how.walk) ∥₁
     over-own events records ev = ∥∥₁_map comes_so (λ a.
-        let roomy : Logged = record {
+        let roomy : History = record {
           events = before;
           room = owed_by a.state.requests + length how.claims.items;
           nodes = 1;

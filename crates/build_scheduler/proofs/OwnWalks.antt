@@ -35,7 +35,7 @@ use Rattle.build_scheduler.specs.declared.slot.Slot.TheVariants.{
   Done as Over,
 }
 use Rattle.build_scheduler.specs.declared.slot.End.{End}
-use Rattle.build_scheduler.specs.Log.{Logged}
+use Rattle.build_scheduler.specs.History.{History}
 use Rattle.build_scheduler.specs.Own.{Seen, placed, IsWith}
 use Rattle.build_scheduler.specs.Position.{Position, ask_at}
 use Rattle.build_scheduler.specs.Shown.{Shown}
@@ -132,7 +132,7 @@ module _ {W P I A : Type 0} (seen : W → Seen P I A) (w : World P I A) where
   slot-assigned s count Over origin p node h = absurd
       (let a : assigned node p.place ≡ done h.result = h.is in cc)
 
-  pub there-of : {log : Logged} {origins : List Origin} {slots : List (Slot W)}
+  pub there-of : {log : History} {origins : List Origin} {slots : List (Slot W)}
       {making : List (Option RunId)} {table : TableRuns} {end : Option End}
       (x : Shown seen w log origins slots making table end) (id : ℕ) (p : Position P I A) →
       IsWith w log.events id p → There slots x.state id p

@@ -54,7 +54,7 @@ use Rattle.build_scheduler.specs.declared.slot.End.{End}
 use Rattle.build_scheduler.specs.Behind.{AreBehind}
 use Rattle.build_scheduler.specs.Calls.{CanTake, HasParent, IsCalling, IsPassed}
 use Rattle.build_scheduler.specs.Learnt.{ArePartOf}
-use Rattle.build_scheduler.specs.Log.{Logged}
+use Rattle.build_scheduler.specs.History.{History}
 use Rattle.build_scheduler.specs.Numbers.{Numbered}
 use Rattle.build_scheduler.specs.Own.{Seen, Asks, IsOwn}
 use Rattle.build_scheduler.specs.Position.{Position}
@@ -86,12 +86,12 @@ pub journal-prop : (o : Option Journal) (j : Journal) → IsProp (o ≡ Some j)
 journal-prop o j = hlevel (props, entry-set)
 
 -- the request is over in a core that has the same world and the same events
-pub asks-same : {P I A : Type 0} {v w : World P I A} {log after : Logged} (id : ℕ)
+pub asks-same : {P I A : Type 0} {v w : World P I A} {log after : History} (id : ℕ)
     (told : RequestResult) → w ≡ v → after ≡ log → ∥ Asks v log.events id (IsOver told) ∥₁ →
     ∥ Asks w after.events id (IsOver told) ∥₁
 asks-same {v = v} {after = after} id told e f h =
     subst (λ u. ∥ Asks u after.events id (IsOver told) ∥₁) (sym e)
-    (subst (λ (l : Logged). ∥ Asks v l.events id (IsOver told) ∥₁) (sym f) h)
+    (subst (λ (l : History). ∥ Asks v l.events id (IsOver told) ∥₁) (sym f) h)
 
 module _ {W P I A : Type 0} (seen : W → Seen P I A) where
   can_take-prop : (table : Records) (walk : Seen P I A) (o : Option (Slot W)) →
@@ -116,7 +116,7 @@ module _ {W P I A : Type 0} (seen : W → Seen P I A) where
   can_take-calls table walk (Some Over) h = h
 
 module _ {W P I A : Type 0} (seen : W → Seen P I A)
-    (w : World P I A) {log : Logged} {origins : List Origin} {slots : List (Slot W)} {making : List
+    (w : World P I A) {log : History} {origins : List Origin} {slots : List (Slot W)} {making : List
     (Option RunId)} {table : TableRuns} {end : Option End} where
   -- the runs of a request that is over, replayed in its caller's journal, give its own
   takes : (id : ℕ) (walk : Seen P I A) (told : RequestResult) (caller : ℕ) →

@@ -49,7 +49,7 @@ use Rattle.build_scheduler.specs.declared.slot.End.{End}
 use Rattle.build_scheduler.specs.Chain.{LeadsUp, AreKeysDown, IsDeepFault}
 use Rattle.build_scheduler.specs.Children.{HasDepth}
 use Rattle.build_scheduler.specs.Instances.{AreCounted, IsOver, instance_asked}
-use Rattle.build_scheduler.specs.Log.{Logged}
+use Rattle.build_scheduler.specs.History.{History}
 use Rattle.build_scheduler.specs.Own.{Seen, placed, IsOwn}
 use Rattle.build_scheduler.specs.Position.{ask_of}
 use Rattle.build_scheduler.specs.Requests.{
@@ -72,7 +72,7 @@ refused-prop w events id calls (TooDeep keys) = ∥∥₁_prop
 refused-prop w events id calls (TooMany instance) = ∥∥₁_prop
 refused-prop w events id calls Memory = λ p q. refl
 
-module _ {W P I A : Type 0} (seen : W → Seen P I A) (w : World P I A) {log : Logged}
+module _ {W P I A : Type 0} (seen : W → Seen P I A) (w : World P I A) {log : History}
     {origins : List Origin} {slots : List (Slot W)} {making : List (Option RunId)}
     {table : TableRuns} {end : Option End} (id : ℕ) (walk : W) (calls : List RequestKey) where
   same-origin : (x : Shown seen w log origins slots making table end)

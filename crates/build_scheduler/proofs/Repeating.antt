@@ -118,7 +118,7 @@ use Rattle.build_scheduler.specs.Kept.{
   uses_one,
 }
 use Rattle.build_scheduler.specs.KeptEnds.{AreFewer, IsAmong, IsPut}
-use Rattle.build_scheduler.specs.Log.{Logged}
+use Rattle.build_scheduler.specs.History.{History}
 use Rattle.build_scheduler.specs.Own.{Seen, placed, IsWith, IsOwn}
 use Rattle.build_scheduler.specs.Position.{Position, after_run, ask_of, answered, stopped_in}
 use Rattle.build_scheduler.specs.Ready.{IsReady}
@@ -201,7 +201,7 @@ module _ {P I A : Type 0} (w : World P I A) where
       ∙ after-append events more y.0 t y.2
 
 -- a request that is ready between two runs, and the records that are left to it
-module _ {P I A : Type 0} (w : World P I A) {log : Logged} (id node : ℕ) {rest : List RunId}
+module _ {P I A : Type 0} (w : World P I A) {log : History} (id node : ℕ) {rest : List RunId}
     (e : EndsAlike w log id node rest) where
   abbrev assigned_request : RequestState P I A
   assigned_request = record {
@@ -220,7 +220,7 @@ module _ {P I A : Type 0} (w : World P I A) {log : Logged} (id node : ℕ) {rest
   assign-step : step w e.state (Assign id node) ≡ Some assigned_state
   assign-step =
       ap (λ o. and_then o (step_of w e.state (Assign id node))) e.there
-      ∙ ap (assign_at w e.state id node e.request.origin e.request.journal e.request.runs) e.between
+      ∙ ap (assign_at w e.state id node e.request) e.between
 
   pub by-records : EndsByRecords w assigned_state id node e.request.origin e.request.runs e.result
       e.last
@@ -272,7 +272,7 @@ module _ {P I A : Type 0} (w : World P I A) {log : Logged} (id node : ℕ) {rest
 
 module _ {W P I A : Type 0} (seen : W → Seen P I A) (w : World P I A) where
   -- a request with a node goes on by some events of its own, and is in no other body then
-  shown-many : {log after : Logged} {origins : List Origin} {slots : List (Slot W)}
+  shown-many : {log after : History} {origins : List Origin} {slots : List (Slot W)}
       {making : List (Option RunId)}
       {table : TableRuns} {end : Option End} (more : List Event) (id node : ℕ) (o : Asked)
       (p r : Position P I A)
@@ -319,16 +319,16 @@ module _ {W P I A : Type 0} (seen : W → Seen P I A) (w : World P I A) where
       }
 
   -- after its Assign the request may use the records that are left to it: its slot is out
-  pub record Uses {log : Logged} {origins : List Origin} {slots : List (Slot W)}
+  pub record Uses {log : History} {origins : List Origin} {slots : List (Slot W)}
       {making : List (Option RunId)} {table : TableRuns} {end : Option End}
-      (x : Shown seen w log origins slots making table end) (id node : ℕ) {before : Logged}
+      (x : Shown seen w log origins slots making table end) (id node : ℕ) {before : History}
       {rest : List RunId} (e : EndsAlike w before id node rest) : Type 0 where
     pub there : at x.state.requests id ≡ Some (assigned_request w id node e)
     pub steps : after_all w x.state
         (uses_of_all id rest) ≡ Some (with_request x.state id (last_request w id node e))
     pub out : at slots id ≡ Some (Assigned node)
 
-  pub uses-go : {log before : Logged} {origins : List Origin} {slots : List (Slot W)}
+  pub uses-go : {log before : History} {origins : List Origin} {slots : List (Slot W)}
       {making : List (Option RunId)} {table : TableRuns} {end : Option End}
       (id node : ℕ) {rest : List RunId} (e : EndsAlike w log id node rest) →
       before.events ≡ log.events ++ Assign id node ∷ [] →
@@ -365,7 +365,7 @@ module _ {W P I A : Type 0} (seen : W → Seen P I A) (w : World P I A) where
       record { there = at_q; steps = steps; out = c.at_slots ∙ ap (λ m. Some (Assigned m)) (sym n) }
 
   -- it uses them
-  pub uses-shown : {log before after : Logged} {origins : List Origin} {slots : List (Slot W)}
+  pub uses-shown : {log before after : History} {origins : List Origin} {slots : List (Slot W)}
       {making : List (Option RunId)}
       {table : TableRuns} {end : Option End} (id node : ℕ) {rest : List RunId}
       (e : EndsAlike w log id node rest) →
@@ -400,7 +400,7 @@ module _ {W P I A : Type 0} (seen : W → Seen P I A) (w : World P I A) where
       (let spare : owed_by e.state.requests + length rest ≤ log.room = e.spare in omega arith)
 
   -- and no tool meanwhile
-  pub uses-behind : {log before : Logged} (after : Logged) {origins : List Origin}
+  pub uses-behind : {log before : History} (after : History) {origins : List Origin}
       {slots : List (Slot W)} {making : List (Option RunId)}
       {table : TableRuns} {end : Option End} (id node : ℕ) {rest : List RunId}
       (e : EndsAlike w log id node rest) →
@@ -418,7 +418,7 @@ module _ {W P I A : Type 0} (seen : W → Seen P I A) (w : World P I A) where
       (last_request w id node e) x.history u.steps later more_ev u.out behind
 
 -- a walk that stands at that end is the request's own
-module _ {W P I A : Type 0} (seen : W → Seen P I A) (w : World P I A) {log : Logged}
+module _ {W P I A : Type 0} (seen : W → Seen P I A) (w : World P I A) {log : History}
     (id node : ℕ) {rest : List RunId} (e : EndsAlike w log id node rest) where
   pub ends-own : (events : List Event) (table : Records) (reply : Reply) (walk : W) →
       events ≡ log.events ++ Assign id node ∷ uses_of_all id rest →
@@ -461,7 +461,7 @@ module _ {W P I A : Type 0} (seen : W → Seen P I A) (w : World P I A) {log : L
         few = few;
       })
 
-module _ {W P I A : Type 0} (seen : W → Seen P I A) (w : World P I A) {log : Logged}
+module _ {W P I A : Type 0} (seen : W → Seen P I A) (w : World P I A) {log : History}
     {origins : List Origin} {slots : List (Slot W)}
     {making : List (Option RunId)} {table : TableRuns} {end : Option End}
     (x : Shown seen w log origins slots making table end) where

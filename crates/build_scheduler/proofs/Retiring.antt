@@ -18,7 +18,7 @@ use Rattle.build_scheduler.specs.declared.slot.Slot.{Slot}
 use Rattle.build_scheduler.specs.declared.slot.Slot.TheVariants.{Ready, Assigned, Waiting}
 use Rattle.build_scheduler.specs.declared.slot.Slot.TheVariants.{Calling, Done}
 use Rattle.build_scheduler.specs.declared.slot.End.{End}
-use Rattle.build_scheduler.specs.Log.{Logged}
+use Rattle.build_scheduler.specs.History.{History}
 use Rattle.build_scheduler.specs.Learnt.{ArePartOf}
 use Rattle.build_scheduler.specs.Numbers.{among, Numbered}
 use Rattle.build_scheduler.specs.Own.{Seen, placed, IsOut}
@@ -55,7 +55,7 @@ unlisted-there {slots = slots} {numbers = numbers} id node e indexed =
           let b : unready slots ≤ numbers.room = y.room in omega arith),
     ))
 
-module _ {W P I A : Type 0} (seen : W → Seen P I A) (w : World P I A) {log : Logged}
+module _ {W P I A : Type 0} (seen : W → Seen P I A) (w : World P I A) {log : History}
     {origins : List Origin} {slots : List (Slot W)} {making : List (Option RunId)}
     {table : TableRuns} {end : Option End} (id : ℕ) (walk : W) (answer : Answer) where
   -- the slot of a request whose walk is out
@@ -94,7 +94,7 @@ module _ {W P I A : Type 0} (seen : W → Seen P I A) (w : World P I A) {log : L
         ∙ ap (λ t. only_if t next) (eq-eqb h.node node same)
 
     -- it is ready again, with its walk
-    pub retired-shown : {after : Logged} {outs : List (Slot W)} →
+    pub retired-shown : {after : History} {outs : List (Slot W)} →
         after.events ≡ log.events ++ Retire id node ∷ [] → after.room ≡ log.room + 1 →
         outs ≡ put slots id (Ready walk answer) →
         Shown seen w log origins slots making table end →

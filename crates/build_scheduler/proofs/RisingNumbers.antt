@@ -36,7 +36,8 @@ use Rattle.std.proofs.Common.{
   insert,
   remove,
 }
-use Rattle.std.specs.Prelude.{MatchResult, slice_get, option_to_list, IsSome, ◌↔◌}
+use Rattle.std.specs.Prelude.{MatchResult, IfSome, option_copied, option_to_list, IsSome, ◌↔◌}
+use denote.Ref.{Bor}
 use Rattle.std.specs.List.Sorted.{IsBinarySearchResult}
 use Rattle.std.specs.Ordering.{nat_cmp}
 use Rattle.std.proofs.lemmas.Bool.{eqb-true, eq-eqb, cases_order}
@@ -203,11 +204,21 @@ least-first xs h n a x ys e = go (x == n) refl
         ∙ (sym (ap (among n) e) ∙ a) in
         let l : x < n = above-among x ys r.0 n rest in omega arith
 
+empty-among : (xs : List ℕ) → (0 < length xs → ⊥) → (n : ℕ) → among n xs ≡ false
+empty-among [] h n = refl
+empty-among (x ∷ xs) h n = absurd (h (omega arith))
+
+least-head : (xs : List ℕ) (n : ℕ) → AreRising xs → 0 < length xs → n ≡ get_or xs 0 n
+    → IsLeast xs (Some n)
+least-head [] n h l e = absurd (omega arith)
+least-head (x ∷ xs) n h l e = subst (λ k. IsLeast (x ∷ xs) (Some k)) (sym e)
+    (ap (λ b. b || among x xs) (eq-eqb x x refl), λ m a. least-first (x ∷ xs) h m a x xs refl)
+
 -- what stands first, or nothing
-pub least-is : (xs : List ℕ) → AreRising xs → IsLeast xs (slice_get xs 0)
-least-is [] h = λ n. refl
-least-is (x ∷ xs) h =
-    (ap (λ b. b || among x xs) (eq-eqb x x refl), λ n a. least-first (x ∷ xs) h n a x xs refl)
+pub least-front : (xs : List ℕ) (o : Option (Bor ℕ)) → AreRising xs → (IsSome o ↔ (0 < length xs))
+    → IfSome o (λ x. x.now ≡ get_or xs 0 x.now) → IsLeast xs (option_copied o)
+least-front xs None h v e = λ n. empty-among xs (λ l. let q = v.1 l in absurd (cc)) n
+least-front xs (Some x) h v e = least-head xs x.now h (v.0 refl) e
 
 -- a number that a search found or did not find
 pub found-among : (xs seen : List ℕ) (n i : ℕ) → seen ≡ xs → AreRising xs
@@ -229,6 +240,10 @@ above-front n (x ∷ xs) ys h = (h.0, above-front n xs ys h.1)
 pub rising-front : (xs ys : List ℕ) → AreRising (xs ++ ys) → AreRising xs
 rising-front [] ys h = tt
 rising-front (x ∷ xs) ys h = (above-front x xs ys h.0, rising-front xs ys h.1)
+
+pub shorter-front : (xs front more : List ℕ) → xs ≡ front ++ more → length front ≤ length xs
+shorter-front xs front more e = let l = ap length e in let k = length-append front more in
+    omega arith
 
 among-last : (xs : List ℕ) (n m : ℕ) → AreRising (xs ++ n ∷ [])
     → among m xs ≡ (not (n == m) && among m (xs ++ n ∷ []))

@@ -27,14 +27,14 @@ use Rattle.build_scheduler.specs.declared.slot.Origin.{Origin}
 use Rattle.build_scheduler.specs.declared.slot.Slot.{Slot}
 use Rattle.build_scheduler.specs.declared.slot.End.{End}
 use Rattle.build_scheduler.specs.Ends.{ShowsStop}
-use Rattle.build_scheduler.specs.Log.{Logged}
+use Rattle.build_scheduler.specs.History.{History}
 use Rattle.build_scheduler.specs.Numbers.{among, Numbered}
 use Rattle.build_scheduler.specs.Own.{Seen}
 use Rattle.build_scheduler.specs.Requests.{HasSpare}
 use Rattle.build_scheduler.specs.Shown.{Shown, Indexed, HaveNumbers, AreRooted, unready, numbers_of}
 use Rattle.build_scheduler.specs.Slots.{owed_by, ShowsSlot}
 
-module _ {W P I A : Type 0} (seen : W → Seen P I A) (w : World P I A) {log after : Logged}
+module _ {W P I A : Type 0} (seen : W → Seen P I A) (w : World P I A) {log after : History}
     {origins os : List Origin} {slots ss : List (Slot W)} {making ms : List (Option RunId)}
     {table : TableRuns} {end : Option End} (ev : after.events ≡ log.events) where
   pub room-shown : log.room ≤ after.room → os ≡ origins → ss ≡ slots → ms ≡ making
@@ -61,7 +61,7 @@ pub room-stops : {P I A : Type 0} (w : World P I A) {events es : List Event} (en
 room-stops w end ev h = subst (λ es. ∥ ShowsStop w es end ∥₁) (sym ev) h
 
 -- so many events more than are owed
-pub spare-of : {W P I A : Type 0} (seen : W → Seen P I A) (w : World P I A) {log after : Logged}
+pub spare-of : {W P I A : Type 0} (seen : W → Seen P I A) (w : World P I A) {log after : History}
     {origins : List Origin} {slots : List (Slot W)} {making : List (Option RunId)}
     {table : TableRuns} {end : Option End} → after.events ≡ log.events → (count more : ℕ) →
     after.room ≡ log.room + more → more ≡ 2 + 2 * count

@@ -19,7 +19,7 @@ use Rattle.build_scheduler.specs.declared.slot.End.TheVariants.{
   NoMemory,
 }
 use Rattle.build_scheduler.specs.Ends.{IsStop, IsEnd, ShowsStop}
-use Rattle.build_scheduler.specs.Log.{Logged}
+use Rattle.build_scheduler.specs.History.{History}
 use Rattle.build_scheduler.specs.Own.{Seen}
 use Rattle.build_scheduler.specs.Shown.{Shown, ShowsEnd}
 use Rattle.build_scheduler.proofs.HistoryFacts.{one_state}
@@ -42,7 +42,7 @@ module _ {P I A : Type 0} (w : World P I A) (events : List Event) where
   stop-ends s (TooMany instance) h = tt
   stop-ends s NoMemory h = tt
 
-module _ {W P I A : Type 0} (seen : W → Seen P I A) (w : World P I A) {log : Logged}
+module _ {W P I A : Type 0} (seen : W → Seen P I A) (w : World P I A) {log : History}
     {origins : List Origin} {slots : List (Slot W)} {making : List (Option RunId)}
     {table : TableRuns} where
   -- the core shows the same state after it is stopped

@@ -66,7 +66,7 @@ use Rattle.build_scheduler.specs.declared.slot.Slot.TheVariants.{Assigned, Waiti
 use Rattle.build_scheduler.specs.declared.slot.End.{End}
 use Rattle.build_scheduler.specs.Claims.{WouldClose, ClosesCycle, IsClosingCycle}
 use Rattle.build_scheduler.specs.Learnt.{ArePartOf}
-use Rattle.build_scheduler.specs.Log.{Logged}
+use Rattle.build_scheduler.specs.History.{History}
 use Rattle.build_scheduler.specs.Dependents.{
   caller_at,
   AreFound,
@@ -117,7 +117,7 @@ use Rattle.build_scheduler.proofs.OwnWalks.{there-of}
 use Rattle.build_scheduler.proofs.SlotNumbers.{not-equal, at-cases, unready-put, at-get, put-set}
 use Rattle.build_scheduler.proofs.SlotsStay.{map-alike}
 
-module _ {W P I A : Type 0} (seen : W → Seen P I A) (w : World P I A) {log : Logged}
+module _ {W P I A : Type 0} (seen : W → Seen P I A) (w : World P I A) {log : History}
     {origins : List Origin} {slots : List (Slot W)} {making : List (Option RunId)}
     {table : TableRuns} {end : Option End} {ready_ones : Numbered} {waiting_ones : List Numbered}
     (x : Shown seen w log origins slots making table end)
@@ -137,7 +137,7 @@ module _ {W P I A : Type 0} (seen : W → Seen P I A) (w : World P I A) {log : L
         c.body c.go by begun open_run n.0 n.1 n.2 c.between
         (subst
         (λ (s : State P I A). IsChain
-        (waiting w s id c.request.origin c.request.journal c.request.runs run c.body c.go) run
+        (waiting w s id c.request run c.body c.go) run
         c.between run) one c.closes)
 
     pub would-none : TellsDependent origins waiting_ones id by None → WouldClose w log.events id run
@@ -149,7 +149,7 @@ module _ {W P I A : Type 0} (seen : W → Seen P I A) (w : World P I A) {log : L
         c.body c.go by begun open_run n.0 n.1 n.2 c.between
         (subst
         (λ (s : State P I A). IsChain
-        (waiting w s id c.request.origin c.request.journal c.request.runs run c.body c.go) run
+        (waiting w s id c.request run c.body c.go) run
         c.between run) one c.closes)
 
     pub circle-some : (walk : W) → IsOwn w log.events table.finished id (seen walk)
@@ -281,7 +281,7 @@ callers-there origins nested id caller e = ∥∥₁_elim nested (λ p q. le_pro
     (v id y.0 y.1).1 in
     at-less origins caller z.0 z.1)
 
-module _ {W P I A : Type 0} (seen : W → Seen P I A) (w : World P I A) {log : Logged}
+module _ {W P I A : Type 0} (seen : W → Seen P I A) (w : World P I A) {log : History}
     {origins : List Origin} {slots : List (Slot W)} {making : List (Option RunId)}
     {table : TableRuns} {end : Option End} where
   slots-origins : Shown seen w log origins slots making table end → length slots ≡ length origins
@@ -323,7 +323,7 @@ module _ {W P I A : Type 0} (seen : W → Seen P I A) (w : World P I A) {log : L
       (one_state w log.events c.state x.state c.history x.history) c.unfinished in
       let a : Some made ≡ None = sym f ∙ (ap (λ t. found t run) x.finished ∙ n) in cc))
 
-module _ {W P I A : Type 0} (seen : W → Seen P I A) (w : World P I A) {log : Logged}
+module _ {W P I A : Type 0} (seen : W → Seen P I A) (w : World P I A) {log : History}
     {origins : List Origin} {slots : List (Slot W)} {making : List (Option RunId)}
     {table : TableRuns} {end : Option End} {ready_ones : Numbered} {waiting_ones : List Numbered}
   where
@@ -454,14 +454,15 @@ module _ {W P I A : Type 0} (seen : W → Seen P I A) (w : World P I A) {log : L
         way.dependents.needs.items n.2 n.1 i.0 request i.1 in
         subst IsMaking (sym m.1) tt)))
 
-module _ {W P I A : Type 0} (seen : W → Seen P I A) (w : World P I A) (log after : Logged)
+module _ {W P I A : Type 0} (seen : W → Seen P I A) (w : World P I A) (log after : History)
     {origins : List Origin} {slots : List (Slot W)} {making : List (Option RunId)}
     {table : TableRuns} {end : Option End} (id : ℕ) (walk : W) (run : RunId) (by : ℕ) where
   -- the state in which it waits
   abbrev put_state : (x : Shown seen w log origins slots making table end)
       → Claims seen w log log id walk run x → State P I A
-  put_state x c = waiting w x.state id c.there.origin (seen walk).position.journal
-      (seen walk).position.runs run c.wanted.body c.wanted.go
+  put_state x c = waiting w x.state id
+      (placed c.there.origin (seen walk).position (assigned c.there.node))
+      run c.wanted.body c.wanted.go
 
   no-cycle : (x : Shown seen w log origins slots making table end)
       (c : Claims seen w log log id walk run x) → found x.state.table run ≡ None

@@ -54,7 +54,7 @@ pub record WouldClose {P I A : Type 0} (w : World P I A) (events : List Event) (
   pub with_node : request.status ≡ assigned node place
   pub begun : is_begun run state.begun ≡ true
   pub unfinished : found state.table run ≡ None
-  pub closes : IsChain (waiting w state id request.origin request.journal request.runs run body go)
+  pub closes : IsChain (waiting w state id request run body go)
       run between run
 
 -- the request with a node wants a run that is begun and not finished, and these runs are the cycle
@@ -75,7 +75,7 @@ pub record ClosesCycle {P I A : Type 0} (w : World P I A) (events : List Event) 
   pub begun : is_begun run state.begun ≡ true
   pub unfinished : found state.table run ≡ None
   pub runs_so : runs ≡ run ∷ between ++ run ∷ []
-  pub closes : IsChain (waiting w state id request.origin request.journal request.runs run body go)
+  pub closes : IsChain (waiting w state id request run body go)
       run between run
 
 -- the cycle that the request would close, or it would close none

@@ -21,8 +21,8 @@ use Rattle.result_cache.specs.declared.request.RequestKey.{RequestKey}
 use Rattle.build_meaning.specs.Demand.{is_among}
 use Rattle.build_meaning.specs.Meaning.{most_instances}
 use Rattle.build_scheduler.specs.declared.slot.Origin.{Origin}
-use Rattle.build_scheduler.specs.declared.instances.Crowd.{Crowd}
-use Rattle.build_scheduler.specs.declared.instances.Crowd.TheVariants.{TooMany, Memory}
+use Rattle.build_scheduler.specs.declared.instances.InstanceFault.{InstanceFault}
+use Rattle.build_scheduler.specs.declared.instances.InstanceFault.TheVariants.{TooMany, Memory}
 
 -- no instance is there twice
 abbrev pub AreOnce : List InstanceKey → Type 0
@@ -62,21 +62,24 @@ pub record IsOver (old : List InstanceKey) (calls : List RequestKey) (instance :
   pub too_many : most_instances < length (with_all old (before ++ call ∷ []))
 
 -- the instances of some calls are added; where there would be too many, nothing changes
-abbrev pub IsAdded : List InstanceKey → List InstanceKey → List RequestKey → Result (Unit {0}) Crowd
+abbrev pub IsAdded : List InstanceKey → List InstanceKey → List RequestKey
+    → Result (Unit {0}) InstanceFault
     → Type 0
 IsAdded old new calls (Ok done) = (new ≡ with_all old calls) × (length new ≤ most_instances)
 IsAdded old new calls (Err (TooMany instance)) = (new ≡ old) × IsOver old calls instance
 IsAdded old new calls (Err Memory) = new ≡ old
 
 -- with some of the calls the instances have grown
-abbrev pub IsGrown : List InstanceKey → List InstanceKey → List RequestKey → Result (Unit {0}) Crowd
+abbrev pub IsGrown : List InstanceKey → List InstanceKey → List RequestKey
+    → Result (Unit {0}) InstanceFault
     → Type 0
 IsGrown old new calls (Ok done) = (new ≡ with_all old calls) × (length new ≤ most_instances)
 IsGrown old new calls (Err (TooMany instance)) = ((more : List InstanceKey) × (new ≡ old ++ more))
     × IsOver old calls instance
 IsGrown old new calls (Err Memory) = (more : List InstanceKey) × (new ≡ old ++ more)
 
-abbrev pub IsGrownBy : List InstanceKey → List InstanceKey → InstanceKey → Result (Unit {0}) Crowd
+abbrev pub IsGrownBy : List InstanceKey → List InstanceKey → InstanceKey
+    → Result (Unit {0}) InstanceFault
     → Type 0
 IsGrownBy old new instance (Ok done) = (new ≡ with_instance old instance)
     × (length new ≤ most_instances)
@@ -84,7 +87,7 @@ IsGrownBy old new instance (Err (TooMany other)) = (new ≡ with_instance old in
     × (most_instances < length new) × (other ≡ instance)
 IsGrownBy old new instance (Err Memory) = (more : List InstanceKey) × (new ≡ old ++ more)
 
-abbrev pub IsBelowMost : ℕ → InstanceKey → Result (Unit {0}) Crowd → Type 0
+abbrev pub IsBelowMost : ℕ → InstanceKey → Result (Unit {0}) InstanceFault → Type 0
 IsBelowMost count instance (Ok done) = count ≤ most_instances
 IsBelowMost count instance (Err (TooMany other)) = (most_instances < count) × (other ≡ instance)
 IsBelowMost count instance (Err Memory) = Unit {0}

@@ -49,7 +49,7 @@ use Rattle.build_scheduler.specs.declared.slot.Origin.{Origin}
 use Rattle.build_scheduler.specs.declared.slot.Slot.{Slot}
 use Rattle.build_scheduler.specs.declared.slot.Slot.TheVariants.{Calling, Ready}
 use Rattle.build_scheduler.specs.KeptEnds.{IsAmong, IsPut, IsWanted, kept_for}
-use Rattle.build_scheduler.specs.Log.{Logged}
+use Rattle.build_scheduler.specs.History.{History}
 use Rattle.build_scheduler.specs.Own.{Seen}
 use Rattle.build_scheduler.specs.Slots.{owed_by}
 
@@ -204,7 +204,7 @@ used_in seen slot = 0
 
 -- a request that is ready between two runs comes to its end by the records of these runs, once it
 -- is with a node, and there is room for their events
-pub record EndsAlike {P I A : Type 0} (w : World P I A) (log : Logged) (id node : ℕ)
+pub record EndsAlike {P I A : Type 0} (w : World P I A) (log : History) (id node : ℕ)
     (rest : List RunId) : Type 0 where
   pub state : State P I A
   pub request : RequestState P I A

@@ -4,15 +4,16 @@ pub mod Chain
 pub mod Children
 pub mod Claims
 pub mod Dependents
+pub mod Drivers
 pub mod Ends
 pub mod Entered
 pub mod Free
 pub mod HandedBack
+pub mod History
 pub mod Instances
 pub mod Kept
 pub mod KeptEnds
 pub mod Learnt
-pub mod Log
 pub mod Numbers
 pub mod Own
 pub mod Position

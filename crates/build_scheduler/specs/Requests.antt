@@ -38,13 +38,13 @@ use Rattle.build_scheduler.specs.declared.request.RequestFault.TheVariants.{
   TooMany,
   Memory,
 }
-use Rattle.build_scheduler.specs.Log.{Logged}
+use Rattle.build_scheduler.specs.History.{History}
 use Rattle.build_scheduler.specs.Own.{IsWith}
 use Rattle.build_scheduler.specs.Position.{Position, ask_of}
 use Rattle.build_scheduler.specs.Slots.{owed_by}
 
 -- there is room for so many more events than the requests owe
-pub record HasSpare {P I A : Type 0} (w : World P I A) (log : Logged) (more : ℕ) : Type 0 where
+pub record HasSpare {P I A : Type 0} (w : World P I A) (log : History) (more : ℕ) : Type 0 where
   pub state : State P I A
   pub history : IsHistory w log.events state
   pub spare : owed_by state.requests + more ≤ log.room

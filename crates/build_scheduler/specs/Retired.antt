@@ -8,12 +8,12 @@ use Rattle.build_meaning.specs.World.{World}
 use Rattle.build_meaning.specs.History.{retires}
 use Rattle.build_scheduler.specs.declared.slot.End.{End}
 use Rattle.build_scheduler.specs.declared.slot.End.TheVariants.{NoMemory}
-use Rattle.build_scheduler.specs.Log.{Logged}
+use Rattle.build_scheduler.specs.History.{History}
 use Rattle.build_scheduler.specs.Ready.{IsAssignedTo}
 
 -- the events have this Retire, with room for the next Assign; or nothing changes, since no other
 -- node is active
-abbrev pub IsLogged : Logged → Logged → ℕ → ℕ → Bool → Type 0
+abbrev pub IsLogged : History → History → ℕ → ℕ → Bool → Type 0
 IsLogged log after id node true =
     (after.events ≡ log.events ++ Retire id node ∷ []) × (after.room ≡ log.room + 1)
 IsLogged log after id node false =

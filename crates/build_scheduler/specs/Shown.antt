@@ -35,7 +35,7 @@ use Rattle.build_scheduler.specs.declared.slot.Slot.{Slot}
 use Rattle.build_scheduler.specs.declared.slot.Slot.TheVariants.{Ready, Waiting}
 use Rattle.build_scheduler.specs.declared.slot.End.{End}
 use Rattle.build_scheduler.specs.declared.slot.End.TheVariants.{Root}
-use Rattle.build_scheduler.specs.Log.{Logged}
+use Rattle.build_scheduler.specs.History.{History}
 use Rattle.build_scheduler.specs.Numbers.{among, Numbered}
 use Rattle.build_scheduler.specs.Own.{Seen}
 use Rattle.build_scheduler.specs.Slots.{origin_of, making_of, owed_by, unfinished, ShowsSlot}
@@ -69,7 +69,7 @@ AreNested origins = (id : ℕ) (origin : Origin) → at origins id ≡ Some orig
     → (origin.depth < deepest) × IsNested origins origin.depth origin.parent
 
 -- the events are a legal history, and the core shows the state after them
-pub record Shown {W P I A : Type 0} (seen : W → Seen P I A) (w : World P I A) (log : Logged)
+pub record Shown {W P I A : Type 0} (seen : W → Seen P I A) (w : World P I A) (log : History)
     (origins : List Origin) (slots : List (Slot W)) (making : List (Option RunId))
     (table : TableRuns) (end : Option End) : Type 0 where
   pub state : State P I A

@@ -10,7 +10,7 @@ ghost use Rattle.build_scheduler.specs.Children.{
 ghost use Rattle.build_scheduler.specs.Own.{seen_by};
 ghost use Rattle.build_scheduler.specs.Position.{ask_of};
 
-use crate::numbers::Numbers;
+use crate::request_set::RequestSet;
 use crate::slot::{Origin, Slot};
 use crate::{Answer, Walker};
 use msb_values::{Copied, List, NoMemory};
@@ -69,12 +69,12 @@ pub(crate) fn no_runs(alloc: Global, calls: &[RequestKey]) -> Result<Vec<Option<
 }
 
 /// An empty set for each call.
-pub(crate) fn empty_sets(alloc: Global, calls: &[RequestKey]) -> Result<Vec<Numbers>, NoMemory>
+pub(crate) fn empty_sets(alloc: Global, calls: &[RequestKey]) -> Result<Vec<RequestSet>, NoMemory>
     ensures { IfOk result (λ sets. sets.items ≡ map empty_set calls.now) }
 {
     let mut sets = Vec::new(alloc);
     for _call in calls {
-        sets.push(Numbers::new(alloc))?;
+        sets.push(RequestSet::new(alloc))?;
     }
     Ok(sets)
 }

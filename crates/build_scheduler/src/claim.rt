@@ -30,8 +30,8 @@ ghost use Rattle.build_scheduler.specs.Own.{IsOut, IsOwn, seen_by};
 ghost use Rattle.build_scheduler.specs.Position.{ask_of};
 ghost use Rattle.build_scheduler.specs.Shown.{HaveNumbers, IsListed, numbers_of, room_of};
 
-use crate::log::Log;
-use crate::numbers::Numbers;
+use crate::history::History;
+use crate::request_set::RequestSet;
 use crate::scheduler::put_slot;
 use crate::slot::Slot;
 use crate::{Core, Walker};
@@ -221,7 +221,7 @@ impl<W: Walker> Core<W> {
 
 /// Takes room for a run that begins: for its event and that of its result, with the run's name for
 /// both.
-fn begin_room(history: &mut Log, run: &RunId) -> Result<(RunId, RunId), NoMemory>
+fn begin_room(history: &mut History, run: &RunId) -> Result<(RunId, RunId), NoMemory>
     ensures events { history.new.events ≡ history.old.events }
     ensures nodes { history.new.nodes ≡ history.old.nodes }
     ensures room { history.old.room ≤ history.new.room }
@@ -238,8 +238,8 @@ fn begin_room(history: &mut Log, run: &RunId) -> Result<(RunId, RunId), NoMemory
 /// Takes room for a wait: for its event and the Assign that follows it, and in the list of those
 /// that wait for the run of a request.
 fn wait_room(
-    history: &mut Log,
-    waiting: &mut Vec<Numbers>,
+    history: &mut History,
+    waiting: &mut Vec<RequestSet>,
     run: &RunId,
     by: u64,
 ) -> Result<RunId, NoMemory>
@@ -259,7 +259,7 @@ fn wait_room(
 }
 
 /// Lists a request among those that wait for the run of another one.
-fn list_waiting(waiting: &mut Vec<Numbers>, by: u64, id: u64)
+fn list_waiting(waiting: &mut Vec<RequestSet>, by: u64, id: u64)
     requires room { 0 < room_of (at waiting.old.items by) }
     requires absent { among id (numbers_of (at waiting.old.items by)) ≡ false }
     ensures { IsListed waiting.old.items waiting.new.items by id }

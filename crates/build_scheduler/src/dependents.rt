@@ -18,7 +18,7 @@ ghost use Rattle.build_scheduler.specs.Dependents.{
 ghost use Rattle.build_scheduler.specs.Numbers.{among};
 
 use crate::done::parent_of;
-use crate::numbers::Numbers;
+use crate::request_set::RequestSet;
 use crate::slot::Origin;
 use indexmap::IndexSet;
 use msb_values::{Copied, List, NoMemory};
@@ -112,16 +112,17 @@ impl Dependents {
     fn add_callers(
         &mut self,
         origins: &Vec<Origin>,
-        requests: &[u64],
+        requests: &RequestSet,
         place: usize,
     ) -> Result<(), NoMemory>
-        requires { (request : ℕ) → In request requests.now → request < length origins.now.items }
+        requires { (request : ℕ) → In request requests.now.numbers
+            → request < length origins.now.items }
         ensures { OnOk result
-            (AreBroughtIn origins.now.items requests.now place self.old.requests.keys
+            (AreBroughtIn origins.now.items requests.now.numbers place self.old.requests.keys
             self.old.needs.items self.new.requests.keys self.new.needs.items) }
     {
-        for request in requests {
-            self.add_caller(origins, *request, place)?;
+        for at in 0..requests.len() {
+            self.add_caller(origins, requests.number_at(at), place)?;
         }
         Ok(())
     }
@@ -131,7 +132,7 @@ impl Dependents {
     fn look(
         &mut self,
         origins: &Vec<Origin>,
-        waiting: &Vec<Numbers>,
+        waiting: &Vec<RequestSet>,
         place: usize,
     ) -> Result<(), NoMemory>
         requires within { place < length self.old.requests.keys }
@@ -144,7 +145,7 @@ impl Dependents {
     {
         let request = self.requests[place];
         self.add_caller(origins, request, place)?;
-        self.add_callers(origins, waiting[request as usize].as_slice(), place)
+        self.add_callers(origins, &waiting[request as usize], place)
     }
 }
 
@@ -213,7 +214,7 @@ fn push_run(
 /// Finds this request among those whose runs need the run that another one would wait for.
 pub(crate) fn find_dependent(
     origins: &Vec<Origin>,
-    waiting: &Vec<Numbers>,
+    waiting: &Vec<RequestSet>,
     id: u64,
     by: u64,
 ) -> Result<Option<Dependent>, NoMemory>
@@ -233,7 +234,7 @@ pub(crate) fn find_dependent(
 /// those that were found.
 fn search(
     origins: &Vec<Origin>,
-    waiting: &Vec<Numbers>,
+    waiting: &Vec<RequestSet>,
     first: u64,
     by: u64,
 ) -> Result<Option<Dependent>, NoMemory>

@@ -37,9 +37,10 @@ ghost use Rattle.build_scheduler.specs.HandedBack.{IsHandedBack, IsLeft};
 ghost use Rattle.build_scheduler.specs.Learnt.{AreInOrder};
 ghost use Rattle.build_scheduler.specs.Numbers.{among};
 ghost use Rattle.build_scheduler.specs.Own.{Asks, IsOwn, seen_by};
+ghost use Rattle.build_scheduler.specs.Position.{ask_of};
 ghost use Rattle.build_scheduler.specs.Shown.{is_ready, one_unless};
 
-use crate::numbers::Numbers;
+use crate::request_set::RequestSet;
 use crate::scheduler::{put_slot, replace_slot};
 use crate::slot::{Calls, End, Origin, Slot};
 use crate::{Core, Walker};
@@ -67,7 +68,8 @@ impl<W: Walker> Core<W> {
             result }
     {
         let left = self.give_journal(id, walk);
-        self.kept.count_done(id);
+        let end = self.kept.count_done(id);
+        self.released.put_end(end);
         self.history.push(Event::Done(id));
         put_slot(&mut self.slots, id, Slot::Done);
         match parent_of(&self.origins, id) {
@@ -80,6 +82,26 @@ impl<W: Walker> Core<W> {
                 left
             }
         }
+    }
+
+    /// Ends a request, and keeps how it has ended for others of its key. Where there is no memory,
+    /// nothing is kept. The walk is handed back as by `done`. (MSBuild task: a target is run once.)
+    pub fn end_request(&mut self, id: u64, walk: W, told: RequestResult) -> Option<W>
+        requires running { self.old.end ≡ None }
+        requires own { ∥ IsOwn (W.world_of self.old.world) self.old.history.events
+            self.old.table.finished id (seen_by W.world W.position W.asked W.learnt walk) ∥₁ }
+        requires asks { ask_of (W.position walk) ≡ IsOver told }
+        ensures world { W.world_of self.new.world ≡ W.world_of self.old.world }
+        ensures history { self.new.history.events ≡ self.old.history.events ++ Done id ∷ [] }
+        ensures table { self.new.table ≡ self.old.table }
+        ensures root { id ≡ 0 → self.new.end ≡ Some (Root told) }
+        ensures others { (id ≡ 0 → ⊥) → self.new.end ≡ None }
+        ensures nodes { self.new.history.nodes ≡ self.old.history.nodes }
+        ensures left { IsHandedBack (W.world_of self.old.world) self.old.history.events id walk
+            result }
+    {
+        let _ = self.keep(id, &walk, &told);
+        self.done(id, walk, told)
     }
 
     /// Gives the journal of a request that is over to its caller, if it is the first call of one.
@@ -113,7 +135,7 @@ pub(crate) fn parent_of(origins: &Vec<Origin>, id: u64) -> Option<u64>
 /// Tells a caller the result of one of its calls.
 fn resume<W: Drop>(
     slots: &mut Vec<Slot<W>>,
-    ready: &mut Numbers,
+    ready: &mut RequestSet,
     caller: u64,
     id: u64,
     told: RequestResult,

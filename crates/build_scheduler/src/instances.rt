@@ -16,7 +16,7 @@ use std::marker::Model;
 
 /// Why instances are not added.
 #[derive(Drop)]
-pub(crate) enum Crowd {
+pub(crate) enum InstanceFault {
     /// With this one there would be too many.
     TooMany(InstanceKey),
     Memory,
@@ -63,7 +63,7 @@ impl Instances {
 
     /// Adds the instances of some calls. Where there would be too many, or no memory, nothing
     /// changes.
-    pub(crate) fn add(&mut self, calls: &[RequestKey]) -> Result<(), Crowd>
+    pub(crate) fn add(&mut self, calls: &[RequestKey]) -> Result<(), InstanceFault>
         requires { length self.old ≤ most_instances }
         ensures { IsAdded self.old self.new calls.now result }
     {
@@ -76,7 +76,7 @@ impl Instances {
     }
 }
 
-fn add_all(seen: &mut IndexSet<InstanceKey>, calls: &[RequestKey]) -> Result<(), Crowd>
+fn add_all(seen: &mut IndexSet<InstanceKey>, calls: &[RequestKey]) -> Result<(), InstanceFault>
     requires { length seen.old.keys ≤ most_instances }
     ensures { IsGrown seen.old.keys seen.new.keys calls.now result }
 {
@@ -86,7 +86,7 @@ fn add_all(seen: &mut IndexSet<InstanceKey>, calls: &[RequestKey]) -> Result<(),
     Ok(())
 }
 
-fn add_one(seen: &mut IndexSet<InstanceKey>, instance: &InstanceKey) -> Result<(), Crowd>
+fn add_one(seen: &mut IndexSet<InstanceKey>, instance: &InstanceKey) -> Result<(), InstanceFault>
     requires { length seen.old.keys ≤ most_instances }
     ensures { IsGrownBy seen.old.keys seen.new.keys instance.now result }
 {
@@ -102,22 +102,22 @@ fn insert(seen: &mut IndexSet<InstanceKey>, instance: &InstanceKey) -> Result<()
     Ok(())
 }
 
-fn below_most(count: usize, instance: &InstanceKey) -> Result<(), Crowd>
+fn below_most(count: usize, instance: &InstanceKey) -> Result<(), InstanceFault>
     ensures { IsBelowMost count instance.now result }
 {
     if count > MOST {
-        return Err(Crowd::TooMany(instance.copy()?));
+        return Err(InstanceFault::TooMany(instance.copy()?));
     }
     Ok(())
 }
 
-impl From<NoMemory> for Crowd {
+impl From<NoMemory> for InstanceFault {
     ghost use Rattle.std.specs.Prelude.{◌≡◌};
-    ghost use Rattle.build_scheduler.specs.declared.instances.Crowd.TheVariants.{Memory};
+    ghost use Rattle.build_scheduler.specs.declared.instances.InstanceFault.TheVariants.{Memory};
 
     ghost from_gives = { λ _ crowd. crowd ≡ Memory };
 
     fn from(_: NoMemory) -> Self {
-        Crowd::Memory
+        InstanceFault::Memory
     }
 }

@@ -25,6 +25,7 @@ use crate::instances::Instances;
 use msb_values::NoMemory;
 use result_cache::{RequestKey, RequestResult};
 use std::alloc::Global;
+use std::mem;
 
 /// The end of a request, for others of its key: its number, its result and its walk, which is over.
 pub struct Kept<W> {
@@ -77,14 +78,16 @@ impl<W: Drop> InstanceEnd<W> {
         self.open_requests = self.open_requests.saturating_add(1);
     }
 
-    // One of the requests is over. Where it was the last one, nothing is kept for others.
-    fn close(&mut self)
+    // One of the requests is over. Where it was the last one, nothing is kept for others: what was
+    // kept is handed out.
+    fn close(&mut self) -> Option<Kept<W>>
         ensures { IsNoOther self.old self.new }
     {
         self.open_requests = self.open_requests.saturating_sub(1);
-        if self.open_requests == 0 {
-            self.kept = None;
+        if self.open_requests > 0 {
+            return None;
         }
+        mem::replace(&mut self.kept, None)
     }
 }
 
@@ -176,21 +179,23 @@ impl<W: Drop> KeptEnds<W> {
         Ok(())
     }
 
-    /// Counts a request that is over. Where it was the last of its instance, nothing is kept for
-    /// others. This takes no memory.
-    pub(crate) fn count_done(&mut self, id: u64)
+    /// Counts a request that is over. Where it was the last of its instance, what was kept for
+    /// others is handed out. This takes no memory.
+    pub(crate) fn count_done(&mut self, id: u64) -> Option<Kept<W>>
         ensures { AreFewer self.old.instances.items self.new.instances.items }
     {
-        if let Some(place) = self.place(id) {
-            self.close_at(place);
+        match self.place(id) {
+            Some(place) => self.close_at(place),
+            None => None,
         }
     }
 
-    fn close_at(&mut self, place: usize)
+    fn close_at(&mut self, place: usize) -> Option<Kept<W>>
         ensures { AreFewer self.old.instances.items self.new.instances.items }
     {
-        if let Some(instance) = self.instances.get_mut(place) {
-            instance.close();
+        match self.instances.get_mut(place) {
+            Some(instance) => instance.close(),
+            None => None,
         }
     }
 

@@ -3,8 +3,8 @@
 ghost use Rattle.std.specs.Prelude.{◌≡◌, ◌==◌, ◌∷◌, ℕ, [], None, IfOk};
 ghost use Rattle.build_scheduler.specs.Numbers.{among};
 
-use crate::log::Log;
-use crate::numbers::Numbers;
+use crate::history::History;
+use crate::request_set::RequestSet;
 use msb_values::NoMemory;
 use result_cache::RunId;
 use std::alloc::Global;
@@ -12,10 +12,10 @@ use std::alloc::Global;
 /// A history without events that has room for the root's Assign and Done, the root among the
 /// requests that are ready, and that it is in no body and nobody waits for it.
 pub(crate) struct Opening {
-    history: Log,
-    ready: Numbers,
+    history: History,
+    ready: RequestSet,
     making: Vec<Option<RunId>>,
-    waiting: Vec<Numbers>,
+    waiting: Vec<RequestSet>,
 }
 
 // A drop that is written out is proved here alone.
@@ -44,7 +44,7 @@ impl Opening {
         let history = empty_history(alloc)?;
         let ready = root_alone(alloc)?;
         let making = alone(alloc, None)?;
-        let waiting = alone(alloc, Numbers::new(alloc))?;
+        let waiting = alone(alloc, RequestSet::new(alloc))?;
         Ok(Opening {
             history,
             ready,
@@ -53,7 +53,7 @@ impl Opening {
         })
     }
 
-    pub(crate) fn parts(self) -> (Log, Numbers, Vec<Option<RunId>>, Vec<Numbers>)
+    pub(crate) fn parts(self) -> (History, RequestSet, Vec<Option<RunId>>, Vec<RequestSet>)
         ensures history { result.0 ≡ self.history }
         ensures ready { result.1 ≡ self.ready }
         ensures making { result.2 ≡ self.making }
@@ -69,20 +69,20 @@ impl Opening {
     }
 }
 
-fn empty_history(alloc: Global) -> Result<Log, NoMemory>
+fn empty_history(alloc: Global) -> Result<History, NoMemory>
     ensures events { IfOk result (λ history. history.events ≡ []) }
     ensures room { IfOk result (λ history. history.room ≡ 2) }
     ensures nodes { IfOk result (λ history. history.nodes ≡ 1) }
 {
-    let mut history = Log::new(alloc)?;
+    let mut history = History::new(alloc)?;
     history.reserve(2)?;
     Ok(history)
 }
 
-fn root_alone(alloc: Global) -> Result<Numbers, NoMemory>
+fn root_alone(alloc: Global) -> Result<RequestSet, NoMemory>
     ensures { IfOk result (λ ready. (n : ℕ) → among n ready.numbers ≡ (0 == n)) }
 {
-    let mut ready = Numbers::new(alloc);
+    let mut ready = RequestSet::new(alloc);
     ready.reserve(1)?;
     ready.insert(0);
     Ok(ready)

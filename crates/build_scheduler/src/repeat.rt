@@ -61,8 +61,8 @@ ghost use Rattle.build_scheduler.specs.Position.{HasEnded, ask_of};
 ghost use Rattle.build_scheduler.specs.Ready.{IsReady};
 ghost use Rattle.build_scheduler.specs.Shown.{is_ready};
 
+use crate::history::History;
 use crate::kept::Kept;
-use crate::log::Log;
 use crate::slot::Slot;
 use crate::{Answer, Core, Walker};
 use build_meaning::{ClaimKind, Event};
@@ -247,8 +247,10 @@ impl<W: Walker> Core<W> {
     {
         let (claims, told, walk) = end.parts();
         self.history.reserve(claims.len())?;
-        let _walk = self.use_all(id, node, claims);
-        let _left = self.done(id, walk, told);
+        let before = self.use_all(id, node, claims);
+        let left = self.done(id, walk, told);
+        self.released.put_walk(Some(before));
+        self.released.put_walk(left);
         Ok(())
     }
 
@@ -404,7 +406,7 @@ fn names(alloc: Global, runs: &[RunRef]) -> Result<Vec<RunId>, NoMemory>
 }
 
 /// Adds that a request uses the records of these runs, for which room was taken.
-fn push_uses(history: &mut Log, id: u64, claims: Vec<RunId>)
+fn push_uses(history: &mut History, id: u64, claims: Vec<RunId>)
     requires room { length claims.items ≤ history.old.room }
     ensures events { history.new.events ≡ history.old.events ++ uses_of_all id claims.items }
     ensures room { history.old.room ≡ history.new.room + length claims.items }

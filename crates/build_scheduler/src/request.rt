@@ -52,8 +52,8 @@ ghost use Rattle.build_scheduler.specs.Requests.{HasSpare, IsRefused, IsRequeste
 ghost use Rattle.build_scheduler.specs.Shown.{AreNested, unready};
 
 use crate::children::{child_origins, child_slots, empty_sets, no_results, no_runs};
-use crate::instances::Crowd;
-use crate::numbers::Numbers;
+use crate::instances::InstanceFault;
+use crate::request_set::RequestSet;
 use crate::slot::{Calls, Origin, Slot};
 use crate::{Core, Walker};
 use build_meaning::Event;
@@ -77,7 +77,7 @@ pub(crate) struct Children<W> {
     pub(crate) origins: Vec<Origin>,
     pub(crate) slots: Vec<Slot<W>>,
     pub(crate) making: Vec<Option<RunId>>,
-    pub(crate) waiting: Vec<Numbers>,
+    pub(crate) waiting: Vec<RequestSet>,
     pub(crate) results: Vec<RequestResult>,
 }
 
@@ -101,7 +101,7 @@ impl<W: Drop> Children<W> {
         origins: &mut Vec<Origin>,
         slots: &mut Vec<Slot<W>>,
         making: &mut Vec<Option<RunId>>,
-        waiting: &mut Vec<Numbers>,
+        waiting: &mut Vec<RequestSet>,
         id: u64,
         walk: W,
     )
@@ -301,8 +301,8 @@ impl<W: Walker> Core<W> {
             self.new.history.events id calls walk result }
     {
         match self.instances.add(calls.as_slice()) {
-            Err(Crowd::TooMany(instance)) => Err((walk, RequestFault::TooMany(instance))),
-            Err(Crowd::Memory) => Err((walk, RequestFault::Memory)),
+            Err(InstanceFault::TooMany(instance)) => Err((walk, RequestFault::TooMany(instance))),
+            Err(InstanceFault::Memory) => Err((walk, RequestFault::Memory)),
             Ok(()) => {
                 self.kept.count(&self.instances, calls.as_slice());
                 list_new(&mut self.ready, self.slots.len() as u64, calls.len());
@@ -480,7 +480,7 @@ fn reserve_all<W: Drop>(
     origins: &mut Vec<Origin>,
     slots: &mut Vec<Slot<W>>,
     making: &mut Vec<Option<RunId>>,
-    waiting: &mut Vec<Numbers>,
+    waiting: &mut Vec<RequestSet>,
     count: usize,
 ) -> Result<(), NoMemory>
     ensures origins { origins.new.items ≡ origins.old.items }
@@ -500,7 +500,7 @@ fn reserve_all<W: Drop>(
 }
 
 /// Lists new requests as ready.
-fn list_new(ready: &mut Numbers, first: u64, count: usize)
+fn list_new(ready: &mut RequestSet, first: u64, count: usize)
     requires room { count ≤ ready.old.room }
     requires absent { (n : ℕ) → first ≤ n → among n ready.old.numbers ≡ false }
     requires fits { first + count < 2 ^ 64 }

@@ -25,7 +25,7 @@ ghost use Rattle.build_scheduler.specs.Own.{Asks, IsOut, IsOwn, seen_by};
 ghost use Rattle.build_scheduler.specs.Position.{ask_of};
 ghost use Rattle.build_scheduler.specs.Shown.{Indexed, IsWaiting, IsWoken, Listed, woken_by};
 
-use crate::numbers::Numbers;
+use crate::request_set::RequestSet;
 use crate::scheduler::replace_slot;
 use crate::slot::Slot;
 use crate::{Answer, Core, Walker};
@@ -74,7 +74,12 @@ fn take_run(making: &mut Vec<Option<RunId>>, id: u64) -> Option<RunId>
 }
 
 /// Makes each slot ready that waits for the run of this request.
-fn wake<W: Drop>(slots: &mut Vec<Slot<W>>, ready: &mut Numbers, waiting: &mut Vec<Numbers>, id: u64)
+fn wake<W: Drop>(
+    slots: &mut Vec<Slot<W>>,
+    ready: &mut RequestSet,
+    waiting: &mut Vec<RequestSet>,
+    id: u64,
+)
     requires indexed { ∥ Indexed slots.old.items ready.old waiting.old.items ∥₁ }
     requires there { id < length slots.old.items }
     ensures slots { slots.new.items ≡ map (woken_by id) slots.old.items }
@@ -85,8 +90,8 @@ fn wake<W: Drop>(slots: &mut Vec<Slot<W>>, ready: &mut Numbers, waiting: &mut Ve
 
 fn wake_listed<W: Drop>(
     slots: &mut Vec<Slot<W>>,
-    ready: &mut Numbers,
-    waiting: &mut Numbers,
+    ready: &mut RequestSet,
+    waiting: &mut RequestSet,
     id: u64,
 )
     requires { Listed id slots.old.items ready.old waiting.old.numbers }
@@ -100,7 +105,7 @@ fn wake_listed<W: Drop>(
 }
 
 /// Makes a slot that waits ready.
-fn wake_one<W: Drop>(slots: &mut Vec<Slot<W>>, ready: &mut Numbers, number: u64)
+fn wake_one<W: Drop>(slots: &mut Vec<Slot<W>>, ready: &mut RequestSet, number: u64)
     requires waits { IsWaiting (at slots.old.items number) }
     requires absent { among number ready.old.numbers ≡ false }
     requires room { 0 < ready.old.room }

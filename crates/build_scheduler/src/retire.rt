@@ -2,7 +2,7 @@
 
 ghost use Rattle.std.specs.Prelude.{◌≡◌, ◌<◌, ◌≤◌, [], None, Some};
 ghost use Rattle.build_meaning.specs.Lists.{at};
-ghost use Rattle.build_scheduler.specs.Log.{most_nodes};
+ghost use Rattle.build_scheduler.specs.History.{most_nodes};
 ghost use Rattle.build_scheduler.specs.Own.{IsOut, seen_by};
 ghost use Rattle.build_scheduler.specs.Retired.{IsRetired};
 ghost use Rattle.build_scheduler.specs.Slots.{IsWithNode};

@@ -29,11 +29,12 @@ ghost use Rattle.build_scheduler.specs.Shown.{AreNested, Shown, Indexed, is_read
 ghost use Rattle.build_scheduler.specs.declared.slot.Slot.TheVariants.{Ready, Assigned};
 ghost use Rattle.build_meaning.specs.Lists.{at, put};
 
+use crate::history::History;
 use crate::instances::Instances;
 use crate::kept::KeptEnds;
-use crate::log::Log;
-use crate::numbers::Numbers;
 use crate::opening::{Opening, alone};
+use crate::released::Released;
+use crate::request_set::RequestSet;
 use crate::slot::{End, Origin, Slot};
 use crate::{Answer, Walker};
 use build_meaning::Event;
@@ -49,19 +50,21 @@ use std::mem;
 /// shows the state after it. (MSBuild task; Building projects in parallel.)
 pub struct Core<W: Walker> {
     pub(crate) world: W::Origin,
-    pub(crate) history: Log,
+    pub(crate) history: History,
     pub(crate) table: Table,
     pub(crate) origins: Vec<Origin>,
     pub(crate) slots: Vec<Slot<W>>,
     /// The run in whose body each request is.
     pub(crate) making: Vec<Option<RunId>>,
-    pub(crate) ready: Numbers,
+    pub(crate) ready: RequestSet,
     /// For each request those that wait for the run that it has begun.
-    pub(crate) waiting: Vec<Numbers>,
+    pub(crate) waiting: Vec<RequestSet>,
     pub(crate) instances: Instances,
     pub(crate) end: Option<End>,
     /// How requests have ended, for others of their keys.
     pub(crate) kept: KeptEnds<W>,
+    /// What is not needed any more, until a node takes it.
+    pub(crate) released: Released<W>,
     ghost legal: { ∥ Shown (seen_by W.world W.position W.asked W.learnt) (W.world_of world) history
         origins.items slots.items making.items table end ∥₁ },
     ghost indexed: { ∥ Indexed slots.items ready waiting.items ∥₁ },
@@ -91,6 +94,7 @@ impl<W: Walker + Drop> Drop for Core<W> {
             instances: _,
             end: _,
             kept: _,
+            released: _,
         } = self;
     }
 }
@@ -131,6 +135,7 @@ impl<W: Walker> Core<W> {
             instances,
             end: None,
             kept: KeptEnds::new(alloc)?,
+            released: Released::new(alloc),
         })
     }
 
@@ -175,6 +180,18 @@ impl<W: Walker> Core<W> {
         ensures nodes { self.new.history.nodes ≡ self.old.history.nodes }
     {
         self.end = Some(end);
+    }
+
+    /// Takes what is not needed any more, to drop it where others may have the core. This takes no
+    /// memory.
+    pub fn take_released(&mut self) -> Released<W>
+        ensures world { W.world_of self.new.world ≡ W.world_of self.old.world }
+        ensures history { self.new.history ≡ self.old.history }
+        ensures table { self.new.table ≡ self.old.table }
+        ensures end { self.new.end ≡ self.old.end }
+    {
+        let alloc = *self.slots.allocator();
+        mem::replace(&mut self.released, Released::new(alloc))
     }
 
     /// How the build has ended, if it has.

@@ -1,10 +1,7 @@
 -- A walk stays its request's own through the events of others.
 use Rattle.std.proofs.Common.{
   ◌≡◌,
-  ◌<◌,
-  ◌≤◌,
   ℕ,
-  zero,
   suc,
   List,
   [],
@@ -14,7 +11,6 @@ use Rattle.std.proofs.Common.{
   drop,
   take,
   All,
-  get_or,
   Bool,
   true,
   false,
@@ -39,7 +35,7 @@ use Rattle.result_cache.proofs.RunTests.{and_then-some}
 use Rattle.build_meaning.specs.declared.event.Event.{Event}
 use Rattle.build_meaning.specs.World.{World}
 use Rattle.build_meaning.specs.State.{assigned, State, start}
-use Rattle.build_meaning.specs.Step.{step, after_all, whose}
+use Rattle.build_meaning.specs.Step.{step, after_all}
 use Rattle.build_meaning.specs.History.{IsHistory, AreOfOthers}
 use Rattle.build_meaning.proofs.AssignedRequests.{stays}
 use Rattle.build_meaning.proofs.EventsKeepLawful.{some-is}
@@ -48,12 +44,12 @@ use Rattle.build_scheduler.specs.declared.slot.Origin.{Origin}
 use Rattle.build_scheduler.specs.declared.slot.Slot.{Slot}
 use Rattle.build_scheduler.specs.declared.slot.End.{End}
 use Rattle.build_scheduler.specs.Kept.{IsRepeated, repeats}
-use Rattle.build_scheduler.specs.Log.{Logged}
+use Rattle.build_scheduler.specs.History.{History}
 use Rattle.build_scheduler.specs.Own.{Seen, placed, IsOwn}
 use Rattle.build_scheduler.specs.Position.{ask_of}
 use Rattle.build_scheduler.specs.Shown.{Shown}
 use Rattle.build_scheduler.specs.declared.walker.Ask.{Ask}
-use Rattle.build_plain.specs.Driven.{Continues}
+use Rattle.build_scheduler.specs.Drivers.{Continues}
 use Rattle.build_scheduler.proofs.HistoryFacts.{one_state}
 use Rattle.engine_tests.specs.Trials.{IsAsking, WasOwn}
 
@@ -104,7 +100,7 @@ module _ {P I A : Type 0} (w : World P I A) where
             arith;
       }
 
-module _ {P I A : Type 0} (w : World P I A) {W : Type 0} {seen : W → Seen P I A} {log : Logged}
+module _ {P I A : Type 0} (w : World P I A) {W : Type 0} {seen : W → Seen P I A} {log : History}
     {origins : List Origin} {slots : List (Slot W)} {making : List
     (Option RunId)} {table : TableRuns} {end : Option End} where
   asking-still : Shown seen w log origins slots making table end →
@@ -186,29 +182,6 @@ assigned-continues w table events mid after id node repeated event is h grown = 
 ) ∣₁
 
 -- the events behind a place of a history, as they are looked through
-pub others-none : (xs : List Event) (n id : ℕ) → AreOfOthers id (drop n (take n xs))
-others-none [] zero id = tt
-others-none [] (suc n) id = tt
-others-none (x ∷ xs) zero id = tt
-others-none (x ∷ xs) (suc n) id = others-none xs n id
-
--- one more event of another request
-pub others-more : (xs : List Event) (n k id : ℕ) (d : Event) → n ≤ k → k < length xs
-    → (whose (get_or xs k d) ≡ id → ⊥) → AreOfOthers id (drop n (take k xs))
-    → AreOfOthers id (drop n (take (suc k) xs))
-others-more [] n k id d le lt other h = absurd (omega arith)
-others-more (x ∷ xs) zero zero id d le lt other h = (other, tt)
-others-more (x ∷ xs) zero (suc k) id d le lt other h =
-    (h.0, others-more xs zero k id d (omega arith) (omega arith) other h.1)
-others-more (x ∷ xs) (suc n) zero id d le lt other h = absurd (omega arith)
-others-more (x ∷ xs) (suc n) (suc k) id d le lt other h = others-more xs n k id d (omega arith)
-    (omega arith) other h
-
-pub take-whole : {X : Type 0} (xs : List X) (k : ℕ) → length xs ≤ k → take k xs ≡ xs
-take-whole [] zero le = refl
-take-whole [] (suc k) le = refl
-take-whole (x ∷ xs) zero le = absurd (omega arith)
-take-whole (x ∷ xs) (suc k) le = ap (λ l. x ∷ l) (take-whole xs k (omega arith))
 
 pub all-removed : {X : Type 0} (P : X → Type 0) (xs : List X) (n : ℕ) → All P xs
     → All P (remove xs n)

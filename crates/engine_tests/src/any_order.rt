@@ -1,43 +1,25 @@
 //! A build on several nodes, step by step: each request that is with a node has asked, and any of
 //! them is answered next. One that is ready may be over at once, by what another one of its key has
 //! given.
-ghost use Rattle.std.specs.Prelude.{
-  ◌≡◌,
-  ◌+◌,
-  ◌^◌,
-  ◌<◌,
-  [],
-  true,
-  All,
-  drop,
-  length,
-  None,
-  Some,
-  IfOk,
-  IfSome,
-  IsSome,
-  OnOk,
-};
-ghost use Rattle.build_meaning.specs.History.{AreOfOthers};
+ghost use Rattle.std.specs.Prelude.{◌≡◌, ◌+◌, ◌^◌, ◌<◌, [], All, length, None, Some, IfSome};
 ghost use Rattle.build_meaning.specs.Step.{whose};
 ghost use Rattle.build_scheduler.specs.declared.walker.Ask.TheVariants.{Want, Call, Done as IsOver};
 ghost use Rattle.build_scheduler.specs.Kept.{IsRepeated};
-ghost use Rattle.build_scheduler.specs.Learnt.{AreInOrder, ArePartOf};
 ghost use Rattle.build_scheduler.specs.Own.{IsOut, IsOwn, seen_by};
-ghost use Rattle.build_scheduler.specs.Position.{IsInTurn, answered, ask_of, begins};
+ghost use Rattle.build_scheduler.specs.Position.{answered, ask_of, begins};
 ghost use Rattle.build_scheduler.specs.Ready.{IsReady};
-ghost use Rattle.build_plain.specs.Driven.{Continues, end_of};
+ghost use Rattle.build_scheduler.specs.Drivers.{Continues};
 ghost use Rattle.engine_tests.specs.Trials.{IsAsking};
 
 use crate::account::Account;
 use crate::random::Random;
 use build_outcome::Outcome;
-use build_scheduler::{Answer, Ask, Claimed, Core, End, Event, RequestFault, Walker};
+use build_scheduler::{Answer, Ask, Claimed, Core, End, Walker, are_of_others, go_on, refusal_end};
 use build_world::World;
 use msb_instance::Instances;
 use msb_values::{List, NoMemory, Text};
-use request_machine::{Site, Walk, root_key};
-use result_cache::{RequestKey, RequestResult, RunId, Table};
+use request_machine::{NodeContext, Walk, root_key};
+use result_cache::{RequestKey, RequestResult, RunId};
 use std::alloc::Global;
 use task_trait::CountedTools;
 
@@ -126,15 +108,15 @@ pub fn in_any_order<'a, T: CountedTools + 'a>(
 ) -> Result<Watched, NoMemory> {
     let key = root_key(world)?;
     let walk = Walk::start(alloc, world)?;
-    let mut site = Site {
+    let mut site = NodeContext {
         world,
         tools: &mut *tools,
         instances: Instances::new(alloc),
     };
-    built(alloc, key, walk, &mut site, Random::new(seed))
+    watch_build(alloc, key, walk, &mut site, Random::new(seed))
 }
 
-fn built<W: Walker>(
+fn watch_build<W: Walker>(
     alloc: Global,
     key: RequestKey,
     walk: W,
@@ -149,7 +131,7 @@ fn built<W: Walker>(
 {
     let core = Core::new(alloc, key, walk)?;
     let mut build = AnyOrder::new(alloc, core);
-    let account = played(alloc, &mut build, place, random)?;
+    let account = play_to_end(alloc, &mut build, place, random)?;
     Ok(Watched {
         outcome: outcome_of(alloc, &build.core)?,
         broken: Text::of(alloc, account.broken)?,
@@ -165,7 +147,7 @@ fn outcome_of<W: Walker>(alloc: Global, core: &Core<W>) -> Result<Option<Outcome
 }
 
 /// The account of a build that is played to its end.
-fn played<W: Walker>(
+fn play_to_end<W: Walker>(
     alloc: Global,
     build: &mut AnyOrder<W>,
     place: &mut W::Place,
@@ -299,32 +281,6 @@ fn bring_back<W: Walker>(core: &mut Core<W>, asking: Asking<W>) -> Option<Next<W
     }
 }
 
-/// Whether no event from this number on is of the request.
-fn are_of_others(events: &[Event], id: u64, number: usize) -> bool
-    ensures { result ≡ true → AreOfOthers id (drop number events.now) }
-{
-    for at in number..events.len() {
-        if request_of(&events[at]) == id {
-            return false;
-        }
-    }
-    true
-}
-
-/// The request that an event is of.
-fn request_of(event: &Event) -> u64
-    ensures { result ≡ whose event.now }
-{
-    match event {
-        Event::Assign(id, _) => *id,
-        Event::Claim(id, _, _) => *id,
-        Event::Request(id, _) => *id,
-        Event::Result(id, _) => *id,
-        Event::Done(id) => *id,
-        Event::Retire(id, _) => *id,
-    }
-}
-
 /// Answers what a request with a node asks. A cycle of runs, a limit that is passed and want of
 /// memory end the build.
 fn answer_ask<W: Walker>(core: &mut Core<W>, id: u64, walk: W, ask: Ask) -> Option<Next<W>>
@@ -367,8 +323,7 @@ fn end_request<W: Walker>(core: &mut Core<W>, id: u64, walk: W, told: RequestRes
     ensures world { W.world_of core.new.world ≡ W.world_of core.old.world }
     ensures continues { Continues core.old.history.events core.new.history.events }
 {
-    let _ = core.keep(id, &walk, &told);
-    let _left = core.done(id, walk, told);
+    let _left = core.end_request(id, walk, told);
 }
 
 fn claim<W: Walker>(core: &mut Core<W>, id: u64, walk: W, run: &RunId) -> Option<Next<W>>
@@ -418,20 +373,9 @@ fn call<W: Walker>(core: &mut Core<W>, id: u64, walk: W, calls: List<RequestKey>
     match core.request(id, walk, calls) {
         Ok(()) => None,
         Err((_, fault)) => {
-            core.stop(refused(fault));
+            core.stop(refusal_end(fault));
             None
         }
-    }
-}
-
-/// The end of a build whose calls are refused.
-fn refused(fault: RequestFault) -> End
-    ensures { result ≡ end_of fault }
-{
-    match fault {
-        RequestFault::TooDeep(keys) => End::TooDeep(keys),
-        RequestFault::TooMany(instance) => End::TooMany(instance),
-        RequestFault::Memory => End::NoMemory,
     }
 }
 
@@ -459,7 +403,7 @@ fn advance<W: Walker>(
         answer,
     } = next;
     let number = event_count(core);
-    let ask = step(core.table(), place, &mut walk, &answer)?;
+    let ask = go_on(core.table(), place, &mut walk, &answer)?;
     out.push(Asking {
         id,
         walk,
@@ -474,31 +418,4 @@ fn event_count<W: Walker>(core: &Core<W>) -> usize
     ensures few { length core.now.history.events < 2 ^ 63 }
 {
     core.history().len()
-}
-
-/// The walk learns the records that its answer needs, and goes on to its next ask.
-fn step<W: Walker>(
-    table: &Table,
-    place: &mut W::Place,
-    walk: &mut W,
-    answer: &Answer,
-) -> Result<Ask, NoMemory>
-    requires in_order { AreInOrder table.now.finished }
-    requires known { ArePartOf (W.learnt walk.old) table.now.finished }
-    requires fits { IsSome
-        (answered (W.world walk.old) table.now.finished (W.position walk.old) answer.now) }
-    requires turn { IsInTurn (W.asked walk.old) answer.now }
-    requires room { W.asked walk.old < 2 ^ 63 }
-    requires place { W.Fits place.old (W.world walk.old) }
-    ensures place { W.Fits place.new (W.world walk.old) }
-    ensures asks { IfOk result (λ ask. ask ≡ ask_of (W.position walk.new)) }
-    ensures goes_on { OnOk result
-        (answered (W.world walk.old) table.now.finished (W.position walk.old) answer.now
-        ≡ Some (W.position walk.new)) }
-    ensures asked { OnOk result (W.asked walk.new ≡ W.asked walk.old + 1) }
-    ensures known { ArePartOf (W.learnt walk.new) table.now.finished }
-    ensures world { W.world walk.new ≡ W.world walk.old }
-{
-    walk.learn(table, answer)?;
-    walk.advance(place, answer)
 }

@@ -5,7 +5,7 @@ use crate::random::set;
 use crate::runs::{Outside, is_number, is_so, is_text, outside_of, status, status_alone};
 use build_world::World;
 use file_store::Tree;
-use msb_program::Gate;
+use gate_tools::Gate;
 use msb_values::{Act, List, Mode, NoMemory, Pairs, Text};
 use std::alloc::Global;
 use std::process::Abort;
@@ -24,7 +24,7 @@ const ORDERS: u64 = 10;
 const SETS_ON_NODES: u64 = 20;
 
 /// What a build on one node comes to.
-fn built_alone(alloc: Global, set: Tree, tools: &Gate) -> Result<(u8, Outside), Fail> {
+fn build_by_one(alloc: Global, set: Tree, tools: &Gate) -> Result<(u8, Outside), Fail> {
     let mut on = outside_of(alloc, set, u64::MAX, None)?;
     let mut counted = Counted::new(alloc, tools)?;
     let status = status_alone(alloc, "build p0", &mut on, &mut counted)?;
@@ -36,7 +36,7 @@ fn built_alone(alloc: Global, set: Tree, tools: &Gate) -> Result<(u8, Outside), 
 fn every_order_comes_to_the_same(rt: HostRuntime) -> Result<(), Fail> {
     let mut repeats = 0u64;
     for seed in 0..SETS {
-        let built = built_in_every_order(&rt, rt.alloc(), seed, false)?;
+        let built = build_in_every_order(&rt, rt.alloc(), seed, false)?;
         is_number(
             &rt,
             u64::from(built.status),
@@ -53,7 +53,7 @@ fn every_order_comes_to_the_same(rt: HostRuntime) -> Result<(), Fail> {
 fn a_circle_ends_every_order(rt: HostRuntime) -> Result<(), Fail> {
     let mut circles = 0u64;
     for seed in 0..SETS {
-        let built = built_in_every_order(&rt, rt.alloc(), seed, true)?;
+        let built = build_in_every_order(&rt, rt.alloc(), seed, true)?;
         circles = circles.saturating_add(u64::from(built.status == 4));
     }
     is_so(&rt, circles > 5, "there are circles");
@@ -68,13 +68,13 @@ struct Built {
     repeats: u64,
 }
 
-fn built_in_every_order<R: Abort>(
+fn build_in_every_order<R: Abort>(
     rt: &R,
     alloc: Global,
     seed: u64,
     may_call_all: bool,
 ) -> Result<Built, Fail> {
-    let (status, on) = built_alone(alloc, set(alloc, seed, may_call_all)?, &Gate::new())?;
+    let (status, on) = build_by_one(alloc, set(alloc, seed, may_call_all)?, &Gate::new())?;
     let world = world(alloc, set(alloc, seed, may_call_all)?)?;
     let repeats = all_end_so(rt, alloc, &world, status, &on)?;
     Ok(Built { status, repeats })
@@ -163,8 +163,8 @@ fn are_done(acts: &[Act], tree: &Tree) -> bool {
 fn each_run_is_made_once(rt: HostRuntime) -> Result<(), Fail> {
     for seed in 0..SETS_ON_NODES {
         let tools = Gate::new();
-        built_alone(rt.alloc(), set(rt.alloc(), seed, false)?, &tools)?;
-        are_tallied(&rt, rt.alloc(), seed, tools.tallied())?;
+        build_by_one(rt.alloc(), set(rt.alloc(), seed, false)?, &tools)?;
+        are_tallied(&rt, rt.alloc(), seed, tools.tally())?;
     }
     Ok(())
 }
@@ -185,7 +185,7 @@ fn are_tallied<R: Threads + Wait + Sync + Abort>(
         let mut on = outside_of(alloc, set(alloc, seed, false)?, u64::MAX, None)?;
         let status = status(rt, alloc, line, &mut on, &tools)?;
         is_number(rt, u64::from(status), 0, line);
-        is_number(rt, tools.tallied(), runs, line);
+        is_number(rt, tools.tally(), runs, line);
     }
     Ok(())
 }

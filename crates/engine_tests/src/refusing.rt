@@ -10,9 +10,9 @@ use build_nodes::build_with;
 use build_outcome::Outcome;
 use build_scheduler::{Answer, Ask, Core, End, Event, Walker};
 use build_world::World;
+use gate_tools::Gate;
 use msb_instance::Instances;
-use msb_outcomes::sites_of;
-use msb_program::Gate;
+use msb_outcomes::contexts_of;
 use msb_values::NoMemory;
 use request_machine::{Walk, root_key};
 use result_cache::{RequestKey, Table};
@@ -176,10 +176,10 @@ fn on_nodes<R: Threads + Wait + Sync>(
     let world = world(alloc, set(alloc, 3, false)?)?;
     let tools = Gate::new();
     let manner = Manner { nodes, refuses };
-    Ok(built_on(rt, alloc, manner, &world, &tools)?)
+    Ok(build_on(rt, alloc, manner, &world, &tools)?)
 }
 
-fn built_on<R: Threads + Wait + Sync, T: Tools + Sync>(
+fn build_on<R: Threads + Wait + Sync, T: Tools + Sync>(
     rt: &R,
     alloc: Global,
     manner: Manner,
@@ -188,11 +188,11 @@ fn built_on<R: Threads + Wait + Sync, T: Tools + Sync>(
 ) -> Result<Told, NoMemory>
     requires { (0 < manner.nodes) × (manner.nodes ≤ 64) }
 {
-    let mut counted = counted(alloc, manner.nodes, tools)?;
-    built_at(rt, alloc, world, &mut counted, manner.refuses)
+    let mut counted = count_tools(alloc, manner.nodes, tools)?;
+    build_at(rt, alloc, world, &mut counted, manner.refuses)
 }
 
-fn counted<'a, T: Tools>(
+fn count_tools<'a, T: Tools>(
     alloc: Global,
     nodes: u32,
     tools: &'a T,
@@ -206,7 +206,7 @@ fn counted<'a, T: Tools>(
     Ok(counted)
 }
 
-fn built_at<'a, R: Threads + Wait + Sync, T: CountedTools + Send + Drop + 'a>(
+fn build_at<'a, R: Threads + Wait + Sync, T: CountedTools + Send + Drop + 'a>(
     rt: &R,
     alloc: Global,
     world: &'a World,
@@ -217,8 +217,8 @@ fn built_at<'a, R: Threads + Wait + Sync, T: CountedTools + Send + Drop + 'a>(
 {
     let key = root_key(world)?;
     let walk = Walk::start(alloc, world)?;
-    let sites = sites_of(alloc, world, Instances::new(alloc), tools)?;
-    build_walk(rt, alloc, key, Refusing { walk, refuses }, sites)
+    let contexts = contexts_of(alloc, world, Instances::new(alloc), tools)?;
+    build_walk(rt, alloc, key, Refusing { walk, refuses }, contexts)
 }
 
 fn build_walk<R: Threads + Wait + Sync, W: Walker + Send>(

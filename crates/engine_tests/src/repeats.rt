@@ -7,10 +7,10 @@ use crate::orders::world;
 use crate::runs::{is_text, tree};
 use build_scheduler::{ClaimKind, Core, Event, Walker};
 use build_world::World;
+use gate_tools::Gate;
 use msb_instance::Instances;
-use msb_program::Gate;
 use msb_values::NoMemory;
-use request_machine::{Site, Walk, root_key};
+use request_machine::{NodeContext, Walk, root_key};
 use result_cache::RequestKey;
 use std::alloc::{AllocError, Global};
 use std::fmt::Write;
@@ -49,14 +49,14 @@ const TURNS: usize = 200;
 
 #[test]
 fn the_first_request_of_a_key_is_not_over_at_once(rt: HostRuntime) -> Result<(), Fail> {
-    let steps = tried(rt.alloc(), &[("p0", CALLER), ("p1", CALLED)], 1)?;
+    let steps = try_repeat(rt.alloc(), &[("p0", CALLER), ("p1", CALLED)], 1)?;
     is_text(&rt, steps.as_bytes(), "false\n", "the first request");
     Ok(())
 }
 
 #[test]
 fn the_second_request_of_a_key_is_over_at_once(rt: HostRuntime) -> Result<(), Fail> {
-    let steps = tried(rt.alloc(), &[("p0", CALLER), ("p1", CALLED)], 2)?;
+    let steps = try_repeat(rt.alloc(), &[("p0", CALLER), ("p1", CALLED)], 2)?;
     let want = "assign 2 5\nclaim 2 a use\nclaim 2 b use\ndone 2\ntrue\n";
     is_text(&rt, steps.as_bytes(), want, "the second request");
     Ok(())
@@ -66,7 +66,7 @@ fn the_second_request_of_a_key_is_over_at_once(rt: HostRuntime) -> Result<(), Fa
 fn a_plain_request_is_over_at_once_whatever_its_caller_has_done(
     rt: HostRuntime,
 ) -> Result<(), Fail> {
-    let steps = tried(rt.alloc(), &called_by_two(CALLED), 4)?;
+    let steps = try_repeat(rt.alloc(), &called_by_two(CALLED), 4)?;
     let want = "assign 4 5\nclaim 4 a use\nclaim 4 b use\ndone 4\ntrue\n";
     is_text(
         &rt,
@@ -79,7 +79,7 @@ fn a_plain_request_is_over_at_once_whatever_its_caller_has_done(
 
 #[test]
 fn a_request_that_sees_files_is_not_over_at_once(rt: HostRuntime) -> Result<(), Fail> {
-    let steps = tried(rt.alloc(), &called_by_two(SEES_A_FILE), 4)?;
+    let steps = try_repeat(rt.alloc(), &called_by_two(SEES_A_FILE), 4)?;
     is_text(
         &rt,
         steps.as_bytes(),
@@ -100,14 +100,14 @@ fn called_by_two(called: &str) -> [(&str, &str); 4] {
 }
 
 /// The steps of the call that tries to end this request at once, and what it answers.
-fn tried(alloc: Global, files: &[(&str, &str)], id: u64) -> Result<String, Fail> {
+fn try_repeat(alloc: Global, files: &[(&str, &str)], id: u64) -> Result<String, Fail> {
     let world = world(alloc, tree(alloc, files)?)?;
     let tools = Gate::new();
     let mut counted = Counted::new(alloc, &tools)?;
-    Ok(tried_in(alloc, &world, &mut counted, id)?)
+    Ok(try_repeat_in(alloc, &world, &mut counted, id)?)
 }
 
-fn tried_in<'a, T: CountedTools + 'a>(
+fn try_repeat_in<'a, T: CountedTools + 'a>(
     alloc: Global,
     world: &'a World,
     tools: &'a mut T,
@@ -115,15 +115,15 @@ fn tried_in<'a, T: CountedTools + 'a>(
 ) -> Result<String, NoMemory> {
     let key = root_key(world)?;
     let walk = Walk::start(alloc, world)?;
-    let mut site = Site {
+    let mut site = NodeContext {
         world,
         tools: &mut *tools,
         instances: Instances::new(alloc),
     };
-    tried_at(alloc, key, walk, &mut site, id)
+    try_repeat_at(alloc, key, walk, &mut site, id)
 }
 
-fn tried_at<W: Walker>(
+fn try_repeat_at<W: Walker>(
     alloc: Global,
     key: RequestKey,
     walk: W,
@@ -142,7 +142,7 @@ fn tried_at<W: Walker>(
     let mut core = build.into_core();
     let before = core.history().len();
     let repeated = repeat_least(&mut core, 5)?;
-    Ok(shown(alloc, core.history(), before, repeated)?)
+    Ok(show_steps(alloc, core.history(), before, repeated)?)
 }
 
 /// The build goes on as on one node, until this request is the next one.
@@ -174,7 +174,12 @@ fn repeat_least<W: Walker>(core: &mut Core<W>, node: u32) -> Result<bool, NoMemo
 }
 
 /// The events from this place on, and the answer.
-fn shown(alloc: Global, events: &[Event], from: usize, answer: bool) -> Result<String, AllocError> {
+fn show_steps(
+    alloc: Global,
+    events: &[Event],
+    from: usize,
+    answer: bool,
+) -> Result<String, AllocError> {
     let mut text = String::new(alloc);
     for at in from..events.len() {
         if let Some(event) = events.get(at) {

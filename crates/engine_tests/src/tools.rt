@@ -6,7 +6,7 @@ ghost use Rattle.task_trait.specs.declared.tools.ToolAnswer.TheVariants.{Made, U
 
 use crate::runs::{is_number, is_so, is_text, outside_of, status, status_alone, tree};
 use file_store::Tree;
-use msb_program::Gate;
+use gate_tools::Gate;
 use msb_values::{Act, Copied, Item, List, Name, NoMemory, Note, Pairs, Put, Shared, Text, Text8};
 use std::alloc::{AllocError, Global};
 use std::fmt::Write;
@@ -61,8 +61,8 @@ fn two_nodes_work_at_once(rt: HostRuntime) -> Result<(), Fail> {
         let status = status(&rt, rt.alloc(), line, &mut on, &tools)?;
         is_number(&rt, u64::from(status), 0, line);
         is_text(&rt, on.sink.bytes(), PRINTED, line);
-        is_so(&rt, tools.met() == *met, line);
-        is_number(&rt, tools.tallied(), 1, line);
+        is_so(&rt, tools.has_met() == *met, line);
+        is_number(&rt, tools.tally(), 1, line);
     }
     Ok(())
 }
@@ -217,14 +217,19 @@ const TAKEN: [Taken; 14] = [
 fn answers_of_tools_are_taken(rt: HostRuntime) -> Result<(), Fail> {
     let name = Name::read(rt.alloc(), "Tool")?;
     for (ok, paths, written, want) in &TAKEN {
-        let made = ToolAnswer::Made(made(rt.alloc(), *ok, paths)?);
+        let made = ToolAnswer::Made(make_output(rt.alloc(), *ok, paths)?);
         let taken = foreign_output(rt.alloc(), &name, made, *written)?;
-        is_text(&rt, shown(rt.alloc(), &taken)?.as_bytes(), want, paths);
+        is_text(
+            &rt,
+            show_output(rt.alloc(), &taken)?.as_bytes(),
+            want,
+            paths,
+        );
     }
     Ok(())
 }
 
-fn made(alloc: Global, ok: bool, paths: &str) -> Result<TaskOutput, NoMemory> {
+fn make_output(alloc: Global, ok: bool, paths: &str) -> Result<TaskOutput, NoMemory> {
     let mut notes = List::new(alloc);
     notes.push(Note::Message(Text::of(alloc, "note")?))?;
     Ok(TaskOutput {
@@ -253,7 +258,7 @@ fn act(alloc: Global, path: &str) -> Result<Act, NoMemory> {
     }))
 }
 
-fn shown(alloc: Global, output: &TaskOutput) -> Result<String, AllocError> {
+fn show_output(alloc: Global, output: &TaskOutput) -> Result<String, AllocError> {
     let note = match output.notes.as_slice().last() {
         Some(Note::Message(text)) => text.as_str(),
         Some(Note::Fail(text)) => text.as_str(),

@@ -2,7 +2,8 @@ use Rattle.std.proofs.Common.{List, IfOk, sym, subst, ◌∙◌}
 use Rattle.build_meaning.specs.World.{World}
 use Rattle.build_meaning.specs.declared.event.Event.{Event}
 use Rattle.build_outcome.specs.Outcomes.{IsOutcome, IsOutcomeAt}
-use Rattle.build_plain.specs.Driven.{IsLegal, NoneAssigned}
+use Rattle.build_plain.specs.Driven.{NoneAssigned}
+use Rattle.build_scheduler.specs.Drivers.{IsLegal}
 use Rattle.build_engine.specs.UsedFor.{IsUsedFor}
 use Rattle.build_engine.proofs.Using.{all_used_for}
 use Rattle.build_engine.proofs.Building.{known_statuses, none_at_first, outcomes_are}

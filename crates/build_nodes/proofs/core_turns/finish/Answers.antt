@@ -5,8 +5,8 @@ use Rattle.build_nodes.proofs.Marks.{ahead}
 use Rattle.turn_board.proofs.Prefixes.{prefix_trans}
 use Rattle.std.proofs.Common.{refl, subst, sym, ◌∙◌}
 use Rattle.build_nodes.proofs.Active.{active-more}
-use Rattle.build_nodes.specs.Turns.{AreAlike}
-use Rattle.build_nodes.proofs.NoRecords.{own-alike}
+use Rattle.build_scheduler.specs.Drivers.{AreAlike}
+use Rattle.build_scheduler.proofs.NoRecords.{own-alike}
 use Rattle.build_nodes.proofs.core_turns.finish.Goals as goal
 
 pub result-requires-clause-asks : goal.result-requires-clause-asks

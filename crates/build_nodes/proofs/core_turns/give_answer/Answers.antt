@@ -7,7 +7,7 @@ use Rattle.build_scheduler.specs.Learnt.{ArePartOf}
 use Rattle.build_scheduler.specs.Own.{seen_by}
 use Rattle.build_scheduler.specs.Position.{answered}
 use Rattle.build_scheduler.proofs.HistoryFacts.{some-prop}
-use Rattle.build_nodes.specs.Turns.{AreAlike}
+use Rattle.build_scheduler.specs.Drivers.{AreAlike}
 use Rattle.build_nodes.proofs.Away.{learnt-alike, learnt-out, part-prop, refused-out}
 use Rattle.build_nodes.proofs.core_turns.give_answer.Goals as goal
 

@@ -1,7 +1,7 @@
 use Rattle.std.proofs.Common.{refl, subst, ◌∙◌}
 use Rattle.build_meaning.specs.declared.event.Event.TheVariants.{Request}
 use Rattle.build_scheduler.specs.Own.{seen_by}
-use Rattle.build_plain.specs.Driven.{IsLegal}
+use Rattle.build_scheduler.specs.Drivers.{IsLegal}
 use Rattle.build_plain.proofs.Driving.{drives-one}
 use Rattle.build_plain.proofs.OneAtATime.{legal-of}
 use Rattle.build_plain.proofs.Turns.{leaves-node, refused-stop}
@@ -31,7 +31,7 @@ stop-requires-clause-shown g c =
     let requested = c.in-Err.ensures.requested in
     refused-stop (m.world_of core.world) (m.world_of c.request.new.self.world) core.history.events
     c.request.new.self.history.events c.request.ensures.world requested.0 c.args.id c.args.calls
-    c.in-Err.fault c.refused.result c.refused.ensures requested.2
+    c.in-Err.fault c.refusal_end.result c.refusal_end.ensures requested.2
 
 pub returns-in-Ok-clause-uses : goal.returns-in-Ok-clause-uses
 returns-in-Ok-clause-uses g c =

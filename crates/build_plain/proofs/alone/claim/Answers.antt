@@ -7,7 +7,7 @@ use Rattle.build_meaning.specs.declared.event.ClaimKind.TheVariants.{
 }
 use Rattle.build_scheduler.specs.declared.walker.Answer.TheVariants.{Go, Use}
 use Rattle.build_scheduler.specs.Own.{IsOwn, seen_by}
-use Rattle.build_plain.specs.Driven.{IsLegal}
+use Rattle.build_scheduler.specs.Drivers.{IsLegal}
 use Rattle.build_plain.proofs.Driving.{drives-one, one-longer}
 use Rattle.build_plain.proofs.OneAtATime.{legal-of}
 use Rattle.build_plain.proofs.Turns.{

@@ -1,7 +1,8 @@
 use Rattle.std.proofs.Common.{Some, sym, subst}
 use Rattle.build_scheduler.specs.Own.{seen_by}
 use Rattle.build_scheduler.specs.Ready.{IsLeastReady}
-use Rattle.build_plain.specs.Driven.{IsLegal, NoneAssigned}
+use Rattle.build_plain.specs.Driven.{NoneAssigned}
+use Rattle.build_scheduler.specs.Drivers.{IsLegal}
 use Rattle.build_plain.proofs.OneAtATime.{free-of, legal-of, never_idle}
 use Rattle.build_plain.proofs.Repeats.{
   as-before,

@@ -17,8 +17,8 @@ use Rattle.engine_tests.specs.Trials.{IsAsking}
 use Rattle.engine_tests.proofs.Others.{asks-now}
 use Rattle.engine_tests.proofs.any_order.advance.Goals as goal
 
-pub step-requires-clause-known : goal.step-requires-clause-known
-step-requires-clause-known g c =
+pub go_on-requires-clause-known : goal.go_on-requires-clause-known
+go_on-requires-clause-known g c =
     let m = g.W.Walker in
     let core = c.args.core.now in
     let next = c.args.next in
@@ -26,8 +26,8 @@ step-requires-clause-known g c =
     (known-of (m.world_of core.world) core.history.events core.table.finished next.id
     (seen_by m.world m.position m.asked m.learnt next.walk) next.answer c.requires.next)
 
-pub step-requires-clause-fits : goal.step-requires-clause-fits
-step-requires-clause-fits g c =
+pub go_on-requires-clause-fits : goal.go_on-requires-clause-fits
+go_on-requires-clause-fits g c =
     let m = g.W.Walker in
     let core = c.args.core.now in
     let next = c.args.next in
@@ -38,16 +38,16 @@ step-requires-clause-fits g c =
     (fits-of (m.world_of core.world) core.history.events core.table.finished next.id
     (seen_by m.world m.position m.asked m.learnt next.walk) next.answer c.requires.next)
 
-pub step-requires-clause-turn : goal.step-requires-clause-turn
-step-requires-clause-turn g c =
+pub go_on-requires-clause-turn : goal.go_on-requires-clause-turn
+go_on-requires-clause-turn g c =
     let m = g.W.Walker in
     let core = c.args.core.now in
     let next = c.args.next in
     turn-of (m.world_of core.world) core.history.events core.table.finished next.id
     (seen_by m.world m.position m.asked m.learnt next.walk) next.answer c.requires.next
 
-pub step-requires-clause-room : goal.step-requires-clause-room
-step-requires-clause-room g c =
+pub go_on-requires-clause-room : goal.go_on-requires-clause-room
+go_on-requires-clause-room g c =
     let m = g.W.Walker in
     let core = c.args.core.now in
     let next = c.args.next in
@@ -55,8 +55,8 @@ step-requires-clause-room g c =
     (seen_by m.world m.position m.asked m.learnt next.walk) next.answer c.requires.next
     c.event_count-number.ensures.few
 
-pub step-requires-clause-place : goal.step-requires-clause-place
-step-requires-clause-place g c =
+pub go_on-requires-clause-place : goal.go_on-requires-clause-place
+go_on-requires-clause-place g c =
     let m = g.W.Walker in
     let core = c.args.core.now in
     let next = c.args.next in
@@ -70,37 +70,37 @@ returns-clause-place g c =
     let m = g.W.Walker in
     let core = c.args.core.now in
     let next = c.args.next in
-    let place = c.step.new.place in
+    let place = c.go_on.new.place in
     fits-world (m.world_of core.world) core.history.events core.table.finished next.id
     (seen_by m.world m.position m.asked m.learnt next.walk) next.answer c.requires.next
-    (m.Fits place) (g.met.W.Walker.fits_once place) c.step.ensures.place
+    (m.Fits place) (g.met.W.Walker.fits_once place) c.go_on.ensures.place
 
 pub returns-in_err-ask-clause-place : goal.returns-in_err-ask-clause-place
 returns-in_err-ask-clause-place g c =
     let m = g.W.Walker in
     let core = c.args.core.now in
     let next = c.args.next in
-    let place = c.step.new.place in
+    let place = c.go_on.new.place in
     fits-world (m.world_of core.world) core.history.events core.table.finished next.id
     (seen_by m.world m.position m.asked m.learnt next.walk) next.answer c.requires.next
-    (m.Fits place) (g.met.W.Walker.fits_once place) c.step.ensures.place
+    (m.Fits place) (g.met.W.Walker.fits_once place) c.go_on.ensures.place
 
 pub returns-in_err-push-clause-place : goal.returns-in_err-push-clause-place
 returns-in_err-push-clause-place g c =
     let m = g.W.Walker in
     let core = c.args.core.now in
     let next = c.args.next in
-    let place = c.step.new.place in
+    let place = c.go_on.new.place in
     fits-world (m.world_of core.world) core.history.events core.table.finished next.id
     (seen_by m.world m.position m.asked m.learnt next.walk) next.answer c.requires.next
-    (m.Fits place) (g.met.W.Walker.fits_once place) c.step.ensures.place
+    (m.Fits place) (g.met.W.Walker.fits_once place) c.go_on.ensures.place
 
 pub returns-clause-out : goal.returns-clause-out
 returns-clause-out g c =
     let m = g.W.Walker in
     let core = c.args.core.now in
     let next = c.args.next in
-    let walk = c.step.new.walk in
+    let walk = c.go_on.new.walk in
     let told = c.in_ok-ask.ensures in
     let own = own-of (m.world_of core.world) core.history.events core.table.finished next.id
     (seen_by m.world m.position m.asked m.learnt next.walk) next.answer c.requires.next

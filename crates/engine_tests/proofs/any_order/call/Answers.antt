@@ -8,4 +8,4 @@ stop-requires-clause-shown g c =
     let requested = c.in-Err.ensures.requested in
     refused-stop (m.world_of core.world) (m.world_of c.request.new.self.world) core.history.events
     c.request.new.self.history.events c.request.ensures.world requested.0 c.args.id c.args.calls
-    c.in-Err.fault c.refused.result c.refused.ensures requested.2
+    c.in-Err.fault c.refusal_end.result c.refusal_end.ensures requested.2

@@ -4,15 +4,15 @@ use Rattle.request_machine.specs.Worlds.{root_of, world_of}
 use Rattle.msb_outcomes.proofs.Beginning.{begins_there}
 use Rattle.engine_tests.proofs.any_order.in_any_order.Goals as goal
 
-pub built-requires-clause-place : goal.built-requires-clause-place
-built-requires-clause-place g c = (
+pub watch_build-requires-clause-place : goal.watch_build-requires-clause-place
+watch_build-requires-clause-place g c = (
   c.in_ok-walk.ensures.world,
   subst (AreEvaluated c.args.world.now.tree.files)
       (sym c.new.ensures) tt,
 )
 
-pub built-requires-clause-begins : goal.built-requires-clause-begins
-built-requires-clause-begins g c =
+pub watch_build-requires-clause-begins : goal.watch_build-requires-clause-begins
+watch_build-requires-clause-begins g c =
     let tools = g.T.CountedTools.answer in
     begins_there (world_of tools c.args.world.now)
     (world_of tools c.in_ok-walk.walk.request.world.now) (root_of c.args.world.now)

@@ -1,4 +1,4 @@
-use Rattle.std.proofs.Common.{◌≡◌, ◌<◌, ◌∷◌, [], Some, length, sym, ◌∙◌, subst, arith}
+use Rattle.std.proofs.Common.{◌≡◌, ◌<◌, ◌∷◌, [], Some, length, refl, sym, ◌∙◌, subst, arith}
 use Rattle.result_cache.specs.Lists.{In}
 use Rattle.build_meaning.specs.Lists.{at}
 use Rattle.build_scheduler.specs.Dependents.{AreBroughtIn}
@@ -14,8 +14,9 @@ add_callers-requires c n i =
     ≡ Some request = sym (slice-at self.requests.keys c.args.place) ∙ c.index-request.ensures in
     let l : request < length c.args.origins.now.items = c.requires.there c.args.place request here
     in
-    let e = numbers-at c.args.waiting.now.items request c.index.result.now c.as_slice.result.now
-    (omega (arith, l, c.requires.waiting.lists)) c.index.ensures c.as_slice.ensures in
+    let e = numbers-at c.args.waiting.now.items request c.index.result.now
+    c.index.result.now.numbers
+    (omega (arith, l, c.requires.waiting.lists)) c.index.ensures refl in
     c.requires.waiting.bounded request n
     (in-among n (numbers_of (at c.args.waiting.now.items request)) (subst (In n) e i))
 
@@ -27,8 +28,9 @@ returns c =
     let here : at self.requests.keys c.args.place
     ≡ Some request = sym (slice-at self.requests.keys c.args.place) ∙ c.index-request.ensures in
     let l : request < length origins = c.requires.there c.args.place request here in
-    let e = numbers-at c.args.waiting.now.items request c.index.result.now c.as_slice.result.now
-    (omega (arith, l, c.requires.waiting.lists)) c.index.ensures c.as_slice.ensures in
+    let e = numbers-at c.args.waiting.now.items request c.index.result.now
+    c.index.result.now.numbers
+    (omega (arith, l, c.requires.waiting.lists)) c.index.ensures refl in
     on-ok c.add_callers.result (λ b. (
       request,
       here,
@@ -36,7 +38,8 @@ returns c =
           (λ ns. AreBroughtIn origins (request ∷ ns) c.args.place self.requests.keys
           self.needs.items c.add_callers.new.self.requests.keys c.add_callers.new.self.needs.items)
           e
-          (brought-join origins c.args.place (request ∷ []) c.as_slice.result.now self.requests.keys
+          (brought-join origins c.args.place (request ∷ []) c.index.result.now.numbers
+          self.requests.keys
           self.needs.items c.add_caller.new.self.requests.keys c.add_caller.new.self.needs.items
           c.add_callers.new.self.requests.keys c.add_callers.new.self.needs.items
           c.in_ok-add_caller.ensures b),

@@ -6,7 +6,7 @@ use Rattle.build_meaning.specs.Lists.{put}
 use Rattle.build_scheduler.specs.Own.{seen_by}
 use Rattle.build_scheduler.proofs.Behind.{behind-event, behind-same, kept-same}
 use Rattle.build_scheduler.proofs.Claiming.{begun-shown, begun-out, shown-room, making-there}
-use Rattle.build_scheduler.proofs.LogRoom.{active-same}
+use Rattle.build_scheduler.proofs.HistoryRoom.{active-same}
 use Rattle.build_scheduler.proofs.Repeating.{kept-alike}
 use Rattle.build_scheduler.proofs.Rooms.{room-shown}
 use Rattle.build_scheduler.proofs.Stopping.{none-stops}

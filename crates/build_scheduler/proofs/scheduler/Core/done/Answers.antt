@@ -74,7 +74,7 @@ invariant_of-self g c =
       stops = ∣ tt ∣₁;
       kept_so = ∥∥₁_map self.kept_so (kept-fewer (seen_by m.world m.position m.asked m.learnt)
           (m.world_of self.world) self.table.finished self.origins.items self.kept.instances.items
-          c.count_done.new.self.instances.items c.count_done.ensures);
+          c.count_done-end.new.self.instances.items c.count_done-end.ensures);
       behind = behind-event (seen_by m.world m.position m.asked m.learnt) (m.world_of self.world)
           (Done c.args.id) self.legal legal c.push.ensures.events
           (kept-put self.slots.items Over c.put_slot.ensures) self.behind;
@@ -137,7 +137,7 @@ invariant_of-self-in-Some g c =
       stops = ∣ none-stops (m.world_of self.world) _ running ∣₁;
       kept_so = ∥∥₁_map self.kept_so (kept-fewer (seen_by m.world m.position m.asked m.learnt)
           (m.world_of self.world) self.table.finished self.origins.items self.kept.instances.items
-          c.count_done.new.self.instances.items c.count_done.ensures);
+          c.count_done-end.new.self.instances.items c.count_done-end.ensures);
       behind = behind-event (seen_by m.world m.position m.asked m.learnt) (m.world_of self.world)
           (Done c.args.id) self.legal legal c.push.ensures.events
           (kept-resumed self.slots.items c.put_slot.ensures c.resume.ensures) self.behind;

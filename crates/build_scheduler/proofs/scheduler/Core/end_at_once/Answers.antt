@@ -22,7 +22,7 @@ use Rattle.build_scheduler.specs.declared.walker.Ask.TheVariants.{Done as IsOver
 use Rattle.build_scheduler.specs.Kept.{EndsAlike, repeats}
 use Rattle.build_scheduler.specs.Own.{Asks, IsOwn, seen_by}
 use Rattle.build_scheduler.proofs.Behind.{behind-same}
-use Rattle.build_scheduler.proofs.LogRoom.{active-same}
+use Rattle.build_scheduler.proofs.HistoryRoom.{active-same}
 use Rattle.build_scheduler.proofs.OverAtOnce.{
   all-events,
   ends-now,
@@ -56,8 +56,8 @@ invariant_of-self g c =
           c.reserve.ensures.events refl self.behind;
     }
 
-pub use_all-walk-requires-clause-ends : goal.use_all-walk-requires-clause-ends
-use_all-walk-requires-clause-ends g c =
+pub use_all-before-requires-clause-ends : goal.use_all-before-requires-clause-ends
+use_all-before-requires-clause-ends g c =
     let m = g.W.Walker in
     let self = c.args.self.now in
     let seen = seen_by m.world m.position m.asked m.learnt in
@@ -79,17 +79,17 @@ pub done-left-requires-clause-own : goal.done-left-requires-clause-own
 done-left-requires-clause-own g c =
     let m = g.W.Walker in
     let self = c.args.self.now in
-    let next = c.use_all-walk.new.self in
+    let next = c.use_all-before.new.self in
     let seen = seen_by m.world m.position m.asked m.learnt in
     let w = m.world_of self.world in
     let claims = ap (λ (v : Vec RunId Global). v.items) c.parts-claims.ensures.claims in
-    let is = c.use_all-walk.ensures.history
+    let is = c.use_all-before.ensures.history
     ∙ (ap (λ (es : List Event). es ++ Assign c.args.id c.args.node
     ∷ uses_of_all c.args.id c.parts-claims.result.0.items) c.reserve.ensures.events
     ∙ ap (λ (runs : List RunId). self.history.events ++ Assign c.args.id c.args.node
     ∷ uses_of_all c.args.id runs) claims) in
     subst (λ w. ∥ IsOwn w next.history.events next.table.finished c.args.id
-    (seen c.parts-claims.result.2) ∥₁) (sym c.use_all-walk.ensures.world)
+    (seen c.parts-claims.result.2) ∥₁) (sym c.use_all-before.ensures.world)
     (subst (λ v. ∥ IsOwn w next.history.events next.table.finished c.args.id (seen v) ∥₁)
     (sym c.parts-claims.ensures.walk)
     (over-own seen w self.history.events self.table.finished c.args.id c.args.node c.args.end
@@ -99,17 +99,17 @@ pub done-left-requires-clause-asks : goal.done-left-requires-clause-asks
 done-left-requires-clause-asks g c =
     let m = g.W.Walker in
     let self = c.args.self.now in
-    let next = c.use_all-walk.new.self in
+    let next = c.use_all-before.new.self in
     let seen = seen_by m.world m.position m.asked m.learnt in
     let w = m.world_of self.world in
     let claims = ap (λ (v : Vec RunId Global). v.items) c.parts-claims.ensures.claims in
-    let is = c.use_all-walk.ensures.history
+    let is = c.use_all-before.ensures.history
     ∙ (ap (λ (es : List Event). es ++ Assign c.args.id c.args.node
     ∷ uses_of_all c.args.id c.parts-claims.result.0.items) c.reserve.ensures.events
     ∙ ap (λ (runs : List RunId). self.history.events ++ Assign c.args.id c.args.node
     ∷ uses_of_all c.args.id runs) claims) in
     subst (λ w. ∥ Asks w next.history.events c.args.id (IsOver c.parts-claims.result.1) ∥₁)
-    (sym c.use_all-walk.ensures.world)
+    (sym c.use_all-before.ensures.world)
     (subst (λ (told : RequestResult). ∥ Asks w next.history.events c.args.id (IsOver told) ∥₁)
     (sym c.parts-claims.ensures.told)
     (over-asks seen w self.history.events self.table.finished c.args.id c.args.node c.args.end
@@ -132,7 +132,22 @@ returns-clause-repeated g c =
     self.history.events self.table.finished c.args.id c.args.node c.args.end c.requires.comes
     c.done-left.new.self.history.events
     (all-events self.history.events c.reserve.new.self.events
-    c.use_all-walk.new.self.history.events c.done-left.new.self.history.events c.args.id
+    c.use_all-before.new.self.history.events c.done-left.new.self.history.events c.args.id
     c.args.node c.parts-claims.result.0.items c.reserve.ensures.events
-    c.use_all-walk.ensures.history c.done-left.ensures.history
+    c.use_all-before.ensures.history c.done-left.ensures.history
     ∙ ap (λ (runs : List RunId). self.history.events ++ repeats c.args.id c.args.node runs) claims)
+
+pub invariant_of-self-2 : goal.invariant_of-self-2
+invariant_of-self-2 g c =
+    let self = c.done-left.new.self in
+    record {
+      legal = self.legal;
+      indexed = self.indexed;
+      counted = self.counted;
+      active = self.active;
+      few = self.few;
+      nested = self.nested;
+      stops = self.stops;
+      kept_so = self.kept_so;
+      behind = self.behind;
+    }

@@ -7,7 +7,7 @@ use Rattle.build_scheduler.specs.Own.{seen_by}
 use Rattle.build_scheduler.proofs.Behind.{behind-event, behind-same, kept-put}
 use Rattle.build_scheduler.proofs.Entering.{slot-there}
 use Rattle.build_scheduler.proofs.OwnWalks.{there-of}
-use Rattle.build_scheduler.proofs.LogRoom.{active-same}
+use Rattle.build_scheduler.proofs.HistoryRoom.{active-same}
 use Rattle.build_scheduler.proofs.Rooms.{room-shown, room-indexed, room-stops}
 use Rattle.build_scheduler.proofs.Stopping.{none-stops}
 use Rattle.build_scheduler.proofs.Waiting.{begun-there, unlisted, waited-shown, waits-indexed}

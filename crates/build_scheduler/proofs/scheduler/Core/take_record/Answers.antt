@@ -5,7 +5,7 @@ use Rattle.build_meaning.specs.declared.event.ClaimKind.TheVariants.{Use}
 use Rattle.build_scheduler.specs.Own.{seen_by}
 use Rattle.build_scheduler.proofs.Behind.{behind-event, behind-same, kept-same}
 use Rattle.build_scheduler.proofs.Claiming.{taken-shown, taken-out}
-use Rattle.build_scheduler.proofs.LogRoom.{active-same}
+use Rattle.build_scheduler.proofs.HistoryRoom.{active-same}
 use Rattle.build_scheduler.proofs.Rooms.{room-kept, room-shown}
 use Rattle.build_scheduler.proofs.Stopping.{none-stops}
 use Rattle.build_scheduler.proofs.scheduler.Core.take_record.Goals as goal

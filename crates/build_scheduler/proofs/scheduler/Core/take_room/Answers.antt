@@ -4,7 +4,7 @@ use Rattle.build_scheduler.specs.Instances.{AreCounted, instance_asked}
 use Rattle.build_scheduler.specs.Own.{seen_by}
 use Rattle.build_scheduler.specs.Shown.{AreNested}
 use Rattle.build_scheduler.proofs.Behind.{behind-same}
-use Rattle.build_scheduler.proofs.LogRoom.{active-same}
+use Rattle.build_scheduler.proofs.HistoryRoom.{active-same}
 use Rattle.build_scheduler.proofs.Repeating.{kept-alike}
 use Rattle.build_scheduler.proofs.Rooms.{
   room-kept,

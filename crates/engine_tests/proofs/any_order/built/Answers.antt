@@ -1,8 +1,0 @@
-use Rattle.std.proofs.Common.{◌∙◌, ap, subst, sym}
-use Rattle.engine_tests.proofs.any_order.built.Goals as goal
-
-pub played-requires : goal.played-requires
-played-requires g c =
-    let m = g.W.Walker in
-    subst (m.Fits c.args.place.now) (sym (ap (λ core. m.world_of core.world) c.new-build.ensures
-    ∙ c.in_ok-core.ensures.world)) c.requires.place
