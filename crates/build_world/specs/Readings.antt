@@ -1,6 +1,7 @@
 -- The project that a file holds, or the first fault of its elements. (MSBuild project file schema
 -- reference)
 use Rattle.std.specs.Prelude.{ℕ, List, [], Result, Ok, Err}
+use Rattle.msb_laws.specs.Words.{Path}
 use Rattle.file_store.specs.declared.tree.File.{File}
 use Rattle.msb_values.specs.declared.cause.Cause.{Cause}
 use Rattle.msb_values.specs.declared.cause.Cause.TheVariants as cause
@@ -41,7 +42,7 @@ cause_of_fault (BothAttributes place one other) = cause.BothAttributes one other
 cause_of_fault (BadName place at) = cause.BadName at
 cause_of_fault Memory = cause.Memory
 
-abbrev pub project_or_fault : List ℕ → Result Node ReadFault → Result Node EvalFault
+abbrev pub project_or_fault : Path → Result Node ReadFault → Result Node EvalFault
 project_or_fault file (Ok project) = Ok project
 project_or_fault file (Err fault) = Err
     (fault_at file (place_of_fault fault) (cause_of_fault fault))

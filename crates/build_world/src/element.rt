@@ -43,7 +43,7 @@ impl<'a> PlacedElement<'a> {
     {
         match self.placed_fault(alloc, cause) {
             Ok(fault) => fault,
-            Err(_) => EvalFault::memory(alloc),
+            Err(no_memory) => EvalFault::from(no_memory),
         }
     }
 
@@ -58,10 +58,8 @@ impl<'a> PlacedElement<'a> {
     fn placed_fault(&self, alloc: Global, cause: Cause) -> Result<EvalFault, NoMemory>
         ensures { IfOk result (λ fault. fault ≡ fault_of (seen_element self.now) cause) }
     {
-        Ok(EvalFault {
-            file: Text::of(alloc, self.file)?,
-            place: self.element.place().copy()?,
-            cause,
-        })
+        let file = Text::of(alloc, self.file)?;
+        let place = self.element.place().copy()?;
+        Ok(EvalFault::at(file, place, cause))
     }
 }

@@ -2,15 +2,14 @@ ghost use Rattle.std.specs.Prelude.{◌≡◌, IfOk};
 
 use msb_elements::Place;
 use msb_values::{Cause, NoMemory, Text};
-use std::alloc::Global;
+use std::alloc::{AllocError, AllocFailed, Global};
 
-/// Why a project is refused: the cause, with the file and the place of the element.
+/// Why a project is refused: the cause, with the element that has it.
 ///
-/// A fault whose cause is [`Cause::Memory`] is want of memory; its file and place say nothing, and
-/// it is not printed.
+/// A fault whose cause is [`Cause::Memory`] is want of memory. No element has it, and it is not
+/// printed.
 pub struct EvalFault {
-    pub file: Text,
-    pub place: Place,
+    pub element: Option<ElementPlace>,
     pub cause: Cause,
 }
 
@@ -18,35 +17,98 @@ pub struct EvalFault {
 impl Drop for EvalFault {
     fn drop(self) {
         let EvalFault {
-            file: _,
-            place: _,
+            element: _,
             cause: _,
         } = self;
     }
 }
 
-impl EvalFault {
-    ghost use Rattle.build_world.specs.Faults.{out_of_memory, fault_text};
+/// Where an element stands: the path of the file that holds it, and its place there.
+pub struct ElementPlace {
+    pub file: Text,
+    pub place: Place,
+}
 
-    /// Want of memory.
-    pub fn memory(alloc: Global) -> EvalFault
-        ensures { result ≡ out_of_memory }
-    {
+// A drop that is written out is proved here alone.
+impl Drop for ElementPlace {
+    fn drop(self) {
+        let ElementPlace { file: _, place: _ } = self;
+    }
+}
+
+impl From<NoMemory> for EvalFault {
+    ghost use Rattle.build_world.specs.Faults.{out_of_memory};
+
+    ghost from_gives = { λ _ fault. fault ≡ out_of_memory };
+
+    fn from(_: NoMemory) -> EvalFault {
         EvalFault {
-            file: Text::from(String::new(alloc)),
-            place: Place::root(alloc),
+            element: None,
             cause: Cause::Memory,
         }
+    }
+}
+
+impl From<AllocError> for EvalFault {
+    ghost use Rattle.build_world.specs.Faults.{out_of_memory};
+
+    ghost from_gives = { λ _ fault. fault ≡ out_of_memory };
+
+    fn from(_: AllocError) -> EvalFault {
+        EvalFault::from(NoMemory)
+    }
+}
+
+impl<T: Drop> From<AllocFailed<T>> for EvalFault {
+    ghost use Rattle.build_world.specs.Faults.{out_of_memory};
+
+    ghost from_gives = { λ _ fault. fault ≡ out_of_memory };
+
+    fn from(_: AllocFailed<T>) -> EvalFault {
+        EvalFault::from(NoMemory)
+    }
+}
+
+impl EvalFault {
+    ghost use Rattle.build_world.specs.Faults.{fault_at, fault_text, out_of_memory};
+
+    /// A fault of the element that stands at this place of a file.
+    pub(crate) fn at(file: Text, place: Place, cause: Cause) -> EvalFault
+        ensures { result ≡ fault_at file place cause }
+    {
+        EvalFault {
+            element: Some(ElementPlace { file, place }),
+            cause,
+        }
+    }
+
+    /// Want of memory.
+    pub fn memory(_alloc: Global) -> EvalFault
+        ensures { result ≡ out_of_memory }
+    {
+        EvalFault::from(NoMemory)
     }
 
     /// The file, the place and the cause, as they are printed.
     pub fn shown(&self, alloc: Global) -> Result<Text, NoMemory>
         ensures { IfOk result (λ t. t ≡ fault_text self.now) }
     {
-        let shown = self.cause.shown(alloc)?;
-        let shown = shown.as_str();
+        let cause = self.cause.shown(alloc)?;
+        match &self.element {
+            Some(element) => element.shown_before(alloc, cause.as_str()),
+            None => Ok(cause),
+        }
+    }
+}
+
+impl ElementPlace {
+    ghost use Rattle.build_world.specs.Faults.{text_at};
+
+    fn shown_before(&self, alloc: Global, cause: &str) -> Result<Text, NoMemory>
+        ensures { IfOk result (λ t. t ≡ text_at self.now cause.now) }
+    {
         let file = self.file.as_str();
         let place = &self.place;
-        Ok(Text::from(format!(in alloc; "{file} {place}: {shown}")?))
+        Ok(Text::from(format!(in alloc; "{file} {place}: {cause}")?))
     }
 }

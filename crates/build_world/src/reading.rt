@@ -29,18 +29,14 @@ pub fn read_file(alloc: Global, file: &File) -> Result<Project, EvalFault>
 fn fault_of(alloc: Global, file: &File, fault: ReadFault) -> EvalFault
     ensures { GivesFault (λ node. node) (Err result) (project_or_fault file.now.path (Err fault)) }
 {
-    let Ok(path) = file.path.copy() else {
-        return EvalFault::memory(alloc);
-    };
-    let (place, cause) = told(alloc, fault);
-    EvalFault {
-        file: path,
-        place,
-        cause,
+    let (place, cause) = place_and_cause(alloc, fault);
+    match file.path.copy() {
+        Ok(path) => EvalFault::at(path, place, cause),
+        Err(no_memory) => EvalFault::from(no_memory),
     }
 }
 
-fn told(alloc: Global, fault: ReadFault) -> (Place, Cause)
+fn place_and_cause(alloc: Global, fault: ReadFault) -> (Place, Cause)
     ensures { result ≡ (place_of_fault fault, cause_of_fault fault) }
 {
     match fault {

@@ -2,7 +2,7 @@ ghost use Rattle.std.specs.Prelude.{◌≡◌, map, option_map, option_copied, I
 ghost use Rattle.std.specs.List.{find};
 ghost use Rattle.std.specs.Str.{bytes_eq};
 ghost use Rattle.build_world.specs.Instances.{seen_target};
-ghost use Rattle.build_world.specs.Places.{HasPlaces, IsNoted};
+ghost use Rattle.build_world.specs.Places.{HasPlaces, IsInserted};
 
 use crate::UsedTarget;
 use msb_values::{List, Name, NoMemory};
@@ -91,7 +91,7 @@ fn insert_unless_there(
     name: &str,
     place: usize,
 ) -> Result<(), NoMemory>
-    ensures { OnOk result (IsNoted places.old name.now place places.new) }
+    ensures { OnOk result (IsInserted places.old name.now place places.new) }
 {
     if places.contains_key(name) {
         return Ok(());

@@ -4,3 +4,4 @@ pub mod Sorting
 pub mod Fronts
 pub mod Blocks
 pub mod Rising
+pub mod Naming

@@ -1,5 +1,7 @@
 pub mod Answer
 pub mod Expanded
+pub mod FoldedNames
+pub mod ItemNames
 pub mod Match
 pub mod Parsed
 pub mod Search

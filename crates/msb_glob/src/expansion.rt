@@ -63,7 +63,7 @@ impl Drop for Match {
 pub fn expand(alloc: Global, paths: &List<Text>, pattern: &Pattern) -> Result<List<Match>, NoRoom>
     ensures { IfOk result (Expands pattern.now paths.now) }
 {
-    let found = found_in(alloc, paths.as_slice(), pattern)?;
+    let found = find_matches(alloc, paths.as_slice(), pattern)?;
     Ok(matches_of(alloc, &found, pattern)?)
 }
 
@@ -81,11 +81,11 @@ pub fn expand_in<P: HasPath>(
         ≡ map (match_of pattern.now) (filter (is_match pattern.now) paths.now)) }
 {
     let front = front_of(alloc, pattern.parts.as_slice())?;
-    let found = matching(alloc, paths.beginning_with(front.as_str()), pattern)?;
+    let found = keep_matches(alloc, paths.beginning_with(front.as_str()), pattern)?;
     Ok(matches_of(alloc, &found, pattern)?)
 }
 
-fn matching<'a, P: HasPath>(
+fn keep_matches<'a, P: HasPath>(
     alloc: Global,
     entries: &'a [P],
     pattern: &Pattern,
@@ -104,7 +104,7 @@ fn matching<'a, P: HasPath>(
     Ok(found)
 }
 
-fn found_in<'a>(
+fn find_matches<'a>(
     alloc: Global,
     paths: &'a [Text],
     pattern: &Pattern,

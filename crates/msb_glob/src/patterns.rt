@@ -9,7 +9,7 @@ use crate::GlobFault;
 use crate::entries::with_slashes;
 use crate::fixed::{fixed_folder, fixed_text};
 use crate::parts::{Part, fits_path};
-use crate::reading::{cleared, has_stars_inside, parts_of};
+use crate::reading::{has_stars_inside, normalize_escapes, parts_of};
 use msb_paths::{PathFault, Word, normalize};
 use msb_values::{List, Text, escape};
 use std::alloc::Global;
@@ -73,7 +73,7 @@ fn normal_pattern(alloc: Global, base: &str, text: &str) -> Result<Word, GlobFau
     ensures { GivesPath result (normalized (escaped base.now) (cleared text.now)) }
 {
     let start = escape(alloc, base)?;
-    let whole = cleared(alloc, text)?;
+    let whole = normalize_escapes(alloc, text)?;
     match normalize(alloc, start.as_str(), whole.as_str()) {
         Ok(path) => Ok(path),
         Err(PathFault::AboveRoot) => Err(GlobFault::Path(PathFault::AboveRoot)),

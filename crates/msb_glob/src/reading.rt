@@ -26,7 +26,7 @@ use msb_values::{List, Text, escape, unescape};
 use std::alloc::Global;
 
 /// A text with its wildcards, and each other character as itself or as the escape of a special one.
-pub(crate) fn cleared(alloc: Global, text: &str) -> Result<Word, OutOfMemory>
+pub(crate) fn normalize_escapes(alloc: Global, text: &str) -> Result<Word, OutOfMemory>
     ensures { IfOk result (λ whole. whole ≡ cleared text.now) }
 {
     let mut whole = Word::of(alloc, "")?;

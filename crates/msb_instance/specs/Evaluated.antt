@@ -9,6 +9,7 @@ use Rattle.msb_values.specs.declared.scope.Scope.{Scope}
 use Rattle.target_order.specs.declared.row.TargetRow.{TargetRow}
 use Rattle.build_world.specs.declared.fault.EvalFault.{EvalFault}
 use Rattle.build_world.specs.Elements.{At}
+use Rattle.element_texts.specs.Contexts.{item_context}
 use Rattle.msb_properties.specs.Passed.{LaidOut, passed}
 use Rattle.msb_properties.specs.Settings.{setting}
 use Rattle.msb_items.specs.Definitions.{all_defined}
@@ -45,15 +46,15 @@ abbrev pub first_scope : InstanceKey → LaidOut → Scope
 first_scope key laid = record
     { globals = key.globals; props = laid.props; items = []; defaults = [] }
 
-abbrev pub with_targets : InstanceKey → LaidOut → Scope → Result Instance EvalFault
-with_targets key laid scope = map_ok (instance laid scope)
-    (rows_of key.path scope (targets_of laid.elements))
+abbrev pub with_targets : List File → InstanceKey → LaidOut → Scope → Result Instance EvalFault
+with_targets files key laid scope = map_ok (instance laid scope)
+    (rows_of (item_context (paths_of files) key.path scope) (targets_of laid.elements))
 
 abbrev pub after_layout : List File → InstanceKey → LaidOut → Result Instance EvalFault
 after_layout files key laid =
     and_then (all_defined (paths_of files) (first_scope key laid) laid.elements) (λ defined.
     and_then (all_itemed (paths_of files) defined laid.elements)
-    (λ itemed. with_targets key laid itemed))
+    (λ itemed. with_targets files key laid itemed))
 
 abbrev pub evaluated : List File → InstanceKey → Result Instance EvalFault
 evaluated files key = and_then (passed (setting files key)) (after_layout files key)

@@ -15,6 +15,7 @@ ghost use Rattle.msb_instance.specs.Made.{target_seen};
 use crate::rows::rows;
 use crate::targets::used_targets;
 use build_world::{EvalFault, Instance, LaidOut, UsedTarget, UsedTargets};
+use element_texts::ElementContext;
 use file_store::Tree;
 use msb_items::{definition_pass, item_pass};
 use msb_properties::{ElementTrees, property_pass};
@@ -56,12 +57,10 @@ fn after_layout(
     ensures { GivesFault seen_instance result
         (after_layout tree.now.files key.now (seen_layout laid)) }
 {
-    let Ok(mut scope) = first_scope(alloc, key, &laid) else {
-        return Err(EvalFault::memory(alloc));
-    };
+    let mut scope = first_scope(alloc, key, &laid)?;
     definition_pass(alloc, tree, &laid, &mut scope)?;
     item_pass(alloc, tree, &laid, &mut scope)?;
-    with_targets(alloc, key, laid, scope)
+    with_targets(alloc, tree, key, laid, scope)
 }
 
 /// The final properties, with no item and no default yet.
@@ -79,23 +78,20 @@ fn first_scope(alloc: Global, key: &InstanceKey, laid: &LaidOut) -> Result<Scope
 /// The evaluated scope with the targets.
 fn with_targets(
     alloc: Global,
+    tree: &Tree,
     key: &InstanceKey,
     laid: LaidOut,
     scope: Scope,
 ) -> Result<Instance, EvalFault>
-    ensures { GivesFault seen_instance result (with_targets key.now (seen_layout laid) scope) }
+    ensures { GivesFault seen_instance result
+        (with_targets tree.now.files key.now (seen_layout laid) scope) }
 {
     let (elements, _, duplicates, initial, default) = laid.parts();
-    let Ok(targets) = used_targets(alloc, elements) else {
-        return Err(EvalFault::memory(alloc));
-    };
-    let rows = rows(alloc, key.path.as_str(), &scope, targets.as_slice())?;
-    let Ok(default) = default_or_first(alloc, default, targets.as_slice()) else {
-        return Err(EvalFault::memory(alloc));
-    };
-    let Ok(targets) = UsedTargets::of(alloc, targets) else {
-        return Err(EvalFault::memory(alloc));
-    };
+    let targets = used_targets(alloc, elements)?;
+    let context = ElementContext::of_items(tree, key.path.as_str(), &scope);
+    let rows = rows(alloc, &context, targets.as_slice())?;
+    let default = default_or_first(alloc, default, targets.as_slice())?;
+    let targets = UsedTargets::of(alloc, targets)?;
     Ok(Instance {
         scope,
         rows,

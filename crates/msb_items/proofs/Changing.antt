@@ -21,12 +21,13 @@ use Rattle.msb_values.specs.declared.change.Change.{Change}
 use Rattle.msb_values.specs.declared.scope.Scope.{Scope}
 use Rattle.build_world.specs.Elements.{At}
 use Rattle.build_world.specs.declared.fault.EvalFault.{EvalFault}
-use Rattle.msb_items.specs.Places.{Place, with_scope}
+use Rattle.element_texts.specs.Contexts.{ElementContext, with_scope}
 use Rattle.msb_items.specs.TargetGroups.{all_applied, changes_of_each}
 
 -- so far the elements have made these changes, the scope is this, and `all` is what all of them
 -- tell
-pub record IsChanging (of : Place → At → Result (List Change) EvalFault) (p : Place)
+pub record IsChanging (of : ElementContext → At → Result (List Change) EvalFault)
+    (p : ElementContext)
     (rest : List At) (scope : Scope) (front : List Change) (all : Result (List Change) EvalFault) :
     Type 0 where
   pub is : all ≡ map_ok (λ more. front ++ more) (changes_of_each of (with_scope p scope) rest)
@@ -37,14 +38,16 @@ longer : {E : Type 0} (front changes : List Change) (r : Result (List Change) E)
 longer front changes (Ok later) = ap Ok (sym (append_assoc front changes later))
 longer front changes (Err fault) = refl
 
-pub changing_stop : (of : Place → At → Result (List Change) EvalFault) (p : Place) (e : At)
+pub changing_stop : (of : ElementContext → At → Result (List Change) EvalFault) (p : ElementContext)
+    (e : At)
     (rest more : List At) (scope : Scope) (front : List Change)
     (all : Result (List Change) EvalFault) (fault : EvalFault)
     → IsChanging of p rest scope front all → rest ≡ e ∷ more → of (with_scope p scope) e ≡ Err fault
     → all ≡ Err fault
 changing_stop of p e rest more scope front all fault inv is fails = inv.is ∙ rw (is, fails) refl
 
-pub changing_step : (of : Place → At → Result (List Change) EvalFault) (p : Place) (e : At)
+pub changing_step : (of : ElementContext → At → Result (List Change) EvalFault) (p : ElementContext)
+    (e : At)
     (rest more : List At) (scope : Scope) (front changes : List Change)
     (all : Result (List Change) EvalFault)
     → IsChanging of p rest scope front all → rest ≡ e ∷ more
@@ -56,7 +59,8 @@ changing_step of p e rest more scope front changes all inv is gives = record {
       (longer front changes (changes_of_each of (with_scope p (all_applied changes scope)) more));
 }
 
-pub changing_end : (of : Place → At → Result (List Change) EvalFault) (p : Place) (scope : Scope)
+pub changing_end : (of : ElementContext → At → Result (List Change) EvalFault) (p : ElementContext)
+    (scope : Scope)
     (front : List Change) (all : Result (List Change) EvalFault)
     → IsChanging of p [] scope front all → all ≡ Ok front
 changing_end of p scope front all inv = inv.is ∙ ap Ok (append-nil front)

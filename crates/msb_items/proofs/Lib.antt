@@ -7,3 +7,4 @@ pub mod Plain
 pub mod Replacing
 pub mod InOrder
 pub mod PutBack
+pub mod Telling

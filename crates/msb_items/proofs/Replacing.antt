@@ -23,9 +23,10 @@ use Rattle.msb_laws.specs.Results.{and_then, map_ok, all_ok}
 use Rattle.msb_values.specs.declared.item.Item.{Item}
 use Rattle.build_world.specs.declared.fault.EvalFault.{EvalFault}
 use Rattle.build_world.specs.Elements.{At}
-use Rattle.msb_items.specs.Places.{Place}
+use Rattle.element_texts.specs.Contexts.{ElementContext}
 use Rattle.msb_items.specs.Metadata.{WrittenMetadata, item_attributes, metadata_on}
-use Rattle.msb_items.specs.ItemNames.{ItemNames, is_named}
+use Rattle.msb_glob.specs.ItemNames.{ItemNames}
+use Rattle.msb_items.specs.ItemNames.{is_named}
 use Rattle.msb_items.specs.Items.{
   list_of,
   names_at,
@@ -52,7 +53,7 @@ one_kept : (items : List Item) (item : Item) (rest : Result (List (Option Item))
 one_kept items item (Ok replacements) = refl
 one_kept items item (Err fault) = refl
 
-one_replaced : (p : Place) (kind : List ℕ) (written : List WrittenMetadata) (b : Bool)
+one_replaced : (p : ElementContext) (kind : List ℕ) (written : List WrittenMetadata) (b : Bool)
     (items : List Item) (item : Item) (rest : Result (List (Option Item)) EvalFault)
     → map_ok (replaced (item ∷ items))
     (and_then (replacement_if b p kind written item) (λ y. map_ok (λ ys. y ∷ ys) rest))
@@ -62,7 +63,8 @@ one_replaced p kind written true items item rest = each_replaced items item
     (with_all_metadata p kind written item) rest
 one_replaced p kind written false items item rest = one_kept items item rest
 
-pub replaced_all : (p : Place) (kind : List ℕ) (written : List WrittenMetadata) (test : Item → Bool)
+pub replaced_all : (p : ElementContext) (kind : List ℕ) (written : List WrittenMetadata)
+    (test : Item → Bool)
     (items : List Item)
     → map_ok (replaced items) (replacements_of p kind written test items)
     ≡ all_ok (λ item. updated_if (test item) p kind written item) items
@@ -78,7 +80,7 @@ mapped_twice : {X Y Z E : Type 0} (f : X → Y) (g : Y → Z) (r : Result X E)
 mapped_twice f g (Ok x) = refl
 mapped_twice f g (Err e) = refl
 
-named_first : (p : Place) (kind : List ℕ) (written : List WrittenMetadata)
+named_first : (p : ElementContext) (kind : List ℕ) (written : List WrittenMetadata)
     (r : Result ItemNames EvalFault)
     → and_then r
     (λ names. map_ok (with_list p.scope kind)
@@ -95,7 +97,7 @@ named_first p kind written (Ok names) =
 named_first p kind written (Err fault) = refl
 
 -- an Update by what replaces the items
-pub updated_by : (p : Place) (kind : List ℕ) (e : At) (update : List ℕ)
+pub updated_by : (p : ElementContext) (kind : List ℕ) (e : At) (update : List ℕ)
     → updated p kind e update
     ≡ map_ok (λ replacements. with_list p.scope kind (replaced (list_of p.scope kind) replacements))
     (and_then (names_at p e update)

@@ -18,6 +18,7 @@ use Rattle.std.specs.Prelude.{
 }
 use Rattle.std.specs.List.{flat_map, list_any}
 use Rattle.std.specs.Str.{bytes_eq}
+use Rattle.msb_laws.specs.Words.{Text, Name}
 use Rattle.msb_laws.specs.Results.{and_then, map_ok, all_ok}
 use Rattle.msb_values.specs.declared.cause.Cause.{Cause}
 use Rattle.msb_elements.specs.Nodes.{attributes_of, inner_text}
@@ -42,7 +43,7 @@ abbrev pub joined_ok : {X Y E : Type 0} → (X → Result (List Y) E) → List X
 joined_ok f xs = map_ok (flat_map (λ ys. ys)) (all_ok f xs)
 
 -- a text, as an expression
-abbrev pub text_read : List ℕ → Result (List Expr) Cause
+abbrev pub text_read : Text → Result (List Expr) Cause
 text_read written = map_ok (λ parts. record { parts = parts } ∷ []) (or_unread (reading written))
 
 -- the texts of a Condition, from the left
@@ -50,17 +51,17 @@ abbrev pub texts_or_cause : Result Tree Refusal → Result (List Expr) Cause
 texts_or_cause (Ok tree) = Ok (texts_of tree)
 texts_or_cause (Err refusal) = Err (refusal_cause refusal)
 
-abbrev pub condition_read : Option (List ℕ) → Result (List Expr) Cause
+abbrev pub condition_read : Option Text → Result (List Expr) Cause
 condition_read None = Ok []
 condition_read (Some written) = texts_or_cause (condition_of written)
 
 -- an attribute, unless it is one of those that have no meaning here
-abbrev pub attribute_if : Bool → Bool → List ℕ → Result (List Expr) Cause
+abbrev pub attribute_if : Bool → Bool → Text → Result (List Expr) Cause
 attribute_if true is_condition written = Ok []
 attribute_if false true written = condition_read (Some written)
 attribute_if false false written = text_read written
 
-abbrev pub attribute_read : List (List ℕ) → List ℕ × List ℕ → Result (List Expr) Cause
+abbrev pub attribute_read : List Text → Text × Text → Result (List Expr) Cause
 attribute_read ignored pair = attribute_if (list_any (bytes_eq pair.0) ignored)
     (bytes_eq pair.0 (codes "Condition")) pair.1
 
@@ -73,11 +74,11 @@ abbrev pub child_read : At → Result (List Expr) EvalFault
 child_read e = or_fault e (inner_read e)
 
 -- the attributes in byte order of their names, then the element's own text, then its children
-abbrev pub own_read : List (List ℕ) → At → Result (List Expr) Cause
+abbrev pub own_read : List Text → At → Result (List Expr) Cause
 own_read ignored e = and_then (joined_ok (attribute_read ignored) (attributes_of e.node))
     (λ attributes. map_ok (λ text. attributes ++ text) (text_read (inner_text e.node)))
 
-abbrev pub texts_read : List (List ℕ) → At → Result (List Expr) EvalFault
+abbrev pub texts_read : List Text → At → Result (List Expr) EvalFault
 texts_read ignored e = and_then (or_fault e (own_read ignored e))
     (λ own. map_ok (λ children. own ++ children) (joined_ok child_read (children_of e)))
 
@@ -88,7 +89,7 @@ or_batch_cause (Err fault) = Err (cause_of fault)
 -- The buckets of an element, and of an item element by its own type as well. All texts are read
 -- first, so that one that has no reading comes ahead of any other fault; a fault of batching is
 -- told at the element, also for a child's text.
-abbrev pub element_buckets : Scene → List (List ℕ) → At → Option (List ℕ)
+abbrev pub element_buckets : Scene → List Text → At → Option Name
     → Result (List Bucket) EvalFault
 element_buckets scene ignored e own = and_then (texts_read ignored e)
     (λ texts. or_fault e (or_batch_cause (buckets_value scene texts own)))

@@ -1,4 +1,3 @@
-pub mod Places
 pub mod Metadata
 pub mod Definitions
 pub mod Patterns

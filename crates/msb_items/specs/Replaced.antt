@@ -1,20 +1,22 @@
 -- Items of which some are replaced: those that an Update names, each by itself with its new
 -- metadata.
 use Rattle.std.specs.Prelude.{ℕ, List, [], ◌∷◌, Bool, true, false, Option, Some, None, Result, Ok}
+use Rattle.msb_laws.specs.Words.{Name}
 use Rattle.msb_laws.specs.Results.{map_ok, all_ok}
 use Rattle.msb_values.specs.declared.item.Item.{Item}
 use Rattle.build_world.specs.declared.fault.EvalFault.{EvalFault}
-use Rattle.msb_items.specs.Places.{Place}
+use Rattle.element_texts.specs.Contexts.{ElementContext}
 use Rattle.msb_items.specs.Metadata.{WrittenMetadata}
 use Rattle.msb_items.specs.Items.{with_all_metadata}
 
 -- what an item becomes, if it is named
-abbrev pub replacement_if : Bool → Place → List ℕ → List WrittenMetadata → Item
+abbrev pub replacement_if : Bool → ElementContext → Name → List WrittenMetadata → Item
     → Result (Option Item) EvalFault
 replacement_if true p kind written item = map_ok Some (with_all_metadata p kind written item)
 replacement_if false p kind written item = Ok None
 
-abbrev pub replacements_of : Place → List ℕ → List WrittenMetadata → (Item → Bool) → List Item
+abbrev pub replacements_of : ElementContext → Name → List WrittenMetadata → (Item → Bool)
+    → List Item
     → Result (List (Option Item)) EvalFault
 replacements_of p kind written is_named items = all_ok
     (λ item. replacement_if (is_named item) p kind written item) items

@@ -2,7 +2,7 @@ ghost use Rattle.std.specs.Prelude.{◌≡◌, option_copied};
 ghost use Rattle.msb_laws.specs.Results.{and_then, map_ok};
 ghost use Rattle.build_world.specs.Answers.{GivesFault};
 ghost use Rattle.build_world.specs.Elements.{seen_element};
-ghost use Rattle.msb_items.specs.FoldedNames.{folded_names, seen_names};
+ghost use Rattle.msb_glob.specs.FoldedNames.{folded_names, seen_names};
 ghost use Rattle.msb_items.specs.Items.{
   items_at,
   less_excluded,
@@ -14,59 +14,58 @@ ghost use Rattle.msb_items.specs.Items.{
 ghost use Rattle.msb_items.specs.ItemNames.{is_named};
 ghost use Rattle.msb_items.specs.Metadata.{item_attributes, metadata_on};
 ghost use Rattle.msb_items.specs.Replaced.{replacements_of};
-ghost use Rattle.msb_items.specs.Seen.{place_of};
+ghost use Rattle.element_texts.specs.Seen.{context_of};
 
 use crate::entries::{all_items, items_by};
 use crate::files::ListedFiles;
-use crate::item_names::ItemNames;
+use crate::item_names::names_of;
 use crate::metadata::{Kind, metadata_on};
-use crate::place::Place;
 use crate::unnamed::unnamed;
 use crate::updates::{replacements, with_metadata};
 use build_world::{EvalFault, PlacedElement};
+use element_texts::ElementContext;
 use file_store::File;
-use msb_glob::SortedPaths;
+use msb_glob::{ItemNames, SortedPaths};
 use msb_paths::Present;
-use msb_values::{Item, Name, Scope};
+use msb_values::{Item, Name, NoMemory, Scope};
 use std::alloc::Global;
 
 /// The items that an Include adds, less those that Exclude names, with the metadata that are
 /// written on the element. (MSBuild items.)
 pub(crate) fn new_items<F: Present>(
     alloc: Global,
-    place: &Place<'_, F>,
+    context: &ElementContext<'_, F>,
     paths: &SortedPaths<'_, File>,
     kind: &Name,
     element: &PlacedElement<'_>,
     include: &str,
 ) -> Result<Vec<Item>, EvalFault>
-    requires { paths.now ≡ F.files place.now.files.now }
+    requires { paths.now ≡ F.files context.now.files.now }
     ensures { GivesFault (λ items. items.items) result
-        (new_items (place_of F.files place.now) kind.now (seen_element element.now) include.now) }
+        (new_items (context_of F.files context.now) kind.now (seen_element element.now)
+        include.now) }
 {
-    let items = items_at(alloc, place, paths, element, include)?;
+    let items = items_at(alloc, context, paths, element, include)?;
     let exclude = element.element.attribute("Exclude");
-    let items = less_excluded(alloc, place, element, exclude, items)?;
-    let Ok(written) = metadata_on(alloc, Kind::Item, element) else {
-        return Err(EvalFault::memory(alloc));
-    };
-    with_metadata(alloc, place, kind, &written, items)
+    let items = less_excluded(alloc, context, element, exclude, items)?;
+    let written = metadata_on(alloc, Kind::Item, element)?;
+    with_metadata(alloc, context, kind, &written, items)
 }
 
 /// The items of the entries of an Include.
 fn items_at<F: Present>(
     alloc: Global,
-    place: &Place<'_, F>,
+    context: &ElementContext<'_, F>,
     paths: &SortedPaths<'_, File>,
     element: &PlacedElement<'_>,
     include: &str,
 ) -> Result<Vec<Item>, EvalFault>
-    requires { paths.now ≡ F.files place.now.files.now }
+    requires { paths.now ≡ F.files context.now.files.now }
     ensures { GivesFault (λ items. items.items) result
-        (items_at (place_of F.files place.now) (seen_element element.now) include.now) }
+        (items_at (context_of F.files context.now) (seen_element element.now) include.now) }
 {
-    let entries = place.entries(alloc, element, include)?;
-    match all_items(alloc, paths, place.project, entries.as_slice()) {
+    let entries = context.entries(alloc, element, include)?;
+    match all_items(alloc, paths, context.project, entries.as_slice()) {
         Ok(items) => Ok(items),
         Err(cause) => Err(element.fault(alloc, cause)),
     }
@@ -75,15 +74,15 @@ fn items_at<F: Present>(
 /// The items of the entries of an Include in a target.
 pub(crate) fn target_items_at<F: ListedFiles>(
     alloc: Global,
-    place: &Place<'_, F>,
+    context: &ElementContext<'_, F>,
     element: &PlacedElement<'_>,
     include: &str,
 ) -> Result<Vec<Item>, EvalFault>
     ensures { GivesFault (λ items. items.items) result
-        (items_at (place_of F.files place.now) (seen_element element.now) include.now) }
+        (items_at (context_of F.files context.now) (seen_element element.now) include.now) }
 {
-    let entries = place.entries(alloc, element, include)?;
-    match items_by(alloc, place.files, place.project, entries.as_slice()) {
+    let entries = context.entries(alloc, element, include)?;
+    match items_by(alloc, context.files, context.project, entries.as_slice()) {
         Ok(items) => Ok(items),
         Err(cause) => Err(element.fault(alloc, cause)),
     }
@@ -91,53 +90,53 @@ pub(crate) fn target_items_at<F: ListedFiles>(
 
 pub(crate) fn less_excluded<F: Present>(
     alloc: Global,
-    place: &Place<'_, F>,
+    context: &ElementContext<'_, F>,
     element: &PlacedElement<'_>,
     exclude: Option<&str>,
     items: Vec<Item>,
 ) -> Result<Vec<Item>, EvalFault>
     ensures { GivesFault (λ items. items.items) result
-        (less_excluded (place_of F.files place.now) (seen_element element.now)
+        (less_excluded (context_of F.files context.now) (seen_element element.now)
         (option_copied exclude.entry) items.items) }
 {
     match exclude {
         None => Ok(items),
-        Some(exclude) => excluded(alloc, place, element, exclude, items),
+        Some(exclude) => excluded(alloc, context, element, exclude, items),
     }
 }
 
 /// The items that the entries of an Exclude do not name.
 fn excluded<F: Present>(
     alloc: Global,
-    place: &Place<'_, F>,
+    context: &ElementContext<'_, F>,
     element: &PlacedElement<'_>,
     exclude: &str,
     items: Vec<Item>,
 ) -> Result<Vec<Item>, EvalFault>
     ensures { GivesFault (λ items. items.items) result
-        (map_ok (unnamed place.now.project.now items.items)
-        (names_at (place_of F.files place.now) (seen_element element.now) exclude.now)) }
+        (map_ok (unnamed context.now.project.now items.items)
+        (names_at (context_of F.files context.now) (seen_element element.now) exclude.now)) }
 {
-    let names = names_at(alloc, place, element, exclude)?;
-    match unnamed(alloc, place.project, &names, items) {
+    let names = names_at(alloc, context, element, exclude)?;
+    match unnamed(alloc, context.project, &names, items) {
         Ok(kept) => Ok(kept),
-        Err(_) => Err(EvalFault::memory(alloc)),
+        Err(_) => Err(EvalFault::from(NoMemory)),
     }
 }
 
 /// What the entries of an attribute name.
 pub(crate) fn names_at<F: Present>(
     alloc: Global,
-    place: &Place<'_, F>,
+    context: &ElementContext<'_, F>,
     element: &PlacedElement<'_>,
     written: &str,
 ) -> Result<ItemNames, EvalFault>
     ensures { GivesFault seen_names result
         (map_ok folded_names
-        (names_at (place_of F.files place.now) (seen_element element.now) written.now)) }
+        (names_at (context_of F.files context.now) (seen_element element.now) written.now)) }
 {
-    let entries = place.entries(alloc, element, written)?;
-    match ItemNames::of(alloc, place.project, entries.as_slice()) {
+    let entries = context.entries(alloc, element, written)?;
+    match names_of(alloc, context.project, entries.as_slice()) {
         Ok(names) => Ok(names),
         Err(cause) => Err(element.fault(alloc, cause)),
     }
@@ -147,23 +146,23 @@ pub(crate) fn names_at<F: Present>(
 /// on the element. (MSBuild items.)
 pub(crate) fn update_replacements<F: Present>(
     alloc: Global,
-    place: &Place<'_, F>,
+    context: &ElementContext<'_, F>,
     kind: &Name,
     element: &PlacedElement<'_>,
     update: &str,
 ) -> Result<Vec<Option<Item>>, EvalFault>
     ensures { GivesFault (λ replacements. replacements.items) result
-        (and_then (names_at (place_of F.files place.now) (seen_element element.now) update.now)
-        (λ names. replacements_of (place_of F.files place.now) kind.now
+        (and_then (names_at (context_of F.files context.now) (seen_element element.now) update.now)
+        (λ names. replacements_of (context_of F.files context.now) kind.now
         (metadata_on item_attributes (seen_element element.now))
-        (is_named place.now.project.now names) (list_of place.now.scope.now kind.now))) }
+        (is_named context.now.project.now names) (list_of context.now.scope.now kind.now))) }
 {
-    let names = names_at(alloc, place, element, update)?;
+    let names = names_at(alloc, context, element, update)?;
     let Ok(written) = metadata_on(alloc, Kind::Item, element) else {
-        return Err(EvalFault::memory(alloc));
+        return Err(EvalFault::from(NoMemory));
     };
-    let items = list_of(place.scope, kind);
-    replacements(alloc, place, kind, &names, &written, items)
+    let items = list_of(context.scope, kind);
+    replacements(alloc, context, kind, &names, &written, items)
 }
 
 fn list_of<'a>(scope: &'a Scope, kind: &Name) -> &'a [Item]

@@ -13,13 +13,13 @@ ghost use Rattle.msb_items.specs.Definitions.{
   with_definition,
   with_definitions,
 };
-ghost use Rattle.msb_items.specs.Places.{after_each};
+ghost use Rattle.element_texts.specs.Contexts.{after_each};
 ghost use Rattle.msb_items.specs.Seen.{definitions_in, metadata_of};
 
 use crate::metadata::{Kind, WrittenMetadata, key_of, metadata_on};
-use crate::place::Place;
 use crate::source::{Source, project_path};
 use build_world::{EvalFault, LaidOut, Placed, PlacedElement};
+use element_texts::ElementContext;
 use file_store::Tree;
 use msb_paths::Present;
 use msb_values::{Copied, Item, Name, NoMemory, Pairs, Scope, Text};
@@ -89,7 +89,9 @@ fn define_group<F: Present>(
         (with_definitions (definitions_in F.files source.now scope.old)
         (seen_element element.now)) }
 {
-    if Place::of_definitions(source.files, source.project, scope).element_holds(alloc, element)? {
+    if ElementContext::of_definitions(source.files, source.project, scope).element_holds(
+        alloc, element,
+    )? {
         return define_children(alloc, source, element, scope);
     }
     Ok(())
@@ -121,7 +123,9 @@ fn define<F: Present>(
     ensures { Changes result scope.new
         (with_definition (definitions_in F.files source.now scope.old) (seen_element element.now)) }
 {
-    if Place::of_definitions(source.files, source.project, scope).element_holds(alloc, element)? {
+    if ElementContext::of_definitions(source.files, source.project, scope).element_holds(
+        alloc, element,
+    )? {
         return define_kind(alloc, source, element, scope);
     }
     Ok(())
@@ -140,9 +144,7 @@ fn define_kind<F: Present>(
     let Some(kind) = key_of(alloc, element.element.name())? else {
         return Ok(());
     };
-    let Ok(written) = metadata_on(alloc, Kind::Definition, element) else {
-        return Err(EvalFault::memory(alloc));
-    };
+    let written = metadata_on(alloc, Kind::Definition, element)?;
     let nothing = Item {
         ident: Text::from(String::new(alloc)),
         recursive: Text::from(String::new(alloc)),
@@ -184,15 +186,13 @@ fn set_default_written<'k, F: Present>(
         (with_default_written kind.now (definitions_in F.files source.now scope.old)
         (metadata_of metadata.now)) }
 {
-    let place = Place::of_definitions(source.files, source.project, scope);
-    let value = metadata.value(alloc, &place.of_metadata(kind, nothing))?;
+    let context = ElementContext::of_definitions(source.files, source.project, scope);
+    let value = metadata.value(alloc, &context.of_metadata(kind, nothing))?;
     let Some((name, text)) = value else {
         return Ok(());
     };
-    match set_default(alloc, scope, kind, name, text) {
-        Ok(()) => Ok(()),
-        Err(_) => Err(EvalFault::memory(alloc)),
-    }
+    set_default(alloc, scope, kind, name, text)?;
+    Ok(())
 }
 
 /// The last definition of a metadata wins.

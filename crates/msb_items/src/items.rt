@@ -2,6 +2,7 @@ ghost use Rattle.std.specs.Prelude.{◌≡◌, ◌++◌, map, true, Some, OnOk, 
 ghost use Rattle.file_store.specs.Files.{paths_of};
 ghost use Rattle.build_world.specs.Answers.{GivesFault};
 ghost use Rattle.build_world.specs.Elements.{children_of, seen_element, seen_placed};
+ghost use Rattle.msb_glob.specs.FoldedNames.{seen_names};
 ghost use Rattle.msb_items.specs.Answers.{Changes};
 ghost use Rattle.msb_items.specs.Items.{
   all_itemed,
@@ -16,20 +17,19 @@ ghost use Rattle.msb_items.specs.Items.{
   with_items,
   with_list,
 };
-ghost use Rattle.msb_items.specs.FoldedNames.{seen_names, unnamed_by};
-ghost use Rattle.msb_items.specs.Places.{after_each, element_holds};
+ghost use Rattle.msb_items.specs.FoldedNames.{unnamed_by};
+ghost use Rattle.element_texts.specs.Contexts.{after_each, element_holds};
 ghost use Rattle.msb_items.specs.Replaced.{or_item, replaced};
 ghost use Rattle.msb_items.specs.Seen.{items_in};
 
 use crate::changes::{names_at, new_items, update_replacements};
-use crate::item_names::ItemNames;
 use crate::metadata::key_of;
-use crate::place::Place;
 use crate::source::{ItemSource, Source, project_path};
 use crate::unnamed::unnamed;
 use build_world::{EvalFault, LaidOut, Placed, PlacedElement};
+use element_texts::ElementContext;
 use file_store::Tree;
-use msb_glob::SortedPaths;
+use msb_glob::{ItemNames, SortedPaths};
 use msb_paths::Present;
 use msb_values::{Copied, Item, List, Name, NoMemory, Scope, SharedItems};
 use std::alloc::Global;
@@ -115,7 +115,7 @@ fn holds<F: Present>(
     ensures { GivesFault (λ holds. holds) result
         (element_holds (items_in F.files source.now scope.now) (seen_element element.now)) }
 {
-    Place::of_items(source.files, source.project, scope).element_holds(alloc, element)
+    ElementContext::of_items(source.files, source.project, scope).element_holds(alloc, element)
 }
 
 fn take_children<F: Present>(
@@ -200,12 +200,10 @@ fn include<F: Present>(
         (included (items_in F.files source.now.source scope.old) kind.now (seen_element element.now)
         written.now) }
 {
-    let place = Place::of_items(source.source.files, source.source.project, scope);
-    let items = new_items(alloc, &place, &source.paths, kind, element, written)?;
-    match append(alloc, scope, kind, items) {
-        Ok(()) => Ok(()),
-        Err(_) => Err(EvalFault::memory(alloc)),
-    }
+    let context = ElementContext::of_items(source.source.files, source.source.project, scope);
+    let items = new_items(alloc, &context, &source.paths, kind, element, written)?;
+    append(alloc, scope, kind, items)?;
+    Ok(())
 }
 
 fn remove<F: Present>(
@@ -220,11 +218,11 @@ fn remove<F: Present>(
         (removed (items_in F.files source.now scope.old) kind.now (seen_element element.now)
         written.now) }
 {
-    let place = Place::of_items(source.files, source.project, scope);
-    let names = names_at(alloc, &place, element, written)?;
+    let context = ElementContext::of_items(source.files, source.project, scope);
+    let names = names_at(alloc, &context, element, written)?;
     match remove_named(alloc, source.project, &names, kind, scope) {
         Ok(()) => Ok(()),
-        Err(_) => Err(EvalFault::memory(alloc)),
+        Err(_) => Err(EvalFault::from(NoMemory)),
     }
 }
 
@@ -260,11 +258,11 @@ fn update<F: Present>(
         (updated (items_in F.files source.now scope.old) kind.now (seen_element element.now)
         written.now) }
 {
-    let place = Place::of_items(source.files, source.project, scope);
-    let replacements = update_replacements(alloc, &place, kind, element, written)?;
+    let context = ElementContext::of_items(source.files, source.project, scope);
+    let replacements = update_replacements(alloc, &context, kind, element, written)?;
     match replace_in(alloc, scope, kind, replacements) {
         Ok(()) => Ok(()),
-        Err(_) => Err(EvalFault::memory(alloc)),
+        Err(_) => Err(EvalFault::from(NoMemory)),
     }
 }
 
@@ -310,7 +308,7 @@ fn put_all(items: &mut [Item], replacements: Vec<Option<Item>>)
     }
 }
 
-/// Puts what replaces an item in its place, if something does.
+/// Puts what replaces an item in its context, if something does.
 fn put(item: &mut Item, replacement: Option<Option<Item>>)
     ensures { item.new ≡ or_item (option_and_then (λ changed. changed) replacement) item.old }
 {

@@ -14,7 +14,6 @@ mod item_names;
 mod items;
 mod metadata;
 mod pairs;
-mod place;
 mod repeats;
 mod sets;
 mod source;

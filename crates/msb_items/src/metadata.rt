@@ -15,10 +15,11 @@ ghost use Rattle.msb_items.specs.Metadata.{
   metadata_value,
   value_unless,
 };
-ghost use Rattle.msb_items.specs.Seen.{metadata_of, place_of, reserved_of};
+ghost use Rattle.element_texts.specs.Seen.{context_of};
+ghost use Rattle.msb_items.specs.Seen.{metadata_of, reserved_of};
 
-use crate::place::Place;
 use build_world::{EvalFault, PlacedElement};
+use element_texts::ElementContext;
 use msb_expand::is_well_known;
 use msb_paths::Present;
 use msb_values::{Cause, Name, NameFault, NoMemory, Text};
@@ -132,21 +133,21 @@ fn child_metadata(child: PlacedElement<'_>) -> WrittenMetadata<'_>
 }
 
 impl WrittenMetadata<'_> {
-    /// The name and the value at a place, if the Condition holds; a name that is computed is
+    /// The name and the value in a context, if the Condition holds; a name that is computed is
     /// refused.
     pub(crate) fn value<F: Present>(
         &self,
         alloc: Global,
-        place: &Place<'_, F>,
+        context: &ElementContext<'_, F>,
     ) -> Result<Option<(Name, Text)>, EvalFault>
         ensures { GivesFault (λ pair. pair) result
-            (metadata_value (place_of F.files place.now) (metadata_of self.now)) }
+            (metadata_value (context_of F.files context.now) (metadata_of self.now)) }
     {
-        if !place.holds(alloc, &self.element, self.condition)? {
+        if !context.holds(alloc, &self.element, self.condition)? {
             return Ok(None);
         }
         match key_of(alloc, self.name)? {
-            Some(name) => self.value_of(alloc, place, name),
+            Some(name) => self.value_of(alloc, context, name),
             None => Ok(None),
         }
     }
@@ -154,17 +155,17 @@ impl WrittenMetadata<'_> {
     fn value_of<F: Present>(
         &self,
         alloc: Global,
-        place: &Place<'_, F>,
+        context: &ElementContext<'_, F>,
         name: Name,
     ) -> Result<Option<(Name, Text)>, EvalFault>
         ensures { GivesFault (λ pair. pair) result
-            (value_unless (is_computed name) (place_of F.files place.now) (metadata_of self.now)
+            (value_unless (is_computed name) (context_of F.files context.now) (metadata_of self.now)
             name) }
     {
         if is_computed(&name) {
             return Err(reserved_fault(alloc, &self.element, &name));
         }
-        let text = place.text(alloc, &self.element, self.text)?;
+        let text = context.text(alloc, &self.element, self.text)?;
         Ok(Some((name, text)))
     }
 }
@@ -176,7 +177,7 @@ pub(crate) fn key_of(alloc: Global, text: &str) -> Result<Option<Name>, EvalFaul
     match Name::read(alloc, text) {
         Ok(name) => Ok(Some(name)),
         Err(NameFault::BadName(_)) => Ok(None),
-        Err(NameFault::Memory) => Err(EvalFault::memory(alloc)),
+        Err(NameFault::Memory) => Err(EvalFault::from(NoMemory)),
     }
 }
 
@@ -186,7 +187,7 @@ pub(crate) fn reserved_fault(alloc: Global, element: &PlacedElement<'_>, name: &
 {
     match Text::of(alloc, name.key()) {
         Ok(text) => element.fault(alloc, Cause::Reserved(text)),
-        Err(_) => EvalFault::memory(alloc),
+        Err(no_memory) => EvalFault::from(no_memory),
     }
 }
 

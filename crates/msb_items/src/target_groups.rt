@@ -5,8 +5,9 @@ ghost use Rattle.msb_laws.specs.Results.{map_ok};
 ghost use Rattle.build_world.specs.Answers.{GivesFault};
 ghost use Rattle.build_world.specs.Elements.{at, seen_element};
 ghost use Rattle.msb_items.specs.Batched.{joined_ok};
-ghost use Rattle.msb_items.specs.Places.{in_bucket, item_place};
-ghost use Rattle.msb_items.specs.Seen.{items_in, place_of};
+ghost use Rattle.element_texts.specs.Contexts.{in_bucket, item_context};
+ghost use Rattle.element_texts.specs.Seen.{context_of};
+ghost use Rattle.msb_items.specs.Seen.{items_in};
 ghost use Rattle.msb_items.specs.TargetGroups.{
   all_applied,
   changes_in,
@@ -21,11 +22,11 @@ use crate::batched::element_buckets;
 use crate::files::ListedFiles;
 use crate::group::Group;
 use crate::metadata::key_of;
-use crate::place::Place;
 use crate::source::Source;
 use crate::target_items::item_change;
 use crate::target_properties::property_change;
 use build_world::{EvalFault, PlacedElement};
+use element_texts::ElementContext;
 use msb_elements::Element;
 use msb_expand::{Bucket, Lens};
 use msb_files::FileView;
@@ -36,8 +37,8 @@ use std::alloc::Global;
 /// the lens's file.
 ///
 /// The group sees the scope of the lens, on which it works in a copy: see [`change_by_group`]. What
-/// else the lens says of its place, its item and its bucket is not looked at, since each element of
-/// the group has its own. (PropertyGroup element; ItemGroup element.)
+/// else the lens says is not looked at but its project and its file, since each element of the
+/// group has its own item and bucket. (PropertyGroup element; ItemGroup element.)
 pub fn in_target(
     alloc: Global,
     view: &FileView<'_>,
@@ -45,12 +46,10 @@ pub fn in_target(
     group: &Element,
 ) -> Result<List<Change>, EvalFault>
     ensures { GivesFault (λ changes. changes) result
-        (group_changes (item_place (paths view.now) lens.now.project.now lens.now.scope.now)
+        (group_changes (item_context (paths view.now) lens.now.project.now lens.now.scope.now)
         (at lens.now.file.now (node_of group.now))) }
 {
-    let Ok(mut scope) = lens.scope.copy() else {
-        return Err(EvalFault::memory(alloc));
-    };
+    let mut scope = lens.scope.copy()?;
     let group = PlacedElement {
         file: lens.file,
         element: group,
@@ -72,7 +71,7 @@ pub fn change_by_group(
     scope: &mut Scope,
 ) -> Result<List<Change>, EvalFault>
     ensures changes { GivesFault (λ changes. changes) result
-        (group_changes (item_place (paths view.now) project.now scope.old)
+        (group_changes (item_context (paths view.now) project.now scope.old)
         (seen_element group.now)) }
     ensures changed { IfOk result (λ changes. scope.new ≡ all_applied changes scope.old) }
 {
@@ -93,8 +92,8 @@ fn change_by<F: ListedFiles>(
         (group_changes (items_in F.files source.now scope.old) (seen_element group.now)) }
     ensures changed { IfOk result (λ changes. scope.new ≡ all_applied changes scope.old) }
 {
-    let place = Place::of_items(source.files, source.project, scope);
-    if place.element_holds(alloc, group)? {
+    let context = ElementContext::of_items(source.files, source.project, scope);
+    if context.element_holds(alloc, group)? {
         return change_by_each(alloc, source, group, scope);
     }
     Ok(List::new(alloc))
@@ -114,9 +113,7 @@ fn change_by_each<F: ListedFiles>(
     let mut changes = List::new(alloc);
     for child in group.element.children() {
         let more = change_by_element(alloc, source, kind, &group.child(child), scope)?;
-        if changes.append(more).is_err() {
-            return Err(EvalFault::memory(alloc));
-        }
+        changes.append(more)?;
     }
     Ok(changes)
 }
@@ -132,49 +129,47 @@ fn change_by_element<F: ListedFiles>(
         (element_changes group (items_in F.files source.now scope.old) (seen_element element.now)) }
     ensures changed { IfOk result (λ changes. scope.new ≡ all_applied changes scope.old) }
 {
-    let place = Place::of_items(source.files, source.project, scope);
-    let changes = element_changes(alloc, &place, group, element)?;
-    match apply_all(alloc, scope, changes.as_slice()) {
-        Ok(()) => Ok(changes),
-        Err(_) => Err(EvalFault::memory(alloc)),
-    }
+    let context = ElementContext::of_items(source.files, source.project, scope);
+    let changes = element_changes(alloc, &context, group, element)?;
+    apply_all(alloc, scope, changes.as_slice())?;
+    Ok(changes)
 }
 
 /// What an element of a group changes, bucket by bucket.
 fn element_changes<F: ListedFiles>(
     alloc: Global,
-    place: &Place<'_, F>,
+    context: &ElementContext<'_, F>,
     group: Group,
     element: &PlacedElement<'_>,
 ) -> Result<List<Change>, EvalFault>
     ensures { GivesFault (λ changes. changes) result
-        (element_changes group (place_of F.files place.now) (seen_element element.now)) }
+        (element_changes group (context_of F.files context.now) (seen_element element.now)) }
 {
     match key_of(alloc, element.element.name())? {
-        Some(name) => named_changes(alloc, place, group, &name, element),
+        Some(name) => named_changes(alloc, context, group, &name, element),
         None => Ok(List::new(alloc)),
     }
 }
 
 fn named_changes<F: ListedFiles>(
     alloc: Global,
-    place: &Place<'_, F>,
+    context: &ElementContext<'_, F>,
     group: Group,
     name: &Name,
     element: &PlacedElement<'_>,
 ) -> Result<List<Change>, EvalFault>
     ensures { GivesFault (λ changes. changes) result
-        (changes_named (Some name.now) group (place_of F.files place.now)
+        (changes_named (Some name.now) group (context_of F.files context.now)
         (seen_element element.now)) }
 {
-    let lens = place.lens(element.file);
+    let lens = context.lens(element.file);
     let buckets = element_buckets(alloc, &lens, &["Label"], element, group.own_type(name))?;
-    bucket_changes(alloc, place, group, name, element, buckets.as_slice())
+    bucket_changes(alloc, context, group, name, element, buckets.as_slice())
 }
 
 fn bucket_changes<'b, F: ListedFiles>(
     alloc: Global,
-    place: &'b Place<'_, F>,
+    context: &'b ElementContext<'_, F>,
     group: Group,
     name: &Name,
     element: &PlacedElement<'_>,
@@ -182,14 +177,14 @@ fn bucket_changes<'b, F: ListedFiles>(
 ) -> Result<List<Change>, EvalFault>
     ensures { GivesFault (λ changes. changes) result
         (joined_ok
-        (λ bucket. changes_in group name.now (in_bucket (place_of F.files place.now) bucket)
+        (λ bucket. changes_in group name.now (in_bucket (context_of F.files context.now) bucket)
         (seen_element element.now)) buckets.now) }
 {
     let mut changes = List::new(alloc);
     for bucket in buckets {
         push_changes_in(
             alloc,
-            &place.in_bucket(bucket),
+            &context.in_bucket(bucket),
             group,
             name,
             element,
@@ -201,7 +196,7 @@ fn bucket_changes<'b, F: ListedFiles>(
 
 fn push_changes_in<F: ListedFiles>(
     alloc: Global,
-    place: &Place<'_, F>,
+    context: &ElementContext<'_, F>,
     group: Group,
     name: &Name,
     element: &PlacedElement<'_>,
@@ -209,13 +204,11 @@ fn push_changes_in<F: ListedFiles>(
 ) -> Result<(), EvalFault>
     ensures { GivesFault (λ _. changes.new) result
         (map_ok (λ more. changes.old ++ more)
-        (changes_in group name.now (place_of F.files place.now) (seen_element element.now))) }
+        (changes_in group name.now (context_of F.files context.now) (seen_element element.now))) }
 {
-    let change = change_in(alloc, place, group, name, element)?;
-    match push_if(changes, change) {
-        Ok(()) => Ok(()),
-        Err(_) => Err(EvalFault::memory(alloc)),
-    }
+    let change = change_in(alloc, context, group, name, element)?;
+    push_if(changes, change)?;
+    Ok(())
 }
 
 fn push_if(changes: &mut List<Change>, change: Option<Change>) -> Result<(), NoMemory>
@@ -230,16 +223,16 @@ fn push_if(changes: &mut List<Change>, change: Option<Change>) -> Result<(), NoM
 /// What an element of a group changes in a bucket.
 fn change_in<F: ListedFiles>(
     alloc: Global,
-    place: &Place<'_, F>,
+    context: &ElementContext<'_, F>,
     group: Group,
     name: &Name,
     element: &PlacedElement<'_>,
 ) -> Result<Option<Change>, EvalFault>
     ensures { GivesFault option_to_list result
-        (changes_in group name.now (place_of F.files place.now) (seen_element element.now)) }
+        (changes_in group name.now (context_of F.files context.now) (seen_element element.now)) }
 {
     match group {
-        Group::Properties => property_change(alloc, place, name, element),
-        Group::Items => item_change(alloc, place, name, element),
+        Group::Properties => property_change(alloc, context, name, element),
+        Group::Items => item_change(alloc, context, name, element),
     }
 }

@@ -4,8 +4,8 @@ ghost use Rattle.msb_values.specs.Keys.{key_of};
 ghost use Rattle.msb_values.specs.Pairs.{value_at};
 ghost use Rattle.build_world.specs.Answers.{GivesFault};
 ghost use Rattle.build_world.specs.Elements.{seen_element};
-ghost use Rattle.msb_items.specs.Places.{text_at};
-ghost use Rattle.msb_items.specs.Seen.{place_of};
+ghost use Rattle.element_texts.specs.Contexts.{text_at};
+ghost use Rattle.element_texts.specs.Seen.{context_of};
 ghost use Rattle.msb_items.specs.Transfers.{
   metadata_names,
   none_named,
@@ -17,8 +17,8 @@ ghost use Rattle.msb_items.specs.Transfers.{
   without_listed,
 };
 
-use crate::place::Place;
 use build_world::{EvalFault, PlacedElement};
+use element_texts::ElementContext;
 use msb_paths::Present;
 use msb_values::{Copied, Item, List, Name, NoMemory, Pairs, Text, split_list};
 use std::alloc::Global;
@@ -47,17 +47,17 @@ impl Transfer {
     /// What an element's KeepMetadata or RemoveMetadata says; one of the two may stand on it.
     pub(crate) fn of<F: Present>(
         alloc: Global,
-        place: &Place<'_, F>,
+        context: &ElementContext<'_, F>,
         element: &PlacedElement<'_>,
     ) -> Result<Transfer, EvalFault>
         ensures { GivesFault (λ transfer. transfer) result
-            (transfer_at (place_of F.files place.now) (seen_element element.now)) }
+            (transfer_at (context_of F.files context.now) (seen_element element.now)) }
     {
         if let Some(keep) = element.element.attribute("KeepMetadata") {
-            return only(alloc, place, element, keep);
+            return only(alloc, context, element, keep);
         }
         match element.element.attribute("RemoveMetadata") {
-            Some(remove) => without(alloc, place, element, remove),
+            Some(remove) => without(alloc, context, element, remove),
             None => Ok(Transfer::All),
         }
     }
@@ -88,19 +88,16 @@ impl Transfer {
 
 fn only<F: Present>(
     alloc: Global,
-    place: &Place<'_, F>,
+    context: &ElementContext<'_, F>,
     element: &PlacedElement<'_>,
     keep: &str,
 ) -> Result<Transfer, EvalFault>
     ensures { GivesFault (λ transfer. transfer) result
         (map_ok only_listed
-        (text_at (place_of F.files place.now) (seen_element element.now) keep.now)) }
+        (text_at (context_of F.files context.now) (seen_element element.now) keep.now)) }
 {
-    let text = place.text(alloc, element, keep)?;
-    match only_listed(alloc, text.as_str()) {
-        Ok(transfer) => Ok(transfer),
-        Err(NoMemory) => Err(EvalFault::memory(alloc)),
-    }
+    let text = context.text(alloc, element, keep)?;
+    Ok(only_listed(alloc, text.as_str())?)
 }
 
 fn only_listed(alloc: Global, text: &str) -> Result<Transfer, NoMemory>
@@ -115,19 +112,16 @@ fn only_listed(alloc: Global, text: &str) -> Result<Transfer, NoMemory>
 
 fn without<F: Present>(
     alloc: Global,
-    place: &Place<'_, F>,
+    context: &ElementContext<'_, F>,
     element: &PlacedElement<'_>,
     remove: &str,
 ) -> Result<Transfer, EvalFault>
     ensures { GivesFault (λ transfer. transfer) result
         (map_ok without_listed
-        (text_at (place_of F.files place.now) (seen_element element.now) remove.now)) }
+        (text_at (context_of F.files context.now) (seen_element element.now) remove.now)) }
 {
-    let text = place.text(alloc, element, remove)?;
-    match without_listed(alloc, text.as_str()) {
-        Ok(transfer) => Ok(transfer),
-        Err(NoMemory) => Err(EvalFault::memory(alloc)),
-    }
+    let text = context.text(alloc, element, remove)?;
+    Ok(without_listed(alloc, text.as_str())?)
 }
 
 fn without_listed(alloc: Global, text: &str) -> Result<Transfer, NoMemory>

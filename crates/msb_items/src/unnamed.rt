@@ -1,7 +1,9 @@
 ghost use Rattle.std.specs.Prelude.{◌≡◌, ◌++◌, IfOk, OnOk};
-ghost use Rattle.msb_items.specs.FoldedNames.{seen_names, item_unless, unnamed_by};
+ghost use Rattle.msb_glob.specs.FoldedNames.{seen_names};
+ghost use Rattle.msb_items.specs.FoldedNames.{item_unless, unnamed_by};
 
-use crate::item_names::ItemNames;
+use crate::item_names::is_named;
+use msb_glob::ItemNames;
 use msb_values::{Item, NoMemory};
 use std::alloc::Global;
 
@@ -17,7 +19,7 @@ pub(crate) fn unnamed(
 {
     let mut kept = Vec::new(alloc);
     for item in items {
-        let named = names.names(alloc, project, &item)?;
+        let named = is_named(alloc, project, names, &item)?;
         keep_unless(&mut kept, named, item)?;
     }
     Ok(kept)

@@ -1,15 +1,18 @@
 ghost use Rattle.std.specs.Prelude.{◌≡◌, [], ◌∷◌, ◌++◌, map, true, OnOk};
 ghost use Rattle.msb_laws.specs.Results.{map_ok, all_ok};
 ghost use Rattle.build_world.specs.Answers.{GivesFault};
-ghost use Rattle.msb_items.specs.FoldedNames.{seen_names, is_named_by};
+ghost use Rattle.msb_glob.specs.FoldedNames.{seen_names};
+ghost use Rattle.msb_items.specs.FoldedNames.{is_named_by};
 ghost use Rattle.msb_items.specs.Items.{with_all_metadata, with_metadata_written};
 ghost use Rattle.msb_items.specs.Replaced.{replacement_if};
-ghost use Rattle.msb_items.specs.Seen.{metadata_of, place_of};
+ghost use Rattle.element_texts.specs.Seen.{context_of};
+ghost use Rattle.msb_items.specs.Seen.{metadata_of};
 
-use crate::item_names::ItemNames;
+use crate::item_names::is_named;
 use crate::metadata::WrittenMetadata;
-use crate::place::Place;
 use build_world::EvalFault;
+use element_texts::ElementContext;
+use msb_glob::ItemNames;
 use msb_paths::Present;
 use msb_values::{Copied, Item, Name, NoMemory};
 use std::alloc::Global;
@@ -17,24 +20,24 @@ use std::alloc::Global;
 /// Gives the metadata that are written on an element to each of some items.
 pub(crate) fn with_metadata<F: Present>(
     alloc: Global,
-    place: &Place<'_, F>,
+    context: &ElementContext<'_, F>,
     kind: &Name,
     written: &[WrittenMetadata<'_>],
     items: Vec<Item>,
 ) -> Result<Vec<Item>, EvalFault>
     ensures { GivesFault (λ items. items.items) result
         (all_ok
-        (with_all_metadata (place_of F.files place.now) kind.now (map metadata_of written.now))
+        (with_all_metadata (context_of F.files context.now) kind.now (map metadata_of written.now))
         items.items) }
 {
     let mut done = Vec::new(alloc);
-    push_all(alloc, place, kind, written, &mut done, items)?;
+    push_all(alloc, context, kind, written, &mut done, items)?;
     Ok(done)
 }
 
 fn push_all<F: Present>(
     alloc: Global,
-    place: &Place<'_, F>,
+    context: &ElementContext<'_, F>,
     kind: &Name,
     written: &[WrittenMetadata<'_>],
     done: &mut Vec<Item>,
@@ -43,18 +46,18 @@ fn push_all<F: Present>(
     ensures { GivesFault (λ _. done.new.items) result
         (map_ok (λ more. done.old.items ++ more)
         (all_ok
-        (with_all_metadata (place_of F.files place.now) kind.now (map metadata_of written.now))
+        (with_all_metadata (context_of F.files context.now) kind.now (map metadata_of written.now))
         items.items)) }
 {
     for item in items {
-        push_one(alloc, place, kind, written, done, item)?;
+        push_one(alloc, context, kind, written, done, item)?;
     }
     Ok(())
 }
 
 fn push_one<F: Present>(
     alloc: Global,
-    place: &Place<'_, F>,
+    context: &ElementContext<'_, F>,
     kind: &Name,
     written: &[WrittenMetadata<'_>],
     done: &mut Vec<Item>,
@@ -62,15 +65,13 @@ fn push_one<F: Present>(
 ) -> Result<(), EvalFault>
     ensures { GivesFault (λ _. done.new.items) result
         (map_ok (λ item. done.old.items ++ item ∷ [])
-        (with_all_metadata (place_of F.files place.now) kind.now (map metadata_of written.now)
+        (with_all_metadata (context_of F.files context.now) kind.now (map metadata_of written.now)
         item)) }
 {
     let mut item = item;
-    set_metadata(alloc, place, kind, written, &mut item)?;
-    match push(done, item) {
-        Ok(()) => Ok(()),
-        Err(_) => Err(EvalFault::memory(alloc)),
-    }
+    set_metadata(alloc, context, kind, written, &mut item)?;
+    push(done, item)?;
+    Ok(())
 }
 
 fn push(items: &mut Vec<Item>, item: Item) -> Result<(), NoMemory>
@@ -83,7 +84,7 @@ fn push(items: &mut Vec<Item>, item: Item) -> Result<(), NoMemory>
 /// element.
 pub(crate) fn replacements<F: Present>(
     alloc: Global,
-    place: &Place<'_, F>,
+    context: &ElementContext<'_, F>,
     kind: &Name,
     names: &ItemNames,
     written: &[WrittenMetadata<'_>],
@@ -91,91 +92,84 @@ pub(crate) fn replacements<F: Present>(
 ) -> Result<Vec<Option<Item>>, EvalFault>
     ensures { GivesFault (λ replacements. replacements.items) result
         (all_ok
-        (λ item. replacement_if (is_named_by place.now.project.now (seen_names names.now) item)
-        (place_of F.files place.now) kind.now (map metadata_of written.now) item) items.now) }
+        (λ item. replacement_if (is_named_by context.now.project.now (seen_names names.now) item)
+        (context_of F.files context.now) kind.now (map metadata_of written.now) item) items.now) }
 {
     let mut replacements = Vec::new(alloc);
     for item in items {
-        let replacement = replacement(alloc, place, kind, names, written, item)?;
-        if replacements.push(replacement).is_err() {
-            return Err(EvalFault::memory(alloc));
-        }
+        let replacement = replacement(alloc, context, kind, names, written, item)?;
+        replacements.push(replacement)?;
     }
     Ok(replacements)
 }
 
 fn replacement<F: Present>(
     alloc: Global,
-    place: &Place<'_, F>,
+    context: &ElementContext<'_, F>,
     kind: &Name,
     names: &ItemNames,
     written: &[WrittenMetadata<'_>],
     item: &Item,
 ) -> Result<Option<Item>, EvalFault>
     ensures { GivesFault (λ replacement. replacement) result
-        (replacement_if (is_named_by place.now.project.now (seen_names names.now) item.now)
-        (place_of F.files place.now) kind.now (map metadata_of written.now) item.now) }
+        (replacement_if (is_named_by context.now.project.now (seen_names names.now) item.now)
+        (context_of F.files context.now) kind.now (map metadata_of written.now) item.now) }
 {
-    match names.names(alloc, place.project, item) {
-        Ok(true) => changed(alloc, place, kind, written, item),
-        Ok(false) => Ok(None),
-        Err(_) => Err(EvalFault::memory(alloc)),
+    if is_named(alloc, context.project, names, item)? {
+        return changed(alloc, context, kind, written, item);
     }
+    Ok(None)
 }
 
 fn changed<F: Present>(
     alloc: Global,
-    place: &Place<'_, F>,
+    context: &ElementContext<'_, F>,
     kind: &Name,
     written: &[WrittenMetadata<'_>],
     item: &Item,
 ) -> Result<Option<Item>, EvalFault>
     ensures { GivesFault (λ replacement. replacement) result
-        (replacement_if true (place_of F.files place.now) kind.now (map metadata_of written.now)
+        (replacement_if true (context_of F.files context.now) kind.now (map metadata_of written.now)
         item.now) }
 {
-    let Ok(mut item) = item.copy() else {
-        return Err(EvalFault::memory(alloc));
-    };
-    set_metadata(alloc, place, kind, written, &mut item)?;
+    let mut item = item.copy()?;
+    set_metadata(alloc, context, kind, written, &mut item)?;
     Ok(Some(item))
 }
 
 /// Gives metadata to an item, each of which sees those ahead of it.
 pub(crate) fn set_metadata<F: Present>(
     alloc: Global,
-    place: &Place<'_, F>,
+    context: &ElementContext<'_, F>,
     kind: &Name,
     written: &[WrittenMetadata<'_>],
     item: &mut Item,
 ) -> Result<(), EvalFault>
     ensures { GivesFault (λ _. item.new) result
-        (with_all_metadata (place_of F.files place.now) kind.now (map metadata_of written.now)
+        (with_all_metadata (context_of F.files context.now) kind.now (map metadata_of written.now)
         item.old) }
 {
     for metadata in written {
-        set_one(alloc, place, kind, metadata, item)?;
+        set_one(alloc, context, kind, metadata, item)?;
     }
     Ok(())
 }
 
 fn set_one<F: Present>(
     alloc: Global,
-    place: &Place<'_, F>,
+    context: &ElementContext<'_, F>,
     kind: &Name,
     metadata: &WrittenMetadata<'_>,
     item: &mut Item,
 ) -> Result<(), EvalFault>
     ensures { GivesFault (λ _. item.new) result
-        (with_metadata_written (place_of F.files place.now) kind.now item.old
+        (with_metadata_written (context_of F.files context.now) kind.now item.old
         (metadata_of metadata.now)) }
 {
-    let value = metadata.value(alloc, &place.of_metadata(kind, item))?;
+    let value = metadata.value(alloc, &context.of_metadata(kind, item))?;
     let Some((name, text)) = value else {
         return Ok(());
     };
-    match item.meta.insert(name, text) {
-        Ok(()) => Ok(()),
-        Err(_) => Err(EvalFault::memory(alloc)),
-    }
+    item.meta.insert(name, text)?;
+    Ok(())
 }

@@ -4,6 +4,7 @@ use mathlib.Core.Sum.{⊎_set}
 use Rattle.std.proofs.Common.{◌≡◌, ℕ, List, [], Result, Ok, refl, sym, ap, ◌∙◌}
 use Rattle.std.proofs.Props.{props}
 use Rattle.std.specs.Coded.{codes, Coded-set}
+use Rattle.msb_laws.specs.Words.{Pairs, Text}
 use Rattle.msb_elements.specs.Nodes.{Node, node, Nodes, no_nodes, more}
 use Rattle.msb_elements.specs.Projects.{project_in}
 use Rattle.msb_elements.specs.declared.errors.ReadFault.{ReadFault}
@@ -11,7 +12,7 @@ use Rattle.msb_elements.specs.declared.errors.ReadFault.{ReadFault}
 -- elements as one tree: each with its first child and its next neighbour
 data Tree : Type 0 where
   end : Tree
-  element : (place name : List ℕ) → (attributes : List (List ℕ × List ℕ)) → (text : List ℕ) →
+  element : (place name : Text) → (attributes : Pairs) → (text : Text) →
       (children next : Tree) → Tree
   deriving IsSet as Tree-set
 
@@ -43,10 +44,10 @@ abbrev first : Nodes → Node
 first no_nodes = node [] [] [] [] no_nodes
 first (more n next) = n
 
-text-set : IsSet (List ℕ)
+text-set : IsSet Text
 text-set = hlevel (codes, Coded-set)
 
-attributes-set : IsSet (List (List ℕ × List ℕ))
+attributes-set : IsSet (Pairs)
 attributes-set = hlevel (codes, Coded-set)
 
 pub node-set : IsSet Node
@@ -56,5 +57,5 @@ node-set = taken_back (λ n. more n no_nodes) first (λ n. refl)
 read-set : IsSet (Result Node ReadFault)
 read-set = hlevel (⊎_set, node-set, codes, Coded-set, props)
 
-pub read-once : (bytes : List ℕ) (root : Node) → IsProp (project_in bytes ≡ Ok root)
+pub read-once : (bytes : Text) (root : Node) → IsProp (project_in bytes ≡ Ok root)
 read-once bytes root = read-set (project_in bytes) (Ok root)

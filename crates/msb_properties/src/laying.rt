@@ -58,7 +58,7 @@ pub(crate) fn lay_file(
         return Ok(());
     };
     let Ok(longer) = with_file(chain, path) else {
-        return Err(EvalFault::memory(alloc));
+        return Err(EvalFault::from(NoMemory));
     };
     let root = root_in(alloc, &mut layout.trees, chain, file)?;
     lay_project(alloc, setting, layout, &longer, &file.path, root)
@@ -105,7 +105,7 @@ fn lay_project(
     ensures kept { OnOk result (IsKept (seen_setting setting.now) layout.new) }
 {
     let (element, children) = root.split(alloc);
-    layout.add_file(alloc, file)?;
+    layout.add_file(file)?;
     layout.extend(alloc, setting, file, element)?;
     lay_all(alloc, setting, layout, chain, file, children)
 }
@@ -271,11 +271,11 @@ fn lay_found(
 {
     match found {
         Ok(path) => lay_file(alloc, setting, layout, chain, &path),
-        Err(ImportFault::Duplicate(path)) => layout.add_duplicate(alloc, path),
+        Err(ImportFault::Duplicate(path)) => layout.add_duplicate(path),
         Err(ImportFault::Missing(path)) => Err(element.fault(alloc, Cause::MissingImport(path))),
         Err(ImportFault::ImportDepth) => Err(element.fault(alloc, Cause::ImportDepth)),
         Err(ImportFault::Path(text)) => Err(element.fault(alloc, Cause::BadPath(text))),
-        Err(ImportFault::Memory) => Err(EvalFault::memory(alloc)),
+        Err(ImportFault::Memory) => Err(EvalFault::from(NoMemory)),
     }
 }
 
@@ -295,9 +295,6 @@ fn import_text(
         Some(written) => written,
         None => "",
     };
-    let text = properties.expanded(alloc, setting, element, Use::Definition, written)?;
-    match unescape(alloc, text.as_str()) {
-        Ok(text) => Ok(text),
-        Err(_) => Err(EvalFault::memory(alloc)),
-    }
+    let text = properties.text(alloc, setting, element, Use::Definition, written)?;
+    Ok(unescape(alloc, text.as_str())?)
 }

@@ -78,36 +78,32 @@ impl Layout {
         };
         take_element(alloc, setting, &mut self.properties, &placed)?;
         let Ok(file) = file.copy() else {
-            return Err(EvalFault::memory(alloc));
+            return Err(EvalFault::from(NoMemory));
         };
         match push_element(&mut self.elements, Placed { file, element }) {
             Ok(()) => Ok(()),
-            Err(_) => Err(EvalFault::memory(alloc)),
+            Err(no_memory) => Err(EvalFault::from(no_memory)),
         }
     }
 
     /// Notes that a file is laid out.
-    pub(crate) fn add_file(&mut self, alloc: Global, file: &Text) -> Result<(), EvalFault>
+    pub(crate) fn add_file(&mut self, file: &Text) -> Result<(), EvalFault>
         ensures laid { GivesFault (λ _. seen_laid self.new) result
             (Ok (with_file (seen_laid self.old) file.now)) }
         ensures kept { (s : Given) → IsKept s self.old → OnOk result (IsKept s self.new) }
     {
-        match self.files.push(file) {
-            Ok(()) => Ok(()),
-            Err(_) => Err(EvalFault::memory(alloc)),
-        }
+        self.files.push(file)?;
+        Ok(())
     }
 
     /// Notes an import that is ignored.
-    pub(crate) fn add_duplicate(&mut self, alloc: Global, file: Text) -> Result<(), EvalFault>
+    pub(crate) fn add_duplicate(&mut self, file: Text) -> Result<(), EvalFault>
         ensures laid { GivesFault (λ _. seen_laid self.new) result
             (Ok (with_duplicate (seen_laid self.old) file)) }
         ensures kept { (s : Given) → IsKept s self.old → OnOk result (IsKept s self.new) }
     {
-        match self.duplicates.push(file) {
-            Ok(()) => Ok(()),
-            Err(_) => Err(EvalFault::memory(alloc)),
-        }
+        self.duplicates.push(file)?;
+        Ok(())
     }
 }
 

@@ -14,7 +14,7 @@ use crate::targets::{default_targets, initial_targets};
 use crate::trees::ElementTrees;
 use build_world::{EvalFault, LaidOut};
 use file_store::Tree;
-use msb_values::{InstanceKey, List};
+use msb_values::{InstanceKey, List, NoMemory};
 use std::alloc::Global;
 use std::mem;
 
@@ -33,7 +33,7 @@ pub fn property_pass(
 {
     let setting = Setting { tree, key };
     let Ok(properties) = Properties::first(alloc, &setting) else {
-        return Err(EvalFault::memory(alloc));
+        return Err(EvalFault::from(NoMemory));
     };
     let mut layout = Layout {
         properties,

@@ -1,10 +1,11 @@
-ghost use Rattle.std.specs.Prelude.{◌≡◌, IfOk, None};
+ghost use Rattle.std.specs.Prelude.{◌≡◌, Some, IfOk};
+ghost use Rattle.file_store.specs.Files.{paths_of};
 ghost use Rattle.build_world.specs.Answers.{GivesFault};
-ghost use Rattle.build_world.specs.Elements.{or_fault, seen_element};
-ghost use Rattle.msb_expand.specs.Scenes.{scene_of};
-ghost use Rattle.msb_expand.specs.Written.{expanded, expanded_items, target_names};
+ghost use Rattle.build_world.specs.Elements.{seen_element};
+ghost use Rattle.element_texts.specs.Contexts.{list_at, names_at, text_at};
+ghost use Rattle.element_texts.specs.Seen.{context_of};
 ghost use Rattle.msb_expand.specs.declared.lens.Use.TheVariants.{Definition};
-ghost use Rattle.msb_properties.specs.Settings.{scene_at};
+ghost use Rattle.msb_properties.specs.Settings.{context_at};
 ghost use Rattle.msb_properties.specs.Propertied.{
   holds_from,
   holds_in_file,
@@ -15,8 +16,9 @@ ghost use Rattle.msb_properties.specs.Seen.{seen_setting, seen_properties, IsPla
 
 use crate::setting::Setting;
 use build_world::{EvalFault, PlacedElement};
-use msb_condition::condition_holds;
-use msb_expand::{Lens, Use, expand_list, expand_names, expand_text, folder_of};
+use element_texts::ElementContext;
+use file_store::Tree;
+use msb_expand::{Use, folder_of};
 use msb_values::{Copied, Defaults, Item, List, Lists, Name, NoMemory, Pairs, Scope, Text};
 use std::alloc::Global;
 
@@ -61,30 +63,16 @@ impl Properties {
         props
     }
 
-    /// What a text sees that stands in this file, whose Exists starts from this folder.
-    fn lens<'a>(
-        &'a self,
-        setting: &'a Setting<'a>,
-        file: &'a str,
-        folder: &'a str,
-        usage: Use,
-    ) -> Lens<'a>
-        ensures scene { scene_of result ≡ record {
-          scope = self.now.scope;
-          project = setting.now.key.now.path;
-          file = file.now;
-          usage =
-              usage;
-          own = None;
-          bucket = None;
-        } }
-        ensures folder { result.dir.now ≡ folder.now }
+    /// What the texts of an element see.
+    fn context<'a>(&'a self, setting: &'a Setting<'a>, usage: Use) -> ElementContext<'a, Tree>
+        requires { IsPlain (seen_setting setting.now) self.now }
+        ensures { context_of (λ tree. paths_of tree.files) result
+            ≡ context_at (seen_setting setting.now) (seen_properties self.now) usage }
     {
-        Lens {
-            scope: &self.scope,
-            dir: folder,
+        ElementContext {
+            files: setting.tree,
             project: setting.key.path.as_str(),
-            file,
+            scope: &self.scope,
             usage,
             own: None,
             bucket: None,
@@ -92,7 +80,7 @@ impl Properties {
     }
 
     /// The text of an element's attribute or of its body, with values put in.
-    pub(crate) fn expanded(
+    pub(crate) fn text(
         &self,
         alloc: Global,
         setting: &Setting<'_>,
@@ -102,19 +90,15 @@ impl Properties {
     ) -> Result<Text, EvalFault>
         requires { IsPlain (seen_setting setting.now) self.now }
         ensures { GivesFault (λ text. text) result
-            (or_fault (seen_element element.now)
-            (expanded
-            (scene_at (seen_setting setting.now) (seen_properties self.now) usage
-            (seen_element element.now)) written.now)) }
+            (text_at
+            (context_at (seen_setting setting.now) (seen_properties self.now) usage)
+            (seen_element element.now) written.now) }
     {
-        match expand_text(alloc, &self.lens(setting, element.file, "", usage), written) {
-            Ok(text) => Ok(text),
-            Err(cause) => Err(element.fault(alloc, cause)),
-        }
+        self.context(setting, usage).text(alloc, element, written)
     }
 
     /// The items that an element's attribute names as a list.
-    pub(crate) fn expanded_items(
+    pub(crate) fn list(
         &self,
         alloc: Global,
         setting: &Setting<'_>,
@@ -123,20 +107,16 @@ impl Properties {
     ) -> Result<List<Item>, EvalFault>
         requires { IsPlain (seen_setting setting.now) self.now }
         ensures { GivesFault (λ items. items) result
-            (or_fault (seen_element element.now)
-            (expanded_items
-            (scene_at (seen_setting setting.now) (seen_properties self.now) Definition
-            (seen_element element.now)) written.now)) }
+            (list_at
+            (context_at (seen_setting setting.now) (seen_properties self.now) Definition)
+            (seen_element element.now) written.now) }
     {
-        let lens = self.lens(setting, element.file, "", Use::Definition);
-        match expand_list(alloc, &lens, written) {
-            Ok(items) => Ok(items),
-            Err(cause) => Err(element.fault(alloc, cause)),
-        }
+        self.context(setting, Use::Definition)
+            .list(alloc, element, written)
     }
 
     /// The targets that an element's attribute names.
-    pub(crate) fn targets(
+    pub(crate) fn names(
         &self,
         alloc: Global,
         setting: &Setting<'_>,
@@ -145,16 +125,12 @@ impl Properties {
     ) -> Result<List<Name>, EvalFault>
         requires { IsPlain (seen_setting setting.now) self.now }
         ensures { GivesFault (λ names. names) result
-            (or_fault (seen_element element.now)
-            (target_names
-            (scene_at (seen_setting setting.now) (seen_properties self.now) Definition
-            (seen_element element.now)) written.now)) }
+            (names_at
+            (context_at (seen_setting setting.now) (seen_properties self.now) Definition)
+            (seen_element element.now) (Some written.now)) }
     {
-        let lens = self.lens(setting, element.file, "", Use::Definition);
-        match expand_names(alloc, &lens, written) {
-            Ok(names) => Ok(names),
-            Err(cause) => Err(element.fault(alloc, cause)),
-        }
+        self.context(setting, Use::Definition)
+            .names(alloc, element, Some(written))
     }
 
     /// Whether the Condition of an element holds, whose Exists starts from this folder.
@@ -170,16 +146,9 @@ impl Properties {
             (holds_from folder.now (seen_setting setting.now) (seen_properties self.now)
             (seen_element element.now)) }
     {
-        let lens = self.lens(setting, element.file, folder, Use::Definition);
-        match condition_holds(
-            alloc,
-            &lens,
-            setting.tree,
-            element.element.attribute("Condition"),
-        ) {
-            Ok(holds) => Ok(holds),
-            Err(cause) => Err(element.fault(alloc, cause)),
-        }
+        let condition = element.element.attribute("Condition");
+        self.context(setting, Use::Definition)
+            .holds_from(alloc, element, condition, folder)
     }
 
     /// Of a PropertyGroup, an Import or an ImportGroup, where the folder is that of its file.

@@ -27,7 +27,7 @@ use crate::setting::Setting;
 use build_world::{EvalFault, PlacedElement};
 use msb_elements::Element;
 use msb_expand::{Use, is_reserved};
-use msb_values::{Cause, Item, List, Name, NameFault, Text};
+use msb_values::{Cause, Item, List, Name, NameFault, NoMemory, Text};
 use std::alloc::Global;
 
 /// Takes what a laid-out element changes of the properties. (PropertyGroup element; Project
@@ -67,7 +67,7 @@ fn take_project(
 {
     match element.element.attribute("TreatAsLocalProperty") {
         Some(written) => {
-            let items = properties.expanded_items(alloc, setting, element, written)?;
+            let items = properties.list(alloc, setting, element, written)?;
             add_names(alloc, &mut properties.local, items.as_slice())
         }
         None => Ok(()),
@@ -88,12 +88,12 @@ fn add_name(alloc: Global, names: &mut List<Name>, item: &Item) -> Result<(), Ev
         (Ok (names.old ++ names_if (key_of item.now.ident) [])) }
 {
     match Name::read(alloc, item.ident.as_str()) {
-        Ok(name) => match names.push(name) {
-            Ok(()) => Ok(()),
-            Err(_) => Err(EvalFault::memory(alloc)),
-        },
+        Ok(name) => {
+            names.push(name)?;
+            Ok(())
+        }
         Err(NameFault::BadName(_)) => Ok(()),
-        Err(NameFault::Memory) => Err(EvalFault::memory(alloc)),
+        Err(NameFault::Memory) => Err(EvalFault::from(NoMemory)),
     }
 }
 
@@ -180,7 +180,7 @@ fn take_named(
             set(alloc, setting, properties, element, name)
         },
         Err(NameFault::BadName(_)) => Ok(()),
-        Err(NameFault::Memory) => Err(EvalFault::memory(alloc)),
+        Err(NameFault::Memory) => Err(EvalFault::from(NoMemory)),
     }
 }
 
@@ -191,7 +191,7 @@ fn reserved(alloc: Global, element: &PlacedElement<'_>, name: &Name) -> EvalFaul
 {
     match Text::of(alloc, name.key()) {
         Ok(name) => element.fault(alloc, Cause::Reserved(name)),
-        Err(_) => EvalFault::memory(alloc),
+        Err(no_memory) => EvalFault::from(no_memory),
     }
 }
 
@@ -214,17 +214,15 @@ fn set(
     if !may_change(setting, properties, &name) {
         return Ok(());
     }
-    let text = properties.expanded(
+    let text = properties.text(
         alloc,
         setting,
         element,
         Use::Properties,
         element.element.text(),
     )?;
-    match properties.scope.props.insert(name, text) {
-        Ok(()) => Ok(()),
-        Err(_) => Err(EvalFault::memory(alloc)),
-    }
+    properties.scope.props.insert(name, text)?;
+    Ok(())
 }
 
 fn may_change(setting: &Setting<'_>, properties: &Properties, name: &Name) -> bool

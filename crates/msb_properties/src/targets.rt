@@ -47,10 +47,10 @@ fn add_initial(
         return Ok(());
     };
     let element = PlacedElement::of(placed);
-    let more = properties.targets(alloc, setting, &element, written)?;
+    let more = properties.names(alloc, setting, &element, written)?;
     match append(names, more.as_slice()) {
         Ok(()) => Ok(()),
-        Err(_) => Err(EvalFault::memory(alloc)),
+        Err(no_memory) => Err(EvalFault::from(no_memory)),
     }
 }
 
@@ -78,7 +78,7 @@ pub(crate) fn default_targets(
     for placed in elements {
         if let Some(written) = on_project(&placed.element, "DefaultTargets") {
             let element = PlacedElement::of(placed);
-            return properties.targets(alloc, setting, &element, written);
+            return properties.names(alloc, setting, &element, written);
         }
     }
     Ok(List::new(alloc))

@@ -74,10 +74,9 @@ impl ElementTrees {
     pub(crate) fn imported(&mut self, alloc: Global, file: &File) -> Result<Element, EvalFault>
         ensures { GivesFault view result (project_of file.now) }
     {
-        match self.found(alloc, file) {
-            Ok(Some(root)) => Ok(root),
-            Ok(None) => self.read(alloc, file),
-            Err(_) => Err(EvalFault::memory(alloc)),
+        match self.found(alloc, file)? {
+            Some(root) => Ok(root),
+            None => self.read(alloc, file),
         }
     }
 
@@ -88,10 +87,8 @@ impl ElementTrees {
         if self.trees.contains_key(file.path.as_str()) {
             return self.imported(alloc, file);
         }
-        match self.put(alloc, file, None) {
-            Ok(()) => root_of(alloc, file),
-            Err(_) => Err(EvalFault::memory(alloc)),
-        }
+        self.put(alloc, file, None)?;
+        root_of(alloc, file)
     }
 
     /// A copy of the tree that is kept of this file, if one is.
@@ -109,10 +106,8 @@ impl ElementTrees {
         ensures { GivesFault view result (project_of file.now) }
     {
         let root = root_of(alloc, file)?;
-        match self.keep(alloc, file, &root) {
-            Ok(()) => Ok(root),
-            Err(_) => Err(EvalFault::memory(alloc)),
-        }
+        self.keep(alloc, file, &root)?;
+        Ok(root)
     }
 
     fn keep(&mut self, alloc: Global, file: &File, root: &Element) -> Result<(), NoMemory>

@@ -9,7 +9,7 @@ use Rattle.msb_expression.specs.declared.expression.Expr.{Expr}
 use Rattle.msb_batching.specs.Buckets.{buckets_value}
 use Rattle.build_world.specs.Elements.{At, at, or_fault}
 use Rattle.msb_items.specs.Batched.{element_buckets, or_batch_cause, own_read}
-use Rattle.msb_items.specs.Places.{Place, scene_in}
+use Rattle.element_texts.specs.Contexts.{ElementContext, scene_in}
 use Rattle.target_texts.specs.Batched.{target_attributes, target_buckets}
 
 alone : (e : At) (own : Result (List Expr) Cause) (of : List Expr → Result (List Bucket) Cause)
@@ -28,7 +28,7 @@ of_node scene file (node place name attributes text children) =
     (own_read target_attributes (at file (node place name attributes text no_nodes)))
     (λ texts. or_batch_cause (buckets_value scene texts None))
 
-pub by_own_texts : (p : Place) (e : At) → target_buckets p e
+pub by_own_texts : (p : ElementContext) (e : At) → target_buckets p e
     ≡ or_fault e
     (and_then (own_read target_attributes e)
     (λ texts. or_batch_cause (buckets_value (scene_in p e.file) texts None)))

@@ -15,6 +15,7 @@ use Rattle.std.specs.Prelude.{
   Err,
   codes,
 }
+use Rattle.msb_laws.specs.Words.{Text}
 use Rattle.msb_laws.specs.Results as results
 use Rattle.msb_values.specs.Escapes.{unescaped}
 use Rattle.msb_values.specs.Same.{is_same_text}
@@ -24,30 +25,30 @@ use Rattle.msb_values.specs.declared.note.Note.{Note}
 use Rattle.msb_values.specs.declared.note.Note.TheVariants.{Low, Message, Warning, Fail}
 use Rattle.build_world.specs.Elements.{At, attribute_of, or_fault}
 use Rattle.build_world.specs.declared.fault.EvalFault.{EvalFault}
-use Rattle.msb_items.specs.Places.{Place, text_at}
+use Rattle.element_texts.specs.Contexts.{ElementContext, text_at}
 use Rattle.target_texts.specs.declared.on_error.OnError.{OnError}
 use Rattle.target_texts.specs.declared.on_error.OnError.TheVariants.{Stop, Warn, Continue}
 
 -- the texts that are allowed; an empty one is the default
-abbrev pub on_error_words : List (List ℕ × OnError)
+abbrev pub on_error_words : List (Text × OnError)
 on_error_words =
     (codes "ErrorAndStop", Stop) ∷ (codes "false", Stop) ∷ ([], Stop) ∷
     (codes "WarnAndContinue", Warn) ∷ (codes "true", Warn) ∷
     (codes "ErrorAndContinue", Continue) ∷ []
 
 -- compared without case
-abbrev pub on_error_in : List (List ℕ × OnError) → List ℕ → Result OnError Cause
+abbrev pub on_error_in : List (Text × OnError) → Text → Result OnError Cause
 on_error_in [] text = Err (NotBoolean text)
 on_error_in (word ∷ words) text = elim (is_same_text text word.0)
     [ true ↦ Ok word.1 | false ↦ on_error_in words text ]
 
-abbrev pub on_error_if : Place → At → Option (List ℕ) → Result OnError EvalFault
+abbrev pub on_error_if : ElementContext → At → Option Text → Result OnError EvalFault
 on_error_if p e None = Ok Stop
 on_error_if p e (Some written) = results.and_then (text_at p e written)
     (λ text. or_fault e (on_error_in on_error_words (unescaped text)))
 
 -- of a task element
-abbrev pub on_error_at : Place → At → Result OnError EvalFault
+abbrev pub on_error_at : ElementContext → At → Result OnError EvalFault
 on_error_at p e = on_error_if p e (attribute_of (codes "ContinueOnError") e)
 
 -- a task's errors become warnings where the body goes on with a warning

@@ -18,6 +18,7 @@ use Rattle.std.specs.Prelude.{
   Err,
   codes,
 }
+use Rattle.msb_laws.specs.Words.{Text, Name}
 use Rattle.msb_values.specs.Keys.{key_of}
 use Rattle.msb_values.specs.declared.cause.Cause.TheVariants.{Reserved}
 use Rattle.msb_values.specs.declared.change.Change.{Change}
@@ -27,7 +28,7 @@ use Rattle.msb_expand.specs.Reserved.{is_reserved}
 use Rattle.msb_expand.specs.Values.{joined}
 use Rattle.build_world.specs.Elements.{At, attribute_of, children_of, fault_of}
 use Rattle.build_world.specs.declared.fault.EvalFault.{EvalFault}
-use Rattle.msb_items.specs.Places.{Place, element_holds}
+use Rattle.element_texts.specs.Contexts.{ElementContext, element_holds}
 use Rattle.target_incremental.specs.Inferred.{inferred}
 use Rattle.task_trait.specs.Escaping.{taken_item}
 use Rattle.task_trait.specs.declared.tools.Param.{Param}
@@ -35,19 +36,19 @@ use Rattle.target_texts.specs.Made.{Made, all_made, or_fault_made, up_to_fault}
 
 -- where an Output goes: to the items of a type, or to a property
 pub data Destination : Type 0 where
-  to_items : List ℕ → Destination
-  to_property : List ℕ → Destination
+  to_items : Name → Destination
+  to_property : Name → Destination
 
 -- a property that the engine sets is refused
-abbrev pub property_unless : Bool → At → List ℕ → Result (Option Destination) EvalFault
+abbrev pub property_unless : Bool → At → Name → Result (Option Destination) EvalFault
 property_unless true o name = Err (fault_of o (Reserved name))
 property_unless false o name = Ok (Some (to_property name))
 
-abbrev pub property_named : At → Option (List ℕ) → Result (Option Destination) EvalFault
+abbrev pub property_named : At → Option Name → Result (Option Destination) EvalFault
 property_named o None = Ok None
 property_named o (Some name) = property_unless (is_reserved name) o name
 
-abbrev pub destination_by : At → (item property : Option (List ℕ))
+abbrev pub destination_by : At → (item property : Option Text)
     → Result (Option Destination) EvalFault
 destination_by o (Some item) property = Ok (option_map to_items (key_of item))
 destination_by o None (Some property) = property_named o (key_of property)
@@ -79,9 +80,9 @@ output_if true given o = or_fault_made (destination_of o)
 output_if false given o = all_made []
 
 -- an Output whose Condition holds
-abbrev pub output : Place → List Param → At → Made
+abbrev pub output : ElementContext → List Param → At → Made
 output p given o = or_fault_made (element_holds p o) (λ holds. output_if holds given o)
 
 -- the Outputs of a task element in order, of what is given to them
-abbrev pub outputs : Place → List Param → At → Made
+abbrev pub outputs : ElementContext → List Param → At → Made
 outputs p given e = up_to_fault (output p given) (children_of e)

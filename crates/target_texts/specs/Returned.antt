@@ -1,5 +1,6 @@
 -- The items that a target returns. (Target element: Returns, Outputs, KeepDuplicateOutputs)
 use Rattle.std.specs.Prelude.{ℕ, List, [], Bool, true, false, Option, Some, None, Result, Ok, codes}
+use Rattle.msb_laws.specs.Words.{Text}
 use Rattle.msb_laws.specs.Results.{and_then, map_ok}
 use Rattle.msb_values.specs.Escapes.{unescaped}
 use Rattle.msb_values.specs.declared.item.Item.{Item}
@@ -7,28 +8,27 @@ use Rattle.msb_expand.specs.declared.lens.Bucket.{Bucket}
 use Rattle.build_world.specs.Elements.{At, attribute_of, or_fault}
 use Rattle.build_world.specs.Instances.{UsedTarget}
 use Rattle.build_world.specs.declared.fault.EvalFault.{EvalFault}
-use Rattle.msb_items.specs.Places.{Place, in_bucket, text_at}
+use Rattle.element_texts.specs.Contexts.{ElementContext, in_bucket, list_at, text_at}
 use Rattle.msb_items.specs.Repeats.{without_repeats}
 use Rattle.msb_items.specs.Truths.{truth_or}
-use Rattle.target_texts.specs.Parameters.{list_at}
 
 -- Returns, or where no Target element of the file has one, Outputs
-abbrev pub returns_by : Bool → Option (List ℕ) → Option (List ℕ) → Option (List ℕ)
+abbrev pub returns_by : Bool → Option Text → Option Text → Option Text
 returns_by file_has_returns (Some returns) outputs = Some returns
 returns_by true None outputs = None
 returns_by false None outputs = outputs
 
-abbrev pub returns_of : UsedTarget → Option (List ℕ)
+abbrev pub returns_of : UsedTarget → Option Text
 returns_of target = returns_by target.file_has_returns
     (attribute_of (codes "Returns") target.element) (attribute_of (codes "Outputs") target.element)
 
 -- whether an item is returned again
-abbrev pub keeps_if : Place → At → Option (List ℕ) → Result Bool EvalFault
+abbrev pub keeps_if : ElementContext → At → Option Text → Result Bool EvalFault
 keeps_if p e None = Ok false
 keeps_if p e (Some written) = and_then (text_at p e written)
     (λ text. or_fault e (truth_or false (unescaped text)))
 
-abbrev pub keeps_repeats : Place → At → Result Bool EvalFault
+abbrev pub keeps_repeats : ElementContext → At → Result Bool EvalFault
 keeps_repeats p e = keeps_if p e (attribute_of (codes "KeepDuplicateOutputs") e)
 
 -- else one of equal identity and metadata is left out
@@ -40,14 +40,14 @@ less_repeats false there items = without_repeats [] there items
 abbrev pub without_lists : Bucket → Bucket
 without_lists bucket = record bucket { lists = [] }
 
-abbrev pub in_target : Place → Bucket → Place
+abbrev pub in_target : ElementContext → Bucket → ElementContext
 in_target p bucket = in_bucket p (without_lists bucket)
 
-abbrev pub listed_items : Place → At → (keeps : Bool) → (there : List Item) → List ℕ
+abbrev pub listed_items : ElementContext → At → (keeps : Bool) → (there : List Item) → Text
     → Result (List Item) EvalFault
 listed_items p e keeps there written = map_ok (less_repeats keeps there) (list_at p e written)
 
-abbrev pub returned_items : Place → Bucket → At → (there : List Item) → List ℕ
+abbrev pub returned_items : ElementContext → Bucket → At → (there : List Item) → Text
     → Result (List Item) EvalFault
 returned_items p bucket e there written = and_then (keeps_repeats p e)
     (λ keeps. listed_items (in_target p bucket) e keeps there written)

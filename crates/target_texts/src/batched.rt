@@ -17,27 +17,28 @@ ghost use Rattle.msb_items.specs.Batched.{
 };
 ghost use Rattle.msb_items.specs.Metadata.{is_one_of};
 ghost use Rattle.target_texts.specs.Batched.{target_attributes, target_buckets};
-ghost use Rattle.target_texts.specs.Seen.{seen_place};
+ghost use Rattle.target_texts.specs.Seen.{seen_context};
 
-use crate::place::Place;
 use build_world::{EvalFault, PlacedElement};
+use element_texts::ElementContext;
 use msb_batching::buckets;
 use msb_expand::{Bucket, Lens, expression_cause};
 use msb_expression::{Expr, parse};
+use msb_files::FileView;
 use msb_values::{Cause, List, NoMemory, Text};
 use std::alloc::Global;
 
 /// The buckets of a target, by its Inputs, Outputs and Returns, which are read first, in byte order
-/// of their names. The place is one without a bucket. (MSBuild batching.)
+/// of their names. The context is one without a bucket. (MSBuild batching.)
 pub fn target_buckets(
     alloc: Global,
-    place: &Place<'_>,
+    context: &ElementContext<'_, FileView<'_>>,
     target: &PlacedElement<'_>,
 ) -> Result<List<Bucket>, EvalFault>
     ensures { GivesFault (λ buckets. buckets) result
-        (target_buckets (seen_place place.now) (seen_element target.now)) }
+        (target_buckets (seen_context context.now) (seen_element target.now)) }
 {
-    let lens = place.lens(target.file);
+    let lens = context.lens(target.file);
     own_buckets(alloc, &lens, target)
 }
 

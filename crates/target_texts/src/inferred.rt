@@ -1,17 +1,18 @@
 ghost use Rattle.std.specs.Prelude.{◌≡◌, IfOk, true};
 ghost use Rattle.build_world.specs.Elements.{seen_element};
-ghost use Rattle.msb_items.specs.Places.{in_bucket};
+ghost use Rattle.element_texts.specs.Contexts.{in_bucket};
 ghost use Rattle.target_texts.specs.Answered.{Pushes};
 ghost use Rattle.target_texts.specs.Inferred.{inference, inference_if, inferred_at, task_of};
 ghost use Rattle.target_texts.specs.Made.{up_to_fault};
-ghost use Rattle.target_texts.specs.Seen.{seen_place};
+ghost use Rattle.target_texts.specs.Seen.{seen_context};
 
 use crate::on_error::OnError;
 use crate::outputs::push_outputs;
 use crate::parameters::TaskElement;
-use crate::place::Place;
 use build_world::{EvalFault, PlacedElement};
+use element_texts::ElementContext;
 use msb_expand::Bucket;
+use msb_files::FileView;
 use msb_values::{Change, List, NoMemory, Text};
 use std::alloc::Global;
 
@@ -24,22 +25,20 @@ pub fn task_of(alloc: Global, element: &PlacedElement<'_>) -> Result<Text, NoMem
 
 /// What the Outputs of a task element change where the task is not called, bucket by bucket, is put
 /// behind the changes: all of it, or what stands ahead of the first fault. An Output is then the
-/// task's parameter of the same name; the task's other texts are expanded all the same. The place
+/// task's parameter of the same name; the task's other texts are expanded all the same. The context
 /// is one without a bucket. (How to build incrementally, output inference.)
 pub fn push_inferred(
     alloc: Global,
-    place: &Place<'_>,
+    context: &ElementContext<'_, FileView<'_>>,
     element: &PlacedElement<'_>,
     changes: &mut List<Change>,
 ) -> Result<(), EvalFault>
     ensures { Pushes result changes.old changes.new
-        (inferred_at (seen_place place.now) (seen_element element.now)) }
+        (inferred_at (seen_context context.now) (seen_element element.now)) }
 {
-    let Ok(task) = task_of(alloc, element) else {
-        return Err(EvalFault::memory(alloc));
-    };
+    let task = task_of(alloc, element)?;
     let task = TaskElement {
-        place: *place,
+        context: *context,
         element: *element,
         task: task.as_str(),
     };
@@ -56,7 +55,7 @@ fn push_each<'b>(
 ) -> Result<(), EvalFault>
     ensures { Pushes result changes.old changes.new
         (up_to_fault
-        (λ bucket. inference (in_bucket (seen_place task.now.place) bucket)
+        (λ bucket. inference (in_bucket (seen_context task.now.context) bucket)
         (seen_element task.now.element) task.now.task.now) buckets.now) }
 {
     for bucket in buckets {
@@ -71,9 +70,10 @@ fn push_in_bucket(
     changes: &mut List<Change>,
 ) -> Result<(), EvalFault>
     ensures { Pushes result changes.old changes.new
-        (inference (seen_place task.now.place) (seen_element task.now.element) task.now.task.now) }
+        (inference (seen_context task.now.context) (seen_element task.now.element)
+        task.now.task.now) }
 {
-    if task.place.holds(alloc, &task.element)? {
+    if task.context.element_holds(alloc, &task.element)? {
         return push_held(alloc, task, changes);
     }
     Ok(())
@@ -86,10 +86,10 @@ fn push_held(
     changes: &mut List<Change>,
 ) -> Result<(), EvalFault>
     ensures { Pushes result changes.old changes.new
-        (inference_if true (seen_place task.now.place) (seen_element task.now.element)
+        (inference_if true (seen_context task.now.context) (seen_element task.now.element)
         task.now.task.now) }
 {
-    OnError::at(alloc, &task.place, &task.element)?;
+    OnError::at(alloc, &task.context, &task.element)?;
     let params = task.params(alloc)?;
-    push_outputs(alloc, &task.place, &params, &task.element, changes)
+    push_outputs(alloc, &task.context, &params, &task.element, changes)
 }

@@ -11,7 +11,6 @@ mod lists;
 mod on_error;
 mod outputs;
 mod parameters;
-mod place;
 mod returned;
 
 pub use batched::target_buckets;
@@ -21,5 +20,4 @@ pub use lists::Lists;
 pub use on_error::OnError;
 pub use outputs::push_outputs;
 pub use parameters::TaskElement;
-pub use place::Place;
 pub use returned::{keeps_repeats, listed_items, returned_items, returns_of};

@@ -8,13 +8,14 @@ ghost use Rattle.build_world.specs.Elements.{attribute_of, seen_element};
 ghost use Rattle.msb_items.specs.Items.{list_of};
 ghost use Rattle.target_texts.specs.Lists.{lists_by, path_of, paths_at, type_read, typed_items};
 ghost use Rattle.target_texts.specs.Returned.{in_target};
-ghost use Rattle.target_texts.specs.Seen.{seen_lists, seen_place};
+ghost use Rattle.target_texts.specs.Seen.{seen_lists, seen_context};
 
 use crate::bucket::without_lists;
-use crate::place::Place;
 use build_world::{EvalFault, PlacedElement};
+use element_texts::ElementContext;
 use msb_expand::{Bucket, folder_of};
 use msb_expression::{Expr, ExprFault, parse};
+use msb_files::FileView;
 use msb_paths::{NormalFault, normal_path};
 use msb_values::{Cause, Copied, Item, List, Name, NoMemory, Scope, Text, unescape};
 use std::alloc::Global;
@@ -35,12 +36,12 @@ impl Lists {
     /// is a fault of the element: Inputs' entries come first, then Outputs'.
     pub fn of(
         alloc: Global,
-        place: &Place<'_>,
+        context: &ElementContext<'_, FileView<'_>>,
         bucket: &Bucket,
         element: &PlacedElement<'_>,
     ) -> Result<Option<Lists>, EvalFault>
         ensures { GivesFault (option_map seen_lists) result
-            (lists_by (in_target (seen_place place.now) bucket.now) (seen_element element.now)
+            (lists_by (in_target (seen_context context.now) bucket.now) (seen_element element.now)
             (attribute_of (codes "Inputs") (seen_element element.now))
             (attribute_of (codes "Outputs") (seen_element element.now))) }
     {
@@ -48,7 +49,7 @@ impl Lists {
         let outputs = element.element.attribute("Outputs");
         match (inputs, outputs) {
             (Some(inputs), Some(outputs)) => Lists::in_bucket(
-                alloc, place, bucket, element, inputs, outputs,
+                alloc, context, bucket, element, inputs, outputs,
             ),
             _ => Ok(None),
         }
@@ -56,59 +57,55 @@ impl Lists {
 
     fn in_bucket(
         alloc: Global,
-        place: &Place<'_>,
+        context: &ElementContext<'_, FileView<'_>>,
         bucket: &Bucket,
         element: &PlacedElement<'_>,
         inputs: &str,
         outputs: &str,
     ) -> Result<Option<Lists>, EvalFault>
         ensures { GivesFault (option_map seen_lists) result
-            (lists_by (in_target (seen_place place.now) bucket.now) (seen_element element.now)
+            (lists_by (in_target (seen_context context.now) bucket.now) (seen_element element.now)
             (Some inputs.now) (Some outputs.now)) }
     {
-        let Ok(bucket) = without_lists(alloc, bucket) else {
-            return Err(EvalFault::memory(alloc));
-        };
-        let place = place.in_bucket(&bucket);
-        Ok(Some(Lists::written(alloc, &place, element, inputs, outputs)?))
+        let bucket = without_lists(alloc, bucket)?;
+        let context = context.in_bucket(&bucket);
+        Ok(Some(Lists::written(alloc, &context, element, inputs, outputs)?))
     }
 
     fn written(
         alloc: Global,
-        place: &Place<'_>,
+        context: &ElementContext<'_, FileView<'_>>,
         element: &PlacedElement<'_>,
         inputs: &str,
         outputs: &str,
     ) -> Result<Lists, EvalFault>
         ensures { GivesFault (λ lists. Some (seen_lists lists)) result
-            (lists_by (seen_place place.now) (seen_element element.now) (Some inputs.now)
+            (lists_by (seen_context context.now) (seen_element element.now) (Some inputs.now)
             (Some outputs.now)) }
     {
-        let input_paths = paths(alloc, place, element, inputs)?;
-        let output_paths = paths(alloc, place, element, outputs)?;
-        match typed_items(alloc, place.scope, inputs, outputs) {
-            Ok(items) => Ok(Lists {
-                inputs: input_paths,
-                outputs: output_paths,
-                items,
-            }),
-            Err(NoMemory) => Err(EvalFault::memory(alloc)),
-        }
+        let input_paths = paths(alloc, context, element, inputs)?;
+        let output_paths = paths(alloc, context, element, outputs)?;
+        let items = typed_items(alloc, context.scope, inputs, outputs)?;
+        Ok(Lists {
+            inputs: input_paths,
+            outputs: output_paths,
+            items,
+        })
     }
 }
 
 // The entries of a text as normal paths on the project's folder.
 fn paths(
     alloc: Global,
-    place: &Place<'_>,
+    context: &ElementContext<'_, FileView<'_>>,
     element: &PlacedElement<'_>,
     written: &str,
 ) -> Result<List<Text>, EvalFault>
     ensures { GivesFault (λ paths. paths) result
-        (paths_at (seen_place place.now) (seen_element element.now) written.now) }
+        (paths_at (seen_context context.now) (seen_element element.now) written.now) }
 {
-    let items = place.list(alloc, element, written)?;
-    match paths_of(alloc, place.project, items.as_slice()) {
+    let items = context.list(alloc, element, written)?;
+    match paths_of(alloc, context.project, items.as_slice()) {
         Ok(paths) => Ok(paths),
         Err(cause) => Err(element.fault(alloc, cause)),
     }

@@ -10,10 +10,11 @@ ghost use Rattle.target_texts.specs.OnErrors.{
   on_error_in,
   on_error_words,
 };
-ghost use Rattle.target_texts.specs.Seen.{seen_place};
+ghost use Rattle.target_texts.specs.Seen.{seen_context};
 
-use crate::place::Place;
 use build_world::{EvalFault, PlacedElement};
+use element_texts::ElementContext;
+use msb_files::FileView;
 use msb_values::{Cause, List, NoMemory, Note, Text, same_text, unescape};
 use std::alloc::Global;
 
@@ -33,31 +34,29 @@ impl OnError {
     /// none of the words, which are compared without case, is a fault of the element.
     pub fn at(
         alloc: Global,
-        place: &Place<'_>,
+        context: &ElementContext<'_, FileView<'_>>,
         element: &PlacedElement<'_>,
     ) -> Result<OnError, EvalFault>
         ensures { GivesFault (λ on_error. on_error) result
-            (on_error_at (seen_place place.now) (seen_element element.now)) }
+            (on_error_at (seen_context context.now) (seen_element element.now)) }
     {
         match element.element.attribute("ContinueOnError") {
-            Some(written) => OnError::written(alloc, place, element, written),
+            Some(written) => OnError::written(alloc, context, element, written),
             None => Ok(OnError::Stop),
         }
     }
 
     fn written(
         alloc: Global,
-        place: &Place<'_>,
+        context: &ElementContext<'_, FileView<'_>>,
         element: &PlacedElement<'_>,
         written: &str,
     ) -> Result<OnError, EvalFault>
         ensures { GivesFault (λ on_error. on_error) result
-            (on_error_if (seen_place place.now) (seen_element element.now) (Some written.now)) }
+            (on_error_if (seen_context context.now) (seen_element element.now) (Some written.now)) }
     {
-        let text = place.text(alloc, element, written)?;
-        let Ok(text) = unescape(alloc, text.as_str()) else {
-            return Err(EvalFault::memory(alloc));
-        };
+        let text = context.text(alloc, element, written)?;
+        let text = unescape(alloc, text.as_str())?;
         match OnError::of(alloc, text.as_str()) {
             Ok(on_error) => Ok(on_error),
             Err(cause) => Err(element.fault(alloc, cause)),

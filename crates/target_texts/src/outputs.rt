@@ -27,11 +27,12 @@ ghost use Rattle.target_texts.specs.Outputs.{
   outputs,
   property_named,
 };
-ghost use Rattle.target_texts.specs.Seen.{seen_destination, seen_place};
+ghost use Rattle.target_texts.specs.Seen.{seen_destination, seen_context};
 
-use crate::place::Place;
 use build_world::{EvalFault, PlacedElement};
+use element_texts::ElementContext;
 use msb_expand::is_reserved;
+use msb_files::FileView;
 use msb_values::{Cause, Change, Copied, Item, List, Name, NoMemory, Text};
 use std::alloc::Global;
 use target_incremental::inferred;
@@ -58,31 +59,31 @@ impl Drop for Destination {
 /// all of it, or what stands ahead of the first fault. (Output element.)
 pub fn push_outputs(
     alloc: Global,
-    place: &Place<'_>,
+    context: &ElementContext<'_, FileView<'_>>,
     given: &List<Param>,
     element: &PlacedElement<'_>,
     changes: &mut List<Change>,
 ) -> Result<(), EvalFault>
     ensures { Pushes result changes.old changes.new
-        (outputs (seen_place place.now) given.now (seen_element element.now)) }
+        (outputs (seen_context context.now) given.now (seen_element element.now)) }
 {
     for child in element.element.children() {
-        push_output(alloc, place, given, &element.child(child), changes)?;
+        push_output(alloc, context, given, &element.child(child), changes)?;
     }
     Ok(())
 }
 
 fn push_output(
     alloc: Global,
-    place: &Place<'_>,
+    context: &ElementContext<'_, FileView<'_>>,
     given: &List<Param>,
     element: &PlacedElement<'_>,
     changes: &mut List<Change>,
 ) -> Result<(), EvalFault>
     ensures { Pushes result changes.old changes.new
-        (output (seen_place place.now) given.now (seen_element element.now)) }
+        (output (seen_context context.now) given.now (seen_element element.now)) }
 {
-    if place.holds(alloc, element)? {
+    if context.element_holds(alloc, element)? {
         return push_held(alloc, given, element, changes);
     }
     Ok(())
@@ -99,10 +100,8 @@ fn push_held(
         (output_if true given.now (seen_element output.now)) }
 {
     let destination = Destination::of(alloc, output)?;
-    match push_given(alloc, destination, given, output, changes) {
-        Ok(()) => Ok(()),
-        Err(NoMemory) => Err(EvalFault::memory(alloc)),
-    }
+    push_given(alloc, destination, given, output, changes)?;
+    Ok(())
 }
 
 // The change that an Output makes of what it is given, if it is given anything.
@@ -160,10 +159,9 @@ impl Destination {
             (destination_of (seen_element output.now)) }
     {
         if let Some(kind) = output.element.attribute("ItemName") {
-            return match Name::written(alloc, kind) {
-                Ok(Some(kind)) => Ok(Some(Destination::Items(kind))),
-                Ok(None) => Ok(None),
-                Err(NoMemory) => Err(EvalFault::memory(alloc)),
+            return match Name::written(alloc, kind)? {
+                Some(kind) => Ok(Some(Destination::Items(kind))),
+                None => Ok(None),
             };
         }
         match output.element.attribute("PropertyName") {
@@ -180,14 +178,13 @@ impl Destination {
         ensures { GivesFault (option_map seen_destination) result
             (property_named (seen_element output.now) (key_of name.now)) }
     {
-        match Name::written(alloc, name) {
-            Ok(Some(name)) if is_reserved(&name) => Err(output.fault(
+        match Name::written(alloc, name)? {
+            Some(name) if is_reserved(&name) => Err(output.fault(
                 alloc,
                 Cause::Reserved(Text::from(name)),
             )),
-            Ok(Some(name)) => Ok(Some(Destination::Property(name))),
-            Ok(None) => Ok(None),
-            Err(NoMemory) => Err(EvalFault::memory(alloc)),
+            Some(name) => Ok(Some(Destination::Property(name))),
+            None => Ok(None),
         }
     }
 

@@ -6,7 +6,7 @@ ghost use Rattle.build_world.specs.Answers.{GivesFault};
 ghost use Rattle.build_world.specs.Elements.{seen_element};
 ghost use Rattle.msb_items.specs.Batched.{joined_ok};
 ghost use Rattle.msb_items.specs.Metadata.{is_one_of};
-ghost use Rattle.msb_items.specs.Places.{in_bucket};
+ghost use Rattle.element_texts.specs.Contexts.{in_bucket};
 ghost use Rattle.target_texts.specs.Parameters.{
   items_of,
   param_if,
@@ -17,12 +17,14 @@ ghost use Rattle.target_texts.specs.Parameters.{
   task_buckets,
   text_items,
 };
-ghost use Rattle.target_texts.specs.Seen.{seen_place};
+ghost use Rattle.target_texts.specs.Seen.{seen_context};
 ghost use Rattle.task_trait.specs.Rows.{takes_list};
 
-use crate::place::Place;
 use build_world::{EvalFault, PlacedElement};
+use element_texts::ElementContext;
 use msb_expand::Bucket;
+use msb_files::FileView;
+use msb_items::element_buckets;
 use msb_values::{Item, List, Name, NoMemory, Pairs, Text, unescape};
 use std::alloc::Global;
 use task_trait::{Param, handed_items, takes_list};
@@ -30,7 +32,7 @@ use task_trait::{Param, handed_items, takes_list};
 /// A task element in a target, with what its texts see. (Task element.)
 #[derive(Clone, Copy)]
 pub struct TaskElement<'a> {
-    pub place: Place<'a>,
+    pub context: ElementContext<'a, FileView<'a>>,
     pub element: PlacedElement<'a>,
     /// The name of the task, in lower case.
     pub task: &'a str,
@@ -39,12 +41,13 @@ pub struct TaskElement<'a> {
 impl<'a> TaskElement<'a> {
     /// The same element in one of its buckets.
     pub fn in_bucket<'s>(&'s self, bucket: &'s Bucket) -> TaskElement<'s>
-        ensures place { seen_place result.place ≡ in_bucket (seen_place self.now.place) bucket.now }
+        ensures context { seen_context result.context
+            ≡ in_bucket (seen_context self.now.context) bucket.now }
         ensures element { seen_element result.element ≡ seen_element self.now.element }
         ensures task { result.task.now ≡ self.now.task.now }
     {
         TaskElement {
-            place: self.place.in_bucket(bucket),
+            context: self.context.in_bucket(bucket),
             element: self.element,
             task: self.task,
         }
@@ -53,17 +56,18 @@ impl<'a> TaskElement<'a> {
     /// The buckets of the element, by its texts and those of its Outputs. (MSBuild batching.)
     pub fn buckets(&self, alloc: Global) -> Result<List<Bucket>, EvalFault>
         ensures { GivesFault (λ buckets. buckets) result
-            (task_buckets (seen_place self.now.place) (seen_element self.now.element)) }
+            (task_buckets (seen_context self.now.context) (seen_element self.now.element)) }
     {
         let ignored = ["Label", "MSBuildArchitecture", "MSBuildRuntime"];
-        self.place.buckets(alloc, &ignored, &self.element)
+        let lens = self.context.lens(self.element.file);
+        element_buckets(alloc, &lens, &ignored, &self.element, None)
     }
 
     /// The parameters in byte order of their names as written, as the task is handed them: each is
     /// a list of items or one text, by the task. (Task element.)
     pub fn params(&self, alloc: Global) -> Result<List<Param>, EvalFault>
         ensures { GivesFault (λ params. params) result
-            (params_at (seen_place self.now.place) (seen_element self.now.element)
+            (params_at (seen_context self.now.context) (seen_element self.now.element)
             self.now.task.now) }
     {
         params_of(alloc, self, self.element.element.attributes())
@@ -72,17 +76,16 @@ impl<'a> TaskElement<'a> {
     // The parameter that an attribute is, unless it has a meaning of its own or none.
     fn param(&self, alloc: Global, attribute: &(Text, Text)) -> Result<Option<Param>, EvalFault>
         ensures { GivesFault option_to_list result
-            (param_of (seen_place self.now.place) (seen_element self.now.element) self.now.task.now
+            (param_of (seen_context self.now.context) (seen_element self.now.element)
+            self.now.task.now
             attribute.now) }
     {
         let (name, text) = attribute;
         if is_task_attribute(name.as_str()) {
             return Ok(None);
         }
-        match Name::written(alloc, name.as_str()) {
-            Ok(name) => self.named(alloc, name, text.as_str()),
-            Err(NoMemory) => Err(EvalFault::memory(alloc)),
-        }
+        let name = Name::written(alloc, name.as_str())?;
+        self.named(alloc, name, text.as_str())
     }
 
     fn named(
@@ -92,7 +95,7 @@ impl<'a> TaskElement<'a> {
         text: &str,
     ) -> Result<Option<Param>, EvalFault>
         ensures { GivesFault option_to_list result
-            (param_named name (seen_place self.now.place) (seen_element self.now.element)
+            (param_named name (seen_context self.now.context) (seen_element self.now.element)
             self.now.task.now text.now) }
     {
         let Some(name) = name else {
@@ -105,7 +108,7 @@ impl<'a> TaskElement<'a> {
     // The value of a parameter of this name, which is in lower case.
     fn items(&self, alloc: Global, name: &str, text: &str) -> Result<List<Item>, EvalFault>
         ensures { GivesFault (λ items. items) result
-            (items_of (takes_list self.now.task.now name.now) (seen_place self.now.place)
+            (items_of (takes_list self.now.task.now name.now) (seen_context self.now.context)
             (seen_element self.now.element) text.now) }
     {
         if takes_list(self.task, name) {
@@ -118,25 +121,21 @@ impl<'a> TaskElement<'a> {
     // The value of a parameter that is a list.
     fn list(&self, alloc: Global, text: &str) -> Result<List<Item>, EvalFault>
         ensures { GivesFault (λ items. items) result
-            (items_of true (seen_place self.now.place) (seen_element self.now.element) text.now) }
+            (items_of true (seen_context self.now.context) (seen_element self.now.element)
+            text.now) }
     {
-        let items = self.place.list(alloc, &self.element, text)?;
-        match handed_items(alloc, items.as_slice()) {
-            Ok(items) => Ok(items),
-            Err(NoMemory) => Err(EvalFault::memory(alloc)),
-        }
+        let items = self.context.list(alloc, &self.element, text)?;
+        Ok(handed_items(alloc, items.as_slice())?)
     }
 
     // The value of a parameter that is a text.
     fn text(&self, alloc: Global, text: &str) -> Result<List<Item>, EvalFault>
         ensures { GivesFault (λ items. items) result
-            (items_of false (seen_place self.now.place) (seen_element self.now.element) text.now) }
+            (items_of false (seen_context self.now.context) (seen_element self.now.element)
+            text.now) }
     {
-        let text = self.place.text(alloc, &self.element, text)?;
-        match text_items(alloc, text.as_str()) {
-            Ok(items) => Ok(items),
-            Err(NoMemory) => Err(EvalFault::memory(alloc)),
-        }
+        let text = self.context.text(alloc, &self.element, text)?;
+        Ok(text_items(alloc, text.as_str())?)
     }
 }
 
@@ -148,7 +147,7 @@ fn params_of(
 ) -> Result<List<Param>, EvalFault>
     ensures { GivesFault (λ params. params) result
         (joined_ok
-        (param_of (seen_place task.now.place) (seen_element task.now.element) task.now.task.now)
+        (param_of (seen_context task.now.context) (seen_element task.now.element) task.now.task.now)
         attributes.now) }
 {
     let mut params = List::new(alloc);
@@ -166,14 +165,12 @@ fn push_param(
 ) -> Result<(), EvalFault>
     ensures { GivesFault (λ _. params.new) result
         (map_ok (λ more. params.old ++ more)
-        (param_of (seen_place task.now.place) (seen_element task.now.element) task.now.task.now
+        (param_of (seen_context task.now.context) (seen_element task.now.element) task.now.task.now
         attribute.now)) }
 {
     let param = task.param(alloc, attribute)?;
-    match push_if(params, param) {
-        Ok(()) => Ok(()),
-        Err(NoMemory) => Err(EvalFault::memory(alloc)),
-    }
+    push_if(params, param)?;
+    Ok(())
 }
 
 fn push_if(params: &mut List<Param>, param: Option<Param>) -> Result<(), NoMemory>

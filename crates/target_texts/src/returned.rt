@@ -2,7 +2,7 @@ ghost use Rattle.std.specs.Prelude.{◌≡◌, [], Some, IfOk, option_copied};
 ghost use Rattle.build_world.specs.Answers.{GivesFault};
 ghost use Rattle.build_world.specs.Elements.{seen_element};
 ghost use Rattle.build_world.specs.Instances.{seen_target};
-ghost use Rattle.target_texts.specs.Parameters.{list_at};
+ghost use Rattle.element_texts.specs.Contexts.{list_at};
 ghost use Rattle.target_texts.specs.Returned.{
   keeps_if,
   keeps_repeats,
@@ -11,12 +11,13 @@ ghost use Rattle.target_texts.specs.Returned.{
   returned_items,
   returns_of,
 };
-ghost use Rattle.target_texts.specs.Seen.{seen_place};
+ghost use Rattle.target_texts.specs.Seen.{seen_context};
 
 use crate::bucket::without_lists;
-use crate::place::Place;
 use build_world::{EvalFault, PlacedElement, UsedTarget};
+use element_texts::ElementContext;
 use msb_expand::Bucket;
+use msb_files::FileView;
 use msb_items::{KeyedItems, truth_or};
 use msb_values::{Item, List, NoMemory, unescape};
 use std::alloc::Global;
@@ -38,31 +39,29 @@ pub fn returns_of(target: &UsedTarget) -> Option<&str>
 /// KeepDuplicateOutputs.)
 pub fn keeps_repeats(
     alloc: Global,
-    place: &Place<'_>,
+    context: &ElementContext<'_, FileView<'_>>,
     element: &PlacedElement<'_>,
 ) -> Result<bool, EvalFault>
     ensures { GivesFault (λ keeps. keeps) result
-        (keeps_repeats (seen_place place.now) (seen_element element.now)) }
+        (keeps_repeats (seen_context context.now) (seen_element element.now)) }
 {
     match element.element.attribute("KeepDuplicateOutputs") {
-        Some(written) => keeps_written(alloc, place, element, written),
+        Some(written) => keeps_written(alloc, context, element, written),
         None => Ok(false),
     }
 }
 
 fn keeps_written(
     alloc: Global,
-    place: &Place<'_>,
+    context: &ElementContext<'_, FileView<'_>>,
     element: &PlacedElement<'_>,
     written: &str,
 ) -> Result<bool, EvalFault>
     ensures { GivesFault (λ keeps. keeps) result
-        (keeps_if (seen_place place.now) (seen_element element.now) (Some written.now)) }
+        (keeps_if (seen_context context.now) (seen_element element.now) (Some written.now)) }
 {
-    let text = place.text(alloc, element, written)?;
-    let Ok(text) = unescape(alloc, text.as_str()) else {
-        return Err(EvalFault::memory(alloc));
-    };
+    let text = context.text(alloc, element, written)?;
+    let text = unescape(alloc, text.as_str())?;
     match truth_or(alloc, false, text.as_str()) {
         Ok(keeps) => Ok(keeps),
         Err(cause) => Err(element.fault(alloc, cause)),
@@ -74,23 +73,21 @@ fn keeps_written(
 /// Returns or Outputs. (Target element, Returns.)
 pub fn returned_items(
     alloc: Global,
-    place: &Place<'_>,
+    context: &ElementContext<'_, FileView<'_>>,
     bucket: &Bucket,
     element: &PlacedElement<'_>,
     there: &KeyedItems,
     written: &str,
 ) -> Result<List<Item>, EvalFault>
     ensures { GivesFault (λ items. items) result
-        (returned_items (seen_place place.now) bucket.now (seen_element element.now) there.now
+        (returned_items (seen_context context.now) bucket.now (seen_element element.now) there.now
         written.now) }
 {
-    let keeps = keeps_repeats(alloc, place, element)?;
-    let Ok(bucket) = without_lists(alloc, bucket) else {
-        return Err(EvalFault::memory(alloc));
-    };
+    let keeps = keeps_repeats(alloc, context, element)?;
+    let bucket = without_lists(alloc, bucket)?;
     listed_items(
         alloc,
-        &place.in_bucket(&bucket),
+        &context.in_bucket(&bucket),
         element,
         keeps,
         there,
@@ -98,25 +95,22 @@ pub fn returned_items(
     )
 }
 
-/// The items of a text of a target in its place, less the repeats of those that are there and of
+/// The items of a text of a target where it stands, less the repeats of those that are there and of
 /// each other unless the target keeps them.
 pub fn listed_items(
     alloc: Global,
-    place: &Place<'_>,
+    context: &ElementContext<'_, FileView<'_>>,
     element: &PlacedElement<'_>,
     keeps: bool,
     there: &KeyedItems,
     written: &str,
 ) -> Result<List<Item>, EvalFault>
     ensures { GivesFault (λ items. items) result
-        (listed_items (seen_place place.now) (seen_element element.now) keeps there.now
+        (listed_items (seen_context context.now) (seen_element element.now) keeps there.now
         written.now) }
 {
-    let items = place.list(alloc, element, written)?;
-    match less_repeats(alloc, keeps, there, items) {
-        Ok(items) => Ok(items),
-        Err(NoMemory) => Err(EvalFault::memory(alloc)),
-    }
+    let items = context.list(alloc, element, written)?;
+    Ok(less_repeats(alloc, keeps, there, items)?)
 }
 
 fn less_repeats(

@@ -1,5 +1,5 @@
 pub mod Acting
-pub mod Fitting
+pub mod Excluding
 pub mod Joining
 pub mod OtherWritten
 pub mod Pairing

@@ -65,7 +65,7 @@ use Rattle.task_kit.specs.Copies.{
   chosen,
   counted,
 }
-use Rattle.task_kit.specs.Made.{
+use Rattle.task_kit.specs.Progress.{
   added,
   fits,
   with_act,
@@ -83,7 +83,7 @@ use Rattle.task_kit.specs.Paths.{path_in}
 use Rattle.task_kit.specs.Tasks.{built_in, done, output_of, answer_of, answer}
 use Rattle.task_kit.specs.declared.copies.Source.{Source}
 use Rattle.task_kit.specs.declared.copies.Destination.{Destination}
-use Rattle.task_kit.specs.declared.made.Made.{Made}
+use Rattle.task_kit.specs.declared.progress.TaskProgress.{TaskProgress}
 use Rattle.task_kit.specs.declared.tasks.BuiltIn.{BuiltIn}
 use Rattle.task_kit.specs.declared.tasks.BuiltIn.TheVariants.{
   Message,
@@ -112,21 +112,23 @@ pub data EqualOrLarge (x y : TaskOutput) : Type 0 where
 
 -- ---- what is made
 
-record Shifted (a b : Made) : Type 0 where
+record Shifted (a b : TaskProgress) : Type 0 where
   acts : a.acts ≡ b.acts
   items : a.items ≡ b.items
 
 -- the same but for what was written before, or a file is too large
-data MadeAlike : Result Made Failure → Result Made Failure → Type 0 where
-  both_made : (a b : Made) → Shifted a b → MadeAlike (Ok a) (Ok b)
+data MadeAlike : Result TaskProgress Failure → Result TaskProgress Failure → Type 0 where
+  both_made : (a b : TaskProgress) → Shifted a b → MadeAlike (Ok a) (Ok b)
   both_fail : (failure : Failure) → MadeAlike (Err failure) (Err failure)
-  large_first : (path : List ℕ) (r : Result Made Failure) → MadeAlike (Err (TooLarge path)) r
-  large_second : (path : List ℕ) (r : Result Made Failure) → MadeAlike r (Err (TooLarge path))
+  large_first : (path : List ℕ) (r : Result TaskProgress Failure)
+      → MadeAlike (Err (TooLarge path)) r
+  large_second : (path : List ℕ) (r : Result TaskProgress Failure)
+      → MadeAlike r (Err (TooLarge path))
 
-added-alike : (act : Act) (a b : Made) → Shifted a b → Shifted (added act a) (added act b)
+added-alike : (act : Act) (a b : TaskProgress) → Shifted a b → Shifted (added act a) (added act b)
 added-alike act a b s = record { acts = ap (λ l. l ++ act ∷ []) s.acts; items = s.items }
 
-act-alike : (told : List ℕ) (act : Act) (a b : Made) → Shifted a b →
+act-alike : (told : List ℕ) (act : Act) (a b : TaskProgress) → Shifted a b →
     MadeAlike (with_act told act a) (with_act told act b)
 act-alike told act a b s = go (fits act a.written) (fits act b.written)
   where
@@ -136,35 +138,40 @@ act-alike told act a b s = go (fits act a.written) (fits act b.written)
     go true false = large_second told (Ok (added act a))
     go false y = large_first told (if y then Ok (added act b) else Err (TooLarge told))
 
-file-alike : (told : List ℕ) (put : Put) (a b : Made) → Shifted a b →
+file-alike : (told : List ℕ) (put : Put) (a b : TaskProgress) → Shifted a b →
     MadeAlike (with_file told put a) (with_file told put b)
 file-alike told put a b s = act-alike told (Write put) a b s
 
 -- acts in turn
-data AllAlike : Result Made (Made × Failure) → Result Made (Made × Failure) → Type 0 where
-  all_made : (a b : Made) → Shifted a b → AllAlike (Ok a) (Ok b)
-  all_fail : (a b : Made) (failure : Failure) → Shifted a b →
+data AllAlike : Result TaskProgress (TaskProgress × Failure)
+    → Result TaskProgress (TaskProgress × Failure) → Type 0 where
+  all_made : (a b : TaskProgress) → Shifted a b → AllAlike (Ok a) (Ok b)
+  all_fail : (a b : TaskProgress) (failure : Failure) → Shifted a b →
       AllAlike (Err (a, failure)) (Err (b, failure))
-  all_large_first : (a : Made) (path : List ℕ) (r : Result Made (Made × Failure)) →
+  all_large_first : (a : TaskProgress) (path : List ℕ)
+      (r : Result TaskProgress (TaskProgress × Failure)) →
       AllAlike (Err (a, TooLarge path)) r
-  all_large_second : (b : Made) (path : List ℕ) (r : Result Made (Made × Failure)) →
+  all_large_second : (b : TaskProgress) (path : List ℕ)
+      (r : Result TaskProgress (TaskProgress × Failure)) →
       AllAlike r (Err (b, TooLarge path))
 
-kept-alike : (a b : Made) (x y : Result Made Failure) → Shifted a b → MadeAlike x y →
+kept-alike : (a b : TaskProgress) (x y : Result TaskProgress Failure) → Shifted a b → MadeAlike x y
+    →
     AllAlike (kept_by a x) (kept_by b y)
 kept-alike a b x y s (both_made c d t) = all_made c d t
 kept-alike a b x y s (both_fail failure) = all_fail a b failure s
 kept-alike a b x y s (large_first path r) = all_large_first a path (kept_by b r)
 kept-alike a b x y s (large_second path r) = all_large_second b path (kept_by a r)
 
-made-alike : {X : Type 0} (act : Made → X → Result Made Failure) →
-    ((a b : Made) (x : X) → Shifted a b → MadeAlike (act a x) (act b x)) →
-    (xs : List X) (a b : Made) → Shifted a b → AllAlike (made_by act a xs) (made_by act b xs)
-made-alike act f [] a b s = all_made a b s
-made-alike act f (x ∷ xs) a b s = go (act a x) (act b x) (f a b x s) (made-alike act f xs)
+progress-alike : {X : Type 0} (act : TaskProgress → X → Result TaskProgress Failure) →
+    ((a b : TaskProgress) (x : X) → Shifted a b → MadeAlike (act a x) (act b x)) →
+    (xs : List X) (a b : TaskProgress) → Shifted a b
+    → AllAlike (made_by act a xs) (made_by act b xs)
+progress-alike act f [] a b s = all_made a b s
+progress-alike act f (x ∷ xs) a b s = go (act a x) (act b x) (f a b x s) (progress-alike act f xs)
   where
-    go : (r q : Result Made Failure) → MadeAlike r q →
-        ((a b : Made) → Shifted a b → AllAlike (made_by act a xs) (made_by act b xs)) →
+    go : (r q : Result TaskProgress Failure) → MadeAlike r q →
+        ((a b : TaskProgress) → Shifted a b → AllAlike (made_by act a xs) (made_by act b xs)) →
         AllAlike (and_then (kept_by a r) (λ next. made_by act next xs))
         (and_then (kept_by b q) (λ next. made_by act next xs))
     go r q (both_made c d t) ih = ih c d t
@@ -175,8 +182,9 @@ made-alike act f (x ∷ xs) a b s = go (act a x) (act b x) (f a b x s) (made-ali
         (λ next. made_by act next xs))
 
 -- the output
-output-alike : (task : List ℕ) (g : Made → TaskOutput) → ((a b : Made) → Shifted a b → g a ≡ g b) →
-    (r q : Result Made (Made × Failure)) → AllAlike r q →
+output-alike : (task : List ℕ) (g : TaskProgress → TaskOutput)
+    → ((a b : TaskProgress) → Shifted a b → g a ≡ g b) →
+    (r q : Result TaskProgress (TaskProgress × Failure)) → AllAlike r q →
     EqualOrLarge (output_with task (g (made_in r)) r) (output_with task (g (made_in q)) q)
 output-alike task g h r q (all_made a b s) =
     equal (ap (λ (o : TaskOutput). record {
@@ -251,7 +259,7 @@ of-lift name (Err f) (Err g) h = equal (ap (λ z. output_of name (Err z)) h)
 
 -- ---- Copy
 
-item-alike : (item : Item) (r q : Result Made Failure) → MadeAlike r q →
+item-alike : (item : Item) (r q : Result TaskProgress Failure) → MadeAlike r q →
     MadeAlike (map_ok (with_item item) r) (map_ok (with_item item) q)
 item-alike item r q (both_made a b s) = both_made (with_item item a) (with_item item b)
     (record { acts = s.acts; items = ap (λ l. l ++ item ∷ []) s.items })
@@ -259,7 +267,8 @@ item-alike item r q (both_fail failure) = both_fail failure
 item-alike item r q (large_first path y) = large_first path (map_ok (with_item item) y)
 item-alike item r q (large_second path y) = large_second path (map_ok (with_item item) y)
 
-copied-alike : (v : View) (skip : Bool) (a b : Made) (c : Source × Destination) → Shifted a b →
+copied-alike : (v : View) (skip : Bool) (a b : TaskProgress) (c : Source × Destination)
+    → Shifted a b →
     MadeAlike (copied v skip a c) (copied v skip b c)
 copied-alike v skip a b c s = go (content v c.0.path)
   where
@@ -288,7 +297,7 @@ all-alike v skip n m sources to =
     (λ a b s. ap (λ l. succeeded (copy_outputs l)) s.items)
     (made_by (copied v skip) (started n) (zip sources to))
     (made_by (copied v skip) (started m) (zip sources to))
-    (made-alike (copied v skip) (λ a b x s. copied-alike v skip a b x s) (zip sources to)
+    (progress-alike (copied v skip) (λ a b x s. copied-alike v skip a b x s) (zip sources to)
     (started n) (started m) (starts n m))
 
 to-alike : (v : View) (skip : Bool) (n m : ℕ) (sources : List Source)
@@ -386,7 +395,7 @@ pub answers-alike : (name dir : List ℕ) (v : View) (params : List Param) (n m 
     AnswersAlike (answer name dir v params n) (answer name dir v params m)
 answers-alike name dir v params n m = answer-alike (value_at name built_in) name dir v params n m
 
-tool-alike : (a b : Made) (act : Act) → Shifted a b →
+tool-alike : (a b : TaskProgress) (act : Act) → Shifted a b →
     MadeAlike (acted_by_tool a act) (acted_by_tool b act)
 tool-alike a b act s = go (is_normal (act_path act))
   where
@@ -405,5 +414,6 @@ tools-alike name n m (MadeBy output) =
     output-alike name (λ a. output) (λ a b s. refl)
     (made_by acted_by_tool (started n) output.acts)
     (made_by acted_by_tool (started m) output.acts)
-    (made-alike acted_by_tool (λ a b x s. tool-alike a b x s) output.acts (started n) (started m)
+    (progress-alike acted_by_tool (λ a b x s. tool-alike a b x s) output.acts (started n)
+    (started m)
     (starts n m))

@@ -61,7 +61,7 @@ use Rattle.task_kit.specs.Copies.{
   chosen,
   counted,
 }
-use Rattle.task_kit.specs.Made.{with_file, made_by, started, kept_by, output_with, succeeded}
+use Rattle.task_kit.specs.Progress.{with_file, made_by, started, kept_by, output_with, succeeded}
 use Rattle.task_kit.specs.Lines.{written_lines, output_written, write_lines, text_after}
 use Rattle.task_kit.specs.Included.{create_item, metadata_in, include_output, items_created}
 use Rattle.task_kit.specs.Read.{read_lines, lines_read}
@@ -71,7 +71,7 @@ use Rattle.task_kit.specs.Paths.{path_in}
 use Rattle.task_kit.specs.Tasks.{built_in, done, output_of, answer_of, answer}
 use Rattle.task_kit.specs.declared.copies.Source.{Source}
 use Rattle.task_kit.specs.declared.copies.Destination.{Destination}
-use Rattle.task_kit.specs.declared.made.Made.{Made}
+use Rattle.task_kit.specs.declared.progress.TaskProgress.{TaskProgress}
 use Rattle.task_kit.specs.declared.tasks.BuiltIn.{BuiltIn}
 use Rattle.task_kit.specs.declared.tasks.BuiltIn.TheVariants.{
   Message,
@@ -94,29 +94,31 @@ module _ (v u : View) (seen-same : (path : List ℕ) → content v path ≡ cont
     (paths-same : views.paths v ≡ views.paths u) where
   -- ---- Copy
 
-  written-at : (skip : Bool) (bytes : List ℕ) (to : Destination) (made : Made) →
-      written_at v skip bytes to made ≡ written_at u skip bytes to made
-  written-at skip bytes to made = ap (λ c. if skip
-      && is_unchanged c bytes then Ok made else with_file to.text (record {
+  written-at : (skip : Bool) (bytes : List ℕ) (to : Destination) (progress : TaskProgress) →
+      written_at v skip bytes to progress ≡ written_at u skip bytes to progress
+  written-at skip bytes to progress = ap (λ c. if skip
+      && is_unchanged c bytes then Ok progress else with_file to.text (record {
         path = to.path;
         bytes =
             bytes;
-      }) made) (seen-same to.path)
+      }) progress) (seen-same to.path)
 
-  copied-from : (x : Option (List ℕ)) (skip : Bool) (made : Made) (c : Source × Destination) →
-      copied_from x v skip made c ≡ copied_from x u skip made c
-  copied-from None skip made c = refl
-  copied-from (Some bytes) skip made c = ap (map_ok (with_item (item_copied c.0 c.1)))
-      (written-at skip bytes c.1 made)
+  copied-from : (x : Option (List ℕ)) (skip : Bool) (progress : TaskProgress)
+      (c : Source × Destination) →
+      copied_from x v skip progress c ≡ copied_from x u skip progress c
+  copied-from None skip progress c = refl
+  copied-from (Some bytes) skip progress c = ap (map_ok (with_item (item_copied c.0 c.1)))
+      (written-at skip bytes c.1 progress)
 
-  copied-same : (skip : Bool) (made : Made) (c : Source × Destination) →
-      copied v skip made c ≡ copied u skip made c
-  copied-same skip made c = copied-from (content v c.0.path) skip made c
-      ∙ ap (λ x. copied_from x u skip made c) (seen-same c.0.path)
+  copied-same : (skip : Bool) (progress : TaskProgress) (c : Source × Destination) →
+      copied v skip progress c ≡ copied u skip progress c
+  copied-same skip progress c = copied-from (content v c.0.path) skip progress c
+      ∙ ap (λ x. copied_from x u skip progress c) (seen-same c.0.path)
 
   copied-all : (skip : Bool) → copied v skip ≡ copied u skip
   copied-all skip = ext (copied v skip) (copied u skip)
-      (λ made. ext (copied v skip made) (copied u skip made) (copied-same skip made))
+      (λ progress. ext (copied v skip progress) (copied u skip progress)
+      (copied-same skip progress))
 
   all-copied : (skip : Bool) (written : ℕ) (sources : List Source) →
       all_copied v skip written sources ≡ all_copied u skip written sources
@@ -153,12 +155,13 @@ module _ (v u : View) (seen-same : (path : List ℕ) → content v path ≡ cont
 
   -- ---- WriteLinesToFile
 
-  lines-same : (file path : List ℕ) (overwrite : Bool) (lines : List Item) (made : Made) →
-      written_lines v file path overwrite lines made
-      ≡ written_lines u file path overwrite lines made
-  lines-same file path overwrite lines made =
-      ap (λ c. if not overwrite && length lines == 0 then Ok made else with_file file
-      (record { path = path; bytes = text_after overwrite c lines }) made) (seen-same path)
+  lines-same : (file path : List ℕ) (overwrite : Bool) (lines : List Item) (progress : TaskProgress)
+      →
+      written_lines v file path overwrite lines progress
+      ≡ written_lines u file path overwrite lines progress
+  lines-same file path overwrite lines progress =
+      ap (λ c. if not overwrite && length lines == 0 then Ok progress else with_file file
+      (record { path = path; bytes = text_after overwrite c lines }) progress) (seen-same path)
 
   map-same : {X Y : Type 0} (f g : X → Y) (x : Result X Failure) → ((y : X) → f y ≡ g y) →
       map_ok f x ≡ map_ok g x

@@ -24,6 +24,7 @@ use Rattle.std.specs.Prelude.{
 use Rattle.std.specs.List.{zip}
 use Rattle.std.specs.Str.{bytes_eq}
 use Rattle.msb_laws.specs.Results.{and_then, map_ok, all_ok}
+use Rattle.msb_laws.specs.Words.{Text, Name, Path}
 use Rattle.msb_paths.specs.Join.{joined}
 use Rattle.msb_paths.specs.Parts.{filename, extension}
 use Rattle.msb_values.specs.declared.item.Item.{Item}
@@ -37,34 +38,34 @@ use Rattle.task_trait.specs.declared.failures.Failure.TheVariants.{
 }
 use Rattle.task_trait.specs.declared.tools.Param.{Param}
 use Rattle.task_trait.specs.declared.tools.TaskOutput.{TaskOutput}
-use Rattle.task_kit.specs.Made.{started, with_file, made_by, made_in, succeeded, output_with}
+use Rattle.task_kit.specs.Progress.{started, with_file, made_by, made_in, succeeded, output_with}
 use Rattle.task_kit.specs.Paths.{path_in}
 use Rattle.task_kit.specs.declared.copies.Source.{Source}
 use Rattle.task_kit.specs.declared.copies.Destination.{Destination}
-use Rattle.task_kit.specs.declared.made.Made.{Made}
+use Rattle.task_kit.specs.declared.progress.TaskProgress.{TaskProgress}
 
 -- a source and a destination with their normal paths
-abbrev pub source_at : List ℕ → Item → Result Source Failure
+abbrev pub source_at : Path → Item → Result Source Failure
 source_at dir item = map_ok (λ path. record { item = item; path = path })
     (path_in dir (codes "sourcefiles") item.ident)
 
-abbrev pub destination_at : List ℕ → List ℕ → List ℕ → Result Destination Failure
+abbrev pub destination_at : Path → Name → Text → Result Destination Failure
 destination_at dir name text = map_ok (λ path. record { text = text; path = path })
     (path_in dir name text)
 
 -- a destination of its own for a source
-abbrev pub named_at : List ℕ → Item → Result Destination Failure
+abbrev pub named_at : Path → Item → Result Destination Failure
 named_at dir item = destination_at dir (codes "destinationfiles") item.ident
 
 -- the destination that a folder gives a source: the file's Filename and Extension in the folder
-abbrev pub text_below : List ℕ → List ℕ → List ℕ
+abbrev pub text_below : Text → Text → Text
 text_below folder source = joined folder (filename source ++ extension source)
 
-abbrev pub below_at : List ℕ → List ℕ → Item → Result Destination Failure
+abbrev pub below_at : Path → Text → Item → Result Destination Failure
 below_at dir folder source = destination_at dir (codes "destinationfolder")
     (text_below folder source.ident)
 
-abbrev pub all_below : List ℕ → List ℕ → List Item → Result (List Destination) Failure
+abbrev pub all_below : Path → Text → List Item → Result (List Destination) Failure
 all_below dir folder sources = if length folder == 0 then Ok [] else all_ok (below_at dir folder)
     sources
 
@@ -85,37 +86,39 @@ abbrev pub item_copied : Source → Destination → Item
 item_copied source destination = record
     { ident = destination.text; recursive = source.item.recursive; meta = source.item.meta }
 
-abbrev pub with_item : Item → Made → Made
-with_item item made = record
-    { written = made.written; acts = made.acts; items = made.items ++ item ∷ [] }
+abbrev pub with_item : Item → TaskProgress → TaskProgress
+with_item item progress = record
+    { written = progress.written; acts = progress.acts; items = progress.items ++ item ∷ [] }
 
 -- a destination that has these bytes already
-abbrev pub is_unchanged : Option (List ℕ) → List ℕ → Bool
+abbrev pub is_unchanged : Option Text → Text → Bool
 is_unchanged (Some held) bytes = bytes_eq held bytes
 is_unchanged None bytes = false
 
 -- bytes at their destination, unless it is left as it is
-abbrev pub written_at : View → Bool → List ℕ → Destination → Made → Result Made Failure
-written_at view skip bytes to made =
-    if skip && is_unchanged (content view to.path) bytes then Ok made else with_file to.text
-    (record { path = to.path; bytes = bytes }) made
+abbrev pub written_at : View → Bool → Text → Destination → TaskProgress
+    → Result TaskProgress Failure
+written_at view skip bytes to progress =
+    if skip && is_unchanged (content view to.path) bytes then Ok progress else with_file to.text
+    (record { path = to.path; bytes = bytes }) progress
 
 -- a file is copied from the view as it was before the task
-abbrev pub copied_from : Option (List ℕ) → View → Bool → Made → Source × Destination
-    → Result Made Failure
-copied_from None view skip made c = Err (MissingSource c.0.item.ident)
-copied_from (Some bytes) view skip made c = map_ok (with_item (item_copied c.0 c.1))
-    (written_at view skip bytes c.1 made)
+abbrev pub copied_from : Option Text → View → Bool → TaskProgress → Source × Destination
+    → Result TaskProgress Failure
+copied_from None view skip progress c = Err (MissingSource c.0.item.ident)
+copied_from (Some bytes) view skip progress c = map_ok (with_item (item_copied c.0 c.1))
+    (written_at view skip bytes c.1 progress)
 
-abbrev pub copied : View → Bool → Made → Source × Destination → Result Made Failure
-copied view skip made c = copied_from (content view c.0.path) view skip made c
+abbrev pub copied : View → Bool → TaskProgress → Source × Destination → Result TaskProgress Failure
+copied view skip progress c = copied_from (content view c.0.path) view skip progress c
 
 abbrev pub copy_outputs : List Item → List Param
 copy_outputs items = record { name = codes "destinationfiles"; items = items }
     ∷ record { name = codes "copiedfiles"; items = items } ∷ []
 
-abbrev pub output_copied : Result Made (Made × Failure) → TaskOutput
-output_copied made = output_with (codes "copy") (succeeded (copy_outputs (made_in made).items)) made
+abbrev pub output_copied : Result TaskProgress (TaskProgress × Failure) → TaskOutput
+output_copied progress = output_with (codes "copy")
+    (succeeded (copy_outputs (made_in progress).items)) progress
 
 abbrev pub all_copied : View → Bool → ℕ → List Source → List Destination → TaskOutput
 all_copied view skip written sources destinations = output_copied
@@ -129,7 +132,7 @@ copied_to view skip written (source ∷ sources) destinations =
     map_ok (all_copied view skip written (source ∷ sources))
     (and_then destinations (counted (length (source ∷ sources))))
 
-abbrev pub copy : List ℕ → View → List Param → ℕ → Result TaskOutput Failure
+abbrev pub copy : Path → View → List Param → ℕ → Result TaskOutput Failure
 copy dir view params written =
     let items = items_of (codes "sourcefiles") params in
     let folder = text_of (codes "destinationfolder") params in

@@ -3,9 +3,7 @@
 use Rattle.std.specs.Prelude.{
   ℕ,
   Bool,
-  false,
   not,
-  ◌||◌,
   ◌==◌,
   List,
   [],
@@ -22,17 +20,15 @@ use Rattle.std.specs.Prelude.{
   codes,
   if◌then◌else◌,
 }
-use Rattle.std.specs.List.{list_any, flat_map}
+use Rattle.std.specs.List.{flat_map}
 use Rattle.msb_laws.specs.Results.{and_then, map_ok, all_ok}
-use Rattle.msb_paths.specs.Refused.{normal_path}
-use Rattle.msb_paths.specs.declared.errors.NormalFault.{NormalFault}
+use Rattle.msb_laws.specs.Words.{Text, Name, Path}
 use Rattle.msb_values.specs.Changes.{with_metadata}
 use Rattle.msb_values.specs.Escapes.{unescaped}
-use Rattle.msb_values.specs.Same.{is_same_text}
 use Rattle.msb_values.specs.declared.item.Item.{Item}
 use Rattle.msb_glob.specs.Expanded.{is_match, match_of}
-use Rattle.msb_glob.specs.Match.{fits_path}
-use Rattle.msb_glob.specs.Parsed.{Reading, parsed, is_pattern, with_slashes}
+use Rattle.msb_glob.specs.ItemNames.{ItemNames, is_named}
+use Rattle.msb_glob.specs.Parsed.{Reading, parsed, is_pattern}
 use Rattle.msb_glob.specs.declared.errors.GlobFault.{GlobFault}
 use Rattle.msb_glob.specs.declared.expansion.Match.{Match}
 use Rattle.msb_expand.specs.Computed.{is_computed}
@@ -42,16 +38,16 @@ use Rattle.task_trait.specs.declared.failures.Failure.{Failure}
 use Rattle.task_trait.specs.declared.failures.Failure.TheVariants.{BadParameter}
 use Rattle.task_trait.specs.declared.tools.Param.{Param}
 use Rattle.task_trait.specs.declared.tools.TaskOutput.{TaskOutput}
-use Rattle.task_kit.specs.Made.{succeeded}
+use Rattle.task_kit.specs.Progress.{succeeded}
 
 -- an entry comes without escapes, so a `%` in a pattern stands for itself
-abbrev pub percent_of : ℕ → List ℕ
+abbrev pub percent_of : ℕ → Text
 percent_of byte = if byte == 37 then codes "%25" else byte ∷ []
 
-abbrev pub pattern_text : List ℕ → List ℕ
+abbrev pub pattern_text : Text → Text
 pattern_text text = flat_map percent_of text
 
-abbrev pub pattern_or_bad : List ℕ → Result Reading GlobFault → Result Reading Failure
+abbrev pub pattern_or_bad : Name → Result Reading GlobFault → Result Reading Failure
 pattern_or_bad name (Ok pattern) = Ok pattern
 pattern_or_bad name (Err fault) = Err (BadParameter name)
 
@@ -59,7 +55,7 @@ pattern_or_bad name (Err fault) = Err (BadParameter name)
 abbrev pub is_pattern_entry : Item → Bool
 is_pattern_entry entry = is_pattern entry.ident
 
-abbrev pub pattern_in : List ℕ → List ℕ → Item → Result Reading Failure
+abbrev pub pattern_in : Path → Name → Item → Result Reading Failure
 pattern_in dir name entry = pattern_or_bad name (parsed dir (pattern_text entry.ident))
 
 -- what a match makes of its entry, without escapes
@@ -67,12 +63,12 @@ abbrev pub item_matched : Item → Match → Item
 item_matched entry match = record
     { ident = unescaped match.ident; recursive = match.recursive; meta = entry.meta }
 
-abbrev pub items_matched : List (List ℕ) → Item → Reading → List Item
+abbrev pub items_matched : List Path → Item → Reading → List Item
 items_matched files entry pattern = map (item_matched entry)
     (map (match_of pattern) (filter (is_match pattern) files))
 
 -- the files that an entry matches as a pattern, or the entry itself, be there a file or not
-abbrev pub items_of_entry : List ℕ → List (List ℕ) → Item → Result (List Item) Failure
+abbrev pub items_of_entry : Path → List Path → Item → Result (List Item) Failure
 items_of_entry dir files entry =
     if is_pattern_entry entry then map_ok (items_matched files entry)
     (pattern_in dir (codes "include") entry) else Ok (entry ∷ [])
@@ -82,53 +78,44 @@ abbrev pub all_of : {X : Type 0} → (Item → Result (List X) Failure) → List
     → Result (List X) Failure
 all_of each entries = map_ok (flat_map (λ list. list)) (all_ok each entries)
 
-abbrev pub items_included : List ℕ → List (List ℕ) → List Item → Result (List Item) Failure
+abbrev pub items_included : Path → List Path → List Item → Result (List Item) Failure
 items_included dir files entries = all_of (items_of_entry dir files) entries
 
 -- the pattern that an entry of Exclude is, if it is one
-abbrev pub patterns_of_entry : List ℕ → Item → Result (List Reading) Failure
+abbrev pub patterns_of_entry : Path → Item → Result (List Reading) Failure
 patterns_of_entry dir entry =
     if is_pattern_entry entry then map_ok (λ pattern. pattern ∷ [])
     (pattern_in dir (codes "exclude") entry) else Ok []
 
--- identities with `/` for each `\`
-abbrev pub slashed : List Item → List (List ℕ)
-slashed entries = map (λ entry. with_slashes entry.ident) entries
+abbrev pub idents_of : List Item → List Text
+idents_of entries = map (λ entry. entry.ident) entries
 
-abbrev pub fits : Result (List ℕ) NormalFault → Reading → Bool
-fits (Ok path) pattern = fits_path pattern.parts path
-fits (Err fault) pattern = false
+-- what the entries of Exclude name, among which are these patterns
+abbrev pub names_excluded : List Reading → List Item → ItemNames
+names_excluded patterns entries = record { idents = idents_of entries; patterns = patterns }
 
--- Exclude names an item of an entry's identity, without case and with `\` as `/`, and one whose
--- path a pattern among the entries matches
-abbrev pub is_excluded : List ℕ → List (List ℕ) → List Reading → Item → Bool
-is_excluded dir idents patterns item = list_any (is_same_text (with_slashes item.ident)) idents
-    || list_any (fits (normal_path dir item.ident)) patterns
-
-abbrev pub less_excluded : List ℕ → List (List ℕ) → List Reading → List Item → List Item
-less_excluded dir idents patterns items = filter
-    (λ item. not (is_excluded dir idents patterns item)) items
+abbrev pub less_excluded : Path → ItemNames → List Item → List Item
+less_excluded dir names items = filter (λ item. not (is_named dir names item.ident)) items
 
 -- the items of the entries, less those that Exclude names; its patterns are read first
-abbrev pub items_created : List ℕ → List (List ℕ) → List Item → List Item
-    → Result (List Item) Failure
+abbrev pub items_created : Path → List Path → List Item → List Item → Result (List Item) Failure
 items_created dir files entries excluded =
     and_then (all_of (patterns_of_entry dir) excluded)
-    (λ patterns. map_ok (less_excluded dir (slashed excluded) patterns)
+    (λ patterns. map_ok (less_excluded dir (names_excluded patterns excluded))
     (items_included dir files entries))
 
 -- an entry of AdditionalMetadata: a name that is not computed, and its value
-abbrev pub unless_computed : List ℕ × List ℕ → Option (List ℕ × List ℕ)
+abbrev pub unless_computed : Name × Text → Option (Name × Text)
 unless_computed pair = if is_computed pair.0 then None else Some pair
 
-abbrev pub metadata_in : Item → Result (List ℕ × List ℕ) Failure
+abbrev pub metadata_in : Item → Result (Name × Text) Failure
 metadata_in entry = or_bad (codes "additionalmetadata")
     (option_and_then unless_computed (pair_of entry.ident))
 
 abbrev pub include_output : List Item → Param
 include_output items = record { name = codes "include"; items = items }
 
-abbrev pub create_item : List ℕ → View → List Param → Result TaskOutput Failure
+abbrev pub create_item : Path → View → List Param → Result TaskOutput Failure
 create_item dir view params =
     unless (check_known (codes "createitem") params)
     (and_then (needed_items (codes "include") params) (λ entries.

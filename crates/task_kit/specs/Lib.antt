@@ -1,5 +1,5 @@
 pub mod Tasks
-pub mod Made
+pub mod Progress
 pub mod Paths
 pub mod Messages
 pub mod Copies

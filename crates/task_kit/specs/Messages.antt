@@ -21,6 +21,7 @@ use Rattle.std.specs.Prelude.{
   if◌then◌else◌,
 }
 use Rattle.msb_laws.specs.Results.{map_ok}
+use Rattle.msb_laws.specs.Words.{Text}
 use Rattle.msb_values.specs.Same.{is_same_text}
 use Rattle.msb_values.specs.declared.note.Note.{Note}
 use Rattle.msb_values.specs.declared.note.Note.TheVariants.{Low, Message, Warning}
@@ -29,20 +30,20 @@ use Rattle.task_trait.specs.declared.failures.Failure.{Failure}
 use Rattle.task_trait.specs.declared.failures.Failure.TheVariants.{Raised}
 use Rattle.task_trait.specs.declared.tools.Param.{Param}
 use Rattle.task_trait.specs.declared.tools.TaskOutput.{TaskOutput}
-use Rattle.task_kit.specs.Made.{succeeded}
+use Rattle.task_kit.specs.Progress.{succeeded}
 
 -- a task that only says something
 abbrev pub said : Note → TaskOutput
 said note = record { ok = true; outputs = []; acts = []; notes = note ∷ [] }
 
 -- `low`, or `normal` or `high`, without case; an empty text is normal
-abbrev pub is_low : List ℕ → Option Bool
+abbrev pub is_low : Text → Option Bool
 is_low text =
     if is_same_text text (codes "low") then Some true else
     if length text == 0 || is_same_text text (codes "normal")
     || is_same_text text (codes "high") then Some false else None
 
-abbrev pub message_note : List ℕ → Bool → Note
+abbrev pub message_note : Text → Bool → Note
 message_note text true = Low text
 message_note text false = Message text
 

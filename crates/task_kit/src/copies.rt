@@ -35,10 +35,10 @@ ghost use Rattle.task_kit.specs.Copies.{
   text_below,
   written_at,
 };
-ghost use Rattle.task_kit.specs.Made.{Acts, Makes, made_by};
+ghost use Rattle.task_kit.specs.Progress.{Acts, Makes, made_by};
 
-use crate::made::{Made, output, output_with, succeeded};
 use crate::paths::path_in;
+use crate::progress::{TaskProgress, output, output_with, succeeded};
 use msb_files::FileView;
 use msb_paths::{NoRoom, join, parts};
 use msb_values::{Copied, Item, List, NoMemory, Put, Shared, Text, Text8};
@@ -84,15 +84,19 @@ pub(crate) fn copy(
     check_known(alloc, "copy", params)?;
     let items = items_of(params, "sourcefiles");
     let folder = text_of(params, "destinationfolder");
-    let named = all_named(alloc, dir, items_of(params, "destinationfiles"))?;
+    let named = named_destinations(alloc, dir, items_of(params, "destinationfiles"))?;
     let below = all_below(alloc, dir, folder, items)?;
     let skip = truth_at(alloc, params, "skipunchangedfiles")?;
     let sources = all_sources(alloc, dir, items)?;
-    let to = chosen(named, !folder.is_empty(), below);
+    let to = choose_destinations(named, !folder.is_empty(), below);
     copied_to(alloc, view, skip, written, sources.as_slice(), to)
 }
 
-fn all_named(alloc: Global, dir: &str, items: &[Item]) -> Result<List<Destination>, Failure>
+fn named_destinations(
+    alloc: Global,
+    dir: &str,
+    items: &[Item],
+) -> Result<List<Destination>, Failure>
     ensures { Gives result (all_ok (named_at dir.now) items.now) }
 {
     let mut all = List::new(alloc);
@@ -206,7 +210,7 @@ fn source_at(alloc: Global, dir: &str, item: &Item) -> Result<Source, Failure>
 }
 
 /// The destinations that are named, or those below the folder, if just one of both is given.
-fn chosen(
+fn choose_destinations(
     named: List<Destination>,
     has_folder: bool,
     below: List<Destination>,
@@ -233,16 +237,16 @@ fn copied_to(
         → Gives result (copied_to view.now skip written sources.now all) }
 {
     if sources.is_empty() {
-        return Ok(all_copied(alloc, view, skip, written, sources, &[])?);
+        return Ok(copy_all(alloc, view, skip, written, sources, &[])?);
     }
     let to = to?;
     if to.len() != sources.len() {
         return Err(Failure::Counts(sources.len(), to.len()));
     }
-    Ok(all_copied(alloc, view, skip, written, sources, to.as_slice())?)
+    Ok(copy_all(alloc, view, skip, written, sources, to.as_slice())?)
 }
 
-fn all_copied(
+fn copy_all(
     alloc: Global,
     view: &FileView<'_>,
     skip: bool,
@@ -254,10 +258,10 @@ fn all_copied(
     ensures { IfOk result
         (λ output. output ≡ all_copied view.now skip written sources.now destinations.now) }
 {
-    let mut made = Made::new(alloc, written);
-    let work = copy_each(alloc, view, skip, &mut made, sources, destinations);
-    let outputs = copy_outputs(alloc, made.items.as_slice())?;
-    Ok(output_with(alloc, "copy", succeeded(alloc, outputs), made, work)?)
+    let mut progress = TaskProgress::new(alloc, written);
+    let work = copy_each(alloc, view, skip, &mut progress, sources, destinations);
+    let outputs = copy_outputs(alloc, progress.items.as_slice())?;
+    Ok(output_with(alloc, "copy", succeeded(alloc, outputs), progress, work)?)
 }
 
 /// The copied items under both names of the task's outputs.
@@ -274,16 +278,16 @@ fn copy_each(
     alloc: Global,
     view: &FileView<'_>,
     skip: bool,
-    made: &mut Made,
+    progress: &mut TaskProgress,
     sources: &[Source],
     destinations: &[Destination],
 ) -> Result<(), Failure>
     requires { length destinations.now ≡ length sources.now }
-    ensures { Makes result made.new
-        (made_by (copied view.now skip) made.old (zip sources.now destinations.now)) }
+    ensures { Makes result progress.new
+        (made_by (copied view.now skip) progress.old (zip sources.now destinations.now)) }
 {
     for (at, source) in sources.iter().enumerate() {
-        copy_one(alloc, view, skip, made, source, &destinations[at])?;
+        copy_one(alloc, view, skip, progress, source, &destinations[at])?;
     }
     Ok(())
 }
@@ -292,15 +296,15 @@ fn copy_one(
     alloc: Global,
     view: &FileView<'_>,
     skip: bool,
-    made: &mut Made,
+    progress: &mut TaskProgress,
     source: &Source,
     destination: &Destination,
 ) -> Result<(), Failure>
-    ensures { Acts result made.old made.new
-        (copied view.now skip made.old (source.now, destination.now)) }
+    ensures { Acts result progress.old progress.new
+        (copied view.now skip progress.old (source.now, destination.now)) }
 {
     match view.content(source.path.as_str()) {
-        Some(bytes) => copy_bytes(alloc, view, skip, made, bytes, source, destination),
+        Some(bytes) => copy_bytes(alloc, view, skip, progress, bytes, source, destination),
         None => Err(missing(alloc, source.item.ident.as_str())),
     }
 }
@@ -318,16 +322,16 @@ fn copy_bytes(
     alloc: Global,
     view: &FileView<'_>,
     skip: bool,
-    made: &mut Made,
+    progress: &mut TaskProgress,
     bytes: &[u8],
     source: &Source,
     destination: &Destination,
 ) -> Result<(), Failure>
-    ensures { Acts result made.old made.new
-        (copied_from (Some bytes.now) view.now skip made.old (source.now, destination.now)) }
+    ensures { Acts result progress.old progress.new
+        (copied_from (Some bytes.now) view.now skip progress.old (source.now, destination.now)) }
 {
-    write_at(alloc, view, skip, made, bytes, destination)?;
-    made.items.push(item_copied(source, destination)?)?;
+    write_at(alloc, view, skip, progress, bytes, destination)?;
+    progress.items.push(item_copied(source, destination)?)?;
     Ok(())
 }
 
@@ -336,12 +340,12 @@ fn write_at(
     alloc: Global,
     view: &FileView<'_>,
     skip: bool,
-    made: &mut Made,
+    progress: &mut TaskProgress,
     bytes: &[u8],
     destination: &Destination,
 ) -> Result<(), Failure>
-    ensures { Acts result made.old made.new
-        (written_at view.now skip bytes.now destination.now made.old) }
+    ensures { Acts result progress.old progress.new
+        (written_at view.now skip bytes.now destination.now progress.old) }
 {
     if skip && is_unchanged(view.content(destination.path.as_str()), bytes) {
         return Ok(());
@@ -350,7 +354,7 @@ fn write_at(
         path: destination.path.copy()?,
         bytes: Shared::new(alloc, Text8::of(alloc, bytes)?)?,
     };
-    made.write(alloc, destination.text.as_str(), put)
+    progress.write(alloc, destination.text.as_str(), put)
 }
 
 fn is_unchanged(held: Option<&[u8]>, bytes: &[u8]) -> bool

@@ -2,10 +2,10 @@ ghost use Rattle.std.specs.Prelude.{◌≡◌, IfOk, option_copied};
 ghost use Rattle.msb_laws.specs.Results.{all_ok};
 ghost use Rattle.task_trait.specs.Answers.{Gives, GivesAs, UnlessMemory};
 ghost use Rattle.task_kit.specs.Foreign.{acted_by_tool, file_at, foreign_input, foreign_output};
-ghost use Rattle.task_kit.specs.Made.{Acts, Makes, made_by, output_with, started};
+ghost use Rattle.task_kit.specs.Progress.{Acts, Makes, made_by, output_with, started};
 
-use crate::made::{Made, output_with};
 use crate::paths::path_in;
+use crate::progress::{TaskProgress, output_with};
 use msb_files::FileView;
 use msb_paths::is_normal;
 use msb_values::{Act, Item, List, Name, NoMemory, Text, Text8};
@@ -47,11 +47,11 @@ fn file_at(alloc: Global, dir: &str, view: &FileView<'_>, item: &Item) -> Result
     ensures { Gives result (file_at dir.now view.now item.now) }
 {
     let path = path_in(alloc, dir, "sources", item.ident.as_str())?;
-    let content = copied(alloc, view.content(path.as_str()))?;
+    let content = copy_content(alloc, view.content(path.as_str()))?;
     Ok(FileIn { path, content })
 }
 
-fn copied(alloc: Global, bytes: Option<&[u8]>) -> Result<Option<Text8>, NoMemory>
+fn copy_content(alloc: Global, bytes: Option<&[u8]>) -> Result<Option<Text8>, NoMemory>
     ensures { IfOk result (λ copy. copy ≡ option_copied bytes.entry) }
 {
     match bytes {
@@ -73,11 +73,11 @@ pub fn foreign_output(
 {
     match answer {
         ToolAnswer::Unknown => Failure::UnknownTask.output(alloc, name.key()),
-        ToolAnswer::Made(output) => checked(alloc, name.key(), output, written),
+        ToolAnswer::Made(output) => check_acts(alloc, name.key(), output, written),
     }
 }
 
-fn checked(
+fn check_acts(
     alloc: Global,
     name: &str,
     output: TaskOutput,
@@ -93,36 +93,36 @@ fn checked(
         acts,
         notes,
     } = output;
-    let mut made = Made::new(alloc, written);
-    let work = act_all(alloc, &mut made, acts.into_vec());
+    let mut progress = TaskProgress::new(alloc, written);
+    let work = act_all(alloc, &mut progress, acts.into_vec());
     let without_acts = TaskOutput {
         ok,
         outputs,
         acts: List::new(alloc),
         notes,
     };
-    output_with(alloc, name, without_acts, made, work)
+    output_with(alloc, name, without_acts, progress, work)
 }
 
-fn act_all(alloc: Global, made: &mut Made, acts: Vec<Act>) -> Result<(), Failure>
-    ensures { Makes result made.new (made_by acted_by_tool made.old acts.items) }
+fn act_all(alloc: Global, progress: &mut TaskProgress, acts: Vec<Act>) -> Result<(), Failure>
+    ensures { Makes result progress.new (made_by acted_by_tool progress.old acts.items) }
 {
     for act in acts {
-        act_once(alloc, made, act)?;
+        act_once(alloc, progress, act)?;
     }
     Ok(())
 }
 
 /// Writes or removes a file, whose path is to be normal.
-fn act_once(alloc: Global, made: &mut Made, act: Act) -> Result<(), Failure>
-    ensures { Acts result made.old made.new (acted_by_tool made.old act) }
+fn act_once(alloc: Global, progress: &mut TaskProgress, act: Act) -> Result<(), Failure>
+    ensures { Acts result progress.old progress.new (acted_by_tool progress.old act) }
 {
-    let told = match Text::of(alloc, act.path()) {
-        Ok(told) => told,
+    let path = match Text::of(alloc, act.path()) {
+        Ok(path) => path,
         Err(NoMemory) => return Err(Failure::Memory),
     };
     if !is_normal(act.path()) {
-        return Err(Failure::BadPath(told));
+        return Err(Failure::BadPath(path));
     }
-    made.act(alloc, told.as_str(), act)
+    progress.act(alloc, path.as_str(), act)
 }

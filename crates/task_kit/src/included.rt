@@ -7,7 +7,7 @@ ghost use Rattle.msb_values.specs.Pairs.{all_put};
 ghost use Rattle.msb_expand.specs.Computed.{is_computed, left_out};
 ghost use Rattle.msb_files.specs.Views.{paths};
 ghost use Rattle.task_trait.specs.Answers.{Gives, GivesAs};
-ghost use Rattle.task_kit.specs.Made.{succeeded};
+ghost use Rattle.task_kit.specs.Progress.{succeeded};
 ghost use Rattle.task_kit.specs.Included.{
   create_item,
   include_output,
@@ -20,9 +20,9 @@ ghost use Rattle.task_kit.specs.Included.{
   pattern_in,
 };
 
-use crate::excluded::{less_excluded, slashed};
-use crate::made::{output, succeeded};
+use crate::excluded::{less_excluded, names_excluded};
 use crate::patterns::{is_pattern_entry, pattern_in, patterns_excluded};
+use crate::progress::{output, succeeded};
 use msb_expand::is_well_known;
 use msb_files::FileView;
 use msb_glob::{Match, Pattern, SortedPaths, expand_in};
@@ -44,7 +44,7 @@ pub(crate) fn create_item(
     let entries = needed_items(alloc, params, "include")?;
     let metadata = all_metadata(alloc, items_of(params, "additionalmetadata"))?;
     let items = items_created(alloc, dir, view, entries, items_of(params, "exclude"))?;
-    Ok(included(alloc, metadata.as_slice(), items)?)
+    Ok(inclusion_output(alloc, metadata.as_slice(), items)?)
 }
 
 /// The items of the entries, less those that Exclude names.
@@ -60,18 +60,12 @@ fn items_created(
 {
     let patterns = patterns_excluded(alloc, dir, excluded)?;
     let items = items_included(alloc, dir, view, entries)?;
-    let idents = slashed(alloc, excluded)?;
-    Ok(less_excluded(
-        alloc,
-        dir,
-        idents.as_slice(),
-        patterns.as_slice(),
-        items.into_vec(),
-    )?)
+    let names = names_excluded(alloc, patterns, excluded)?;
+    Ok(less_excluded(alloc, dir, &names, items.into_vec())?)
 }
 
 /// The output with these items, each with these metadata.
-fn included(
+fn inclusion_output(
     alloc: Global,
     metadata: &[(Name, Text)],
     items: Vec<Item>,

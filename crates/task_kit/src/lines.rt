@@ -8,10 +8,10 @@ ghost use Rattle.task_kit.specs.Lines.{
   write_lines,
   written_lines,
 };
-ghost use Rattle.task_kit.specs.Made.{Acts};
+ghost use Rattle.task_kit.specs.Progress.{Acts};
 
-use crate::made::{Made, output_with, succeeded};
 use crate::paths::path_in;
+use crate::progress::{TaskProgress, output_with, succeeded};
 use msb_files::FileView;
 use msb_values::{Item, List, NoMemory, Put, Shared, Text, Text8};
 use std::alloc::Global;
@@ -58,10 +58,10 @@ fn output_written(
         (λ output. output ≡ output_written view.now writing.now.file.now path writing.now.overwrite
         writing.now.lines.now written) }
 {
-    let mut made = Made::new(alloc, written);
-    let work = write_file(alloc, view, writing, path, &mut made);
+    let mut progress = TaskProgress::new(alloc, written);
+    let work = write_file(alloc, view, writing, path, &mut progress);
     let output = succeeded(alloc, List::new(alloc));
-    Ok(output_with(alloc, "writelinestofile", output, made, work)?)
+    Ok(output_with(alloc, "writelinestofile", output, progress, work)?)
 }
 
 fn write_file(
@@ -69,11 +69,11 @@ fn write_file(
     view: &FileView<'_>,
     writing: &Writing<'_>,
     path: Text,
-    made: &mut Made,
+    progress: &mut TaskProgress,
 ) -> Result<(), Failure>
-    ensures { Acts result made.old made.new
+    ensures { Acts result progress.old progress.new
         (written_lines view.now writing.now.file.now path writing.now.overwrite
-        writing.now.lines.now made.old) }
+        writing.now.lines.now progress.old) }
 {
     if !writing.overwrite && writing.lines.is_empty() {
         return Ok(());
@@ -81,7 +81,7 @@ fn write_file(
     let mut bytes = kept_text(alloc, view, writing.overwrite, path.as_str())?;
     push_lines(&mut bytes, writing.lines)?;
     let bytes = Shared::new(alloc, bytes)?;
-    made.write(alloc, writing.file, Put { path, bytes })
+    progress.write(alloc, writing.file, Put { path, bytes })
 }
 
 /// What a file keeps: all that it has, or nothing where it is overwritten.

@@ -10,7 +10,7 @@ ghost use Rattle.task_kit.specs.Messages.{
   warning,
 };
 
-use crate::made::{output, succeeded};
+use crate::progress::{output, succeeded};
 use msb_values::{List, NoMemory, Note, Text, same_text};
 use std::alloc::Global;
 use task_trait::{Failure, Param, TaskOutput, bad, check_known, items_of, text_of};

@@ -4,8 +4,8 @@ ghost use Rattle.task_trait.specs.Answers.{Gives, UnlessMemory};
 ghost use Rattle.task_trait.specs.declared.failures.Failure.TheVariants.{NotText};
 ghost use Rattle.task_kit.specs.Read.{lines_in, lines_output, lines_read, read_lines};
 
-use crate::made::{output, succeeded};
 use crate::paths::path_in;
+use crate::progress::{output, succeeded};
 use msb_files::FileView;
 use msb_values::{Item, List, NoMemory, Pairs, Text, trim};
 use std::alloc::Global;

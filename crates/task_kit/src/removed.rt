@@ -10,8 +10,8 @@ ghost use Rattle.task_kit.specs.Removed.{
   with_removed,
 };
 
-use crate::made::output;
 use crate::paths::path_in;
+use crate::progress::output;
 use msb_files::FileView;
 use msb_values::{Act, Copied, Item, List, NoMemory, Text};
 use std::alloc::Global;
@@ -30,7 +30,7 @@ pub(crate) fn delete(
     check_known(alloc, "delete", params)?;
     let items = needed_items(alloc, params, "files")?;
     let paths = all_paths(alloc, dir, items)?;
-    Ok(output_removed(alloc, view, items, paths.into_vec())?)
+    Ok(removal_output(alloc, view, items, paths.into_vec())?)
 }
 
 fn all_paths(alloc: Global, dir: &str, items: &[Item]) -> Result<List<Text>, Failure>
@@ -51,7 +51,7 @@ fn path_at(alloc: Global, dir: &str, item: &Item) -> Result<Text, Failure>
 }
 
 /// The removals of the paths, with all items as they were handed, be there a file or not.
-fn output_removed(
+fn removal_output(
     alloc: Global,
     view: &FileView<'_>,
     items: &[Item],
@@ -59,7 +59,7 @@ fn output_removed(
 ) -> Result<TaskOutput, NoMemory>
     ensures { IfOk result (λ output. output ≡ output_removed view.now items.now paths.items) }
 {
-    let acts = removed(alloc, view, paths)?;
+    let acts = remove_all(alloc, view, paths)?;
     let mut outputs = List::new(alloc);
     outputs.push(output(alloc, "deletedfiles", List::of(alloc, items)?)?)?;
     Ok(TaskOutput {
@@ -70,7 +70,7 @@ fn output_removed(
     })
 }
 
-fn removed(alloc: Global, view: &FileView<'_>, paths: Vec<Text>) -> Result<List<Act>, NoMemory>
+fn remove_all(alloc: Global, view: &FileView<'_>, paths: Vec<Text>) -> Result<List<Act>, NoMemory>
     ensures { IfOk result (λ acts. acts ≡ removed view.now paths.items) }
 {
     let mut known = HashSet::new(alloc);

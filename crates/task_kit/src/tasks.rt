@@ -45,12 +45,12 @@ pub fn call(
     written: u64,
 ) -> Result<ToolAnswer, NoMemory>
     ensures { IfOk result
-        (λ made. made ≡ answer name.now dir.now view.now input.now.params written) }
+        (λ output. output ≡ answer name.now dir.now view.now input.now.params written) }
 {
-    match BuiltIn::named(name.key()) {
+    match BuiltIn::find(name.key()) {
         Some(task) => {
-            let done = task.done(alloc, dir, view, input.params.as_slice(), written);
-            Ok(ToolAnswer::Made(output_of(alloc, name.key(), done)?))
+            let result = task.run(alloc, dir, view, input.params.as_slice(), written);
+            Ok(ToolAnswer::Made(output_of(alloc, name.key(), result)?))
         }
         None => Ok(ToolAnswer::Unknown),
     }
@@ -58,7 +58,7 @@ pub fn call(
 
 impl BuiltIn {
     /// The task of this name, which is in lower case.
-    fn named(name: &str) -> Option<BuiltIn>
+    fn find(name: &str) -> Option<BuiltIn>
         ensures { result ≡ value_at name.now built_in }
     {
         match name {
@@ -75,7 +75,7 @@ impl BuiltIn {
         }
     }
 
-    fn done(
+    fn run(
         self,
         alloc: Global,
         dir: &str,

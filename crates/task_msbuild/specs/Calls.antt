@@ -22,6 +22,7 @@ use Rattle.std.specs.Prelude.{
   if◌then◌else◌,
 }
 use Rattle.std.specs.List.{flat_map, position}
+use Rattle.msb_laws.specs.Words.{Name, Pairs}
 use Rattle.file_store.specs.Files.{file_at}
 use Rattle.file_store.specs.declared.tree.File.{File}
 use Rattle.msb_values.specs.declared.key.InstanceKey.{InstanceKey}
@@ -54,28 +55,28 @@ looked_up files p = if ends_at_missing p then through_missing files p.projects e
 
 -- the targets of each call of a project: all at once, or each by itself; without any the default
 -- targets are meant
-abbrev pub target_lists : Bool → List (List ℕ) → List (List (List ℕ))
+abbrev pub target_lists : Bool → List Name → List (List Name)
 target_lists separately [] = [] ∷ []
 target_lists true targets = map (λ target. target ∷ []) targets
 target_lists false targets = targets ∷ []
 
-abbrev pub request_of : InstanceKey → List (List ℕ) → RequestKey
+abbrev pub request_of : InstanceKey → List Name → RequestKey
 request_of instance targets = record
     { instance = instance; targets = targets; named = not (length targets == 0) }
 
 -- a project with its global properties, by those that all projects get
-abbrev pub instance_of : List (List ℕ × List ℕ) → Project → InstanceKey
+abbrev pub instance_of : Pairs → Project → InstanceKey
 instance_of shared project = record
     { path = project.path; globals = child_globals shared project.item.additional }
 
 -- the calls of a project
-abbrev pub calls_of : List File → List (List ℕ × List ℕ) → List (List (List ℕ)) → Project
+abbrev pub calls_of : List File → Pairs → List (List Name) → Project
     → List RequestKey
 calls_of files shared lists project = if is_there files project then map
     (request_of (instance_of shared project)) lists else []
 
 -- the calls of all projects, in order
-abbrev pub all_calls : List File → List (List ℕ × List ℕ) → Parameters → List RequestKey
+abbrev pub all_calls : List File → Pairs → Parameters → List RequestKey
 all_calls files globals p = flat_map
     (calls_of files (shared_globals p.removed p.properties globals)
     (target_lists p.separately p.targets)) (looked_up files p)

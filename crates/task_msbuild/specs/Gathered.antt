@@ -16,6 +16,7 @@ use Rattle.std.specs.Prelude.{
   if◌then◌else◌,
 }
 use Rattle.std.specs.List.{flat_map, list_all, zip}
+use Rattle.msb_laws.specs.Words.{Text, Name, Pairs}
 use Rattle.msb_expand.specs.Reserved.{from_root}
 use Rattle.msb_values.specs.Changes.{with_metadata}
 use Rattle.msb_values.specs.InstanceKeys.{key_text}
@@ -31,7 +32,7 @@ use Rattle.task_trait.specs.declared.tools.TaskOutput.{TaskOutput}
 use Rattle.task_msbuild.specs.declared.plans.Plan.{Plan}
 
 -- where an item comes from, which a target of a project has returned
-abbrev pub source_of : RequestKey → List ℕ → List (List ℕ × List ℕ)
+abbrev pub source_of : RequestKey → Name → Pairs
 source_of key target = (codes "msbuildsourceprojectfile", from_root key.instance.path)
     ∷ (codes "msbuildsourcetargetname", target) ∷ []
 
@@ -45,12 +46,12 @@ abbrev pub call_items : RequestKey × RequestResult → List Item
 call_items (key, result) = if result.ok then flat_map (output_items key) result.returned else []
 
 -- what is said of a request
-abbrev pub said_of : RequestKey → List ℕ → List ℕ
+abbrev pub said_of : RequestKey → Text → Text
 said_of key text = key_text key.instance ++ codes ": " ++ text
 
 -- why a call has failed: the error of the request, or the fault of a project that did not evaluate,
 -- or nothing more than that it failed
-abbrev pub failure_text : RequestKey → Bool → Option (List ℕ) → List ℕ
+abbrev pub failure_text : RequestKey → Bool → Option Name → Text
 failure_text key evaluated (Some text) = if evaluated then said_of key text else text
 failure_text key evaluated None = said_of key (codes "request failed")
 

@@ -3,6 +3,7 @@ use Rattle.std.specs.Prelude.{ℕ, List, [], ◌∷◌, Option, option_map, Resu
 use Rattle.std.specs.Result.{result_ok}
 use Rattle.msb_laws.specs.Results.{and_then, map_ok}
 use Rattle.msb_laws.specs.Traverse.{traverse}
+use Rattle.msb_laws.specs.Words.{Text, Name, Path, Pairs}
 use Rattle.msb_paths.specs.Refused.{normal_path}
 use Rattle.msb_values.specs.Keys.{key_if}
 use Rattle.msb_values.specs.Names.{bad_place, is_target_byte}
@@ -29,36 +30,36 @@ project_item item = option_map (λ additional. record { text = item.ident; addit
     (additional_of item)
 
 -- the project that it names, whose path is on the folder of the caller
-abbrev pub project_of : List ℕ → ProjectItem → Option Project
+abbrev pub project_of : Path → ProjectItem → Option Project
 project_of dir item = option_map (λ path. record { item = item; path = path })
     (result_ok (normal_path dir item.text))
 
 -- the name of a target, if the text is one (MSBuild targets)
-abbrev pub target_name : List ℕ → Option (List ℕ)
+abbrev pub target_name : Text → Option Name
 target_name text = key_if (bad_place is_target_byte text) text
 
 -- the project items, the first in byte order of names that can be bad, as `additionalproperties`
 abbrev pub asked_of : List Item → Result (List ProjectItem) Failure
 asked_of items = or_bad (codes "additionalproperties") (traverse project_item items)
 
-abbrev pub projects_of : List ℕ → List ProjectItem → Result (List Project) Failure
+abbrev pub projects_of : Path → List ProjectItem → Result (List Project) Failure
 projects_of dir items = or_bad (codes "projects") (traverse (project_of dir) items)
 
-abbrev pub given_properties : List Param → Result (List (List ℕ × List ℕ)) Failure
+abbrev pub given_properties : List Param → Result Pairs Failure
 given_properties params = or_bad (codes "properties")
     (properties_of (idents (items_of (codes "properties") params)))
 
-abbrev pub removed_properties : List Param → Result (List (List ℕ)) Failure
+abbrev pub removed_properties : List Param → Result (List Name) Failure
 removed_properties params = or_bad (codes "removeproperties")
     (removed_of (idents (items_of (codes "removeproperties") params)))
 
-abbrev pub given_targets : List Param → Result (List (List ℕ)) Failure
+abbrev pub given_targets : List Param → Result (List Name) Failure
 given_targets params = or_bad (codes "targets")
     (traverse target_name (idents (items_of (codes "targets") params)))
 
 -- the values of the parameters, each of which must be one that can be used, in byte order of their
 -- names
-abbrev pub values_of : List ℕ → List Param → List Item → Result Parameters Failure
+abbrev pub values_of : Path → List Param → List Item → Result Parameters Failure
 values_of dir params items =
     and_then (asked_of items) (λ asked.
     and_then (truth_at (codes "buildinparallel") params) (λ parallel.
@@ -80,7 +81,7 @@ values_of dir params items =
     }) (given_targets params)))))))))
 
 -- a parameter that the task does not have comes first, and then Projects, which must be given
-abbrev pub parameters_of : List ℕ → List Param → Result Parameters Failure
+abbrev pub parameters_of : Path → List Param → Result Parameters Failure
 parameters_of dir params =
     unless (check_known (codes "msbuild") params)
     (and_then (needed_items (codes "projects") params) (values_of dir params))

@@ -20,6 +20,7 @@ use Rattle.std.specs.Prelude.{
   if◌then◌else◌,
 }
 use Rattle.std.specs.List.{flat_map, list_any}
+use Rattle.msb_laws.specs.Words.{Path, Pairs}
 use Rattle.file_store.specs.declared.tree.File.{File}
 use Rattle.msb_values.specs.declared.note.Note.{Note}
 use Rattle.msb_values.specs.declared.note.Note.TheVariants.{Fail}
@@ -53,7 +54,7 @@ abbrev pub all_missing_notes : List File → Parameters → List Note
 all_missing_notes files p = flat_map (missing_notes files p.skip_missing) (looked_up files p)
 
 -- the task fails where a project is missing; calls that are made at once don't stop at a failure
-abbrev pub planned : List File → List (List ℕ × List ℕ) → Parameters → Plan
+abbrev pub planned : List File → Pairs → Parameters → Plan
 planned files globals p = record {
   calls = all_calls files globals p;
   parallel = p.parallel;
@@ -62,14 +63,13 @@ planned files globals p = record {
   ok = length (all_missing_notes files p) == 0;
 }
 
-abbrev pub planned_or_refused : List File → List (List ℕ × List ℕ) → Result Parameters Failure
-    → Plan
+abbrev pub planned_or_refused : List File → Pairs → Result Parameters Failure → Plan
 planned_or_refused files globals (Ok p) = planned files globals p
 planned_or_refused files globals (Err failure) = refused failure
 
 -- by the files of the tree, the folder of the caller, its global properties, and the parameters
 -- that are given
-abbrev pub plan_of : List File → List ℕ → List (List ℕ × List ℕ) → List Param → Plan
+abbrev pub plan_of : List File → Path → Pairs → List Param → Plan
 plan_of files dir globals params = planned_or_refused files globals (parameters_of dir params)
 
 -- a call has failed behind which no other is made

@@ -1,11 +1,14 @@
-ghost use Rattle.std.specs.Prelude.{◌≡◌, ◌++◌, IfOk, OnOk};
+ghost use Rattle.std.specs.Prelude.{◌≡◌, ◌++◌, [], ◌∷◌, IfOk, None, OnOk};
 ghost use Rattle.std.specs.List.{flat_map};
 ghost use Rattle.msb_expand.specs.Reserved.{from_root};
+ghost use Rattle.std.specs.Str.{str_to_ascii_lowercase};
 ghost use Rattle.msb_values.specs.Changes.{with_metadata};
+ghost use Rattle.msb_values.specs.Names.{bad_place, is_name_byte};
+ghost use Rattle.msb_values.specs.Pairs.{all_put};
 ghost use Rattle.task_msbuild.specs.Gathered.{output_items, source_of};
 
 use crate::name::literal_name;
-use msb_values::{Copied, Item, List, Name, NoMemory, Text};
+use msb_values::{Copied, Item, List, Name, NoMemory, Pairs, Text};
 use result_cache::{RequestKey, Returned};
 use std::alloc::Global;
 use task_trait::handed_items;
@@ -44,11 +47,28 @@ fn with_source(alloc: Global, key: &RequestKey, target: &Name, item: Item) -> Re
     ensures { IfOk result (λ output. output ≡ with_metadata (source_of key.now target.now) item) }
 {
     let mut item = item;
-    let project = literal_name(alloc, "msbuildsourceprojectfile")?;
-    item.meta.insert(project, full_path(alloc, key)?)?;
-    let source = literal_name(alloc, "msbuildsourcetargetname")?;
-    item.meta.insert(source, Text::from(target.copy()?))?;
+    put(
+        alloc,
+        &mut item.meta,
+        "msbuildsourceprojectfile",
+        full_path(alloc, key)?,
+    )?;
+    put(
+        alloc,
+        &mut item.meta,
+        "msbuildsourcetargetname",
+        Text::from(target.copy()?),
+    )?;
     Ok(item)
+}
+
+fn put(alloc: Global, metadata: &mut Pairs, name: &'static str, value: Text) -> Result<(), NoMemory>
+    requires { bad_place is_name_byte name.now ≡ None }
+    ensures { OnOk result
+        (metadata.new ≡ all_put metadata.old ((str_to_ascii_lowercase name.now, value) ∷ [])) }
+{
+    let name = literal_name(alloc, name)?;
+    metadata.insert(name, value)
 }
 
 fn full_path(alloc: Global, key: &RequestKey) -> Result<Text, NoMemory>

@@ -63,7 +63,7 @@ impl Parameters {
     fn of(alloc: Global, dir: &str, params: &[Param], items: &[Item]) -> Result<Parameters, Failure>
         ensures { Gives result (values_of dir.now params.now items.now) }
     {
-        let asked = asked(alloc, items)?;
+        let asked = project_items(alloc, items)?;
         let parallel = truth_at(alloc, params, "buildinparallel")?;
         let projects = projects(alloc, dir, asked)?;
         let properties = given_properties(alloc, params)?;
@@ -95,7 +95,7 @@ fn or_bad<T: Drop>(alloc: Global, name: &str, value: Option<T>) -> Result<T, Fai
     }
 }
 
-fn asked(alloc: Global, items: &[Item]) -> Result<List<ProjectItem>, Failure>
+fn project_items(alloc: Global, items: &[Item]) -> Result<List<ProjectItem>, Failure>
     ensures { Gives result (asked_of items.now) }
 {
     or_bad(

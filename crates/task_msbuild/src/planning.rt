@@ -39,13 +39,13 @@ pub fn plan(
         (λ plan. plan ≡ plan_of tree.now.files dir.now globals.now input.now.params) }
 {
     match Parameters::read(alloc, dir, input.params.as_slice()) {
-        Ok(parameters) => planned(alloc, tree, globals, &parameters),
+        Ok(parameters) => plan_calls(alloc, tree, globals, &parameters),
         Err(Failure::Memory) => Err(NoMemory),
-        Err(failure) => refused(alloc, &failure),
+        Err(failure) => refuse(alloc, &failure),
     }
 }
 
-fn planned(
+fn plan_calls(
     alloc: Global,
     tree: &Tree,
     globals: &Pairs,
@@ -63,7 +63,7 @@ fn planned(
     })
 }
 
-fn refused(alloc: Global, failure: &Failure) -> Result<Plan, NoMemory>
+fn refuse(alloc: Global, failure: &Failure) -> Result<Plan, NoMemory>
     ensures { IfOk result (λ plan. plan ≡ refused failure.now) }
 {
     let mut notes = List::new(alloc);

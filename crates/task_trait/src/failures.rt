@@ -40,7 +40,7 @@ pub enum Failure {
 }
 
 impl Failure {
-    ghost use Rattle.task_trait.specs.Failures.{failed, failure_text, told_of};
+    ghost use Rattle.task_trait.specs.Failures.{failed, failure_text, detail_of};
 
     /// The output of the task of this name, where it fails a check: nothing but the failure's note.
     /// Want of memory has none.
@@ -81,15 +81,15 @@ impl Failure {
     }
 
     fn named_text(&self, alloc: Global, task: &str) -> Result<Text, NoMemory>
-        ensures { IfOk result (λ text. text ≡ task.now ++ codes ": " ++ told_of self.now) }
+        ensures { IfOk result (λ text. text ≡ task.now ++ codes ": " ++ detail_of self.now) }
     {
-        let told = self.told(alloc)?;
-        Ok(Text::from(format!(in alloc; "{task}: {told}")?))
+        let detail = self.detail(alloc)?;
+        Ok(Text::from(format!(in alloc; "{task}: {detail}")?))
     }
 
-    /// What is told behind the task's name.
-    fn told(&self, alloc: Global) -> Result<String, NoMemory>
-        ensures { IfOk result (λ told. string_bytes told ≡ told_of self.now) }
+    /// What stands behind the task's name.
+    fn detail(&self, alloc: Global) -> Result<String, NoMemory>
+        ensures { IfOk result (λ whole. string_bytes whole ≡ detail_of self.now) }
     {
         match self {
             Failure::MissingSource(text) | Failure::MissingParameter(text) => words(
@@ -113,13 +113,13 @@ impl Failure {
 }
 
 fn words(alloc: Global, words: &str, text: &str) -> Result<String, NoMemory>
-    ensures { IfOk result (λ told. string_bytes told ≡ words.now ++ text.now) }
+    ensures { IfOk result (λ whole. string_bytes whole ≡ words.now ++ text.now) }
 {
     Ok(format!(in alloc; "{words}{text}")?)
 }
 
 fn counts(alloc: Global, sources: usize, destinations: usize) -> Result<String, NoMemory>
-    ensures { IfOk result (λ told. string_bytes told
+    ensures { IfOk result (λ whole. string_bytes whole
         ≡ decimal sources ++ codes " sources, " ++ decimal destinations ++ codes " destinations") }
 {
     Ok(format!(in alloc; "{sources} sources, {destinations} destinations")?)

@@ -1,9 +1,9 @@
 use Rattle.std.proofs.Common.{Ok, sym, ap, ◌∙◌}
 use Rattle.std.proofs.lemmas.Result.{err_from_is_err_and}
 use Rattle.build_world.specs.Elements.{seen_element}
-use Rattle.msb_items.specs.FoldedNames.{folded_names, seen_names}
+use Rattle.msb_glob.specs.FoldedNames.{folded_names, seen_names}
 use Rattle.msb_items.specs.Items.{names_at, unnamed}
-use Rattle.msb_items.specs.Seen.{place_of}
+use Rattle.element_texts.specs.Seen.{context_of}
 use Rattle.msb_items.proofs.Naming.{left_same}
 use Rattle.msb_values.proofs.Causing.{unless}
 use Rattle.msb_items.proofs.Stopping.{remapped}
@@ -11,15 +11,15 @@ use Rattle.msb_items.proofs.changes.excluded.Goals as goal
 
 pub returns-in-Ok : goal.returns-in-Ok
 returns-in-Ok g c =
-    left_same (λ items. items) c.args.place.now.project.now c.args.items.items _
+    left_same (λ items. items) c.args.context.now.project.now c.args.items.items _
     (seen_names c.in_ok-names.names) c.in_ok-names.ensures ∙ ap Ok (sym c.in-Ok.ensures)
 
 pub returns-in_err-names : goal.returns-in_err-names
 returns-in_err-names g c =
     let p = err_from_is_err_and c.from_residual.result c.from_residual.ensures.1 in
-    let place = place_of g.F.Present.files c.args.place.now in
+    let context = context_of g.F.Present.files c.args.context.now in
     rw (p.1, p.2)
     (unless _
-    (remapped folded_names (unnamed place.project c.args.items.items)
-    (names_at place (seen_element c.args.element.now) c.args.exclude.now) _)
+    (remapped folded_names (unnamed context.project c.args.items.items)
+    (names_at context (seen_element c.args.element.now) c.args.exclude.now) _)
     c.in_err-names.ensures)

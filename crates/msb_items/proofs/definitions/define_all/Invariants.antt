@@ -2,12 +2,12 @@ use Rattle.std.proofs.Common.{map}
 use Rattle.msb_laws.proofs.Collecting.{IsFolded}
 use Rattle.build_world.specs.Elements.{seen_placed}
 use Rattle.msb_items.specs.Definitions.{defined_by}
-use Rattle.msb_items.specs.Places.{after_each, with_scope}
+use Rattle.element_texts.specs.Contexts.{after_each, with_scope}
 use Rattle.msb_items.specs.Seen.{definitions_in}
 use Rattle.msb_items.proofs.definitions.define_all.Given as goal
 
 abbrev pub invariant-loop-placed : goal.invariant-loop-placed
 invariant-loop-placed g l =
-    let place = definitions_in g.F.Present.files l.source l.initial.scope in
-    IsFolded (λ s placed. defined_by (with_scope place s) (seen_placed placed)) l.elements
-    l.placed-index l.scope (after_each defined_by place (map seen_placed l.elements))
+    let context = definitions_in g.F.Present.files l.source l.initial.scope in
+    IsFolded (λ s placed. defined_by (with_scope context s) (seen_placed placed)) l.elements
+    l.placed-index l.scope (after_each defined_by context (map seen_placed l.elements))

@@ -1,13 +1,13 @@
 use Rattle.msb_items.specs.Items.{with_item}
-use Rattle.msb_items.specs.Places.{with_scope}
+use Rattle.element_texts.specs.Contexts.{with_scope}
 use Rattle.msb_items.specs.Seen.{items_in}
 use Rattle.msb_items.proofs.Turning.{over_children}
 use Rattle.msb_items.proofs.items.take_children.Goals as goal
 
 pub loop-child-init : goal.loop-child-init
 loop-child-init g c =
-    let place = items_in g.F.Present.files c.args.source.now.source c.args.scope.now in
+    let context = items_in g.F.Present.files c.args.source.now.source c.args.scope.now in
     record {
-      is = over_children (λ s e. with_item (with_scope place s) e) c.args.element.now.file.now
+      is = over_children (λ s e. with_item (with_scope context s) e) c.args.element.now.file.now
           c.args.scope.now _ _ c.children-child-items.ensures;
     }

@@ -2,13 +2,13 @@ use Rattle.msb_laws.proofs.Collecting.{IsFolded}
 use Rattle.msb_elements.specs.View.{view}
 use Rattle.build_world.specs.Elements.{at, children_of, seen_element}
 use Rattle.msb_items.specs.Items.{with_item}
-use Rattle.msb_items.specs.Places.{after_each, with_scope}
+use Rattle.element_texts.specs.Contexts.{after_each, with_scope}
 use Rattle.msb_items.specs.Seen.{items_in}
 use Rattle.msb_items.proofs.items.take_children.Given as goal
 
 abbrev pub invariant-loop-child : goal.invariant-loop-child
 invariant-loop-child g l =
-    let place = items_in g.F.Present.files l.source.source l.initial.scope in
-    IsFolded (λ s child. with_item (with_scope place s) (at l.element.file.now (view child)))
+    let context = items_in g.F.Present.files l.source.source l.initial.scope in
+    IsFolded (λ s child. with_item (with_scope context s) (at l.element.file.now (view child)))
     l.child-items l.child-index l.scope
-    (after_each with_item place (children_of (seen_element l.element)))
+    (after_each with_item context (children_of (seen_element l.element)))

@@ -8,45 +8,46 @@ use Rattle.build_world.specs.declared.fault.EvalFault.{EvalFault}
 use Rattle.msb_items.specs.ItemNames.{is_named}
 use Rattle.msb_items.specs.Items.{list_of, names_at, updated, with_list}
 use Rattle.msb_items.specs.Metadata.{item_attributes, metadata_on}
-use Rattle.msb_items.specs.Places.{Place}
+use Rattle.element_texts.specs.Contexts.{ElementContext}
 use Rattle.msb_items.specs.Replaced.{replaced, replacements_of}
-use Rattle.msb_items.specs.Seen.{items_in, place_of}
+use Rattle.element_texts.specs.Seen.{context_of}
+use Rattle.msb_items.specs.Seen.{items_in}
 use Rattle.msb_items.proofs.Replacing.{updated_by}
 use Rattle.msb_values.proofs.Causing.{unless}
 use Rattle.msb_items.proofs.items.update.Goals as goal
 
 pub returns-in-Ok : goal.returns-in-Ok
 returns-in-Ok g c =
-    let place = place_of g.F.Present.files c.of_items-place.result in
+    let context = context_of g.F.Present.files c.of_items-context.result in
     let kind = c.args.kind.now in
     let e = seen_element c.args.element.now in
     let written = c.args.written.now in
     let put : List (Option Item) → Scope = λ replacements.
-    with_list place.scope kind (replaced (list_of place.scope kind) replacements) in
-    ap (λ seen. updated seen kind e written) (sym c.of_items-place.ensures)
-    ∙ updated_by place kind e written
+    with_list context.scope kind (replaced (list_of context.scope kind) replacements) in
+    ap (λ seen. updated seen kind e written) (sym c.of_items-context.ensures)
+    ∙ updated_by context kind e written
     ∙ ap (map_ok put) c.in_ok-replacements.ensures
     ∙ ap Ok
     (ap
-    (λ (seen : Place). with_list seen.scope kind
+    (λ (seen : ElementContext). with_list seen.scope kind
     (replaced (list_of seen.scope kind) c.in_ok-replacements.replacements.items))
-    c.of_items-place.ensures ∙ sym c.in-Ok.ensures)
+    c.of_items-context.ensures ∙ sym c.in-Ok.ensures)
 
 pub returns-in_err-replacements : goal.returns-in_err-replacements
 returns-in_err-replacements g c =
     let p = err_from_is_err_and c.from_residual.result c.from_residual.ensures.1 in
-    let place = place_of g.F.Present.files c.of_items-place.result in
+    let context = context_of g.F.Present.files c.of_items-context.result in
     let kind = c.args.kind.now in
     let e = seen_element c.args.element.now in
     let written = c.args.written.now in
     let put : List (Option Item) → Scope = λ replacements.
-    with_list place.scope kind (replaced (list_of place.scope kind) replacements) in
-    let found = and_then (names_at place e written)
-    (λ names. replacements_of place kind (metadata_on item_attributes e)
-    (is_named place.project names) (list_of place.scope kind)) in
+    with_list context.scope kind (replaced (list_of context.scope kind) replacements) in
+    let found = and_then (names_at context e written)
+    (λ names. replacements_of context kind (metadata_on item_attributes e)
+    (is_named context.project names) (list_of context.scope kind)) in
     let stops : (fault : EvalFault) → found ≡ Err fault
     → updated (items_in g.F.Present.files c.args.source.now c.args.scope.now) kind e written
     ≡ Err fault =
-    λ fault is. ap (λ seen. updated seen kind e written) (sym c.of_items-place.ensures)
-    ∙ updated_by place kind e written ∙ ap (map_ok put) is in
+    λ fault is. ap (λ seen. updated seen kind e written) (sym c.of_items-context.ensures)
+    ∙ updated_by context kind e written ∙ ap (map_ok put) is in
     rw (p.1, p.2) (unless _ (stops _) c.in_err-replacements.ensures)

@@ -8,8 +8,8 @@ use Rattle.msb_expand.specs.declared.lens.Bucket.{Bucket}
 use Rattle.build_world.specs.declared.fault.EvalFault.{EvalFault}
 use Rattle.build_world.specs.Elements.{seen_element}
 use Rattle.msb_items.specs.Batched.{joined_ok}
-use Rattle.msb_items.specs.Places.{Place, in_bucket}
-use Rattle.msb_items.specs.Seen.{place_of}
+use Rattle.element_texts.specs.Contexts.{ElementContext, in_bucket}
+use Rattle.element_texts.specs.Seen.{context_of}
 use Rattle.msb_items.specs.TargetGroups.{changes_in}
 use Rattle.msb_values.proofs.Causing.{unless}
 use Rattle.msb_items.proofs.Turning.{fold-lists, from_nothing}
@@ -17,9 +17,9 @@ use Rattle.msb_items.proofs.target_groups.bucket_changes.Goals as goal
 
 pub loop-bucket-init : goal.loop-bucket-init
 loop-bucket-init g c =
-    let place = place_of g.F.Present.files c.args.place.now in
+    let context = context_of g.F.Present.files c.args.context.now in
     let changes : Bucket → Result (List Change) EvalFault = λ bucket.
-    changes_in c.args.group c.args.name.now (in_bucket place bucket)
+    changes_in c.args.group c.args.name.now (in_bucket context bucket)
     (seen_element c.args.element.now) in
     let buckets = c.args.buckets.now in
     record {
@@ -34,10 +34,10 @@ pub returns-in_err-push_changes_in : goal.returns-in_err-push_changes_in
 returns-in_err-push_changes_in g c =
     let p = err_from_is_err_and c.from_residual.result c.from_residual.ensures.1 in
     let fault = c.in_err-push_changes_in.field-0.0 in
-    let P : Place
-    → Type 0 = λ place. UnlessMemory fault.cause
+    let P : ElementContext
+    → Type 0 = λ context. UnlessMemory fault.cause
     (map_ok (λ more. c.loop-bucket.changes ++ more)
-    (changes_in c.args.group c.args.name.now place (seen_element c.args.element.now))
+    (changes_in c.args.group c.args.name.now context (seen_element c.args.element.now))
     ≡ Err fault) in
     rw (p.1, p.2)
     (unless _

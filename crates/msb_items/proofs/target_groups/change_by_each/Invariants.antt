@@ -8,11 +8,11 @@ use Rattle.msb_items.proofs.target_groups.change_by_each.Given as goal
 
 abbrev pub invariant-loop-child : goal.invariant-loop-child
 invariant-loop-child g l =
-    let place = items_in g.F.Present.files l.source l.initial.scope in
+    let context = items_in g.F.Present.files l.source l.initial.scope in
     let changes = element_changes l.kind in
     record {
-      told : IsChanging changes place
+      told : IsChanging changes context
           (map (at l.group.file.now) (map view (drop l.child-index l.child-items))) l.scope
-          l.changes (changes_of_each changes place (children_of (seen_element l.group)));
+          l.changes (changes_of_each changes context (children_of (seen_element l.group)));
       changed : l.scope ≡ all_applied l.changes l.initial.scope;
     }

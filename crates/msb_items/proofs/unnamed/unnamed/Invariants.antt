@@ -1,6 +1,7 @@
 use Rattle.std.proofs.Common.{◌≡◌, ◌++◌}
 use Rattle.std.specs.Vec.Iter.{into_iter_items}
-use Rattle.msb_items.specs.FoldedNames.{seen_names, unnamed_by}
+use Rattle.msb_glob.specs.FoldedNames.{seen_names}
+use Rattle.msb_items.specs.FoldedNames.{unnamed_by}
 use Rattle.msb_items.proofs.unnamed.unnamed.Given as goal
 
 abbrev pub invariant-loop-item : goal.invariant-loop-item

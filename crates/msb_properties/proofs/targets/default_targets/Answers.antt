@@ -7,7 +7,7 @@ use Rattle.msb_properties.proofs.targets.default_targets.Goals as goal
 
 pub returns-in-Some : goal.returns-in-Some
 returns-in-Some c =
-    gives_same _ c.targets.result _ _
+    gives_same _ c.names.result _ _
     (sym c.loop-placed.invariant
     ∙ default_here (seen_setting c.args.setting.now) (seen_properties c.args.properties.now)
     c.args.elements.now c.loop-placed.placed-index c.placed-item.result c.in-Some.written.now
@@ -15,4 +15,4 @@ returns-in-Some c =
     ∙ ap
     (λ e. names_at (seen_setting c.args.setting.now) (seen_properties c.args.properties.now) e
     c.in-Some.written.now) (sym c.of-element.ensures))
-    c.targets.ensures
+    c.names.ensures

@@ -6,12 +6,13 @@ use Rattle.build_world.specs.Elements.{seen_element}
 use Rattle.msb_items.specs.Batched.{joined_ok}
 use Rattle.msb_items.proofs.Turning.{fold-lists, from_nothing}
 use Rattle.target_texts.specs.Parameters.{param_of}
-use Rattle.target_texts.specs.Seen.{seen_place}
+use Rattle.target_texts.specs.Seen.{seen_context}
 use Rattle.target_texts.proofs.parameters.params_of.Goals as goal
 
 pub loop-attribute-init : goal.loop-attribute-init
 loop-attribute-init c =
-    let param = param_of (seen_place c.args.task.now.place) (seen_element c.args.task.now.element)
+    let param = param_of (seen_context c.args.task.now.context)
+    (seen_element c.args.task.now.element)
     c.args.task.now.task.now in
     rw c.new-params.ensures
     (record {

@@ -17,7 +17,7 @@ returns-in_err-copy_one c =
     rw (p.1, p.2)
     (unless failure
     (λ both. fold_stop _ _ _ _ _ _ _ c.loop-at.invariant within pair
-    (stops c.loop-at.made c.copy_one.new.made _ failure both)) c.in_err-copy_one.ensures)
+    (stops c.loop-at.progress c.copy_one.new.progress _ failure both)) c.in_err-copy_one.ensures)
 
 pub loop-at-preserved : goal.loop-at-preserved
 loop-at-preserved c =
