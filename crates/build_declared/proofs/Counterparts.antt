@@ -44,7 +44,7 @@ use Rattle.build_incremental.specs.Alone.{alone}
 use Rattle.build_incremental.specs.SideBySide.{HasNotActed}
 use Rattle.build_incremental.proofs.Entries.{in-parts}
 use Rattle.build_incremental.proofs.Numbered.{numbered}
-use Rattle.msb_items.specs.Places.{item_place}
+use Rattle.element_texts.specs.Contexts.{item_context}
 use Rattle.task_trait.specs.declared.tools.ToolAnswer.{ToolAnswer}
 use Rattle.task_trait.specs.declared.tools.ToolInput.{ToolInput}
 use Rattle.target_incremental.specs.declared.decision.Choice.{Choice}
@@ -601,7 +601,7 @@ module _ (tools : List ℕ → ToolInput → ToolAnswer) (files : List File) (ta
     found_c = target_buckets (place_in run t0 scope) target.element
 
     pub buckets-same : found_w ≡ found_c
-    buckets-same = ap (λ l. target_buckets (item_place l id.instance.path scope) target.element)
+    buckets-same = ap (λ l. target_buckets (item_context l id.instance.path scope) target.element)
         ((looks-same files AnyPath).paths j k a)
 
     pub at-start : Carry tools id run scope j k s0 t0 [] []

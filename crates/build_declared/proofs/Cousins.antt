@@ -49,7 +49,7 @@ use Rattle.build_world.specs.Faults.{fault_text}
 use Rattle.msb_values.specs.declared.note.Note.TheVariants.{Low, Message, Warning, Fail}
 use Rattle.build_world.specs.declared.fault.EvalFault.{EvalFault}
 use Rattle.build_incremental.specs.Alike.{AlikeJournals}
-use Rattle.msb_items.specs.Places.{in_bucket, item_place}
+use Rattle.element_texts.specs.Contexts.{in_bucket, item_context}
 use Rattle.msb_items.specs.TargetGroups.{group_changes, all_applied}
 use Rattle.task_trait.specs.Failures.{failed as failed_output}
 use Rattle.task_trait.specs.declared.failures.Failure.{Failure}
@@ -239,7 +239,7 @@ module _ (tools : List ℕ → ToolInput → ToolAnswer) (id : RunId) (run : Run
 
   place-same : (s t : State) (ps pt : List Act) → Cousin s t ps pt →
       place_in run s s.scope ≡ place_in run t t.scope
-  place-same s t ps pt h = ap (λ l. item_place l run.instance.path s.scope)
+  place-same s t ps pt h = ap (λ l. item_context l run.instance.path s.scope)
       ((looks-same run.files AnyPath).paths s.journal t.journal h.alike)
       ∙ ap (place_in run t) h.scope
 
@@ -248,7 +248,7 @@ module _ (tools : List ℕ → ToolInput → ToolAnswer) (id : RunId) (run : Run
 
   tasks-same : (s t : State) (ps pt : List Act) → Cousin s t ps pt →
       place_in run s (task_scope s) ≡ place_in run t (task_scope t)
-  tasks-same s t ps pt h = ap (λ l. item_place l run.instance.path (task_scope s))
+  tasks-same s t ps pt h = ap (λ l. item_context l run.instance.path (task_scope s))
       ((looks-same run.files AnyPath).paths s.journal t.journal h.alike)
       ∙ ap (place_in run t) (scopes-same s t ps pt h)
 

@@ -33,7 +33,7 @@ use Rattle.build_world.specs.Elements.{attribute_of}
 use Rattle.build_world.specs.Faults.{fault_text}
 use Rattle.build_world.specs.declared.fault.EvalFault.{EvalFault}
 use Rattle.build_incremental.specs.Alike.{AlikeJournals}
-use Rattle.msb_items.specs.Places.{item_place}
+use Rattle.element_texts.specs.Contexts.{item_context}
 use Rattle.task_trait.specs.declared.tools.ToolAnswer.{ToolAnswer}
 use Rattle.task_trait.specs.declared.tools.ToolInput.{ToolInput}
 use Rattle.target_incremental.specs.declared.decision.Choice.TheVariants.{Nothing}
@@ -95,7 +95,7 @@ module _ (tools : List ℕ → ToolInput → ToolAnswer) (id : RunId) (run : Run
   place-same : (x y : State) (ps pt : List Act) → Pairs x y ps pt →
       place_in run x x.scope ≡ place_in run y y.scope
   place-same x y ps pt h =
-      ap (λ l. item_place l run.instance.path x.scope)
+      ap (λ l. item_context l run.instance.path x.scope)
       ((looks-same run.files AnyPath).paths x.journal y.journal
       (carry-alike tools id run scope j k a x y ps pt h.carry))
       ∙ ap (place_in run y) h.scope_same

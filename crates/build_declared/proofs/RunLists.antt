@@ -37,7 +37,7 @@ use Rattle.build_meaning.specs.Walk.{Outcome}
 use Rattle.build_incremental.specs.Alike.{AlikeFound, AlikeOutcomes, AlikeJournals}
 use Rattle.build_incremental.specs.Alone.{alone, LacksOnly}
 use Rattle.build_incremental.specs.SideBySide.{HasNotActed, AlikeRuns, in_part}
-use Rattle.msb_items.specs.Places.{Place, item_place}
+use Rattle.element_texts.specs.Contexts.{ElementContext, item_context}
 use Rattle.task_trait.specs.declared.tools.ToolAnswer.{ToolAnswer}
 use Rattle.task_trait.specs.declared.tools.ToolInput.{ToolInput}
 use Rattle.target_incremental.specs.declared.decision.Choice.{Choice}
@@ -319,7 +319,7 @@ module _ (tools : List ℕ → ToolInput → ToolAnswer) (id : RunId) (run : Run
 
 -- ---- the run
 
-abbrev with-lists : Place → (i o : List ℕ) → List (List ℕ) → List (List ℕ) → Option Lists
+abbrev with-lists : ElementContext → (i o : List ℕ) → List (List ℕ) → List (List ℕ) → Option Lists
 with-lists p i o ins outs = Some (record {
   inputs = ins;
   outputs = outs;
@@ -327,7 +327,7 @@ with-lists p i o ins outs = Some (record {
       typed_items p.scope i o;
 })
 
-pub lists-there : (p : Place) (target : UsedTarget) → TakesLists target →
+pub lists-there : (p : ElementContext) (target : UsedTarget) → TakesLists target →
     lists_by p target.element (attribute_of (codes "Inputs") target.element)
     (attribute_of (codes "Outputs") target.element) ≡ Ok None → ⊥
 lists-there p target t e = go (paths_at p target.element t.inputs)
@@ -401,7 +401,7 @@ module _ (tools : List ℕ → ToolInput → ToolAnswer) (files : List File)
 
     pub buckets-same : target_buckets (place_in run s0 scope) target.element
         ≡ target_buckets (place_in run t0 scope) target.element
-    buckets-same = ap (λ l. target_buckets (item_place l id.instance.path scope) target.element)
+    buckets-same = ap (λ l. target_buckets (item_context l id.instance.path scope) target.element)
         ((looks-same files AnyPath).paths j k a)
 
     -- by the ends of the buckets

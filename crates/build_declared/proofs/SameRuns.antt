@@ -42,7 +42,7 @@ use Rattle.build_world.specs.declared.fault.EvalFault.{EvalFault}
 use Rattle.build_meaning.specs.Walk.{Outcome}
 use Rattle.build_incremental.specs.Alike.{AlikeJournals}
 use Rattle.build_incremental.specs.SideBySide.{AlikeBodies}
-use Rattle.msb_items.specs.Places.{in_bucket, item_place}
+use Rattle.element_texts.specs.Contexts.{in_bucket, item_context}
 use Rattle.msb_items.specs.TargetGroups.{group_changes}
 use Rattle.msb_files.specs.Views as views
 use Rattle.msb_files.specs.Views.{View}
@@ -198,7 +198,7 @@ module _ (run : Run) (W : List ℕ → Type 0) (looks : LooksSame run.files W) w
 
   place-same : (s t : State) (scope : Scope) → Same s t →
       place_in run s scope ≡ place_in run t scope
-  place-same s t scope h = ap (λ ps. item_place ps run.instance.path scope)
+  place-same s t scope h = ap (λ ps. item_context ps run.instance.path scope)
       (looks.paths s.journal t.journal h.alike)
 
   scope-same : (s t : State) → Same s t → s.scope ≡ t.scope

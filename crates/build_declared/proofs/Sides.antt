@@ -44,7 +44,7 @@ use Rattle.build_incremental.specs.SideBySide.{
 use Rattle.build_incremental.proofs.Entries.{none-some}
 use Rattle.task_trait.specs.declared.tools.ToolAnswer.{ToolAnswer}
 use Rattle.task_trait.specs.declared.tools.ToolInput.{ToolInput}
-use Rattle.msb_items.specs.Places.{Place}
+use Rattle.element_texts.specs.Contexts.{ElementContext}
 use Rattle.target_texts.specs.Lists.{Lists, lists_by}
 use Rattle.target_texts.specs.Returned.{in_target}
 use Rattle.target_body.specs.Bodies.{body}
@@ -61,7 +61,7 @@ use Rattle.build_declared.proofs.SameRuns.{body-twin, ChooseSame}
 use Rattle.build_declared.proofs.WalksGo.{walks-go}
 
 -- the lists of a target that has not both Inputs and Outputs
-pub no-lists : (p : Place) (target : UsedTarget) (i o : Option (List ℕ)) →
+pub no-lists : (p : ElementContext) (target : UsedTarget) (i o : Option (List ℕ)) →
     attribute_of (codes "Inputs") target.element ≡ i →
     attribute_of (codes "Outputs") target.element ≡ o → (TakesLists target → ⊥) →
     lists_by p target.element i o ≡ Ok None

@@ -18,7 +18,7 @@ use Rattle.build_incremental.proofs.BodyFacts.{HasBody}
 use Rattle.build_incremental.proofs.Demands.{Tells}
 use Rattle.task_trait.specs.declared.tools.ToolAnswer.{ToolAnswer}
 use Rattle.task_trait.specs.declared.tools.ToolInput.{ToolInput}
-use Rattle.request_machine.specs.declared.standing.Standing.{Standing}
+use Rattle.request_machine.specs.declared.stage.RequestScope.{RequestScope}
 use Rattle.request_machine.specs.Requests.{
   Project,
   holds_of,
@@ -51,7 +51,7 @@ module _ (B : Site → RunId → Journal → Body ToolInput ToolAnswer → Type 
   or-tells (Ok z) next j h = h z
   or-tells (Err fault) next j h = tt
 
-  pub walk-tells : (tree : Asking Question OrderAnswer End) (s : Standing) (j : Journal) →
+  pub walk-tells : (tree : Asking Question OrderAnswer End) (s : RequestScope) (j : Journal) →
       Tells B (walk p key bodies tree s j) j
   walk-tells (ends end) s j = tt
   walk-tells (asks (condition name) go) s j =
@@ -65,7 +65,7 @@ module _ (B : Site → RunId → Journal → Body ToolInput ToolAnswer → Type 
   walk-tells (asks (body name) go) s j = (
     each name s.scope j,
     λ made then.
-        let after : Standing = after_run s name made in
+        let after : RequestScope = after_run s name made in
         or-tells (answer_of p made.ok after then name)
         (λ answer. walk p key bodies (go answer) after then) then
         (λ answer. walk-tells (go answer) after then),

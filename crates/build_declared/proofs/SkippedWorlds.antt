@@ -54,7 +54,7 @@ use Rattle.build_incremental.proofs.Demands.{Tells, told-meaning, told-journal}
 use Rattle.build_incremental.proofs.Meanings.{weaker-meaning}
 use Rattle.task_trait.specs.declared.tools.ToolAnswer.{ToolAnswer}
 use Rattle.task_trait.specs.declared.tools.ToolInput.{ToolInput}
-use Rattle.request_machine.specs.declared.standing.Standing.{Standing}
+use Rattle.request_machine.specs.declared.stage.RequestScope.{RequestScope}
 use Rattle.request_machine.specs.Requests.{
   Project,
   target_at,
@@ -114,7 +114,7 @@ module _ (files : List File) where
     abbrev bodies : List ℕ → Scope → Journal → Body ToolInput ToolAnswer
     bodies = bodies_at files Incremental p
 
-    tells-tree : (tree : Asking Question OrderAnswer End) (s : Standing) (j : Journal) →
+    tells-tree : (tree : Asking Question OrderAnswer End) (s : RequestScope) (j : Journal) →
         Tells IsOfRun (walk p key bodies tree s j) j
     tells-tree = walk-tells IsOfRun p key bodies
         (λ name scope j. record { body_is = refl; target_is = at name })

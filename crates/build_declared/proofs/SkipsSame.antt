@@ -41,7 +41,7 @@ use Rattle.build_world.specs.Faults.{fault_text}
 use Rattle.msb_values.specs.declared.note.Note.TheVariants.{Fail}
 use Rattle.build_world.specs.declared.fault.EvalFault.{EvalFault}
 use Rattle.build_incremental.specs.Alike.{AlikeJournals}
-use Rattle.msb_items.specs.Places.{Place, in_bucket, item_place}
+use Rattle.element_texts.specs.Contexts.{ElementContext, in_bucket, item_context}
 use Rattle.msb_items.specs.TargetGroups.{group_changes, all_applied}
 use Rattle.msb_files.specs.Views as views
 use Rattle.msb_files.specs.Views.{View}
@@ -119,7 +119,7 @@ use Rattle.result_cache.specs.Lists.{In}
 use Rattle.result_cache.specs.declared.run.RunId.{RunId}
 use Rattle.msb_values.specs.declared.note.Note.{Note}
 use Rattle.std.specs.Option.{option_or}
-use Rattle.msb_items.specs.Places.{element_holds}
+use Rattle.element_texts.specs.Contexts.{element_holds}
 use Rattle.msb_values.specs.Changes.{applied}
 use Rattle.std.proofs.Common.{append-nil, is_some}
 use Rattle.std.proofs.lemmas.Slice.Eq.{bytes_eq-Decides}
@@ -181,7 +181,7 @@ none-true h = cc
 
 -- ---- what is made of given lists
 
-output-by : (q : Place) (a b : List Param) (o : At) → output_items a o ≡ output_items b o →
+output-by : (q : ElementContext) (a b : List Param) (o : At) → output_items a o ≡ output_items b o →
     output q a o ≡ output q b o
 output-by q a b o h = go (element_holds q o)
   where
@@ -192,7 +192,7 @@ output-by q a b o h = go (element_holds q o)
     go (Ok true) = ap (λ items. or_fault_made (destination_of o)
         (λ destination. all_made (changes_to destination items))) h
 
-outputs-by : (q : Place) (a b : List Param) (os : List At) →
+outputs-by : (q : ElementContext) (a b : List Param) (os : List At) →
     ((o : At) → In o os → output_items a o ≡ output_items b o) →
     up_to_fault (output q a) os ≡ up_to_fault (output q b) os
 outputs-by q a b [] h = refl
@@ -203,17 +203,17 @@ outputs-by q a b (o ∷ os) h =
     (outputs-by q a b os (λ x i. h x (inr i)))
 
 -- what a task is called with also says what is inferred
-abbrev made_if : Place → At → Option (OnError × List Param) → Made
+abbrev made_if : ElementContext → At → Option (OnError × List Param) → Made
 made_if q e None = all_made []
 made_if q e (Some ready) = outputs q ready.1 e
 
-params-so : (q : Place) (e : At) (on_error : OnError) (x : Result (List Param) EvalFault) →
+params-so : (q : ElementContext) (e : At) (on_error : OnError) (x : Result (List Param) EvalFault) →
     or_fault_made x (λ params. outputs q params e)
     ≡ or_fault_made (map_ok (λ params. Some (on_error, params)) x) (made_if q e)
 params-so q e on_error (Ok params) = refl
 params-so q e on_error (Err fault) = refl
 
-error-so : (q : Place) (e : At) (x : Result OnError EvalFault) →
+error-so : (q : ElementContext) (e : At) (x : Result OnError EvalFault) →
     or_fault_made x (λ on_error. or_fault_made (params_at q e (task_of e))
     (λ params. outputs q params e)) ≡
     or_fault_made (results.and_then x (λ on_error. map_ok (λ params. Some (on_error, params))
@@ -221,7 +221,8 @@ error-so : (q : Place) (e : At) (x : Result OnError EvalFault) →
 error-so q e (Ok on_error) = params-so q e on_error (params_at q e (task_of e))
 error-so q e (Err fault) = refl
 
-inference-so : (q : Place) (e : At) → inference q e (task_of e) ≡ or_fault_made (readied q e)
+inference-so : (q : ElementContext) (e : At)
+    → inference q e (task_of e) ≡ or_fault_made (readied q e)
     (made_if q e)
 inference-so q e = go (element_holds q e)
   where
@@ -377,12 +378,12 @@ module _ (tools : List ℕ → ToolInput → ToolAnswer) (id : RunId) (r : Run) 
       rising-same (views.paths v) (views.paths u) (paths_rise v) (paths_rise u)
       (λ p. paths_there v p ∙ (same-there l ps s i p ∙ sym (paths_there u p)))
 
-  abbrev place : Scope → Place
-  place sc = item_place P r.instance.path sc
+  abbrev place : Scope → ElementContext
+  place sc = item_context P r.instance.path sc
 
   place-so : (t : State) (ps : List Act) → Stands t.journal ps → InTree ps → (sc : Scope) →
       t.scope ≡ sc → place_in r t t.scope ≡ place sc
-  place-so t ps s i sc e = ap (λ l. item_place l r.instance.path t.scope)
+  place-so t ps s i sc e = ap (λ l. item_context l r.instance.path t.scope)
       (paths-so t.journal ps s i) ∙ ap place e
 
   tasks-so : (t : State) (ps : List Act) → Stands t.journal ps → InTree ps → (sc : Scope) →
@@ -411,7 +412,7 @@ module _ (tools : List ℕ → ToolInput → ToolAnswer) (id : RunId) (r : Run) 
       (ap (λ p. in_bucket p bucket) (tasks-so t ps s start sc hs hp))
       (go (readied (called_place r t bucket) e) he given))
     where
-      q : Place
+      q : ElementContext
       q = in_bucket (place sc) bucket
 
       go : (x : Result (Option (OnError × List Param)) EvalFault) →

@@ -31,7 +31,7 @@ use Rattle.target_order.specs.declared.asks.OrderAnswer.TheVariants.{Truth, Name
 use Rattle.build_world.specs.Elements.{At, children_of}
 use Rattle.build_world.specs.Instances.{UsedTarget}
 use Rattle.build_world.specs.declared.fault.EvalFault.{EvalFault}
-use Rattle.msb_items.specs.Places.{item_place, element_holds}
+use Rattle.element_texts.specs.Contexts.{item_context, element_holds}
 use Rattle.msb_items.specs.TargetGroups.{all_applied}
 use Rattle.result_cache.specs.Journal.{Journal}
 use Rattle.result_cache.specs.declared.run.RunId.{RunId}
@@ -42,7 +42,7 @@ use Rattle.build_incremental.specs.Alike.{AlikeRecords, AlikeJournals}
 use Rattle.build_incremental.specs.SideBySide.{HasNotActed, AlikeRuns, AlikeWalks}
 use Rattle.task_trait.specs.declared.tools.ToolAnswer.{ToolAnswer}
 use Rattle.task_trait.specs.declared.tools.ToolInput.{ToolInput}
-use Rattle.request_machine.specs.declared.standing.Standing.{Standing}
+use Rattle.request_machine.specs.declared.stage.RequestScope.{RequestScope}
 use Rattle.request_machine.specs.Requests.{
   Project,
   place_of,
@@ -80,7 +80,7 @@ module _ (p : Project) (key : RequestKey) (W : List ℕ → Type 0) (Q' Q : Site
   Goes x y j k = AlikeWalks (bytes_in p.files) W Q' Q tools x y j k
 
   place-same : (scope : Scope) (j k : Journal) → Alike j k → place_of p scope j ≡ place_of p scope k
-  place-same scope j k a = ap (λ ps. item_place ps p.key.path scope)
+  place-same scope j k a = ap (λ ps. item_context ps p.key.path scope)
       ((looks-same p.files W).paths j k a)
 
   holds-same : (scope : Scope) (j k : Journal) → Alike j k → (t : Option UsedTarget) →
@@ -103,7 +103,7 @@ module _ (p : Project) (key : RequestKey) (W : List ℕ → Type 0) (Q' Q : Site
       (ext (errors_at p scope j) (errors_at p scope k)
       (λ e. errors-same scope j k a (bytes_eq (name_of e.node) (codes "OnError")) e))
 
-  answer-same : (ok : Bool) (s : Standing) (j k : Journal) → Alike j k → (name : List ℕ) →
+  answer-same : (ok : Bool) (s : RequestScope) (j k : Journal) → Alike j k → (name : List ℕ) →
       answer_of p ok s j name ≡ answer_of p ok s k name
   answer-same true s j k a name = refl
   answer-same false s j k a name = ap (map_ok Failed)
@@ -119,7 +119,7 @@ module _ (p : Project) (key : RequestKey) (W : List ℕ → Type 0) (Q' Q : Site
       same (Ok z) = f z
       same (Err fault) = refl
 
-  standing-same : (s : Standing) (name : List ℕ) (m n : Record) → AlikeRecords m n →
+  standing-same : (s : RequestScope) (name : List ℕ) (m n : Record) → AlikeRecords m n →
       after_run s name m ≡ after_run s name n
   standing-same s name m n r =
       ap (λ c. record {
@@ -133,7 +133,7 @@ module _ (p : Project) (key : RequestKey) (W : List ℕ → Type 0) (Q' Q : Site
             s.returned ++ record { target = name; items = i } ∷ [];
       }) r.items
 
-  pub walks-go : (tree : Asking Question OrderAnswer End) (s : Standing) (j k : Journal) →
+  pub walks-go : (tree : Asking Question OrderAnswer End) (s : RequestScope) (j k : Journal) →
       Alike j k → Goes (walk p key first tree s j)
       (walk p key second tree s k) j k
   walks-go (ends end) s j k a = refl
@@ -151,7 +151,7 @@ module _ (p : Project) (key : RequestKey) (W : List ℕ → Type 0) (Q' Q : Site
     refl,
     runs name s.scope j k a,
     λ m n i l r b.
-        let then : Standing = after_run s name n in
+        let then : RequestScope = after_run s name n in
         subst (λ z. Goes (or_failed (answer_of p m.ok z i name)
         (λ answer. walk p key first (go answer) z i))
         (or_failed (answer_of p n.ok then l name)

@@ -1,5 +1,6 @@
 -- The world of a build by its files, its projects and its mode. (MSBuild command-line reference)
 use Rattle.std.specs.Prelude.{ℕ, List, Result}
+use Rattle.msb_laws.specs.Words.{Name}
 use Rattle.msb_values.specs.declared.mode.Mode.{Mode}
 use Rattle.file_store.specs.declared.tree.File.{File}
 use Rattle.build_world.specs.Instances.{Instance}
@@ -13,7 +14,7 @@ use Rattle.request_machine.specs.Walk.{Site}
 use Rattle.request_machine.specs.Worlds.{request_by}
 
 -- the world, where a project's evaluation looks at the files and its key alone
-abbrev pub world_by : (List ℕ → ToolInput → ToolAnswer) → List File → RequestKey →
+abbrev pub world_by : (Name → ToolInput → ToolAnswer) → List File → RequestKey →
     (RequestKey → Result Instance Reply) → Mode → World Site ToolInput ToolAnswer
 world_by tools files root instances mode = record {
   root = root;

@@ -15,6 +15,7 @@ use Rattle.std.specs.Prelude.{
   Ok,
   Err,
 }
+use Rattle.msb_laws.specs.Words.{Name}
 use Rattle.msb_values.specs.Keys.{key_of}
 use Rattle.msb_values.specs.declared.act.Act.{Act}
 use Rattle.msb_elements.specs.Nodes.{name_of}
@@ -49,7 +50,7 @@ pub record Called : Type 0 where
   pub params : List Param
   pub answer : TaskOutput
 
-module _ (tools : List ℕ → ToolInput → ToolAnswer) (id : RunId) (run : Run) where
+module _ (tools : Name → ToolInput → ToolAnswer) (id : RunId) (run : Run) where
   abbrev pub answered_in : At → List Param → Option (End (State × TaskOutput)) → List Called
   answered_in e params None = []
   answered_in e params (Some end) =

@@ -1,5 +1,6 @@
 -- What a build has to do with the clean build of the same files. (Incremental builds)
 use Rattle.std.specs.Prelude.{ℕ, ◌≡◌, List}
+use Rattle.msb_laws.specs.Words.{Name, Path}
 use Rattle.msb_values.specs.declared.mode.Mode.TheVariants.{Clean}
 use Rattle.file_store.specs.declared.tree.File.{File}
 use Rattle.build_world.specs.declared.world.World.{World}
@@ -16,7 +17,7 @@ use Rattle.build_declared.specs.Fresh.{IsFresh}
 use Rattle.build_declared.specs.Builds.{in_mode}
 
 -- the clean build of what a build is given, which comes to this, is declared and fresh
-pub record IsTrustworthy (tools : List ℕ → ToolInput → ToolAnswer) (w : World)
+pub record IsTrustworthy (tools : Name → ToolInput → ToolAnswer) (w : World)
     (clean : Given Site ToolInput RequestResult) : Type 0 where
   pub declared : IsDeclared tools w.tree.files (world_of tools (in_mode Clean w)) clean
   pub fresh : IsFresh tools w.tree.files (world_of tools (in_mode Clean w)) clean.value
@@ -26,5 +27,5 @@ pub record IsTrustworthy (tools : List ℕ → ToolInput → ToolAnswer) (w : Wo
 pub record GivesClean (files : List File) (out clean : Given Site ToolInput RequestResult)
     : Type 0 where
   pub result : out.value ≡ clean.value
-  pub contents : (path : List ℕ) →
+  pub contents : (path : Path) →
       seen (bytes_in files) out.journal path ≡ seen (bytes_in files) clean.journal path

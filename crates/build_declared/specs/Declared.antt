@@ -18,6 +18,7 @@ use Rattle.std.specs.Prelude.{
   is_some,
   Ok,
 }
+use Rattle.msb_laws.specs.Words.{Text, Name, Path}
 use Rattle.msb_values.specs.declared.item.Item.{Item}
 use Rattle.msb_values.specs.declared.note.Note.{Note}
 use Rattle.msb_values.specs.declared.note.Note.TheVariants.{Fail, Warning}
@@ -65,13 +66,13 @@ use Rattle.build_declared.specs.Pieces.{Piece, ByItems, pieces_of, end_of_piece}
 
 -- ---- a piece
 
-module _ (tools : List ℕ → ToolInput → ToolAnswer) (id : RunId) (run : Run) where
+module _ (tools : Name → ToolInput → ToolAnswer) (id : RunId) (run : Run) where
   -- no note says that a file is too large
   abbrev pub IsNotTooLarge : Note → Type 0
   IsNotTooLarge (Fail text) =
-      (task path : List ℕ) → text ≡ failure_text task (TooLarge path) → ⊥
+      (task path : Text) → text ≡ failure_text task (TooLarge path) → ⊥
   IsNotTooLarge (Warning text) =
-      (task path : List ℕ) → text ≡ failure_text task (TooLarge path) → ⊥
+      (task path : Text) → text ≡ failure_text task (TooLarge path) → ⊥
   IsNotTooLarge note = Unit {0}
 
   -- A part of the items of a piece, of which the whole comes to the state t with these acts of the
@@ -84,12 +85,12 @@ module _ (tools : List ℕ → ToolInput → ToolAnswer) (id : RunId) (run : Run
     pub acts : List Act
     pub succeeds : end_of_piece tools id run p (Part (kept marks items))
         ≡ Some (record { value = Ok after; journal = after.journal; acts = acts })
-    pub bytes : (path : List ℕ) → is_one_of path (kept marks p.lists.outputs) ≡ true →
+    pub bytes : (path : Path) → is_one_of path (kept marks p.lists.outputs) ≡ true →
         last_bytes (since p.before acts) path ≡ last_bytes (since p.before whole) path
-    pub no_other : (path : List ℕ) → is_one_of path (kept marks p.lists.outputs) ≡ false →
+    pub no_other : (path : Path) → is_one_of path (kept marks p.lists.outputs) ≡ false →
         last_bytes (since p.before acts) path ≡ None
     pub never_large : (note : Note) → In note after.notes → IsNotTooLarge note
-    pub changes : ((path : List ℕ) → is_one_of path (kept (map not marks) p.lists.outputs) ≡ true →
+    pub changes : ((path : Path) → is_one_of path (kept (map not marks) p.lists.outputs) ≡ true →
         IsSome (views.content (view_of run p.from) path)) →
         (after.changes ≡ t.changes) × (after.items ≡ t.items)
 
@@ -106,10 +107,10 @@ module _ (tools : List ℕ → ToolInput → ToolAnswer) (id : RunId) (run : Run
         In c (calls_of tools id run (children_of run.target.element) p.from p.before) →
         ReturnsGiven tools id run c
     pub writes_outputs : (t : State) (acts : List Act) → SucceedsWith p t acts →
-        (path : List ℕ) →
+        (path : Path) →
         is_some (last_bytes (since p.before acts) path) ≡ is_one_of path p.lists.outputs
     pub removes_none : (t : State) (acts : List Act) → SucceedsWith p t acts →
-        (path : List ℕ) → In (Remove path) (since p.before acts) → ⊥
+        (path : Path) → In (Remove path) (since p.before acts) → ⊥
     pub parts : (t : State) (acts : List Act) → SucceedsWith p t acts →
         (items : List Item) → ByItems p items → (marks : List Bool) → ArePart marks items →
         PartIsDeclared p t acts items marks
@@ -122,7 +123,7 @@ module _ (tools : List ℕ → ToolInput → ToolAnswer) (id : RunId) (run : Run
   MayChoose lists RunAll = all_or_nothing lists.inputs lists.outputs ≡ RunAll
   MayChoose lists Skip = all_or_nothing lists.inputs lists.outputs ≡ RunAll
   MayChoose lists Nothing = all_or_nothing lists.inputs lists.outputs ≡ Nothing
-  MayChoose lists (Part old) = (kind : List ℕ) × (items : List Item) × (marks : List Bool)
+  MayChoose lists (Part old) = (kind : Name) × (items : List Item) × (marks : List Bool)
       × (lists.items ≡ Some (kind, items)) × ArePart marks items × (old ≡ kept marks items)
 
   -- A run that has a piece calls nothing, and no task of it fails because a file is too large,
@@ -144,7 +145,7 @@ module _ (tools : List ℕ → ToolInput → ToolAnswer) (id : RunId) (run : Run
 
 -- ---- a world
 
-module _ (tools : List ℕ → ToolInput → ToolAnswer) (files : List File) where
+module _ (tools : Name → ToolInput → ToolAnswer) (files : List File) where
   -- the pieces of a run in a clean build
   abbrev pub clean_pieces : Option UsedTarget → Scope → RunId → Journal → List Piece
   clean_pieces None scope id journal = []

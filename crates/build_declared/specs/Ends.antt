@@ -1,5 +1,6 @@
 -- What comes of a part of a run that calls no request. (Target element)
 use Rattle.std.specs.Prelude.{ℕ, List, ◌∷◌, length, Option, None, Some}
+use Rattle.msb_laws.specs.Words.{Name}
 use Rattle.msb_values.specs.declared.act.Act.{Act}
 use Rattle.result_cache.specs.declared.run.RunId.{RunId}
 use Rattle.result_cache.specs.Journal.{Journal, acted, add}
@@ -15,7 +16,7 @@ pub record End (R : Type 0) : Type 0 where
 
 -- the end of a part that goes on from this journal and behind these acts; none where it calls a
 -- request
-abbrev pub end_of : {R : Type 0} → (List ℕ → ToolInput → ToolAnswer) → RunId → Work R → Journal →
+abbrev pub end_of : {R : Type 0} → (Name → ToolInput → ToolAnswer) → RunId → Work R → Journal →
     List Act → Option (End R)
 end_of tools run (done value) journal acts =
     Some (record { value = value; journal = journal; acts = acts })

@@ -1,6 +1,7 @@
 -- Fresh worlds: outputs that are no older than unchanged inputs hold what their target writes.
 -- (Incremental builds)
 use Rattle.std.specs.Prelude.{ℕ, ◌≡◌, ◌≤◌, List, [], ◌∷◌, Option, None, Some, Ok}
+use Rattle.msb_laws.specs.Words.{Name, Path}
 use Rattle.msb_values.specs.declared.item.Item.{Item}
 use Rattle.msb_values.specs.declared.act.Act.{Act}
 use Rattle.msb_values.specs.declared.scope.Scope.{Scope}
@@ -27,32 +28,32 @@ use Rattle.build_declared.specs.Declared.{clean_pieces}
 use Rattle.build_declared.specs.Written.{since}
 
 -- the path is in the tree, and has the tree's bytes
-pub record IsAsInTree (view : View) (path : List ℕ) (file : File) : Type 0 where
+pub record IsAsInTree (view : View) (path : Path) (file : File) : Type 0 where
   pub there : file_at path view.files ≡ Some file
   pub unchanged : views.content view path ≡ Some file.bytes
 
 -- an output may be trusted: it and the inputs that it is paired with are as in the tree, and
 -- none of
 -- these has a greater stamp
-pub record IsTrusted (view : View) (inputs : List (List ℕ)) (output : List ℕ) (file : File)
+pub record IsTrusted (view : View) (inputs : List Path) (output : Path) (file : File)
     : Type 0 where
   pub output_there : IsAsInTree view output file
-  pub inputs_there : (input : List ℕ) → In input inputs →
+  pub inputs_there : (input : Path) → In input inputs →
       (other : File) × IsAsInTree view input other × (other.stamp ≤ file.stamp)
 
 -- an output with the inputs that it is paired with; item by item it is its item's own input alone
 pub record Pairing : Type 0 where
-  pub output : List ℕ
-  pub inputs : List (List ℕ)
+  pub output : Path
+  pub inputs : List Path
 
-abbrev pub pairs_of : List (List ℕ) → List (List ℕ) → List Pairing
+abbrev pub pairs_of : List Path → List Path → List Pairing
 pairs_of (input ∷ inputs) (output ∷ outputs) =
     record { output = output; inputs = input ∷ [] } ∷ pairs_of inputs outputs
 pairs_of inputs outputs = []
 
-module _ (tools : List ℕ → ToolInput → ToolAnswer) (id : RunId) (run : Run) where
+module _ (tools : Name → ToolInput → ToolAnswer) (id : RunId) (run : Run) where
   -- the piece succeeds, and its last act on the path leaves the file's bytes there
-  abbrev pub WritesSame : Piece → List ℕ → File → Type 0
+  abbrev pub WritesSame : Piece → Path → File → Type 0
   WritesSame p path file = (t : State) × (acts : List Act)
       × (end_of_piece tools id run p RunAll
       ≡ Some (record { value = Ok t; journal = t.journal; acts = acts }))
@@ -66,12 +67,12 @@ module _ (tools : List ℕ → ToolInput → ToolAnswer) (id : RunId) (run : Run
         WritesSame p pair.output file
     -- else all are, where all are trusted with every input
     pub by_pairs : ((items : List Item) → ByItems p items → ⊥) →
-        ((output : List ℕ) → In output p.lists.outputs →
+        ((output : Path) → In output p.lists.outputs →
         (file : File) × IsTrusted (view_of run p.from) p.lists.inputs output file) →
-        (output : List ℕ) → In output p.lists.outputs → (file : File) →
+        (output : Path) → In output p.lists.outputs → (file : File) →
         file_at output run.files ≡ Some file → WritesSame p output file
 
-module _ (tools : List ℕ → ToolInput → ToolAnswer) (files : List File) where
+module _ (tools : Name → ToolInput → ToolAnswer) (files : List File) where
   -- each piece of a run is fresh
   abbrev pub FreshAt : Option UsedTarget → Scope → RunId → Journal → Type 0
   FreshAt None scope id journal = Unit {0}

@@ -1,6 +1,7 @@
 -- Trees in which each output of a piece is no older than its inputs, as a build leaves them.
 -- (Incremental builds)
 use Rattle.std.specs.Prelude.{ℕ, ◌≡◌, ◌≤◌, List, Option, None, Some}
+use Rattle.msb_laws.specs.Words.{Name, Path}
 use Rattle.msb_values.specs.declared.item.Item.{Item}
 use Rattle.msb_values.specs.declared.scope.Scope.{Scope}
 use Rattle.file_store.specs.Files.{file_at}
@@ -22,11 +23,11 @@ use Rattle.build_declared.specs.Fresh.{Pairing, pairs_of}
 
 -- an output and the inputs that it is paired with are in the tree, and none of these has a greater
 -- stamp
-pub record OutputIsNoOlder (files : List File) (inputs : List (List ℕ)) (output : List ℕ)
+pub record OutputIsNoOlder (files : List File) (inputs : List Path) (output : Path)
     : Type 0 where
   pub file : File
   pub output_there : file_at output files ≡ Some file
-  pub inputs_there : (input : List ℕ) → In input inputs →
+  pub inputs_there : (input : Path) → In input inputs →
       (other : File) × (file_at input files ≡ Some other) × (other.stamp ≤ file.stamp)
 
 -- so of each output of a piece: item by item by its own input alone, else by every input
@@ -34,10 +35,10 @@ pub record PieceIsNoOlder (files : List File) (p : Piece) : Type 0 where
   pub by_items : (items : List Item) → ByItems p items → (pair : Pairing) →
       In pair (pairs_of p.lists.inputs p.lists.outputs) →
       OutputIsNoOlder files pair.inputs pair.output
-  pub by_pairs : ((items : List Item) → ByItems p items → ⊥) → (output : List ℕ) →
+  pub by_pairs : ((items : List Item) → ByItems p items → ⊥) → (output : Path) →
       In output p.lists.outputs → OutputIsNoOlder files p.lists.inputs output
 
-module _ (tools : List ℕ → ToolInput → ToolAnswer) (files : List File) where
+module _ (tools : Name → ToolInput → ToolAnswer) (files : List File) where
   -- each piece of a run is so
   abbrev pub NoOlderAt : Option UsedTarget → Scope → RunId → Journal → Type 0
   NoOlderAt None scope id journal = Unit {0}

@@ -15,6 +15,7 @@ use Rattle.std.specs.Prelude.{
   Ok,
   Err,
 }
+use Rattle.msb_laws.specs.Words.{Name, Path}
 use Rattle.msb_values.specs.declared.item.Item.{Item}
 use Rattle.msb_values.specs.declared.act.Act.{Act}
 use Rattle.msb_values.specs.declared.scope.Scope.{Scope}
@@ -41,13 +42,13 @@ pub record Piece : Type 0 where
 
 -- the items of a piece that takes its items one by one: each has an input and an output of its own
 pub record ByItems (p : Piece) (items : List Item) : Type 0 where
-  pub kind : List ℕ
+  pub kind : Name
   pub typed : p.lists.items ≡ Some (kind, items)
   pub inputs : length p.lists.inputs ≡ length items
   pub outputs : length p.lists.outputs ≡ length items
 
 -- a bucket is a piece where neither list is empty
-abbrev pub one_if : Piece → (inputs outputs : List (List ℕ)) → List Piece
+abbrev pub one_if : Piece → (inputs outputs : List Path) → List Piece
 one_if piece [] outputs = []
 one_if piece (input ∷ inputs) [] = []
 one_if piece (input ∷ inputs) (output ∷ outputs) = piece ∷ []
@@ -69,7 +70,7 @@ abbrev pub then_pieces : Option (End (Result State Stopped)) → (State → List
 then_pieces None next = []
 then_pieces (Some end) next = next_by end.value end.acts next
 
-module _ (tools : List ℕ → ToolInput → ToolAnswer) (id : RunId) (choose : Chooser) (run : Run)
+module _ (tools : Name → ToolInput → ToolAnswer) (id : RunId) (choose : Chooser) (run : Run)
     (scope : Scope) where
   -- the pieces among some buckets, where each bucket is done as is chosen
   abbrev pub pieces_among : List Bucket → State → List Act → List Piece
@@ -89,7 +90,7 @@ module _ (tools : List ℕ → ToolInput → ToolAnswer) (id : RunId) (choose : 
   pieces_of journal = pieces_in (buckets_at run (begun scope journal)) (begun scope journal)
 
 -- what comes of a piece where this is chosen for it; none where it calls a request
-abbrev pub end_of_piece : (List ℕ → ToolInput → ToolAnswer) → RunId → Run → Piece → Choice →
+abbrev pub end_of_piece : (Name → ToolInput → ToolAnswer) → RunId → Run → Piece → Choice →
     Option (End (Result State Stopped))
 end_of_piece tools id run p choice =
     end_of tools id (decided run p.bucket choice p.lists.items p.from) p.from.journal p.before

@@ -1,6 +1,7 @@
 -- Repeated worlds: over the tree that a build left, the clean build has the same pieces again.
 -- (Incremental builds)
 use Rattle.std.specs.Prelude.{ℕ, ◌≡◌, List, [], ◌∷◌, Option, Some}
+use Rattle.msb_laws.specs.Words.{Name, Path}
 use Rattle.msb_values.specs.declared.item.Item.{Item}
 use Rattle.msb_values.specs.declared.mode.Mode.TheVariants.{Clean}
 use Rattle.msb_values.specs.declared.act.Act.{Act}
@@ -30,7 +31,7 @@ use Rattle.build_declared.specs.Written.{since}
 
 -- ---- a piece again
 
-module _ (tools : List ℕ → ToolInput → ToolAnswer) (id : RunId) (first again : Run) where
+module _ (tools : Name → ToolInput → ToolAnswer) (id : RunId) (first again : Run) where
   -- A piece of the second build is as one of the first: it has the same inputs and outputs, paired
   -- in the same way; and where the first one succeeds it succeeds, and its acts leave the same at
   -- each of its outputs.
@@ -43,7 +44,7 @@ module _ (tools : List ℕ → ToolInput → ToolAnswer) (id : RunId) (first aga
         (items : List Item) × ByItems p items
     pub writes : (t : State) (acts : List Act) → SucceedsWith tools id first earlier t acts →
         (u : State) × (more : List Act) × SucceedsWith tools id again p u more
-        × ((output : List ℕ) → In output earlier.lists.outputs →
+        × ((output : Path) → In output earlier.lists.outputs →
         last_bytes (since p.before more) output
         ≡ last_bytes (since earlier.before acts) output)
 
@@ -55,7 +56,7 @@ module _ (tools : List ℕ → ToolInput → ToolAnswer) (id : RunId) (first aga
 
 -- ---- a run again
 
-module _ (tools : List ℕ → ToolInput → ToolAnswer) (files after : List File) where
+module _ (tools : Name → ToolInput → ToolAnswer) (files after : List File) where
   -- the pieces of a body of the clean build of a tree
   abbrev pub pieces_over : List File → Occurrence → List Piece
   pieces_over tree o = clean_pieces tools tree o.site.target o.site.scope o.run o.from
@@ -91,7 +92,7 @@ module _ (tools : List ℕ → ToolInput → ToolAnswer) (files after : List Fil
 -- ---- a build
 
 -- what a build is given is whole, steady and settled, and means this
-pub record IsSettledBuild (tools : List ℕ → ToolInput → ToolAnswer) (w : Build)
+pub record IsSettledBuild (tools : Name → ToolInput → ToolAnswer) (w : Build)
     (out : Given Site ToolInput RequestResult) : Type 0 where
   pub whole : IsWhole (world_of tools w) out
   pub steady : IsSteady out.demand
@@ -101,12 +102,12 @@ pub record IsSettledBuild (tools : List ℕ → ToolInput → ToolAnswer) (w : B
 abbrev pub over : Tree → Build → Build
 over tree w = record w { tree = tree }
 
-abbrev pub clean_over : (List ℕ → ToolInput → ToolAnswer) → Build → Tree →
+abbrev pub clean_over : (Name → ToolInput → ToolAnswer) → Build → Tree →
     World Site ToolInput ToolAnswer
 clean_over tools w tree = world_of tools (in_mode Clean (over tree w))
 
 -- the clean build, which comes to this, is repeated over the tree that a build left
-abbrev pub IsRepeatedBuild : (List ℕ → ToolInput → ToolAnswer) → Build → (left : Tree) →
+abbrev pub IsRepeatedBuild : (Name → ToolInput → ToolAnswer) → Build → (left : Tree) →
     (clean again : Given Site ToolInput RequestResult) → Type 0
 IsRepeatedBuild tools w left clean again =
     IsRepeated tools w.tree.files left.files (clean_over tools w left) clean again

@@ -16,6 +16,7 @@ use Rattle.std.specs.Prelude.{
   IsSome,
   Ok,
 }
+use Rattle.msb_laws.specs.Words.{Name, Path}
 use Rattle.msb_values.specs.Acts.{act_path}
 use Rattle.msb_values.specs.declared.mode.Mode.{Mode}
 use Rattle.msb_values.specs.declared.act.Act.{Act}
@@ -35,7 +36,7 @@ use Rattle.request_machine.specs.Walk.{Site}
 use Rattle.build_declared.specs.Occurrences.{Occurrence, Occurs}
 use Rattle.build_declared.specs.Pieces.{Piece, pieces_of, end_of_piece}
 
-module _ (tools : List ℕ → ToolInput → ToolAnswer) (files : List File) (mode : Mode) where
+module _ (tools : Name → ToolInput → ToolAnswer) (files : List File) (mode : Mode) where
   -- the pieces of a body, where each is done as this mode decides
   abbrev pub pieces_by : Option UsedTarget → Occurrence → List Piece
   pieces_by None o = []
@@ -47,7 +48,7 @@ module _ (tools : List ℕ → ToolInput → ToolAnswer) (files : List File) (mo
   pieces_at o = pieces_by o.site.target o
 
   -- an input or an output of the piece
-  abbrev pub is_of : List ℕ → Piece → Type 0
+  abbrev pub is_of : Name → Piece → Type 0
   is_of path p = In path p.lists.inputs ⊎ In path p.lists.outputs
 
   -- a run without a piece writes or removes no input and no output of a piece
@@ -80,7 +81,7 @@ module _ (tools : List ℕ → ToolInput → ToolAnswer) (files : List File) (mo
     pub succeeds : (o : Occurrence) → Occurs demand o → (p : Piece) → In p (pieces_at o) →
         (acts : List Act) × Succeeds o.site.target o p acts
     pub inputs_exist : (o : Occurrence) → Occurs demand o → (p : Piece) → In p (pieces_at o) →
-        (input : List ℕ) → In input p.lists.inputs →
+        (input : Path) → In input p.lists.inputs →
         IsSome (views.content (record { files = files; journal = p.from.journal }) input)
     pub inputs_stood : (o : Occurrence) → Occurs demand o → (p : Piece) → In p (pieces_at o) →
         (run : RunId) (number : ℕ) (act : Act) → In (acted run number act) last →

@@ -17,6 +17,7 @@ use Rattle.std.specs.Prelude.{
   Err,
   codes,
 }
+use Rattle.msb_laws.specs.Words.{Text, Name}
 use Rattle.msb_values.specs.declared.mode.Mode.TheVariants.{Incremental}
 use Rattle.msb_values.specs.declared.scope.Scope.{Scope}
 use Rattle.file_store.specs.declared.tree.File.{File}
@@ -49,8 +50,8 @@ use Rattle.build_declared.specs.Pieces.{Piece, pieces_of}
 
 -- a target that has both Inputs and Outputs
 pub record TakesLists (target : UsedTarget) : Type 0 where
-  pub inputs : List ℕ
-  pub outputs : List ℕ
+  pub inputs : Text
+  pub outputs : Text
   pub has_inputs : attribute_of (codes "Inputs") target.element ≡ Some inputs
   pub has_outputs : attribute_of (codes "Outputs") target.element ≡ Some outputs
 
@@ -91,7 +92,7 @@ up_to_date (word ∷ words) = one_if_up word + up_to_date words
 
 -- ---- runs
 
-module _ (tools : List ℕ → ToolInput → ToolAnswer) (files : List File) where
+module _ (tools : Name → ToolInput → ToolAnswer) (files : List File) where
   -- the pieces of a run in an incremental build
   abbrev pub pieces_met : UsedTarget → Scope → RunId → Journal → List Piece
   pieces_met target scope id from =

@@ -1,5 +1,6 @@
 -- Builds that find each piece up to date, and what comes of them. (Incremental builds)
 use Rattle.std.specs.Prelude.{ℕ, ◌≡◌, List, [], Some}
+use Rattle.msb_laws.specs.Words.{Name}
 use Rattle.msb_values.specs.declared.mode.Mode.TheVariants.{Clean}
 use Rattle.build_world.specs.Instances.{UsedTarget}
 use Rattle.build_world.specs.declared.world.World.{World}
@@ -23,7 +24,7 @@ use Rattle.build_declared.specs.Skipped.{TakesLists, target_of, IsOfSkipped, Ski
 
 -- In the tree each output of a piece of the clean build, which comes to this, is no older than its
 -- inputs; and the runs without a piece write or remove no input and no output of a piece.
-pub record IsUpToDate (tools : List ℕ → ToolInput → ToolAnswer) (w : World)
+pub record IsUpToDate (tools : Name → ToolInput → ToolAnswer) (w : World)
     (clean : Given Site ToolInput RequestResult) : Type 0 where
   pub no_older : IsNoOlder tools w.tree.files (world_of tools (in_mode Clean w)) clean.value
       clean.journal
@@ -32,7 +33,7 @@ pub record IsUpToDate (tools : List ℕ → ToolInput → ToolAnswer) (w : World
 -- A build skips each piece. Each of its bodies is skipped, if it is of a target with Inputs and
 -- Outputs; so such a run uses no tool; and each record of the last journal, from which the lines of
 -- the build are printed, says so.
-pub record SkipsEach (tools : List ℕ → ToolInput → ToolAnswer) (w : World)
+pub record SkipsEach (tools : Name → ToolInput → ToolAnswer) (w : World)
     (out : Given Site ToolInput RequestResult) : Type 0 where
   pub bodies : EachOfMeaning (world_of tools w)
       (λ site id from made. SkippedAt tools w.tree.files site.target site.scope id from made)

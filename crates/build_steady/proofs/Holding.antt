@@ -131,12 +131,12 @@ use Rattle.build_steady.specs.Held.{
   IsCalling,
   IsHeld,
   IsReady,
-  IsTurn,
+  IsCheckStep,
 }
 use Rattle.build_steady.specs.declared.checking.Caller.{Caller}
 use Rattle.build_steady.specs.declared.checking.Check.{Check}
-use Rattle.build_steady.specs.declared.checking.Turn.{Turn}
-use Rattle.build_steady.specs.declared.checking.Turn.TheVariants.{GoesOn, Over}
+use Rattle.build_steady.specs.declared.checking.CheckStep.{CheckStep}
+use Rattle.build_steady.specs.declared.checking.CheckStep.TheVariants.{GoesOn, Over}
 use Rattle.build_steady.specs.declared.findings.Findings.{Findings}
 use Rattle.build_steady.specs.declared.verdict.Verdict.{Verdict}
 use Rattle.build_steady.specs.declared.verdict.Verdict.TheVariants.{
@@ -347,7 +347,8 @@ module _ {W P I A : Type 0} (seen : W → Seen P I A) (w : World P I A) where
   pub want-uses : (check : Check W) (walk : W) (run : RunId) →
       IsHeld seen w check (seen walk).position → IsAsking w check.findings.records.finished
       check.asks (seen walk) → ask_of (seen walk).position ≡ Want run →
-      has (end_of run) (seen walk).position.journal ≡ true → IsTurn seen w check (GoesOn walk Use)
+      has (end_of run) (seen walk).position.journal ≡ true → IsCheckStep seen w check
+      (GoesOn walk Use)
   want-uses check walk run held asking asked there =
       let table = check.findings.records.finished in
       let p : Position P I A = (seen walk).position in
@@ -459,7 +460,7 @@ module _ {W P I A : Type 0} (seen : W → Seen P I A) (w : World P I A) where
       ((before : List DemandEvent) → Shows check.findings before →
       Tells before (body_begins run) next.findings None) →
       next.findings.records ≡ check.findings.records → IsSame check next →
-      next.path.items ≡ check.path.items ++ run ∷ [] → IsTurn seen w next (GoesOn walk Go)
+      next.path.items ≡ check.path.items ++ run ∷ [] → IsCheckStep seen w next (GoesOn walk Go)
   want-goes check next walk run held asking asked gone among tells same_records same path =
       let table = check.findings.records.finished in
       let larger = next.findings.records.finished in
@@ -621,7 +622,7 @@ module _ {W P I A : Type 0} (seen : W → Seen P I A) (w : World P I A) where
       next.findings.records.finished ≡ with_record (found check.findings.records.finished run) run
       made check.findings.records.finished → IsSame check next →
       ((x : RunId) (rest : List RunId) → last_first check.path.items ≡ x ∷ rest →
-      last_first next.path.items ≡ rest) → IsTurn seen w next (GoesOn walk Use)
+      last_first next.path.items ≡ rest) → IsCheckStep seen w next (GoesOn walk Use)
   finish-goes check next walk run made held asking asked tells grows same path =
       let table = check.findings.records.finished in
       let larger = next.findings.records.finished in
@@ -908,7 +909,7 @@ module _ {W P I A : Type 0} (seen : W → Seen P I A) (w : World P I A) where
   -- a caller whose calls are over goes on with their results
   pub next-resumes : (check : Check W) (caller : Caller W) → IsReady seen w check caller →
       length caller.results.items ≡ length caller.calls →
-      IsTurn seen w check (GoesOn caller.walk (Results caller.results.items))
+      IsCheckStep seen w check (GoesOn caller.walk (Results caller.results.items))
   next-resumes check caller h all_told =
       let table = check.findings.records.finished in
       let m : Waiting P I A = h.mine in
@@ -1020,7 +1021,7 @@ module _ {W P I A : Type 0} (seen : W → Seen P I A) (w : World P I A) where
       (seen child).world ≡ w → (seen child).position
       ≡ begins w key (seen caller.walk).position.journal → (seen child).asked ≡ 0 →
       ArePartOf (seen child).learnt (seen caller.walk).learnt →
-      IsTurn seen w next (GoesOn child First)
+      IsCheckStep seen w next (GoesOn child First)
   next-goes check next caller child key h l e tells same_records path callers asks_are world
       position asked learnt =
       let table = check.findings.records.finished in
@@ -1114,7 +1115,7 @@ module _ {W P I A : Type 0} (seen : W → Seen P I A) (w : World P I A) where
       next.findings.records.finished ≡ [] → next.path.items ≡ [] → next.callers.items ≡ [] →
       next.asks ≡ 0 → (seen walk).world ≡ w → (seen walk).position ≡ begins w w.root [] →
       (seen walk).asked ≡ 0 → (seen walk).learnt ≡ [] →
-      IsTurn seen w next (GoesOn walk First)
+      IsCheckStep seen w next (GoesOn walk First)
   start-goes check next walk shows tells records path callers asks_are world position asked learnt =
       let t = tells [] shows in
       let to : Position P I A = begins w w.root [] in
@@ -1150,7 +1151,7 @@ module _ {W P I A : Type 0} (seen : W → Seen P I A) (w : World P I A) where
 
   -- a walk that has gone on with its answer stands where it asks
   pub step-held : (check next : Check W) (walk gone : W) (answer : Answer) →
-      IsTurn seen w check (GoesOn walk answer) → next.findings ≡ check.findings →
+      IsCheckStep seen w check (GoesOn walk answer) → next.findings ≡ check.findings →
       next.path.items ≡ check.path.items → next.callers.items ≡ check.callers.items →
       next.asks ≡ check.asks + 1 →
       answered (seen walk).world check.findings.records.finished (seen walk).position answer
@@ -1164,7 +1165,7 @@ module _ {W P I A : Type 0} (seen : W → Seen P I A) (w : World P I A) where
       (subst (λ q. IsHeld seen w check q) there turn.1)
 
   pub step-asking : (check next : Check W) (walk gone : W) (answer : Answer) →
-      IsTurn seen w check (GoesOn walk answer) → next.findings ≡ check.findings →
+      IsCheckStep seen w check (GoesOn walk answer) → next.findings ≡ check.findings →
       next.asks ≡ check.asks + 1 → (seen gone).world ≡ (seen walk).world →
       ArePartOf (seen gone).learnt check.findings.records.finished → (seen gone).asked
       ≡ (seen walk).asked + 1 → IsAsking w next.findings.records.finished next.asks (seen gone)
@@ -1177,7 +1178,7 @@ module _ {W P I A : Type 0} (seen : W → Seen P I A) (w : World P I A) where
   }
 
   pub step-fits : (check : Check W) (walk : W) (answer : Answer) →
-      IsTurn seen w check (GoesOn walk answer) →
+      IsCheckStep seen w check (GoesOn walk answer) →
       IsSome (answered (seen walk).world check.findings.records.finished (seen walk).position
       answer)
   step-fits check walk answer turn =
@@ -1186,10 +1187,10 @@ module _ {W P I A : Type 0} (seen : W → Seen P I A) (w : World P I A) where
 
   -- a turn of the walk's own world
   pub own-turn : (check : Check W) (walk : W) (answer : Answer) →
-      IsTurn seen w check (GoesOn walk answer) → IsTurn seen (seen walk).world check
+      IsCheckStep seen w check (GoesOn walk answer) → IsCheckStep seen (seen walk).world check
       (GoesOn walk answer)
   own-turn check walk answer turn =
-      subst (λ v. IsTurn seen v check (GoesOn walk answer)) (sym turn.2.world) turn
+      subst (λ v. IsCheckStep seen v check (GoesOn walk answer)) (sym turn.2.world) turn
 
   -- what is held of a caller, in its own walk's world
   pub ready-own : (check : Check W) (caller : Caller W) → IsReady seen w check caller →
@@ -1198,7 +1199,7 @@ module _ {W P I A : Type 0} (seen : W → Seen P I A) (w : World P I A) where
       subst (λ v. IsReady seen v check caller) (sym ready.calls.asking.world) ready
 
   pub held-own : (check : Check W) (walk gone : W) (answer : Answer) (p : Position P I A) →
-      IsTurn seen w check (GoesOn walk answer) → (seen gone).world ≡ (seen walk).world →
+      IsCheckStep seen w check (GoesOn walk answer) → (seen gone).world ≡ (seen walk).world →
       (next : Check W) → IsHeld seen w next p → IsHeld seen (seen gone).world next p
   held-own check walk gone answer p turn same next h =
       subst (λ v. IsHeld seen v next p) (sym (same ∙ turn.2.world)) h
@@ -1222,8 +1223,8 @@ module _ {W P I A : Type 0} (seen : W → Seen P I A) (w : World P I A) where
       (in-get caller.calls i key l)))
 
   -- and what comes of it, in the world of the check
-  pub turn-own : (check next : Check W) (walk : W) (answer : Answer) (turn : Turn W) →
-      IsTurn seen w check (GoesOn walk answer) → IsTurn seen (seen walk).world next turn →
-      IsTurn seen w next turn
+  pub turn-own : (check next : Check W) (walk : W) (answer : Answer) (turn : CheckStep W) →
+      IsCheckStep seen w check (GoesOn walk answer) → IsCheckStep seen (seen walk).world next turn →
+      IsCheckStep seen w next turn
   turn-own check next walk answer turn before after =
-      subst (λ v. IsTurn seen v next turn) before.2.world after
+      subst (λ v. IsCheckStep seen v next turn) before.2.world after

@@ -26,8 +26,8 @@ use Rattle.build_steady.specs.Waiting.{
 }
 use Rattle.build_steady.specs.declared.checking.Caller.{Caller}
 use Rattle.build_steady.specs.declared.checking.Check.{Check}
-use Rattle.build_steady.specs.declared.checking.Turn.{Turn}
-use Rattle.build_steady.specs.declared.checking.Turn.TheVariants.{GoesOn, Over}
+use Rattle.build_steady.specs.declared.checking.CheckStep.{CheckStep}
+use Rattle.build_steady.specs.declared.checking.CheckStep.TheVariants.{GoesOn, Over}
 
 -- a list with its last entry first
 abbrev pub last_first : {X : Type 0} → List X → List X
@@ -105,9 +105,10 @@ pub record IsReady {W P I A : Type 0} (seen : W → Seen P I A) (w : World P I A
   pub verdict : verdict_of w ≡ verdict_after before (rest_from w callers mine)
 
 -- a walk goes on with its answer, or this is the verdict
-abbrev pub IsTurn : {W P I A : Type 0} → (W → Seen P I A) → World P I A → Check W → Turn W → Type 0
-IsTurn {W} {P} {I} {A} seen w check (GoesOn walk answer) =
+abbrev pub IsCheckStep : {W P I A : Type 0} → (W → Seen P I A) → World P I A → Check W → CheckStep W
+    → Type 0
+IsCheckStep {W} {P} {I} {A} seen w check (GoesOn walk answer) =
     (next : Position P I A) × IsHeld seen w check next
     × IsAnswered w check.findings.records.finished
     check.asks (seen walk) answer next
-IsTurn {W} {P} {I} {A} seen w check (Over verdict) = verdict ≡ verdict_of w
+IsCheckStep {W} {P} {I} {A} seen w check (Over verdict) = verdict ≡ verdict_of w

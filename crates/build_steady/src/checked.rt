@@ -8,7 +8,7 @@ use crate::{Verdict, check_walk};
 use build_world::World;
 use msb_instance::Instances;
 use msb_values::NoMemory;
-use request_machine::{Site, Walk, root_key};
+use request_machine::{NodeContext, Walk, root_key};
 use std::alloc::Global;
 use task_trait::CountedTools;
 
@@ -29,7 +29,7 @@ pub fn check<'a, T: CountedTools + 'a>(
 {
     let key = root_key(world)?;
     let walk = Walk::start(alloc, world)?;
-    let mut site = Site {
+    let mut site = NodeContext {
         world,
         tools: &mut *tools,
         instances,

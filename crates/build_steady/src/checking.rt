@@ -25,10 +25,10 @@ ghost use mathlib.Core.List.{IsPrefix};
 ghost use Rattle.build_scheduler.specs.Learnt.{AreInOrder, ArePartOf};
 ghost use Rattle.build_scheduler.specs.Own.{seen_by};
 ghost use Rattle.build_scheduler.specs.Position.{IsInTurn, answered, ask_of, begins};
-ghost use Rattle.build_steady.specs.declared.checking.Turn.TheVariants.{GoesOn};
+ghost use Rattle.build_steady.specs.declared.checking.CheckStep.TheVariants.{GoesOn};
 ghost use Rattle.build_steady.specs.declared.verdict.Verdict.TheVariants.{TooDeep};
 ghost use Rattle.build_steady.specs.Findings.{Shows};
-ghost use Rattle.build_steady.specs.Held.{IsAsking, IsHeld, IsReady, IsTurn};
+ghost use Rattle.build_steady.specs.Held.{IsAsking, IsHeld, IsReady, IsCheckStep};
 ghost use Rattle.build_steady.specs.Verdicts.{verdict_of};
 
 use crate::findings::Findings;
@@ -59,7 +59,7 @@ impl<W: Drop> Drop for Caller<W> {
 
 /// What comes next.
 #[derive(Drop)]
-pub enum Turn<W> {
+pub enum CheckStep<W> {
     /// A walk goes on with this answer.
     GoesOn(W, Answer),
     /// The check is over, with this verdict.
@@ -118,11 +118,11 @@ pub fn check_walk<W: Recalls>(
     ensures lent { W.lent place.new ≡ W.lent place.old }
 {
     let mut check = Check::new(alloc);
-    let mut turn = check.start(root, walk)?;
+    let mut next = check.start(root, walk)?;
     while check.asks < MOST_ASKS {
-        match turn {
-            Turn::GoesOn(walk, answer) => turn = check.step(place, walk, answer)?,
-            Turn::Over(verdict) => return Ok(verdict),
+        match next {
+            CheckStep::GoesOn(walk, answer) => next = check.step(place, walk, answer)?,
+            CheckStep::Over(verdict) => return Ok(verdict),
         }
     }
     Err(NoMemory)
@@ -145,7 +145,7 @@ impl<W: Recalls> Check<W> {
     }
 
     /// The root request is reached.
-    fn start(&mut self, root: &InstanceKey, walk: W) -> Result<Turn<W>, NoMemory>
+    fn start(&mut self, root: &InstanceKey, walk: W) -> Result<CheckStep<W>, NoMemory>
         requires root { root.now ≡ (W.world walk).root.instance }
         requires begins { W.position walk ≡ begins (W.world walk) (W.world walk).root [] }
         requires asked { W.asked walk ≡ 0 }
@@ -155,23 +155,28 @@ impl<W: Recalls> Check<W> {
         requires path { self.old.path.items ≡ [] }
         requires callers { self.old.callers.items ≡ [] }
         requires asks { self.old.asks ≡ 0 }
-        ensures turn { IfOk result (IsTurn (seen_by W.world W.position W.asked W.learnt)
+        ensures turn { IfOk result (IsCheckStep (seen_by W.world W.position W.asked W.learnt)
             (W.world walk) self.new) }
         ensures asks { self.new.asks ≡ 0 }
     {
         match self.findings.reach(root)? {
-            Some(verdict) => Ok(Turn::Over(verdict)),
-            None => Ok(Turn::GoesOn(walk, Answer::First)),
+            Some(verdict) => Ok(CheckStep::Over(verdict)),
+            None => Ok(CheckStep::GoesOn(walk, Answer::First)),
         }
     }
 
     /// A walk goes on to its next ask, which is answered.
-    fn step(&mut self, place: &mut W::Place, walk: W, answer: Answer) -> Result<Turn<W>, NoMemory>
+    fn step(
+        &mut self,
+        place: &mut W::Place,
+        walk: W,
+        answer: Answer,
+    ) -> Result<CheckStep<W>, NoMemory>
         requires room { self.old.asks < 2 ^ 62 }
-        requires turn { IsTurn (seen_by W.world W.position W.asked W.learnt) (W.world walk) self.old
-            (GoesOn walk answer) }
+        requires turn { IsCheckStep (seen_by W.world W.position W.asked W.learnt) (W.world walk)
+            self.old (GoesOn walk answer) }
         requires place { W.Fits place.old (W.world walk) }
-        ensures turn { IfOk result (IsTurn (seen_by W.world W.position W.asked W.learnt)
+        ensures turn { IfOk result (IsCheckStep (seen_by W.world W.position W.asked W.learnt)
             (W.world walk) self.new) }
         ensures asks { OnOk result (self.new.asks ≡ self.old.asks + 1) }
         ensures front { IsPrefix (W.used place.old) (W.used place.new) }
@@ -179,78 +184,83 @@ impl<W: Recalls> Check<W> {
         ensures lent { W.lent place.new ≡ W.lent place.old }
     {
         let mut walk = walk;
-        let ask = go_on(&self.findings.records, place, &mut walk, &answer)?;
+        let ask = advance(&self.findings.records, place, &mut walk, &answer)?;
         self.asks += 1;
         match ask {
             Ask::Want(run) => self.want(walk, run),
             Ask::Call(calls) => self.call(walk, calls),
-            Ask::Finished(run, made) => self.finish(walk, &run, made),
-            Ask::Done(told) => self.done(walk, told),
+            Ask::Finished(run, run_record) => self.finish(walk, &run, run_record),
+            Ask::Done(request_result) => self.end_request(walk, request_result),
         }
     }
 
     /// A run is wanted: it has ended in the journal, or is made, unless it is wanted in its own
     /// body. (MSBuild task: a target is run once.)
-    fn want(&mut self, walk: W, run: RunId) -> Result<Turn<W>, NoMemory>
+    fn want(&mut self, walk: W, run: RunId) -> Result<CheckStep<W>, NoMemory>
         requires held { IsHeld (seen_by W.world W.position W.asked W.learnt) (W.world walk) self.old
             (W.position walk) }
         requires asking { IsAsking (W.world walk) self.old.findings.records.finished self.old.asks
             (seen_by W.world W.position W.asked W.learnt walk) }
         requires asks { ask_of (W.position walk) ≡ Want run }
-        ensures turn { IfOk result (IsTurn (seen_by W.world W.position W.asked W.learnt)
+        ensures turn { IfOk result (IsCheckStep (seen_by W.world W.position W.asked W.learnt)
             (W.world walk) self.new) }
         ensures asks { self.new.asks ≡ self.old.asks }
     {
         let name = RunRef::new(*self.callers.allocator(), &run)?;
         if walk.recalls(&name) {
-            return Ok(Turn::GoesOn(walk, Answer::Use));
+            return Ok(CheckStep::GoesOn(walk, Answer::Use));
         }
         if self.path.contains(&run) {
-            return Ok(Turn::Over(Verdict::Circular(run)));
+            return Ok(CheckStep::Over(Verdict::Circular(run)));
         }
         match self.findings.begin() {
-            Some(verdict) => Ok(Turn::Over(verdict)),
+            Some(verdict) => Ok(CheckStep::Over(verdict)),
             None => {
                 self.path.push(run)?;
-                Ok(Turn::GoesOn(walk, Answer::Go))
+                Ok(CheckStep::GoesOn(walk, Answer::Go))
             }
         }
     }
 
     /// The body of a run has come to its end.
-    fn finish(&mut self, walk: W, run: &RunId, made: RecordRef) -> Result<Turn<W>, NoMemory>
+    fn finish(
+        &mut self,
+        walk: W,
+        run: &RunId,
+        run_record: RecordRef,
+    ) -> Result<CheckStep<W>, NoMemory>
         requires held { IsHeld (seen_by W.world W.position W.asked W.learnt) (W.world walk) self.old
             (W.position walk) }
         requires asking { IsAsking (W.world walk) self.old.findings.records.finished self.old.asks
             (seen_by W.world W.position W.asked W.learnt walk) }
-        requires asks { ask_of (W.position walk) ≡ IsFinished run.now made }
-        ensures turn { IfOk result (IsTurn (seen_by W.world W.position W.asked W.learnt)
+        requires asks { ask_of (W.position walk) ≡ IsFinished run.now run_record }
+        ensures turn { IfOk result (IsCheckStep (seen_by W.world W.position W.asked W.learnt)
             (W.world walk) self.new) }
         ensures asks { self.new.asks ≡ self.old.asks }
     {
-        match self.findings.end(run, made)? {
-            Some(verdict) => Ok(Turn::Over(verdict)),
+        match self.findings.end(run, run_record)? {
+            Some(verdict) => Ok(CheckStep::Over(verdict)),
             None => {
                 self.path.pop();
-                Ok(Turn::GoesOn(walk, Answer::Use))
+                Ok(CheckStep::GoesOn(walk, Answer::Use))
             }
         }
     }
 
     /// A body calls requests, unless they would be nested too deep. (MSBuild task,
     /// BuildInParallel.)
-    fn call(&mut self, walk: W, calls: List<RequestKey>) -> Result<Turn<W>, NoMemory>
+    fn call(&mut self, walk: W, calls: List<RequestKey>) -> Result<CheckStep<W>, NoMemory>
         requires held { IsHeld (seen_by W.world W.position W.asked W.learnt) (W.world walk) self.old
             (W.position walk) }
         requires asking { IsAsking (W.world walk) self.old.findings.records.finished self.old.asks
             (seen_by W.world W.position W.asked W.learnt walk) }
         requires asks { ask_of (W.position walk) ≡ Call calls }
-        ensures turn { IfOk result (IsTurn (seen_by W.world W.position W.asked W.learnt)
+        ensures turn { IfOk result (IsCheckStep (seen_by W.world W.position W.asked W.learnt)
             (W.world walk) self.new) }
         ensures asks { self.new.asks ≡ self.old.asks }
     {
         if self.callers.len() >= MOST_CALLERS {
-            return Ok(Turn::Over(too_deep(calls.as_slice())?));
+            return Ok(CheckStep::Over(too_deep(calls.as_slice())?));
         }
         let results = Vec::new(*self.callers.allocator());
         self.next_call(Caller {
@@ -261,40 +271,44 @@ impl<W: Recalls> Check<W> {
     }
 
     /// A request is over. Its caller has its result, and the root's is the end of the check.
-    fn done(&mut self, walk: W, told: RequestResult) -> Result<Turn<W>, NoMemory>
+    fn end_request(
+        &mut self,
+        walk: W,
+        request_result: RequestResult,
+    ) -> Result<CheckStep<W>, NoMemory>
         requires held { IsHeld (seen_by W.world W.position W.asked W.learnt) (W.world walk) self.old
             (W.position walk) }
-        requires asks { ask_of (W.position walk) ≡ IsDone told }
-        ensures turn { IfOk result (IsTurn (seen_by W.world W.position W.asked W.learnt)
+        requires asks { ask_of (W.position walk) ≡ IsDone request_result }
+        ensures turn { IfOk result (IsCheckStep (seen_by W.world W.position W.asked W.learnt)
             (W.world walk) self.new) }
         ensures asks { self.new.asks ≡ self.old.asks }
     {
         match self.callers.pop() {
-            None => Ok(Turn::Over(Verdict::Steady(self.findings.bodies))),
-            Some(caller) => self.next_call(caller.with_result(told)?),
+            None => Ok(CheckStep::Over(Verdict::Steady(self.findings.bodies))),
+            Some(caller) => self.next_call(caller.with_result(request_result)?),
         }
     }
 
     /// The next call of a request is reached, or the request goes on with the results of all.
-    fn next_call(&mut self, caller: Caller<W>) -> Result<Turn<W>, NoMemory>
+    fn next_call(&mut self, caller: Caller<W>) -> Result<CheckStep<W>, NoMemory>
         requires { IsReady (seen_by W.world W.position W.asked W.learnt) (W.world caller.walk)
             self.old caller }
-        ensures turn { IfOk result (IsTurn (seen_by W.world W.position W.asked W.learnt)
+        ensures turn { IfOk result (IsCheckStep (seen_by W.world W.position W.asked W.learnt)
             (W.world caller.walk) self.new) }
         ensures asks { self.new.asks ≡ self.old.asks }
     {
         let begun = caller.results.len();
         let all = caller.calls.len();
         if begun == all {
-            return Ok(caller.resumed());
+            return Ok(caller.resume());
         }
         let key = &caller.calls.as_slice()[begun];
         match self.findings.reach(&key.instance)? {
-            Some(verdict) => Ok(Turn::Over(verdict)),
+            Some(verdict) => Ok(CheckStep::Over(verdict)),
             None => {
                 let child = caller.walk.child(key)?;
                 self.callers.push(caller)?;
-                Ok(Turn::GoesOn(child, Answer::First))
+                Ok(CheckStep::GoesOn(child, Answer::First))
             }
         }
     }
@@ -302,19 +316,19 @@ impl<W: Recalls> Check<W> {
 
 impl<W: Drop> Caller<W> {
     /// It has the result of one more call.
-    fn with_result(self, told: RequestResult) -> Result<Caller<W>, NoMemory>
+    fn with_result(self, request_result: RequestResult) -> Result<Caller<W>, NoMemory>
         ensures walk { IfOk result (λ caller. caller.walk ≡ self.walk) }
         ensures calls { IfOk result (λ caller. caller.calls ≡ self.calls) }
         ensures results { IfOk result (λ caller. caller.results.items ≡ self.results.items
-            ++ told ∷ []) }
+            ++ request_result ∷ []) }
     {
         let mut caller = self;
-        caller.results.push(told)?;
+        caller.results.push(request_result)?;
         Ok(caller)
     }
 
     /// It goes on with the results of all its calls.
-    fn resumed(self) -> Turn<W>
+    fn resume(self) -> CheckStep<W>
         ensures { result ≡ GoesOn self.walk (Results self.results.items) }
     {
         let Caller {
@@ -322,7 +336,7 @@ impl<W: Drop> Caller<W> {
             calls: _,
             results,
         } = self;
-        Turn::GoesOn(walk, Answer::Results(List::from(results)))
+        CheckStep::GoesOn(walk, Answer::Results(List::from(results)))
     }
 }
 
@@ -337,7 +351,7 @@ fn too_deep(calls: &[RequestKey]) -> Result<Verdict, NoMemory>
 }
 
 /// The walk learns the records that its answer needs, and goes on to its next ask.
-fn go_on<W: Recalls>(
+fn advance<W: Recalls>(
     records: &Table,
     place: &mut W::Place,
     walk: &mut W,

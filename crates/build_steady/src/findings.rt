@@ -76,19 +76,23 @@ impl Findings {
     }
 
     /// The body of a run ends with this record.
-    pub(crate) fn end(&mut self, run: &RunId, made: RecordRef) -> Result<Option<Verdict>, NoMemory>
+    pub(crate) fn end(
+        &mut self,
+        run: &RunId,
+        run_record: RecordRef,
+    ) -> Result<Option<Verdict>, NoMemory>
         requires unbegun { self.old.records.begun ≡ [] }
         ensures told { (before : List DemandEvent) → Shows self.old before →
-            IfOk result (Tells before (body_ends run.now made) self.new) }
+            IfOk result (Tells before (body_ends run.now run_record) self.new) }
         ensures records { IfOk result (AreUnlessSaid self.new.records.finished
-            (with_record (found self.old.records.finished run.now) run.now made
+            (with_record (found self.old.records.finished run.now) run.now run_record
             self.old.records.finished)) }
     {
         match self.records.find(run) {
-            Found::Done(first) => differs(run, first, made),
+            Found::Done(first) => differs(run, first, run_record),
             Found::Absent => {
                 self.records.begin(run, 0)?;
-                self.records.finish(run, made);
+                self.records.finish(run, run_record);
                 Ok(None)
             }
             Found::Begun(_) => unreachable!(),
@@ -104,11 +108,15 @@ fn insert(instances: &mut IndexSet<InstanceKey>, instance: &InstanceKey) -> Resu
 }
 
 /// What is said of a body whose run has ended with this first record.
-fn differs(run: &RunId, first: &RecordRef, made: RecordRef) -> Result<Option<Verdict>, NoMemory>
-    ensures { IfOk result (λ said. said ≡ if_differs (Some first.now) run.now made) }
+fn differs(
+    run: &RunId,
+    first: &RecordRef,
+    run_record: RecordRef,
+) -> Result<Option<Verdict>, NoMemory>
+    ensures { IfOk result (λ said. said ≡ if_differs (Some first.now) run.now run_record) }
 {
-    if first.get() == made.get() {
+    if first.get() == run_record.get() {
         return Ok(None);
     }
-    Ok(Some(Verdict::Differs(run.copy()?, first.copy()?, made)))
+    Ok(Some(Verdict::Differs(run.copy()?, first.copy()?, run_record)))
 }

@@ -14,6 +14,7 @@ use Rattle.std.specs.Prelude.{
   codes,
   refl,
 }
+use Rattle.msb_laws.specs.Words.{Text, Name, Path}
 use Rattle.msb_values.specs.declared.act.Act.{Act}
 use Rattle.msb_values.specs.declared.act.Act.TheVariants.{Write}
 use Rattle.msb_values.specs.declared.change.Change.TheVariants.{AddItems}
@@ -46,10 +47,10 @@ use Rattle.build_declared.specs.Occurrences.{Occurrence}
 
 -- ---- the project, as it is evaluated
 
-abbrev pub project : List ℕ
+abbrev pub project : Path
 project = codes "a.proj"
 
-abbrev pub item : List ℕ → Item
+abbrev pub item : Text → Item
 item name = record { ident = name; recursive = []; meta = [] }
 
 abbrev pub sources : List Item
@@ -59,10 +60,10 @@ abbrev pub objects : List Item
 objects = item (codes "o/1.o") ∷ item (codes "o/2.o") ∷ item (codes "o/3.o") ∷ []
 
 -- the texts of the lists
-abbrev pub all_sources : List ℕ
+abbrev pub all_sources : Text
 all_sources = codes "@(C)"
 
-abbrev pub all_objects : List ℕ
+abbrev pub all_objects : Text
 all_objects = codes "@(C->'o/%(Filename).o')"
 
 -- each source is copied to its object
@@ -106,33 +107,33 @@ instance = record {
 
 -- ---- the project's file
 
-abbrev pub items_text : List ℕ
+abbrev pub items_text : Text
 items_text = codes "{\"e\":\"ItemGroup\",\"c\":[{\"e\":\"C\",\"a\":{\"Include\":\"1.c;2.c;3.c\"}}]}"
 
-abbrev pub copy_text : List ℕ
+abbrev pub copy_text : Text
 copy_text = codes "{\"e\":\"Copy\",\"a\":{\"DestinationFiles\":\"" ++ all_objects
     ++ codes "\",\"SourceFiles\":\"@(C)\"}}"
 
-abbrev pub group_text : List ℕ
+abbrev pub group_text : Text
 group_text = codes "{\"e\":\"ItemGroup\",\"c\":[{\"e\":\"O\",\"a\":{\"Include\":\"" ++ all_objects
     ++ codes "\"}}]}"
 
-abbrev pub target_text : List ℕ
+abbrev pub target_text : Text
 target_text = codes "{\"e\":\"Target\",\"a\":{\"Inputs\":\"@(C)\",\"Name\":\"Build\",\"Outputs\":\""
     ++ all_objects ++ codes "\",\"Returns\":\"@(O)\"},\"c\":[" ++ copy_text ++ codes ","
     ++ group_text ++ codes "]}"
 
-abbrev pub project_bytes : List ℕ
+abbrev pub project_bytes : Text
 project_bytes = codes "{\"e\":\"Project\",\"c\":[" ++ items_text ++ codes "," ++ target_text
     ++ codes "]}"
 
 -- ---- the files, and what is asked for
 
-abbrev pub file : List ℕ → List ℕ → ℕ → File
+abbrev pub file : Path → Text → ℕ → File
 file path bytes stamp = record { path = path; bytes = bytes; stamp = stamp }
 
 -- the object of the second source has these bytes and this stamp
-abbrev pub files_with : List ℕ → ℕ → List File
+abbrev pub files_with : Text → ℕ → List File
 files_with bytes stamp =
     file (codes "1.c") (codes "one") 5 ∷ file (codes "2.c") (codes "two") 9
     ∷ file (codes "3.c") (codes "three") 5 ∷ file project project_bytes 1
@@ -168,7 +169,7 @@ build mode = record {
 }
 
 -- the world of a build over some files
-abbrev pub world : (List ℕ → ToolInput → ToolAnswer) → List File → Mode →
+abbrev pub world : (Name → ToolInput → ToolAnswer) → List File → Mode →
     World Site ToolInput ToolAnswer
 world tools tree mode = world_by tools tree root (instances_of tree) mode
 

@@ -57,20 +57,21 @@ use Rattle.result_cache.proofs.run.RunId.TheSendSync as run
 use Rattle.result_cache.proofs.run_ref.RunRef.TheSendSync as run_ref
 use Rattle.result_cache.proofs.table.Table.TheSendSync as table
 use Rattle.result_cache.specs.contracts.run_ref.RunRef as RunRef
-use Rattle.request_machine.proofs.visit.At.TheSendSync as at
+use Rattle.result_cache.specs.contracts.table.Table as Table
+use Rattle.request_machine.proofs.stage.RunState.TheSendSync as at
 use Rattle.request_machine.proofs.reply.Reply.TheSendSync as reply
-use Rattle.request_machine.proofs.results.Replayed.TheSendSync as replayed
+use Rattle.request_machine.proofs.replayed.Replayed.TheSendSync as replayed
 use Rattle.request_machine.proofs.shared.SharedList.TheSendSync as shared
-use Rattle.request_machine.proofs.standing.Standing.TheSendSync as standing
-use Rattle.request_machine.specs.contracts.former.Before as Before
+use Rattle.request_machine.proofs.stage.RequestScope.TheSendSync as state
+use Rattle.request_machine.specs.contracts.former.FormerWalk as FormerWalk
 use Rattle.request_machine.specs.contracts.former.Former as Former
 use Rattle.request_machine.specs.contracts.former.FormerVisit as FormerVisit
 use Rattle.request_machine.specs.contracts.former.VisitParts as VisitParts
 use Rattle.request_machine.specs.contracts.request.Request as Request
-use Rattle.request_machine.specs.contracts.results.Replayed as Replayed
-use Rattle.request_machine.specs.contracts.site.Site as Site
+use Rattle.request_machine.specs.contracts.replayed.Replayed as Replayed
+use Rattle.request_machine.specs.contracts.walk.NodeContext as NodeContext
 use Rattle.request_machine.specs.contracts.stage.Stage as Stage
-use Rattle.request_machine.specs.contracts.visit.Visit as Visit
+use Rattle.request_machine.specs.contracts.stage.Visit as Visit
 use Rattle.request_machine.specs.contracts.walk.Walk as Walk
 
 element-send : IsSend Element.the_field.row
@@ -239,10 +240,15 @@ kept-inside-send = recorded_send _ _ _ KeptInside.the_type.to_one
 instances-send : IsSend Instances.the_row
 instances-send = view_send _ _ _ _ _ kept-inside-send
 
-pub Site-send : (T : RattleType) → IsSend T → (a : NamedLft) → IsSend (Site.the_row a T)
-Site-send T s a = recorded_send _ _ _ (Site.the_type a T).to_one
-    (struct_send (Struct.shape (Site.the_type a T))
+pub NodeContext-send : (T : RattleType) → IsSend T → (a : NamedLft) → IsSend
+    (NodeContext.the_row a T)
+NodeContext-send T s a = recorded_send _ _ _ (NodeContext.the_type a T).to_one
+    (struct_send (Struct.shape (NodeContext.the_type a T))
     (search (world.the_sync, sendable), (s, (instances-send, tt))))
+
+learnt_before-send : IsSend (Option.the_field Table.the_row).row
+learnt_before-send =
+    enum_send (Enum.shape (Option.the_type Table.the_row)) (tt, ((table.the_send, tt), tt))
 
 replayed-send : IsSend (Option.the_field Replayed.the_row).row
 replayed-send =
@@ -252,7 +258,7 @@ module _ (T : RattleType) (s : IsSend T) where
   visit-send : IsSend (Visit.the_field T).row
   visit-send = struct_send (Struct.shape (Visit.the_type T)) (
     ref-send,
-    (standing.the_field_send, (order.the_send, (run.the_field_send, (at.the_field_send T s, tt)))),
+    (state.the_field_send, (order.the_send, (run.the_field_send, (at.the_field_send T s, tt)))),
   )
 
   stage-send : IsSend (Stage.the_field T).row
@@ -261,7 +267,7 @@ module _ (T : RattleType) (s : IsSend T) where
 
   parts-send : IsSend (VisitParts.the_field T).row
   parts-send = struct_send (Struct.shape (VisitParts.the_type T))
-      (standing.the_field_send, (order.the_send, (name.the_send, (at.the_field_send T s, tt))))
+      (state.the_field_send, (order.the_send, (name.the_send, (at.the_field_send T s, tt))))
 
   former_visit-send : IsSend (FormerVisit.the_field T).row
   former_visit-send = enum_send (Enum.shape (FormerVisit.the_type T))
@@ -285,13 +291,13 @@ module _ (T : RattleType) (s : IsSend T) where
     ),
   )
 
-  Before-send : IsSend (Before.the_row T)
-  Before-send = recorded_send _ _ _ (Before.the_type T).to_one
-      (struct_send (Struct.shape (Before.the_type T)) (former-send, (search sendable, tt)))
+  FormerWalk-send : IsSend (FormerWalk.the_row T)
+  FormerWalk-send = recorded_send _ _ _ (FormerWalk.the_type T).to_one
+      (struct_send (Struct.shape (FormerWalk.the_type T)) (former-send, (search sendable, tt)))
 
-  before-send : IsSend (Option.the_field (Before.the_row T)).row
-  before-send = enum_send (Enum.shape (Option.the_type (Before.the_row T)))
-      (tt, ((Before-send, tt), tt))
+  former_walk-send : IsSend (Option.the_field (FormerWalk.the_row T)).row
+  former_walk-send = enum_send (Enum.shape (Option.the_type (FormerWalk.the_row T)))
+      (tt, ((FormerWalk-send, tt), tt))
 
   module _ (a : NamedLft) where
     request-send : IsSend (Request.the_field a T).row
@@ -314,5 +320,10 @@ module _ (T : RattleType) (s : IsSend T) where
 
     pub Walk-send : IsSend (Walk.the_row a T)
     Walk-send = recorded_send _ _ _ (Walk.the_type a T).to_one
-        (struct_send (Struct.shape (Walk.the_type a T))
-        (request-send, (table.the_send, (search sendable, (before-send, (replayed-send, tt))))))
+        (struct_send (Struct.shape (Walk.the_type a T)) (
+          request-send,
+          (
+            table.the_send,
+            (learnt_before-send, (search sendable, (former_walk-send, (replayed-send, tt)))),
+          ),
+        ))

@@ -24,7 +24,7 @@ use Rattle.build_meaning.specs.State.{Place, walking}
 use Rattle.build_meaning.specs.Stop.{ends, asks}
 use Rattle.build_meaning.specs.Walk.{gives}
 use Rattle.build_scheduler.specs.Position.{HasEnded, Position, ask_at, ask_of}
-use Rattle.request_machine.specs.Begun.{ended_stage, has_begun, instance_in}
+use Rattle.request_machine.specs.Stages.{ended_stage, has_begun, instance_in}
 use Rattle.request_machine.specs.Positions.{
   Halt,
   halt_of,
@@ -40,9 +40,9 @@ use Rattle.request_machine.specs.Walk.{Site}
 use Rattle.request_machine.specs.Worlds.{project_of}
 use Rattle.request_machine.specs.declared.stage.Stage.{Stage}
 use Rattle.request_machine.specs.declared.stage.Stage.TheVariants.{Begins, Visits, Over}
-use Rattle.request_machine.specs.declared.visit.At.{At}
-use Rattle.request_machine.specs.declared.visit.At.TheVariants.{Wanted, Called, Made}
-use Rattle.request_machine.specs.declared.visit.Visit.{Visit}
+use Rattle.request_machine.specs.declared.stage.RunState.{RunState}
+use Rattle.request_machine.specs.declared.stage.RunState.TheVariants.{Wanted, Called, Made}
+use Rattle.request_machine.specs.declared.stage.Visit.{Visit}
 
 module _ {T : Type 0} (calls : T → List (List ℕ × ToolInput)) (w : Given) (key : RequestKey)
     (journal : Journal) (runs : List RunId) where
@@ -57,14 +57,14 @@ module _ {T : Type 0} (calls : T → List (List ℕ × ToolInput)) (w : Given) (
   body_over v (Some (s, ends outcome)) over = absurd over
   body_over v (Some (s, asks k ks go)) over = absurd over
 
-  visit_over : (v : Visit T) (at : At T) →
+  visit_over : (v : Visit T) (at : RunState T) →
       HasEnded (ask_at runs (place_at calls w key v journal at)) →
       failed_place ≡ place_at calls w key v journal at
   visit_over v Wanted over = absurd over
-  visit_over v (Called body log) over =
+  visit_over v (Called body noted) over =
       let target = target_at (project_of w key (seen_instance v.instance)) v.run.target in
-      body_over (seen_visit v) (halt_of w v.run body (uses_in calls log) target) over
-  visit_over v (Made made log) over = absurd over
+      body_over (seen_visit v) (halt_of w v.run body (uses_in calls noted) target) over
+  visit_over v (Made made noted) over = absurd over
 
   ended_place : (stage : Stage T) → has_begun stage ≡ true →
       HasEnded (ask_at runs (place_of calls w key journal stage)) →

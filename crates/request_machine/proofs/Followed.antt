@@ -27,52 +27,56 @@ use Rattle.result_cache.specs.Journal.{Journal}
 use Rattle.result_cache.specs.declared.record.Record.{Record}
 use Rattle.result_cache.specs.declared.request.RequestKey.{RequestKey}
 use Rattle.request_machine.specs.Requests.{Project, on_error, target_at}
-use Rattle.request_machine.specs.Stands.{Bodies, StandsNext}
+use Rattle.request_machine.specs.NextStops.{Bodies, StandsNext}
 use Rattle.request_machine.specs.Walk.{walk, after_run, after_target, answer_of, or_failed, faulted}
-use Rattle.request_machine.specs.Begun.{IsReady, left_by}
-use Rattle.request_machine.specs.Following.{FitsBody, FollowsTurn}
-use Rattle.request_machine.specs.Turns.{answer_turn}
-use Rattle.request_machine.specs.declared.standing.Standing.{Standing}
-use Rattle.request_machine.specs.declared.turn.Stand.{Stand}
-use Rattle.request_machine.specs.declared.turn.Stand.TheVariants.{Over as IsOver}
-use Rattle.request_machine.specs.declared.turn.Turn.{Turn}
-use Rattle.request_machine.specs.declared.turn.Turn.TheVariants.{Answer, Stop}
+use Rattle.request_machine.specs.Stages.{IsReady, left_by}
+use Rattle.request_machine.specs.OrderSteps.{FitsBody, FollowsReply}
+use Rattle.request_machine.specs.OrderReplies.{reply_by}
+use Rattle.request_machine.specs.declared.stage.RequestScope.{RequestScope}
+use Rattle.request_machine.specs.declared.order.NextStop.{NextStop}
+use Rattle.request_machine.specs.declared.order.NextStop.TheVariants.{Over as IsOver}
+use Rattle.request_machine.specs.declared.order.OrderReply.{OrderReply}
+use Rattle.request_machine.specs.declared.order.OrderReply.TheVariants.{Answer, Stop}
 use Rattle.request_machine.proofs.Starting.{next_left, next_ready}
 
 -- what a run is answered by fits a body that was asked for
-failed_fits : (r : Result (List (List ℕ)) EvalFault) → FitsBody (answer_turn (map_ok Failed r))
+failed_fits : (r : Result (List (List ℕ)) EvalFault) → FitsBody (reply_by (map_ok Failed r))
 failed_fits (Ok names) = refl
 failed_fits (Err fault) = tt
 
-pub run_fits : (p : Project) (ok : Bool) (s : Standing) (journal : Journal) (name : List ℕ)
-    (turn : Turn) → turn ≡ answer_turn (answer_of p ok s journal name) → FitsBody turn
-run_fits p true s journal name turn is = subst FitsBody (sym is) refl
-run_fits p false s journal name turn is = subst FitsBody (sym is)
+pub run_fits : (p : Project) (ok : Bool) (s : RequestScope) (journal : Journal) (name : List ℕ)
+    (order_reply : OrderReply) → order_reply ≡ reply_by (answer_of p ok s journal name) → FitsBody
+    order_reply
+run_fits p true s journal name order_reply is = subst FitsBody (sym is) refl
+run_fits p false s journal name order_reply is = subst FitsBody (sym is)
     (failed_fits (on_error p s.scope journal (target_at p name)))
 
-module _ (p : Project) (key : RequestKey) (s : Standing) (journal : Journal) (order now : Progress)
-    (stand : Stand) where
+module _ (p : Project) (key : RequestKey) (s : RequestScope) (journal : Journal)
+    (order now : Progress) (next_stop : NextStop) where
   goes_by : (r : Result OrderAnswer EvalFault)
-      → FollowsTurn p key s journal order (answer_turn r) stand now → (bodies : Bodies) →
+      → FollowsReply p key s journal order (reply_by r) next_stop now → (bodies : Bodies) →
       or_failed r (λ answer. walk p key bodies (left order answer) s journal)
-      ≡ left_by p key bodies s now journal stand
-  goes_by (Ok answer) follows bodies = next_left p key s journal (left order answer) stand now
+      ≡ left_by p key bodies s now journal next_stop
+  goes_by (Ok answer) follows bodies = next_left p key s journal (left order answer) next_stop now
       follows bodies
   goes_by (Err fault) follows bodies = ap (left_by p key bodies s now journal) (sym follows)
 
   ready_by : (r : Result OrderAnswer EvalFault)
-      → FollowsTurn p key s journal order (answer_turn r) stand now → IsReady stand now
-  ready_by (Ok answer) follows = next_ready p key s journal (left order answer) stand now follows
+      → FollowsReply p key s journal order (reply_by r) next_stop now → IsReady next_stop now
+  ready_by (Ok answer) follows = next_ready p key s journal (left order answer) next_stop now
+      follows
   ready_by (Err fault) follows = subst (λ x. IsReady x now) (sym follows) tt
 
-  pub run_goes : (r : Result OrderAnswer EvalFault) (turn : Turn) → turn ≡ answer_turn r
-      → FollowsTurn p key s journal order turn stand now → (bodies : Bodies) →
+  pub run_goes : (r : Result OrderAnswer EvalFault) (order_reply : OrderReply) → order_reply ≡
+      reply_by r
+      → FollowsReply p key s journal order order_reply next_stop now → (bodies : Bodies) →
       or_failed r (λ answer. walk p key bodies (left order answer) s journal)
-      ≡ left_by p key bodies s now journal stand
-  run_goes r turn is follows bodies = goes_by r
-      (subst (λ t. FollowsTurn p key s journal order t stand now) is follows) bodies
+      ≡ left_by p key bodies s now journal next_stop
+  run_goes r order_reply is follows bodies = goes_by r
+      (subst (λ t. FollowsReply p key s journal order t next_stop now) is follows) bodies
 
-  pub run_ready : (r : Result OrderAnswer EvalFault) (turn : Turn) → turn ≡ answer_turn r
-      → FollowsTurn p key s journal order turn stand now → IsReady stand now
-  run_ready r turn is follows = ready_by r
-      (subst (λ t. FollowsTurn p key s journal order t stand now) is follows)
+  pub run_ready : (r : Result OrderAnswer EvalFault) (order_reply : OrderReply) → order_reply ≡
+      reply_by r
+      → FollowsReply p key s journal order order_reply next_stop now → IsReady next_stop now
+  run_ready r order_reply is follows = ready_by r
+      (subst (λ t. FollowsReply p key s journal order t next_stop now) is follows)

@@ -74,7 +74,7 @@ use Rattle.target_body.specs.Standings.{
 use Rattle.target_body.specs.declared.body.Body.{Body}
 use Rattle.request_machine.specs.Answered.{GoesOn, HasMade, HasRecord, IsRecord, WaitsFor, WantsRun}
 use Rattle.request_machine.specs.Asks.{AsksAt, asked_by}
-use Rattle.request_machine.specs.Begun.{
+use Rattle.request_machine.specs.Stages.{
   StandsAt,
   StandsBy,
   has_begun,
@@ -83,8 +83,8 @@ use Rattle.request_machine.specs.Begun.{
   is_wanted,
   left_by,
 }
-use Rattle.request_machine.specs.Following.{Follows}
-use Rattle.request_machine.specs.Making.{GoesOnFrom, IsWaiting, Steps, ask_in}
+use Rattle.request_machine.specs.OrderSteps.{Follows}
+use Rattle.request_machine.specs.RunStops.{GoesOnFrom, IsWaiting, Steps, ask_in}
 use Rattle.request_machine.specs.Positions.{
   Halt,
   halt_at,
@@ -99,16 +99,16 @@ use Rattle.request_machine.specs.Positions.{
 use Rattle.request_machine.specs.Requests.{Project}
 use Rattle.request_machine.specs.Walk.{Site, after_target, run_of, walk}
 use Rattle.request_machine.specs.Worlds.{bodies_of, body_if, project_of, walk_of, world_of}
-use Rattle.request_machine.specs.declared.following.Follow.{Follow}
-use Rattle.request_machine.specs.declared.making.Step.{Step}
+use Rattle.request_machine.specs.declared.after_run.OrderStep.{OrderStep}
+use Rattle.request_machine.specs.declared.run.RunStop.{RunStop}
 use Rattle.request_machine.specs.declared.stage.Stage.{Stage}
 use Rattle.request_machine.specs.declared.stage.Stage.TheVariants.{Begins, Visits, Over}
-use Rattle.request_machine.specs.declared.standing.Standing.{Standing}
-use Rattle.request_machine.specs.declared.turn.Stand.{Stand}
-use Rattle.request_machine.specs.declared.turn.Stand.TheVariants.{Wants, Over as IsOver}
-use Rattle.request_machine.specs.declared.visit.At.{At}
-use Rattle.request_machine.specs.declared.visit.At.TheVariants.{Wanted, Called, Made}
-use Rattle.request_machine.specs.declared.visit.Visit.{Visit}
+use Rattle.request_machine.specs.declared.stage.RequestScope.{RequestScope}
+use Rattle.request_machine.specs.declared.order.NextStop.{NextStop}
+use Rattle.request_machine.specs.declared.order.NextStop.TheVariants.{Wants, Over as IsOver}
+use Rattle.request_machine.specs.declared.stage.RunState.{RunState}
+use Rattle.request_machine.specs.declared.stage.RunState.TheVariants.{Wanted, Called, Made}
+use Rattle.request_machine.specs.declared.stage.Visit.{Visit}
 use Rattle.request_machine.proofs.Stopping.{drop_front}
 
 abbrev P : Type 0
@@ -126,10 +126,10 @@ ask_there runs run s go (ends outcome) = refl
 ask_there runs run s go (asks key keys next) = refl
 
 -- what is asked where a request stands next
-ask_left : (p : Project) (key : RequestKey) (w : Given) (s : Standing) (journal : Journal)
-    (runs : List RunId) (stand : Stand) (order : Progress)
-    → asked_by p.key runs stand ≡ ask_at runs
-    (walking (left_by p key (bodies_of w p) s order journal stand))
+ask_left : (p : Project) (key : RequestKey) (w : Given) (s : RequestScope) (journal : Journal)
+    (runs : List RunId) (next_stop : NextStop) (order : Progress)
+    → asked_by p.key runs next_stop ≡ ask_at runs
+    (walking (left_by p key (bodies_of w p) s order journal next_stop))
 ask_left p key w s journal runs (Wants name) order = refl
 ask_left p key w s journal runs (IsOver reply) order = refl
 
@@ -146,7 +146,7 @@ module _ {T : Type 0} (answer : List ℕ → ToolInput → ToolAnswer)
   its_target = target_named (seen_instance v.instance).targets v.run.target
 
   abbrev after : Record → Journal → Walk Site ToolInput ToolAnswer
-  after = after_target p (λ answer. walk p key (bodies_of w p) (left v.order answer)) v.standing
+  after = after_target p (λ answer. walk p key (bodies_of w p) (left v.order answer)) v.state
       v.run.target
 
   abbrev inside : SoFar ToolInput → Stop ToolInput ToolAnswer → P
@@ -156,23 +156,24 @@ module _ {T : Type 0} (answer : List ℕ → ToolInput → ToolAnswer)
   its_run = ap (λ i. record { instance = i; target = v.run.target }) own
 
   -- a request whose body has stopped
-  place_inside : (journal : Journal) (at : At T) (halt : Halt)
+  place_inside : (journal : Journal) (at : RunState T) (halt : Halt)
       → halt_at calls w v.run its_target at ≡ Some halt
       → place_at calls w key v journal at ≡ inside halt.0 halt.1
   place_inside journal Wanted halt is = absurd (cc)
-  place_inside journal (Called body log) halt is = ap (in_body calls w key v) is
-  place_inside journal (Made made log) halt is = ap (in_body calls w key v) is
+  place_inside journal (Called body noted) halt is = ap (in_body calls w key v) is
+  place_inside journal (Made made noted) halt is = ap (in_body calls w key v) is
 
   -- it goes on until the body stops again
-  module _ (journal next : Journal) (runs : List RunId) (n : Visit T) (old new : T) (step : Step T)
-      (same : place_at calls w key n next n.at ≡ place_at calls w key v next step.at) where
+  module _ (journal next : Journal) (runs : List RunId) (n : Visit T) (old new : T)
+      (run_stop : RunStop T)
+      (same : place_at calls w key n next n.at ≡ place_at calls w key v next run_stop.at) where
     stopped_place : (s : SoFar ToolInput) (stop : Stop ToolInput ToolAnswer)
-        → halt_at calls w v.run its_target step.at ≡ Some (s, stop)
+        → halt_at calls w v.run its_target run_stop.at ≡ Some (s, stop)
         → place_at calls w key n next n.at ≡ inside s stop
-    stopped_place s stop is = same ∙ place_inside next step.at (s, stop) is
+    stopped_place s stop is = same ∙ place_inside next run_stop.at (s, stop) is
 
     stopped_position : (x : Stopped ToolInput ToolAnswer)
-        → halt_at calls w v.run its_target step.at ≡ Some (x.so_far, x.stop) → next ≡ x.journal
+        → halt_at calls w v.run its_target run_stop.at ≡ Some (x.so_far, x.stop) → next ≡ x.journal
         → stopped_in runs v.run after x ≡ position_of calls w key next runs (Visits n)
     stopped_position x is j = ap
         (λ k. record { journal = k; runs = runs; place = inside x.so_far x.stop }) (sym j)
@@ -180,9 +181,9 @@ module _ {T : Type 0} (answer : List ℕ → ToolInput → ToolAnswer)
         (sym (stopped_place x.so_far x.stop is))
 
     stopped_ask : (x : Stopped ToolInput ToolAnswer)
-        → halt_at calls w v.run its_target step.at ≡ Some (x.so_far, x.stop)
-        → step.ask ≡ ask_in v.run x.so_far x.stop
-        → step.ask ≡ ask_of (position_of calls w key next runs (Visits n))
+        → halt_at calls w v.run its_target run_stop.at ≡ Some (x.so_far, x.stop)
+        → run_stop.ask ≡ ask_in v.run x.so_far x.stop
+        → run_stop.ask ≡ ask_of (position_of calls w key next runs (Visits n))
     stopped_ask x is asks_so = asks_so
         ∙ (ask_there runs v.run x.so_far after x.stop
         ∙ ap (ask_at runs) (sym (stopped_place x.so_far x.stop is)))
@@ -190,10 +191,10 @@ module _ {T : Type 0} (answer : List ℕ → ToolInput → ToolAnswer)
     -- it has made the run that it wanted
     pub made_goes : v.at ≡ Wanted
         → Steps answer calls w v.run its_target
-        (body_if w v.run its_target v.standing.scope journal) nothing_yet journal next old new step
+        (body_if w v.run its_target v.state.scope journal) nothing_yet journal next old new run_stop
         →
         GoesOn W table (position_of calls w key journal runs (Visits v))
-        (position_of calls w key next runs (Visits n)) Go step.ask
+        (position_of calls w key next runs (Visits n)) Go run_stop.ask
     made_goes wanted steps = record {
       goes_on =
           ap (λ at. answered_at W table journal runs (place_at calls w key v journal at) Go) wanted
@@ -201,7 +202,7 @@ module _ {T : Type 0} (answer : List ℕ → ToolInput → ToolAnswer)
           (λ r.
           Some
           (stopped_in runs r after
-          (run_on answer r (body_if w r its_target v.standing.scope journal) journal
+          (run_on answer r (body_if w r its_target v.state.scope journal) journal
           nothing_yet))) (sym its_run)
           ∙ (ap (λ x. Some (stopped_in runs v.run after x)) steps.is
           ∙ ap Some (stopped_position steps.stopped steps.halted steps.journal)));
@@ -210,7 +211,7 @@ module _ {T : Type 0} (answer : List ℕ → ToolInput → ToolAnswer)
 
     pub made_used : v.at ≡ Wanted
         → Steps answer calls w v.run its_target
-        (body_if w v.run its_target v.standing.scope journal) nothing_yet journal next old new step
+        (body_if w v.run its_target v.state.scope journal) nothing_yet journal next old new run_stop
         →
         map tool_use (calls new) ≡ map tool_use (calls old)
         ++ used_between (place_of calls w key journal (Visits v))
@@ -233,7 +234,7 @@ module _ {T : Type 0} (answer : List ℕ → ToolInput → ToolAnswer)
           (is : halt_at calls w v.run its_target v.at ≡ Some (s, asks k ks go))
           (as_many : length results ≡ length (k ∷ ks))
           (steps : Steps answer calls w v.run its_target (go results mid)
-          (with_calls s (k ∷ ks) results) mid next old new step) where
+          (with_calls s (k ∷ ks) results) mid next old new run_stop) where
         results_position : answered W table (position_of calls w key journal runs (Visits v))
             (Results results) ≡ Some (position_of calls w key next runs (Visits n))
         results_position =
@@ -273,9 +274,9 @@ module _ {T : Type 0} (answer : List ℕ → ToolInput → ToolAnswer)
 
       pub results_go : (halt : Option Halt) → halt_at calls w v.run its_target v.at ≡ halt
           → IsWaiting halt results
-          → GoesOnFrom answer calls w v.run its_target halt results mid next old new step →
+          → GoesOnFrom answer calls w v.run its_target halt results mid next old new run_stop →
           GoesOn W table (position_of calls w key journal runs (Visits v))
-          (position_of calls w key next runs (Visits n)) (Results results) step.ask
+          (position_of calls w key next runs (Visits n)) (Results results) run_stop.ask
       results_go None is waiting goes = absurd waiting
       results_go (Some (s, ends outcome)) is waiting goes = absurd waiting
       results_go (Some (s, asks k ks go)) is waiting goes = record {
@@ -286,7 +287,7 @@ module _ {T : Type 0} (answer : List ℕ → ToolInput → ToolAnswer)
 
       pub results_used : (halt : Option Halt) → halt_at calls w v.run its_target v.at ≡ halt
           → IsWaiting halt results
-          → GoesOnFrom answer calls w v.run its_target halt results mid next old new step →
+          → GoesOnFrom answer calls w v.run its_target halt results mid next old new run_stop →
           map tool_use (calls new) ≡ map tool_use (calls old)
           ++ used_between (place_of calls w key journal (Visits v))
           (place_of calls w key next (Visits n))
@@ -295,9 +296,9 @@ module _ {T : Type 0} (answer : List ℕ → ToolInput → ToolAnswer)
       results_used (Some (s, asks k ks go)) is waiting goes = results_uses s k ks go is waiting goes
 
   -- it has used the record of its run
-  module _ (journal next : Journal) (runs : List RunId) (made : Record) (f : Follow)
-      (stage : Stage T) (follows : Follows p key v.standing next v.order v.run.target made f)
-      (stands : StandsBy key (seen_instance v.instance) f.standing f.order f.stand stage) where
+  module _ (journal next : Journal) (runs : List RunId) (made : Record) (f : OrderStep)
+      (stage : Stage T) (follows : Follows p key v.state next v.order v.run.target made f)
+      (stands : StandsBy key (seen_instance v.instance) f.state f.order f.next_stop stage) where
     abbrev all_runs : List RunId
     all_runs = runs ++ v.run ∷ []
 
@@ -309,7 +310,7 @@ module _ {T : Type 0} (answer : List ℕ → ToolInput → ToolAnswer)
     next_position = ap (λ place. Some (record { journal = next; runs = all_runs; place = place }))
         next_place
 
-    record_position : (at : At T) → HasRecord table v.run journal at
+    record_position : (at : RunState T) → HasRecord table v.run journal at
         → IsRecord table v.run journal next at made
         → answered_at W table journal runs (place_at calls w key v journal at) Use
         ≡ Some (position_of calls w key next all_runs stage)
@@ -326,32 +327,34 @@ module _ {T : Type 0} (answer : List ℕ → ToolInput → ToolAnswer)
         (λ j. Some (after_run runs v.run after m j)))) is.0
         ∙ (ap (λ o. and_then o (λ j. Some (after_run runs v.run after made j))) is.1
         ∙ next_position))
-    record_position (Called body log) has is = absurd has
-    record_position (Made m log) has is =
+    record_position (Called body noted) has is = absurd has
+    record_position (Made m noted) has is =
         ap (λ j. Some (after_run runs v.run after m j)) (sym is.1)
         ∙ (ap (λ x. Some (after_run runs v.run after x next)) (sym is.0) ∙ next_position)
 
     pub record_goes : (ask : Ask) → HasRecord table v.run journal v.at
-        → IsRecord table v.run journal next v.at made → ask ≡ asked_by key.instance all_runs f.stand
+        → IsRecord table v.run journal next v.at made → ask ≡ asked_by key.instance all_runs
+        f.next_stop
         →
         GoesOn W table (position_of calls w key journal runs (Visits v))
         (position_of calls w key next all_runs stage) Use ask
     record_goes ask has is asks_so = record {
       goes_on = record_position v.at has is;
       asks = asks_so
-          ∙ (ask_left p key w f.standing next all_runs f.stand f.order
+          ∙ (ask_left p key w f.state next all_runs f.next_stop f.order
           ∙ ap (ask_at all_runs) (sym ((stands w next).stands calls)));
     }
 
     pub record_used : used_between (place_of calls w key journal (Visits v))
         (place_of calls w key next stage) ≡ []
-    record_used = left_used f.stand ((stands w next).stands calls)
+    record_used = left_used f.next_stop ((stands w next).stands calls)
       where
-        left_used : (stand : Stand) → place_of calls w key next stage
-            ≡ walking (left_by p key (bodies_of w p) f.standing f.order next stand)
+        left_used : (next_stop : NextStop) → place_of calls w key next stage
+            ≡ walking (left_by p key (bodies_of w p) f.state f.order next next_stop)
             → used_between (place_of calls w key journal (Visits v))
             (place_of calls w key next stage) ≡ []
-        left_used stand is = drop_none (length (tools_in (place_of calls w key journal (Visits v))))
+        left_used next_stop is = drop_none (length
+            (tools_in (place_of calls w key journal (Visits v))))
             (tools_in (place_of calls w key next stage)) (ap tools_in is)
 
 -- ---- what a request holds where an answer takes it on
@@ -362,7 +365,7 @@ module _ {T : Type 0} (answer : List ℕ → ToolInput → ToolAnswer)
   abbrev V : World Site ToolInput ToolAnswer
   V = world_of answer w
 
-  abbrev halt_in : Visit T → At T → Option Halt
+  abbrev halt_in : Visit T → RunState T → Option Halt
   halt_in v at = halt_at calls w v.run
       (target_named (seen_instance v.instance).targets v.run.target) at
 
@@ -373,12 +376,12 @@ module _ {T : Type 0} (answer : List ℕ → ToolInput → ToolAnswer)
   no_go v (Some (s, ends outcome)) is = cc
   no_go v (Some (s, asks k ks go)) is = cc
 
-  go_wanted : (v : Visit T) (at : At T)
+  go_wanted : (v : Visit T) (at : RunState T)
       → IsSome (answered_at V table journal runs (place_at calls w key v journal at) Go)
       → is_wanted at ≡ true
   go_wanted v Wanted is = refl
-  go_wanted v (Called body log) is = absurd (no_go v (halt_in v (Called body log)) is)
-  go_wanted v (Made made log) is = absurd (no_go v (halt_in v (Made made log)) is)
+  go_wanted v (Called body noted) is = absurd (no_go v (halt_in v (Called body noted)) is)
+  go_wanted v (Made made noted) is = absurd (no_go v (halt_in v (Made made noted)) is)
 
   pub go_fits : (stage : Stage T) → has_begun stage ≡ true
       → IsSome (answered V table (position_of calls w key journal runs stage) Go) → WantsRun stage
@@ -411,15 +414,15 @@ module _ {T : Type 0} (answer : List ℕ → ToolInput → ToolAnswer)
               (replay_all table (runs_of results) journal) _ both.1,
         )
 
-    results_at : (v : Visit T) (at : At T)
+    results_at : (v : Visit T) (at : RunState T)
         → IsSome
         (answered_at V table journal runs (place_at calls w key v journal at) (Results results)) →
         IsWaiting
         (halt_at calls w v.run (target_named (seen_instance v.instance).targets v.run.target)
         at) results × IsSome (replay_all table (runs_of results) journal)
     results_at v Wanted is = cc
-    results_at v (Called body log) is = results_fit v (halt_in v (Called body log)) is
-    results_at v (Made made log) is = results_fit v (halt_in v (Made made log)) is
+    results_at v (Called body noted) is = results_fit v (halt_in v (Called body noted)) is
+    results_at v (Made made noted) is = results_fit v (halt_in v (Made made noted)) is
 
     no_results : (walk : Walk Site ToolInput ToolAnswer) →
         IsSome (answered_at V table journal runs (walking walk) (Results results)) → ⊥
@@ -455,7 +458,7 @@ module _ {T : Type 0} (answer : List ℕ → ToolInput → ToolAnswer)
   use_called v body uses None is = cc
   use_called v body uses (Some t) is = use_stood v uses (standing_in w v.run t body) is
 
-  use_at : (v : Visit T) (at : At T) → v.run.instance ≡ key.instance
+  use_at : (v : Visit T) (at : RunState T) → v.run.instance ≡ key.instance
       → IsSome (answered_at V table journal runs (place_at calls w key v journal at) Use)
       → HasRecord table v.run journal at
   use_at v Wanted own is =
@@ -464,9 +467,9 @@ module _ {T : Type 0} (answer : List ℕ → ToolInput → ToolAnswer)
       (sym own)
       (found_first (found table (run_of key.instance v.run.target))
       (replay table (run_of key.instance v.run.target) journal) _ is)
-  use_at v (Called body log) own is = use_called v body (uses_in calls log)
+  use_at v (Called body noted) own is = use_called v body (uses_in calls noted)
       (target_named (seen_instance v.instance).targets v.run.target) is
-  use_at v (Made made log) own is = tt
+  use_at v (Made made noted) own is = tt
 
   pub use_fits : (stage : Stage T) → has_begun stage ≡ true
       → instance_in key.instance stage ≡ key.instance
@@ -519,13 +522,13 @@ fresh_begun (Over reply) fresh = refl
 
 -- what a fresh stage asks
 wanted_asks : {T : Type 0} (runs : List RunId) (v : Visit T) (calls : T → List (List ℕ × ToolInput))
-    (w : Given) (key : RequestKey) (journal : Journal) (at : At T) → is_wanted at ≡ true
+    (w : Given) (key : RequestKey) (journal : Journal) (at : RunState T) → is_wanted at ≡ true
     → v.run.instance ≡ key.instance →
     Want v.run ≡ ask_at runs (place_at calls w key v journal at)
 wanted_asks runs v calls w key journal Wanted is own = ap
     (λ i. Want (record { instance = i; target = v.run.target })) own
-wanted_asks runs v calls w key journal (Called body log) is own = cc
-wanted_asks runs v calls w key journal (Made made log) is own = cc
+wanted_asks runs v calls w key journal (Called body noted) is own = cc
+wanted_asks runs v calls w key journal (Made made noted) is own = cc
 
 pub asks_wanted : {T : Type 0} (runs : List RunId) (v : Visit T) → is_wanted v.at ≡ true
     → AsksAt runs (Visits v) (Want v.run)
@@ -537,7 +540,7 @@ pub asks_over : {T : Type 0} (runs : List RunId) (reply : Reply) (stage : Stage 
 asks_over runs reply stage is = λ calls w key journal own.
     sym (ap (λ s. ask_at runs (place_of calls w key journal s)) is)
 
-pub wanted_is : {T : Type 0} (at : At T) → is_wanted at ≡ true → at ≡ Wanted
+pub wanted_is : {T : Type 0} (at : RunState T) → is_wanted at ≡ true → at ≡ Wanted
 wanted_is Wanted is = refl
-wanted_is (Called body log) is = cc
-wanted_is (Made made log) is = cc
+wanted_is (Called body noted) is = cc
+wanted_is (Made made noted) is = cc

@@ -36,7 +36,7 @@ use Rattle.msb_values.specs.declared.scope.Scope.{Scope}
 use Rattle.file_store.specs.declared.tree.File.{File}
 use Rattle.msb_elements.specs.Nodes.{Node, children_in, name_of}
 use Rattle.request_machine.proofs.FilesSeen.{conditions_see_files_by_exists}
-use Rattle.msb_items.specs.Places.{view_in}
+use Rattle.element_texts.specs.Contexts.{view_in}
 use Rattle.target_order.specs.Visit.{Question, condition, depends, body, End, order}
 use Rattle.target_order.specs.declared.asks.OrderAnswer.{OrderAnswer}
 use Rattle.target_order.specs.declared.asks.OrderAnswer.TheVariants.{Truth, Names, Failed}
@@ -81,7 +81,7 @@ use Rattle.request_machine.specs.Walk.{
   walk_unless,
 }
 use Rattle.request_machine.specs.Worlds.{bodies_at, instances_of, request_by, world_of}
-use Rattle.request_machine.specs.declared.standing.Standing.{Standing}
+use Rattle.request_machine.specs.declared.stage.RequestScope.{RequestScope}
 
 none-left : (a b : Bool) → (a || b) ≡ false → a ≡ false
 none-left true b e = e
@@ -144,7 +144,7 @@ module _ (p : Project) (scope : Scope) (j k : Journal) where
       (children_in t.element.node) (none-right (element_asks t.element.node)
       (list_any error_asks (children_in t.element.node)) none))
 
-  answers-alike : (ok : Bool) (name : List ℕ) (s : Standing) → s.scope ≡ scope →
+  answers-alike : (ok : Bool) (name : List ℕ) (s : RequestScope) → s.scope ≡ scope →
       IfSome (target_at p name) (λ t. target_asks t ≡ false) →
       answer_of p ok s j name ≡ answer_of p ok s k name
   answers-alike true name s is none = refl
@@ -170,7 +170,7 @@ module _ {I A : Type 0} (p : Project) (key : RequestKey)
   asks-none : (name : List ℕ) → IfSome (target_at p name) (λ t. target_asks t ≡ false)
   asks-none name = found-none target_asks (λ t. bytes_eq t.name name) p.instance.targets none
 
-  walks-alike : (x : Asking Question OrderAnswer End) (s : Standing) (j k : Journal) →
+  walks-alike : (x : Asking Question OrderAnswer End) (s : RequestScope) (j k : Journal) →
       AskAlike (walk p key body_of x s j) (walk p key body_of x s k)
   walks-alike (ends end) s j k = refl
   walks-alike (asks (condition name) go) s j k =
@@ -187,7 +187,7 @@ module _ {I A : Type 0} (p : Project) (key : RequestKey)
   walks-alike (asks (body name) go) s j k = (
     refl,
     λ made next other.
-        let after : Standing = after_run s name made in
+        let after : RequestScope = after_run s name made in
         or-alike (answer_of p made.ok after next name) (answer_of p made.ok after other name)
         (answers-alike p after.scope next other made.ok name after refl (asks-none name))
         (λ answer. walk p key body_of (go answer) after next)

@@ -30,19 +30,19 @@ use Rattle.result_cache.specs.declared.request.RequestResult.{RequestResult}
 use Rattle.result_cache.specs.declared.run.RunId.{RunId}
 use Rattle.task_trait.specs.declared.tools.ToolInput.{ToolInput}
 use Rattle.request_machine.specs.Answered.{HasMade, WaitsFor, WantsRun}
-use Rattle.request_machine.specs.Begun.{has_begun, instance_in}
+use Rattle.request_machine.specs.Stages.{has_begun, instance_in}
 use Rattle.request_machine.specs.Former.{IsVisitOf, place_seen, with_parts}
 use Rattle.request_machine.specs.Positions.{place_of, position_of}
 use Rattle.request_machine.specs.Runs.{run_in}
-use Rattle.request_machine.specs.Taken.{IsVisit}
+use Rattle.request_machine.specs.AfterRuns.{IsVisit}
 use Rattle.request_machine.specs.Visited.{Visited, seen_stage, seen_visit}
 use Rattle.request_machine.specs.Walk.{run_of}
 use Rattle.request_machine.specs.declared.former.VisitParts.{VisitParts}
-use Rattle.request_machine.specs.declared.standing.Standing.{Standing}
+use Rattle.request_machine.specs.declared.stage.RequestScope.{RequestScope}
 use Rattle.request_machine.specs.declared.stage.Stage.{Stage}
 use Rattle.request_machine.specs.declared.stage.Stage.TheVariants.{Begins, Visits, Over}
-use Rattle.request_machine.specs.declared.visit.At.{At}
-use Rattle.request_machine.specs.declared.visit.Visit.{Visit}
+use Rattle.request_machine.specs.declared.stage.RunState.{RunState}
+use Rattle.request_machine.specs.declared.stage.Visit.{Visit}
 
 -- a request that has not begun
 pub unbegun_is : {T : Type 0} (stage : Stage T) → has_begun stage ≡ false → Begins ≡ stage
@@ -129,23 +129,24 @@ module _ {T : Type 0} where
   made_begun table journal (Over reply) has = absurd has
 
   -- a visit by its parts
-  abbrev visited : Instance → Standing → Progress → InstanceKey → List ℕ → At T → Visited T
+  abbrev visited : Instance → RequestScope → Progress → InstanceKey → List ℕ → RunState T → Visited
+      T
   visited i s order key name at = record
-      { instance = i; standing = s; order = order; run = run_of key name; at = at }
+      { instance = i; state = s; order = order; run = run_of key name; at = at }
 
   -- a visit with other parts
   pub with_parts_is : (n v : Visit T) (p : VisitParts T) → n.instance ≡ v.instance
-      → n.standing ≡ p.standing → n.order ≡ p.order → n.run.instance ≡ v.run.instance
+      → n.state ≡ p.state → n.order ≡ p.order → n.run.instance ≡ v.run.instance
       → n.run.target ≡ p.target → n.at ≡ p.at →
       seen_visit n ≡ with_parts p (seen_visit v)
-  with_parts_is n v p instance standing order own target at =
-      ap (λ i. visited (seen_instance i) n.standing n.order n.run.instance n.run.target n.at)
+  with_parts_is n v p instance state order own target at =
+      ap (λ i. visited (seen_instance i) n.state n.order n.run.instance n.run.target n.at)
       instance
       ∙ (ap (λ s. visited (seen_instance v.instance) s n.order n.run.instance n.run.target n.at)
-      standing
-      ∙ (ap (λ o. visited (seen_instance v.instance) p.standing o n.run.instance n.run.target n.at)
+      state
+      ∙ (ap (λ o. visited (seen_instance v.instance) p.state o n.run.instance n.run.target n.at)
       order
-      ∙ (ap (λ k. visited (seen_instance v.instance) p.standing p.order k n.run.target n.at) own
-      ∙ (ap (λ t. visited (seen_instance v.instance) p.standing p.order v.run.instance t n.at)
+      ∙ (ap (λ k. visited (seen_instance v.instance) p.state p.order k n.run.target n.at) own
+      ∙ (ap (λ t. visited (seen_instance v.instance) p.state p.order v.run.instance t n.at)
       target
-      ∙ ap (visited (seen_instance v.instance) p.standing p.order v.run.instance p.target) at))))
+      ∙ ap (visited (seen_instance v.instance) p.state p.order v.run.instance p.target) at))))

@@ -8,7 +8,7 @@ use Rattle.build_scheduler.specs.Learnt.{AreInOrder, ArePartOf}
 use Rattle.build_scheduler.proofs.GrowingAnswers.{part-replay_all}
 use Rattle.build_scheduler.proofs.Passing.{journal-prop}
 use Rattle.request_machine.specs.Replayed.{IsReplayed}
-use Rattle.request_machine.specs.declared.results.Replayed.{Replayed}
+use Rattle.request_machine.specs.declared.replayed.Replayed.{Replayed}
 
 -- a table with more records replays its runs so, too
 module _ (part table : Records) (ordered : AreInOrder table) (p : ArePartOf part table)

@@ -48,48 +48,50 @@ use Rattle.target_body.specs.Standings.{
 use Rattle.target_body.specs.declared.body.Body.{Body}
 use Rattle.target_body.specs.declared.body.BodyAsk.{BodyAsk}
 use Rattle.target_body.specs.declared.body.BodyAsk.TheVariants.{Call, Finished}
-use Rattle.request_machine.specs.Making.{GoesOnFrom, IsFinished, IsStep, IsWaiting, Plays, Steps}
+use Rattle.request_machine.specs.RunStops.{GoesOnFrom, IsFinished, IsStep, IsWaiting, Plays, Steps}
 use Rattle.request_machine.specs.Positions.{halt_at, halt_by, halt_of, uses_between, uses_in}
 use Rattle.request_machine.specs.Runs.{run_in}
 use Rattle.request_machine.specs.Worlds.{body_if, nothing_made}
-use Rattle.request_machine.specs.declared.log.Log.{Log}
-use Rattle.request_machine.specs.declared.making.Step.{Step}
+use Rattle.request_machine.specs.declared.snapshots.Snapshots.{Snapshots}
+use Rattle.request_machine.specs.declared.run.RunStop.{RunStop}
 
 abbrev Uses : Type 0 → Type 0
-Uses T = Log (Log T ℕ) (Log T ℕ)
+Uses T = Snapshots (Snapshots T ℕ) (Snapshots T ℕ)
 
 -- where the body of a run has stopped, it is the body of that run
-pub step_run : {T : Type 0} (run : RunId) (body : Body) (log : Uses T) (ask : BodyAsk)
-    (step : Step T) → body.run ≡ run → IsStep run body log ask step → run_in run step.at ≡ run
-step_run run body log (Call keys) step own is = ap (run_in run) is.0 ∙ own
-step_run run body log (Finished made) step own is = ap (run_in run) is.0
+pub step_run : {T : Type 0} (run : RunId) (body : Body) (noted : Uses T) (ask : BodyAsk)
+    (run_stop : RunStop T) → body.run ≡ run → IsStep run body noted ask run_stop → run_in run
+    run_stop.at ≡ run
+step_run run body noted (Call keys) run_stop own is = ap (run_in run) is.0 ∙ own
+step_run run body noted (Finished made) run_stop own is = ap (run_in run) is.0
 
-pub finished_run : {T : Type 0} (run : RunId) (log : Uses T) (step : Step T)
-    → IsFinished run log (recorded nothing_made []) step → run_in run step.at ≡ run
-finished_run run log step is = ap (run_in run) is.0
+pub finished_run : {T : Type 0} (run : RunId) (noted : Uses T) (run_stop : RunStop T)
+    → IsFinished run noted (recorded nothing_made []) run_stop → run_in run run_stop.at ≡ run
+finished_run run noted run_stop is = ap (run_in run) is.0
 
 module _ {T : Type 0} (answer : List ℕ → ToolInput → ToolAnswer)
     (calls : T → List (List ℕ × ToolInput)) (w : Given) (run : RunId) where
-  none_used : (log : Uses T) → log.items ≡ [] → uses_in calls log ≡ []
-  none_used log empty = ap (flat_map (uses_between calls)) empty
+  none_used : (noted : Uses T) → noted.items ≡ [] → uses_in calls noted ≡ []
+  none_used noted empty = ap (flat_map (uses_between calls)) empty
 
   -- a body that begins
-  pub begins_steps : (target : Option UsedTarget) (scope : Scope) (body : Body) (log : Uses T)
-      (results : List RequestResult) (before after : Journal) (old new : T) (step : Step T)
-      → log.items ≡ [] → ((choose : Chooser) (r : Run) → standing choose r body ≡ begins scope)
+  pub begins_steps : (target : Option UsedTarget) (scope : Scope) (body : Body) (noted : Uses T)
+      (results : List RequestResult) (before after : Journal) (old new : T) (run_stop : RunStop T)
+      → noted.items ≡ [] → ((choose : Chooser) (r : Run) → standing choose r body ≡ begins scope)
       → IsSome target
       → IfSome target
       (λ t. Plays answer calls w run t (standing_in w run t body) results before after old new
-      log step)
+      noted run_stop)
       → Steps answer calls w run target (body_if w run target scope before) nothing_yet before
-      after old new step
-  begins_steps None scope body log results before after old new step empty at is plays = absurd (cc)
-  begins_steps (Some t) scope body log results before after old new step empty at is plays =
+      after old new run_stop
+  begins_steps None scope body noted results before after old new run_stop empty at is plays =
+      absurd (cc)
+  begins_steps (Some t) scope body noted results before after old new run_stop empty at is plays =
       subst
       (λ us. Steps answer calls w run (Some t) (body_in w run t scope before)
-      (record { segments = []; tools = map tool_use us }) before after old new step)
-      (none_used log empty)
-      (subst (λ st. Plays answer calls w run t st results before after old new log step)
+      (record { segments = []; tools = map tool_use us }) before after old new run_stop)
+      (none_used noted empty)
+      (subst (λ st. Plays answer calls w run t st results before after old new noted run_stop)
       (at (choice_of w.mode (run_with w run t)) (run_with w run t)) plays)
 
   pub begins_fits : (target : Option UsedTarget) (scope : Scope) (body : Body)
@@ -101,21 +103,21 @@ module _ {T : Type 0} (answer : List ℕ → ToolInput → ToolAnswer)
       (sym (at (choice_of w.mode (run_with w run t)) (run_with w run t))) none
 
   -- a target that the project has not
-  pub nothing_steps : (target : Option UsedTarget) (scope : Scope) (log : Uses T)
-      (journal : Journal) (tools : T) (step : Step T) → target ≡ None → log.items ≡ []
-      → IsFinished run log (recorded nothing_made []) step
+  pub nothing_steps : (target : Option UsedTarget) (scope : Scope) (noted : Uses T)
+      (journal : Journal) (tools : T) (run_stop : RunStop T) → target ≡ None → noted.items ≡ []
+      → IsFinished run noted (recorded nothing_made []) run_stop
       → Steps answer calls w run target (body_if w run target scope journal) nothing_yet journal
-      journal tools tools step
-  nothing_steps target scope log journal tools step none empty is = subst
+      journal tools tools run_stop
+  nothing_steps target scope noted journal tools run_stop none empty is = subst
       (λ t. Steps answer calls w run t (body_if w run t scope journal) nothing_yet journal journal
-      tools tools step) (sym none) (record {
+      tools tools run_stop) (sym none) (record {
         uses = [];
         called = sym (append-nil (calls tools));
         stopped = record { stop = ends nothing_made; journal = journal; so_far = nothing_yet };
         is = refl;
         halted = ap (halt_at calls w run None) is.0
             ∙ ap (λ us. Some (record { segments = []; tools = map tool_use us }, ends nothing_made))
-            (none_used log empty);
+            (none_used noted empty);
         tools = refl;
         journal = refl;
         asks_so = is.1;
@@ -141,22 +143,24 @@ module _ {T : Type 0} (answer : List ℕ → ToolInput → ToolAnswer)
   waits_fits (Some t) body uses results waiting = standing_fits (standing_in w run t body) uses
       results waiting
 
-  plays_at : (t : UsedTarget) (st : Standing) (log : Uses T) (results : List RequestResult)
-      (before after : Journal) (old new : T) (step : Step T)
-      → Plays answer calls w run t st results before after old new log step
-      → GoesOnFrom answer calls w run (Some t) (halt_by (uses_in calls log) st) results before after
-      old new step
-  plays_at t (begins scope) log results before after old new step plays = tt
-  plays_at t (waits segments key keys go) log results before after old new step plays = plays
-  plays_at t over log results before after old new step plays = tt
+  plays_at : (t : UsedTarget) (st : Standing) (noted : Uses T) (results : List RequestResult)
+      (before after : Journal) (old new : T) (run_stop : RunStop T)
+      → Plays answer calls w run t st results before after old new noted run_stop
+      → GoesOnFrom answer calls w run (Some t) (halt_by (uses_in calls noted) st) results before
+      after
+      old new run_stop
+  plays_at t (begins scope) noted results before after old new run_stop plays = tt
+  plays_at t (waits segments key keys go) noted results before after old new run_stop plays = plays
+  plays_at t over noted results before after old new run_stop plays = tt
 
-  pub plays_on : (target : Option UsedTarget) (body : Body) (log : Uses T)
-      (results : List RequestResult) (before after : Journal) (old new : T) (step : Step T)
+  pub plays_on : (target : Option UsedTarget) (body : Body) (noted : Uses T)
+      (results : List RequestResult) (before after : Journal) (old new : T) (run_stop : RunStop T)
       → IfSome target
       (λ t. Plays answer calls w run t (standing_in w run t body) results before after old new
-      log step)
-      → GoesOnFrom answer calls w run target (halt_of w run body (uses_in calls log) target) results
-      before after old new step
-  plays_on None body log results before after old new step plays = tt
-  plays_on (Some t) body log results before after old new step plays = plays_at t
-      (standing_in w run t body) log results before after old new step plays
+      noted run_stop)
+      → GoesOnFrom answer calls w run target (halt_of w run body (uses_in calls noted) target)
+      results
+      before after old new run_stop
+  plays_on None body noted results before after old new run_stop plays = tt
+  plays_on (Some t) body noted results before after old new run_stop plays = plays_at t
+      (standing_in w run t body) noted results before after old new run_stop plays

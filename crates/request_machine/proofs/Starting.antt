@@ -40,7 +40,7 @@ use Rattle.task_trait.specs.declared.tools.ToolInput.{ToolInput}
 use Rattle.build_meaning.specs.State.{walking}
 use Rattle.build_meaning.specs.Walk.{Walk, Reply, gives}
 use Rattle.request_machine.specs.Requests.{Project, unevaluated}
-use Rattle.request_machine.specs.Stands.{Bodies, StandsNext}
+use Rattle.request_machine.specs.NextStops.{Bodies, StandsNext}
 use Rattle.request_machine.specs.Walk.{Site, walk}
 use Rattle.request_machine.specs.Worlds.{
   bodies_of,
@@ -51,7 +51,7 @@ use Rattle.request_machine.specs.Worlds.{
   walk_of,
 }
 use Rattle.request_machine.specs.Positions.{place_at, place_of}
-use Rattle.request_machine.specs.Begun.{
+use Rattle.request_machine.specs.Stages.{
   IsReady,
   StandsAt,
   StandsBy,
@@ -60,13 +60,13 @@ use Rattle.request_machine.specs.Begun.{
   is_wanted,
   left_by,
 }
-use Rattle.request_machine.specs.declared.standing.Standing.{Standing}
-use Rattle.request_machine.specs.declared.turn.Stand.{Stand}
-use Rattle.request_machine.specs.declared.turn.Stand.TheVariants.{Wants, Over as IsOver}
+use Rattle.request_machine.specs.declared.stage.RequestScope.{RequestScope}
+use Rattle.request_machine.specs.declared.order.NextStop.{NextStop}
+use Rattle.request_machine.specs.declared.order.NextStop.TheVariants.{Wants, Over as IsOver}
 use Rattle.request_machine.specs.declared.stage.Stage.{Stage}
 use Rattle.request_machine.specs.declared.stage.Stage.TheVariants.{Over, Visits}
-use Rattle.request_machine.specs.declared.visit.At.TheVariants.{Wanted}
-use Rattle.request_machine.specs.declared.visit.Visit.{Visit}
+use Rattle.request_machine.specs.declared.stage.RunState.TheVariants.{Wanted}
+use Rattle.request_machine.specs.declared.stage.Visit.{Visit}
 
 abbrev W : Type 0
 W = Walk Site ToolInput ToolAnswer
@@ -111,26 +111,27 @@ at_file w key journal file r found is = ap (walk_if w key journal) found
     ∙ ap (λ x. walk_by w key journal (instance_by x)) is
 
 -- what is left of a request whose order has been answered so far
-pub next_left : (p : Project) (key : RequestKey) (s : Standing) (journal : Journal)
-    (tree : Asking Question OrderAnswer End) (stand : Stand) (order : Progress)
-    → StandsNext p key s journal tree stand order → (bodies : Bodies) →
-    walk p key bodies tree s journal ≡ left_by p key bodies s order journal stand
+pub next_left : (p : Project) (key : RequestKey) (s : RequestScope) (journal : Journal)
+    (tree : Asking Question OrderAnswer End) (next_stop : NextStop) (order : Progress)
+    → StandsNext p key s journal tree next_stop order → (bodies : Bodies) →
+    walk p key bodies tree s journal ≡ left_by p key bodies s order journal next_stop
 next_left p key s journal tree (Wants name) order next bodies = next.1 bodies
 next_left p key s journal tree (IsOver reply) order next bodies = next bodies
 
-pub next_ready : (p : Project) (key : RequestKey) (s : Standing) (journal : Journal)
-    (tree : Asking Question OrderAnswer End) (stand : Stand) (order : Progress)
-    → StandsNext p key s journal tree stand order → IsReady stand order
+pub next_ready : (p : Project) (key : RequestKey) (s : RequestScope) (journal : Journal)
+    (tree : Asking Question OrderAnswer End) (next_stop : NextStop) (order : Progress)
+    → StandsNext p key s journal tree next_stop order → IsReady next_stop order
 next_ready p key s journal tree (Wants name) order next = next.0
 next_ready p key s journal tree (IsOver reply) order next = tt
 
 -- a request that wants a run
-pub wants_stands : {T : Type 0} (key : RequestKey) (v : Visit T) (instance : Made) (s : Standing)
-    (order : Progress) (run : RunId) (stand : Stand) → v.instance ≡ instance → v.standing ≡ s
+pub wants_stands : {T : Type 0} (key : RequestKey) (v : Visit T) (instance : Made)
+    (s : RequestScope)
+    (order : Progress) (run : RunId) (next_stop : NextStop) → v.instance ≡ instance → v.state ≡ s
     → v.order ≡ order → v.run ≡ run → v.at ≡ Wanted →
-    stand ≡ Wants run.target → run.instance ≡ key.instance
-    → StandsBy key (seen_instance instance) s order stand (Visits v)
-wants_stands key v instance s order run stand i t o r a is its = λ w journal. record {
+    next_stop ≡ Wants run.target → run.instance ≡ key.instance
+    → StandsBy key (seen_instance instance) s order next_stop (Visits v)
+wants_stands key v instance s order run next_stop i t o r a is its = λ w journal. record {
   fresh = ap is_wanted a;
   own = ap (λ x. x.instance) r ∙ its;
   stands = λ calls.
@@ -140,7 +141,7 @@ wants_stands key v instance s order run stand i t o r a is its = λ w journal. r
       (λ x.
       walking
       (left_by (project_of w key (seen_instance x)) key
-      (bodies_of w (project_of w key (seen_instance x))) v.standing v.order journal
+      (bodies_of w (project_of w key (seen_instance x))) v.state v.order journal
       (Wants v.run.target))) i
       ∙ (ap (λ x. walking (left_by p key (bodies_of w p) x v.order journal (Wants v.run.target))) t
       ∙ (ap (λ x. walking (left_by p key (bodies_of w p) s x journal (Wants v.run.target))) o

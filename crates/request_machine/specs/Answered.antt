@@ -1,5 +1,6 @@
 -- What a request holds where an answer takes it on. (Target build order; MSBuild task)
-use Rattle.std.specs.Prelude.{◌≡◌, ℕ, List, Bool, true, false, IsSome, Some}
+use Rattle.std.specs.Prelude.{◌≡◌, List, Bool, true, false, IsSome, Some}
+use Rattle.msb_laws.specs.Words.{Name}
 use Rattle.build_world.specs.Instances.{seen_instance}
 use Rattle.build_world.specs.declared.world.World.{World as Given}
 use Rattle.result_cache.specs.Journal.{Journal, ended, add}
@@ -16,14 +17,14 @@ use Rattle.build_scheduler.specs.declared.walker.Answer.{Answer}
 use Rattle.build_scheduler.specs.declared.walker.Answer.TheVariants.{First}
 use Rattle.build_scheduler.specs.declared.walker.Ask.{Ask}
 use Rattle.target_body.specs.Standings.{target_named}
-use Rattle.request_machine.specs.Begun.{is_wanted}
-use Rattle.request_machine.specs.Making.{IsWaiting}
+use Rattle.request_machine.specs.Stages.{is_wanted}
+use Rattle.request_machine.specs.RunStops.{IsWaiting}
 use Rattle.request_machine.specs.Positions.{halt_at}
 use Rattle.request_machine.specs.Walk.{Site}
 use Rattle.request_machine.specs.declared.stage.Stage.{Stage}
 use Rattle.request_machine.specs.declared.stage.Stage.TheVariants.{Begins, Visits, Over}
-use Rattle.request_machine.specs.declared.visit.At.{At}
-use Rattle.request_machine.specs.declared.visit.At.TheVariants.{Wanted, Called, Made}
+use Rattle.request_machine.specs.declared.stage.RunState.{RunState}
+use Rattle.request_machine.specs.declared.stage.RunState.TheVariants.{Wanted, Called, Made}
 
 -- the first answer comes before anything was answered, and every other one after it
 abbrev pub IsNext : Bool → Answer → Type 0
@@ -37,7 +38,7 @@ WantsRun (Visits v) = is_wanted v.at ≡ true
 WantsRun (Over reply) = ⊥
 
 -- the body of its run waits for so many results
-abbrev pub WaitsFor : {T : Type 0} → (T → List (List ℕ × ToolInput)) → Given → List RequestResult
+abbrev pub WaitsFor : {T : Type 0} → (T → List (Name × ToolInput)) → Given → List RequestResult
     → Stage T → Type 0
 WaitsFor calls w results Begins = ⊥
 WaitsFor calls w results (Visits v) = IsWaiting
@@ -46,10 +47,10 @@ WaitsFor calls w results (Visits v) = IsWaiting
 WaitsFor calls w results (Over reply) = ⊥
 
 -- the record of its run is there, among those of a table or since its own body has ended
-abbrev pub HasRecord : {T : Type 0} → Records → RunId → Journal → At T → Type 0
+abbrev pub HasRecord : {T : Type 0} → Records → RunId → Journal → RunState T → Type 0
 HasRecord table run journal Wanted = IsSome (found table run) × IsSome (replay table run journal)
-HasRecord table run journal (Called body log) = ⊥
-HasRecord table run journal (Made made log) = Unit {0}
+HasRecord table run journal (Called body noted) = ⊥
+HasRecord table run journal (Made made noted) = Unit {0}
 
 abbrev pub HasMade : {T : Type 0} → Records → Journal → Stage T → Type 0
 HasMade table journal Begins = ⊥
@@ -57,12 +58,12 @@ HasMade table journal (Visits v) = HasRecord table v.run journal v.at
 HasMade table journal (Over reply) = ⊥
 
 -- this is the record, and the second journal is the first with all that it says
-abbrev pub IsRecord : {T : Type 0} → Records → RunId → (before after : Journal) → At T → Record
-    → Type 0
+abbrev pub IsRecord : {T : Type 0} → Records → RunId → (before after : Journal) → RunState T →
+    Record → Type 0
 IsRecord table run before after Wanted made = (found table run ≡ Some made)
     × (replay table run before ≡ Some after)
-IsRecord table run before after (Called body log) made = Unit {0}
-IsRecord table run before after (Made own log) made = (made ≡ own)
+IsRecord table run before after (Called body noted) made = Unit {0}
+IsRecord table run before after (Made own noted) made = (made ≡ own)
     × (after ≡ add before (ended run own))
 
 -- an answer takes a request from one position to the next, where it asks this

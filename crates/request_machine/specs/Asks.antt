@@ -1,5 +1,6 @@
 -- What a request asks that wants a run or is over. (Target build order)
-use Rattle.std.specs.Prelude.{◌≡◌, ℕ, List}
+use Rattle.std.specs.Prelude.{◌≡◌, List}
+use Rattle.msb_laws.specs.Words.{Name}
 use Rattle.build_meaning.specs.SoFar.{result_of}
 use Rattle.build_scheduler.specs.Position.{ask_at}
 use Rattle.build_scheduler.specs.declared.walker.Ask.{Ask}
@@ -10,21 +11,21 @@ use Rattle.result_cache.specs.Journal.{Journal}
 use Rattle.result_cache.specs.declared.request.RequestKey.{RequestKey}
 use Rattle.result_cache.specs.declared.run.RunId.{RunId}
 use Rattle.task_trait.specs.declared.tools.ToolInput.{ToolInput}
-use Rattle.request_machine.specs.Begun.{instance_in}
+use Rattle.request_machine.specs.Stages.{instance_in}
 use Rattle.request_machine.specs.Positions.{place_of}
 use Rattle.request_machine.specs.Walk.{run_of}
 use Rattle.request_machine.specs.declared.stage.Stage.{Stage}
-use Rattle.request_machine.specs.declared.turn.Stand.{Stand}
-use Rattle.request_machine.specs.declared.turn.Stand.TheVariants.{Wants, Over}
+use Rattle.request_machine.specs.declared.order.NextStop.{NextStop}
+use Rattle.request_machine.specs.declared.order.NextStop.TheVariants.{Wants, Over}
 
 -- where it stands next
-abbrev pub asked_by : InstanceKey → List RunId → Stand → Ask
+abbrev pub asked_by : InstanceKey → List RunId → NextStop → Ask
 asked_by instance runs (Wants name) = Want (run_of instance name)
 asked_by instance runs (Over reply) = Done (result_of reply runs)
 
 -- this is what it asks at its stage, in any world and by any journal
 abbrev pub AsksAt : {T : Type 0} → List RunId → Stage T → Ask → Type 0
 AsksAt {T} runs stage ask =
-    (calls : T → List (List ℕ × ToolInput)) (w : Given) (key : RequestKey) (journal : Journal)
+    (calls : T → List (Name × ToolInput)) (w : Given) (key : RequestKey) (journal : Journal)
     → instance_in key.instance stage ≡ key.instance
     → ask ≡ ask_at runs (place_of calls w key journal stage)

@@ -1,18 +1,6 @@
 -- Whether a condition asks for files: whether it has Exists. (MSBuild conditions)
-use Rattle.std.specs.Prelude.{
-  ℕ,
-  List,
-  Bool,
-  true,
-  false,
-  ◌||◌,
-  Option,
-  None,
-  Some,
-  Result,
-  Ok,
-  Err,
-}
+use Rattle.std.specs.Prelude.{Bool, true, false, ◌||◌, Option, None, Some, Result, Ok, Err}
+use Rattle.msb_laws.specs.Words.{Text}
 use Rattle.msb_condition.specs.declared.condition.Function.{Function}
 use Rattle.msb_condition.specs.declared.condition.Function.TheVariants.{Exists, HasTrailingSlash}
 use Rattle.msb_condition.specs.Machine.{Refusal}
@@ -52,6 +40,6 @@ reading_asks (Ok tree) = tree_asks tree
 reading_asks (Err refusal) = false
 
 -- as it is written; an absent one asks nothing
-abbrev pub condition_asks : Option (List ℕ) → Bool
+abbrev pub condition_asks : Option Text → Bool
 condition_asks None = false
 condition_asks (Some written) = reading_asks (condition_of written)

@@ -2,7 +2,6 @@
 -- order; MSBuild task)
 use Rattle.std.specs.Prelude.{
   ◌≡◌,
-  ℕ,
   ◌==◌,
   not,
   List,
@@ -14,6 +13,7 @@ use Rattle.std.specs.Prelude.{
   Some,
   option_map,
 }
+use Rattle.msb_laws.specs.Words.{Name}
 use Rattle.target_order.specs.declared.visits.Asked.TheVariants.{Body as ForBody}
 use Rattle.build_world.specs.declared.world.World.{World as Given}
 use Rattle.msb_values.specs.declared.key.InstanceKey.{InstanceKey}
@@ -24,13 +24,13 @@ use Rattle.task_trait.specs.declared.tools.ToolInput.{ToolInput}
 use Rattle.build_meaning.specs.State.{Place, walking}
 use Rattle.build_meaning.specs.Walk.{gives}
 use Rattle.build_scheduler.specs.Position.{Position}
-use Rattle.request_machine.specs.Begun.{has_begun}
+use Rattle.request_machine.specs.Stages.{has_begun}
 use Rattle.request_machine.specs.Positions.{place_by, position_of}
 use Rattle.request_machine.specs.Requests.{failed}
 use Rattle.request_machine.specs.Runs.{run_in}
 use Rattle.request_machine.specs.Visited.{Visited, seen_stage}
 use Rattle.request_machine.specs.Walk.{Site, run_of}
-use Rattle.request_machine.specs.declared.former.Before.{Before}
+use Rattle.request_machine.specs.declared.former.FormerWalk.{FormerWalk}
 use Rattle.request_machine.specs.declared.former.Former.{Former}
 use Rattle.request_machine.specs.declared.former.Former.TheVariants.{Begins, Body, Visit}
 use Rattle.request_machine.specs.declared.former.FormerVisit.{FormerVisit}
@@ -39,23 +39,23 @@ use Rattle.request_machine.specs.declared.former.VisitParts.{VisitParts}
 use Rattle.request_machine.specs.declared.request.Request.{Request}
 use Rattle.request_machine.specs.declared.stage.Stage.{Stage}
 use Rattle.request_machine.specs.declared.stage.Stage.TheVariants.{Begins as IsAtStart}
-use Rattle.request_machine.specs.declared.visit.At.{At}
+use Rattle.request_machine.specs.declared.stage.RunState.{RunState}
 
 -- a visit with these parts
 abbrev pub with_parts : {T : Type 0} → VisitParts T → Visited T → Visited T
 with_parts p v = record {
   instance = v.instance;
-  standing = p.standing;
+  state = p.state;
   order = p.order;
   run = run_of v.run.instance p.target;
   at = p.at;
 }
 
 -- a visit whose run stands here
-abbrev pub with_at : {T : Type 0} → At T → Visited T → Visited T
+abbrev pub with_at : {T : Type 0} → RunState T → Visited T → Visited T
 with_at at v = record {
   instance = v.instance;
-  standing = v.standing;
+  state = v.state;
   order = v.order;
   run = v.run;
   at = at;
@@ -66,7 +66,7 @@ abbrev pub visit_before : {T : Type 0} → Stage T → FormerVisit T → Option 
 visit_before now (Whole stage) = seen_stage stage
 visit_before now (Parts parts) = option_map (with_parts parts) (seen_stage now)
 
-abbrev pub body_before : {T : Type 0} → Stage T → At T → Option (Visited T)
+abbrev pub body_before : {T : Type 0} → Stage T → RunState T → Option (Visited T)
 body_before now at = option_map (with_at at) (seen_stage now)
 
 -- a visit of this instance, the body of which is its run's own
@@ -88,11 +88,11 @@ was_begun (Body at journal) = true
 was_begun (Visit visit journal runs) = true
 
 -- what the last answer of a walk has replaced
-pub record IsBefore {T : Type 0} (r : Request T) (b : Before T) : Type 0 where
+pub record IsBefore {T : Type 0} (r : Request T) (b : FormerWalk T) : Type 0 where
   pub fits : IsFormer r.key.instance r.stage b.former
   pub begun : was_begun b.former ≡ not (b.asked == 0)
 
-module _ {T : Type 0} (calls : T → List (List ℕ × ToolInput)) where
+module _ {T : Type 0} (calls : T → List (Name × ToolInput)) where
   abbrev pub place_seen : Given → RequestKey → Journal → Option (Visited T) →
       Place Site ToolInput ToolAnswer
   place_seen w key journal None = walking (gives (failed None))

@@ -3,6 +3,7 @@
 use Rattle.std.specs.Prelude.{ℕ, List, [], ◌∷◌, ◌++◌, length, drop, map, Option, Some, None}
 use Rattle.std.specs.List.{flat_map}
 use Rattle.msb_laws.specs.Asking.{asks as asks_of}
+use Rattle.msb_laws.specs.Words.{Name}
 use Rattle.target_order.specs.Left.{left}
 use Rattle.target_order.specs.Visit.{body as body_of}
 use Rattle.build_world.specs.Instances.{UsedTarget, seen_instance}
@@ -24,10 +25,10 @@ use Rattle.request_machine.specs.Requests.{Project, target_at, failed}
 use Rattle.request_machine.specs.Walk.{Site, walk, after_target}
 use Rattle.request_machine.specs.Worlds.{bodies_of, project_of, walk_of}
 use Rattle.request_machine.specs.Visited.{Visited, seen_visit}
-use Rattle.request_machine.specs.declared.log.Log.{Log}
-use Rattle.request_machine.specs.declared.visit.At.{At}
-use Rattle.request_machine.specs.declared.visit.At.TheVariants.{Wanted, Called, Made}
-use Rattle.request_machine.specs.declared.visit.Visit.{Visit}
+use Rattle.request_machine.specs.declared.snapshots.Snapshots.{Snapshots}
+use Rattle.request_machine.specs.declared.stage.RunState.{RunState}
+use Rattle.request_machine.specs.declared.stage.RunState.TheVariants.{Wanted, Called, Made}
+use Rattle.request_machine.specs.declared.stage.Visit.{Visit}
 use Rattle.request_machine.specs.declared.stage.Stage.{Stage}
 use Rattle.request_machine.specs.declared.stage.Stage.TheVariants.{Begins, Visits, Over}
 
@@ -46,38 +47,38 @@ outcome_in made = record {
 abbrev pub Halt : Type 0
 Halt = SoFar ToolInput × Stop ToolInput ToolAnswer
 
-abbrev pub halt_by : List (List ℕ × ToolInput) → Standing → Option Halt
+abbrev pub halt_by : List (Name × ToolInput) → Standing → Option Halt
 halt_by uses (begins scope) = None
 halt_by uses (waits segments key keys go) = Some
     (record { segments = segments; tools = map tool_use uses }, asks key keys go)
 halt_by uses over = None
 
-module _ {T : Type 0} (calls : T → List (List ℕ × ToolInput)) where
+module _ {T : Type 0} (calls : T → List (Name × ToolInput)) where
   -- the calls of tools up to a moment that was noted
-  abbrev pub calls_at : List (T × ℕ) → List (List ℕ × ToolInput)
+  abbrev pub calls_at : List (T × ℕ) → List (Name × ToolInput)
   calls_at [] = []
   calls_at (noted ∷ others) = calls noted.0
 
   -- the calls of tools between two moments that were noted, for each of some pairs
-  abbrev pub uses_between : Log T ℕ × Log T ℕ → List (List ℕ × ToolInput)
+  abbrev pub uses_between : Snapshots T ℕ × Snapshots T ℕ → List (Name × ToolInput)
   uses_between pair = drop (length (calls_at pair.0.items)) (calls_at pair.1.items)
 
-  abbrev pub uses_in : Log (Log T ℕ) (Log T ℕ) → List (List ℕ × ToolInput)
-  uses_in log = flat_map uses_between log.items
+  abbrev pub uses_in : Snapshots (Snapshots T ℕ) (Snapshots T ℕ) → List (Name × ToolInput)
+  uses_in noted = flat_map uses_between noted.items
 
 -- where the body of a run has stopped; it is there where the project has its target
 module _ (w : Given) where
-  abbrev pub halt_of : RunId → Body → List (List ℕ × ToolInput) → Option UsedTarget → Option Halt
+  abbrev pub halt_of : RunId → Body → List (Name × ToolInput) → Option UsedTarget → Option Halt
   halt_of run body uses None = None
   halt_of run body uses (Some target) = halt_by uses (standing_in w run target body)
 
-module _ {T : Type 0} (calls : T → List (List ℕ × ToolInput)) (w : Given) where
+module _ {T : Type 0} (calls : T → List (Name × ToolInput)) (w : Given) where
   -- by what a request holds of the body
-  abbrev pub halt_at : RunId → Option UsedTarget → At T → Option Halt
+  abbrev pub halt_at : RunId → Option UsedTarget → RunState T → Option Halt
   halt_at run target Wanted = None
-  halt_at run target (Called body log) = halt_of w run body (uses_in calls log) target
-  halt_at run target (Made made log) = Some (
-    record { segments = made.segments; tools = map tool_use (uses_in calls log) },
+  halt_at run target (Called body noted) = halt_of w run body (uses_in calls noted) target
+  halt_at run target (Made made noted) = Some (
+    record { segments = made.segments; tools = map tool_use (uses_in calls noted) },
     ends
         (outcome_in made),
   )
@@ -93,13 +94,14 @@ module _ {T : Type 0} (calls : T → List (List ℕ × ToolInput)) (w : Given) w
       within (record {
         run = v.run;
         so_far = halt.0;
-        go = after_target p (λ answer. walk p key (bodies_of w p) (left v.order answer)) v.standing
+        go = after_target p (λ answer. walk p key (bodies_of w p) (left v.order answer)) v.state
             v.run.target;
       }) halt.1
 
-  abbrev pub place_by : RequestKey → Visited T → Journal → At T → Place Site ToolInput ToolAnswer
+  abbrev pub place_by : RequestKey → Visited T → Journal → RunState T → Place Site ToolInput
+      ToolAnswer
   place_by key v journal Wanted = let p : Project = project_by key v in walking
-      (walk p key (bodies_of w p) (asks_of (body_of v.run.target) (left v.order)) v.standing
+      (walk p key (bodies_of w p) (asks_of (body_of v.run.target) (left v.order)) v.state
       journal)
   place_by key v journal at = in_body_by key v
       (halt_at v.run (target_at (project_by key v) v.run.target) at)
@@ -108,7 +110,8 @@ module _ {T : Type 0} (calls : T → List (List ℕ × ToolInput)) (w : Given) w
   abbrev pub in_body : RequestKey → Visit T → Option Halt → Place Site ToolInput ToolAnswer
   in_body key v halt = in_body_by key (seen_visit v) halt
 
-  abbrev pub place_at : RequestKey → Visit T → Journal → At T → Place Site ToolInput ToolAnswer
+  abbrev pub place_at : RequestKey → Visit T → Journal → RunState T → Place Site ToolInput
+      ToolAnswer
   place_at key v journal at = place_by key (seen_visit v) journal at
 
   abbrev pub place_of : RequestKey → Journal → Stage T → Place Site ToolInput ToolAnswer

@@ -3,7 +3,7 @@ use Rattle.std.specs.Prelude.{◌≡◌, Some}
 use Rattle.result_cache.specs.Journal.{Journal}
 use Rattle.result_cache.specs.Replay.{replay_all}
 use Rattle.result_cache.specs.Table.{Records}
-use Rattle.request_machine.specs.declared.results.Replayed.{Replayed}
+use Rattle.request_machine.specs.declared.replayed.Replayed.{Replayed}
 
 -- by these records the runs, replayed in this journal, give the journal that is there
 abbrev pub IsReplayed : Records → Journal → Replayed → Type 0

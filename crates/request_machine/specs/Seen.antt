@@ -1,8 +1,8 @@
 -- The project that the code holds. (How MSBuild builds projects, execution phase)
 use Rattle.build_world.specs.Instances.{seen_instance}
 use Rattle.request_machine.specs.Requests.{Project}
-use Rattle.request_machine.specs.declared.project.Project.{Project as Made}
+use Rattle.request_machine.specs.declared.context.Project.{Project as HeldProject}
 
-abbrev pub seen_project : Made → Project
-seen_project made = record
-    { files = made.tree.now.files; key = made.key.now; instance = seen_instance made.instance.now }
+abbrev pub seen_project : HeldProject → Project
+seen_project held = record
+    { files = held.tree.now.files; key = held.key.now; instance = seen_instance held.instance.now }

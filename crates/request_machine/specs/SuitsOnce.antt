@@ -3,6 +3,7 @@ use mathlib.Core.Sum.{⊎_set}
 use Rattle.std.proofs.Common.{ℕ, List}
 use Rattle.std.proofs.Props.{props}
 use Rattle.std.specs.Coded.{codes, Coded-set, ×_prop}
+use Rattle.msb_laws.specs.Words.{Name}
 use Rattle.msb_values.specs.declared.key.InstanceKey.{InstanceKey}
 use Rattle.build_world.specs.declared.instance.Instance.{Instance}
 use Rattle.build_world.specs.declared.world.World.{World as Given}
@@ -11,7 +12,7 @@ use Rattle.task_trait.specs.declared.tools.ToolAnswer.{ToolAnswer}
 use Rattle.task_trait.specs.declared.tools.ToolInput.{ToolInput}
 use Rattle.build_meaning.specs.World.{World}
 use Rattle.request_machine.specs.WorldSets.{worlds}
-use Rattle.request_machine.specs.Sites.{Suits}
+use Rattle.request_machine.specs.NodeContexts.{Suits}
 use Rattle.request_machine.specs.Walk.{Site}
 use Rattle.request_machine.specs.Worlds.{world_of}
 
@@ -24,7 +25,7 @@ input-set = hlevel (codes, Coded-set, props)
 answer-set : IsSet ToolAnswer
 answer-set = hlevel (⊎_set, codes, Coded-set, props)
 
-pub suits-once : (answer : List ℕ → ToolInput → ToolAnswer) (given : Given)
+pub suits-once : (answer : Name → ToolInput → ToolAnswer) (given : Given)
     (kept : List (InstanceKey × Instance)) (w : World Site ToolInput ToolAnswer) →
     IsProp (Suits answer given kept w)
 suits-once answer given kept w =

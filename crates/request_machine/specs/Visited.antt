@@ -3,23 +3,23 @@ use Rattle.std.specs.Prelude.{Option, None, Some}
 use Rattle.target_order.specs.Progress.{Progress}
 use Rattle.build_world.specs.Instances.{Instance, seen_instance}
 use Rattle.result_cache.specs.declared.run.RunId.{RunId}
-use Rattle.request_machine.specs.declared.standing.Standing.{Standing}
+use Rattle.request_machine.specs.declared.stage.RequestScope.{RequestScope}
 use Rattle.request_machine.specs.declared.stage.Stage.{Stage}
 use Rattle.request_machine.specs.declared.stage.Stage.TheVariants.{Begins, Visits, Over}
-use Rattle.request_machine.specs.declared.visit.At.{At}
-use Rattle.request_machine.specs.declared.visit.Visit.{Visit}
+use Rattle.request_machine.specs.declared.stage.RunState.{RunState}
+use Rattle.request_machine.specs.declared.stage.Visit.{Visit}
 
 pub record Visited (T : Type 0) : Type 0 where
   pub instance : Instance
-  pub standing : Standing
+  pub state : RequestScope
   pub order : Progress
   pub run : RunId
-  pub at : At T
+  pub at : RunState T
 
 abbrev pub seen_visit : {T : Type 0} → Visit T → Visited T
 seen_visit v = record {
   instance = seen_instance v.instance;
-  standing = v.standing;
+  state = v.state;
   order = v.order;
   run = v.run;
   at =

@@ -1,7 +1,6 @@
 -- One request of a build, as a tree of the runs that it wants: the order of targets, answered by
 -- the project. (Target build order; OnError element)
 use Rattle.std.specs.Prelude.{
-  ℕ,
   List,
   [],
   ◌∷◌,
@@ -20,6 +19,7 @@ use Rattle.std.specs.Prelude.{
 use Rattle.std.specs.List.{flat_map}
 use Rattle.msb_laws.specs.Asking.{Asking, gives as ends, asks}
 use Rattle.msb_laws.specs.Results.{map_ok}
+use Rattle.msb_laws.specs.Words.{Name, Text}
 use Rattle.msb_values.specs.declared.key.InstanceKey.{InstanceKey}
 use Rattle.msb_values.specs.declared.scope.Scope.{Scope}
 use Rattle.target_order.specs.Visit.{
@@ -50,7 +50,7 @@ use Rattle.result_cache.specs.declared.run.RunId.{RunId}
 use Rattle.result_cache.specs.declared.record.Record.{Record}
 use Rattle.result_cache.specs.declared.request.RequestKey.{RequestKey}
 use Rattle.build_meaning.specs.Walk.{Walk, gives, wants, Body, Reply}
-use Rattle.request_machine.specs.declared.standing.Standing.{Standing}
+use Rattle.request_machine.specs.declared.stage.RequestScope.{RequestScope}
 use Rattle.request_machine.specs.Requests.{
   Project,
   holds_of,
@@ -64,7 +64,7 @@ use Rattle.request_machine.specs.Requests.{
 }
 
 -- a target has run
-abbrev pub after_run : Standing → List ℕ → Record → Standing
+abbrev pub after_run : RequestScope → Name → Record → RequestScope
 after_run s name made = record {
   scope = all_applied made.changes s.scope;
   returned = s.returned
@@ -72,14 +72,14 @@ after_run s name made = record {
 }
 
 -- the one run of a target of an instance
-abbrev pub run_of : InstanceKey → List ℕ → RunId
+abbrev pub run_of : InstanceKey → Name → RunId
 run_of key name = record { instance = key; target = name }
 
 -- the error texts of a circle of targets, and of a name without a target
-abbrev pub circle_text : List (List ℕ) → List ℕ
+abbrev pub circle_text : List Name → Text
 circle_text names = codes "circular targets" ++ flat_map (λ name. 32 ∷ name) names
 
-abbrev pub unknown_text : List ℕ → List ℕ
+abbrev pub unknown_text : Name → Text
 unknown_text name = codes "unknown target " ++ name
 
 -- a fault in a Condition or a list is the request's error
@@ -92,7 +92,7 @@ or_failed (Ok x) next = next x
 or_failed (Err fault) next = gives (faulted fault)
 
 -- how the order has ended
-abbrev pub reply_of : Project → RequestKey → End → Standing → Reply
+abbrev pub reply_of : Project → RequestKey → End → RequestScope → Reply
 reply_of p key finished s = succeeded p.instance key s.returned
 reply_of p key stopped s = failed None
 reply_of p key (circle names) s = failed (Some (circle_text names))
@@ -100,20 +100,21 @@ reply_of p key (unknown name) s = failed (Some (unknown_text name))
 
 -- a run has succeeded, or has failed: then the OnError elements of its target are read in the scope
 -- that it leaves
-abbrev pub answer_of : Project → Bool → Standing → Journal → List ℕ → Result OrderAnswer EvalFault
+abbrev pub answer_of : Project → Bool → RequestScope → Journal → Name → Result OrderAnswer
+    EvalFault
 answer_of p true s journal name = Ok Ran
 answer_of p false s journal name = map_ok Failed (on_error p s.scope journal (target_at p name))
 
 -- what follows a run, by its record and the journal then, where the order goes on so
 abbrev pub after_target : {P I A : Type 0} → Project →
-    (OrderAnswer → Standing → Journal → Walk P I A) → Standing → List ℕ → Record → Journal →
+    (OrderAnswer → RequestScope → Journal → Walk P I A) → RequestScope → Name → Record → Journal →
     Walk P I A
 after_target p next s name made journal =
-    let after : Standing = after_run s name made in
+    let after : RequestScope = after_run s name made in
     or_failed (answer_of p made.ok after journal name) (λ answer. next answer after journal)
 
 -- at the beginning nothing has run
-abbrev pub nothing_ran : Project → Standing
+abbrev pub nothing_ran : Project → RequestScope
 nothing_ran p = record { scope = p.instance.scope; returned = [] }
 
 -- ---- the walk of a request
@@ -124,10 +125,10 @@ pub record Site : Type 0 where
   pub scope : Scope
 
 module _ {I A : Type 0} (p : Project) (key : RequestKey)
-    (body_of : List ℕ → Scope → Journal → Body I A) where
+    (body_of : Name → Scope → Journal → Body I A) where
   -- what the order asks is answered in the scope and by the files of that moment; a body is a run
   -- that is wanted
-  abbrev pub walk : Asking Question OrderAnswer End → Standing → Journal → Walk Site I A
+  abbrev pub walk : Asking Question OrderAnswer End → RequestScope → Journal → Walk Site I A
   walk (ends end) s journal = gives (reply_of p key end s)
   walk (asks (condition name) go) s journal =
       or_failed (holds_of p s.scope journal (target_at p name))

@@ -1,5 +1,6 @@
 -- Of which world a walk is, and where it stands. (Target build order; MSBuild task)
 use Rattle.std.specs.Prelude.{ℕ, List, map, Option, option_map}
+use Rattle.msb_laws.specs.Words.{Name}
 use Rattle.task_trait.specs.declared.tools.ToolAnswer.{ToolAnswer}
 use Rattle.task_trait.specs.declared.tools.ToolInput.{ToolInput}
 use Rattle.build_meaning.specs.SoFar.{ToolUse}
@@ -13,7 +14,7 @@ use Rattle.request_machine.specs.Worlds.{world_of}
 use Rattle.request_machine.specs.declared.request.Request.{Request}
 use Rattle.request_machine.specs.declared.walk.Walk.{Walk}
 
-module _ {T : Type 0} (calls : T → List (List ℕ × ToolInput)) where
+module _ {T : Type 0} (calls : T → List (Name × ToolInput)) where
   -- where a request stands
   abbrev pub request_position : Request T → Position Site ToolInput ToolAnswer
   request_position r = position_of calls r.world.now r.key r.journal r.runs r.stage
@@ -32,6 +33,6 @@ module _ {T : Type 0} (calls : T → List (List ℕ × ToolInput)) where
   tools_used tools = map tool_use (calls tools)
 
 -- the world of a walk, by what its tools answer
-abbrev pub walk_world : {T : Type 0} → (List ℕ → ToolInput → ToolAnswer) → Walk T →
+abbrev pub walk_world : {T : Type 0} → (Name → ToolInput → ToolAnswer) → Walk T →
     World Site ToolInput ToolAnswer
 walk_world answer w = world_of answer w.request.world.now

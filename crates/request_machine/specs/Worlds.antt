@@ -1,7 +1,6 @@
 -- The world of a build: its root request, and what each request and each run does, by the files,
 -- the mode and the tools. (MSBuild command-line reference; MSBuild task)
 use Rattle.std.specs.Prelude.{
-  ℕ,
   List,
   [],
   ◌∷◌,
@@ -17,6 +16,7 @@ use Rattle.std.specs.Prelude.{
   Err,
   codes,
 }
+use Rattle.msb_laws.specs.Words.{Name}
 use Rattle.msb_values.specs.declared.mode.Mode.{Mode}
 use Rattle.msb_values.specs.declared.scope.Scope.{Scope}
 use Rattle.file_store.specs.Files.{file_at}
@@ -36,7 +36,7 @@ use Rattle.build_meaning.specs.World.{World}
 use Rattle.target_body.specs.Bodies.{body}
 use Rattle.target_body.specs.States.{run_at}
 use Rattle.request_machine.specs.Requests.{Project, target_at, unevaluated}
-use Rattle.request_machine.specs.Stands.{Bodies}
+use Rattle.request_machine.specs.NextStops.{Bodies}
 use Rattle.request_machine.specs.Walk.{Site, run_of, walk_in}
 
 -- nothing is made of a target that the project has not; the order asks for none
@@ -89,7 +89,7 @@ walk_of w key journal =
     request_by w.tree.files w.mode key journal (instances_of w.tree.files key)
 
 -- the default targets of the root are asked for where none is named
-abbrev pub is_some_named : List (List ℕ) → Bool
+abbrev pub is_some_named : List Name → Bool
 is_some_named [] = false
 is_some_named (name ∷ names) = true
 
@@ -101,6 +101,6 @@ root_of w = record {
       is_some_named w.targets;
 }
 
-abbrev pub world_of : (List ℕ → ToolInput → ToolAnswer) → Given →
+abbrev pub world_of : (Name → ToolInput → ToolAnswer) → Given →
     World Site ToolInput ToolAnswer
 world_of tools w = record { root = root_of w; tools = tools; walks = walk_of w }

@@ -7,21 +7,17 @@ ghost use Rattle.request_machine.specs.Requests.{failed, has_no_targets, unevalu
 ghost use Rattle.request_machine.specs.Plain.{is_plain, project_asks};
 ghost use Rattle.request_machine.specs.Walk.{walk_in};
 ghost use Rattle.request_machine.specs.Worlds.{bodies_of, instances_of, project_of, walk_of};
-ghost use Rattle.request_machine.specs.Begun.{IsReady, StandsAt, StandsBy};
+ghost use Rattle.request_machine.specs.Stages.{IsReady, StandsAt, StandsBy};
 ghost use Rattle.target_order.specs.declared.visits.Asked.TheVariants.{Body as ForBody};
 ghost use Rattle.request_machine.specs.declared.stage.Stage.TheVariants.{Over};
-ghost use Rattle.request_machine.specs.declared.visit.At.TheVariants.{Wanted};
+ghost use Rattle.request_machine.specs.declared.stage.RunState.TheVariants.{Wanted};
 
-use crate::moment::Moment;
+use crate::context::{Project, RequestContext};
+use crate::order::NextStop;
 use crate::plain::project_asks;
-use crate::project::Project;
-use crate::reply::Reply;
-use crate::returned::all_targets;
+use crate::reply::{Reply, all_targets};
 use crate::shared::SharedList;
-use crate::stage::Stage;
-use crate::standing::Standing;
-use crate::turn::Stand;
-use crate::visit::{At, Visit};
+use crate::stage::{RequestScope, RunState, Stage, Visit};
 use build_world::{EvalFault, Instance, World};
 use msb_files::Journal;
 use msb_instance::{InstanceRef, Instances};
@@ -49,25 +45,25 @@ pub fn begin<T>(
     journal: &Journal,
 ) -> Result<Beginning<T>, NoMemory>
     requires { AreEvaluated world.now.tree.files instances.old }
-    ensures stands { IfOk result (λ begun. StandsAt world.now key.now journal.now
-        (walk_of world.now key.now journal.now) begun.stage) }
+    ensures stands { IfOk result (λ beginning. StandsAt world.now key.now journal.now
+        (walk_of world.now key.now journal.now) beginning.stage) }
     ensures plain { IfOk result
-        (λ begun. begun.plain ≡ is_plain (instances_of world.now.tree.files key.now)) }
+        (λ beginning. beginning.plain ≡ is_plain (instances_of world.now.tree.files key.now)) }
     ensures kept { AreEvaluated world.now.tree.files instances.new }
 {
     if world.tree.find(key.instance.path.as_str()).is_none() {
-        return not_found(alloc, key.instance.path.as_str());
+        return reply_not_found(alloc, key.instance.path.as_str());
     }
     match instances.get(alloc, &world.tree, &key.instance) {
         Ok(instance) => begin_evaluated(alloc, world, key, journal, instance),
-        Err(fault) => refused(alloc, &fault),
+        Err(fault) => reply_refused(alloc, &fault),
     }
 }
 
-fn not_found<T>(alloc: Global, path: &str) -> Result<Beginning<T>, NoMemory>
+fn reply_not_found<T>(alloc: Global, path: &str) -> Result<Beginning<T>, NoMemory>
     ensures told { IfOk result
-        (λ begun. begun.stage ≡ Over (unevaluated (path.now ++ codes ": not found"))) }
-    ensures plain { IfOk result (λ begun. begun.plain ≡ true) }
+        (λ beginning. beginning.stage ≡ Over (unevaluated (path.now ++ codes ": not found"))) }
+    ensures plain { IfOk result (λ beginning. beginning.plain ≡ true) }
 {
     let text = Text::from(format!(in alloc; "{path}: not found")?);
     Ok(Beginning {
@@ -76,10 +72,10 @@ fn not_found<T>(alloc: Global, path: &str) -> Result<Beginning<T>, NoMemory>
     })
 }
 
-fn refused<T>(alloc: Global, fault: &EvalFault) -> Result<Beginning<T>, NoMemory>
+fn reply_refused<T>(alloc: Global, fault: &EvalFault) -> Result<Beginning<T>, NoMemory>
     ensures told { IfOk result
-        (λ begun. begun.stage ≡ Over (unevaluated (fault_text fault.now))) }
-    ensures plain { IfOk result (λ begun. begun.plain ≡ true) }
+        (λ beginning. beginning.stage ≡ Over (unevaluated (fault_text fault.now))) }
+    ensures plain { IfOk result (λ beginning. beginning.plain ≡ true) }
     ensures cause { IfOk result (λ _. fault.now.cause ≢ Memory) }
 {
     if let Cause::Memory = fault.cause {
@@ -99,12 +95,12 @@ fn begin_evaluated<T>(
     journal: &Journal,
     instance: InstanceRef,
 ) -> Result<Beginning<T>, NoMemory>
-    ensures stands { IfOk result (λ begun.
+    ensures stands { IfOk result (λ beginning.
         let p = project_of world.now key.now (seen_instance instance) in
         StandsAt world.now key.now journal.now
-        (walk_in p key.now (bodies_of world.now p) journal.now) begun.stage) }
+        (walk_in p key.now (bodies_of world.now p) journal.now) beginning.stage) }
     ensures plain { IfOk result
-        (λ begun. begun.plain ≡ not (project_asks (seen_instance instance))) }
+        (λ beginning. beginning.plain ≡ not (project_asks (seen_instance instance))) }
 {
     let plain = !project_asks(alloc, instance.get())?;
     let stage = begin_visit(alloc, world, key, journal, instance)?;
@@ -124,29 +120,29 @@ fn begin_visit<T>(
 {
     let evaluated = instance.get();
     if has_no_targets(evaluated, key) {
-        return no_targets(alloc);
+        return reply_no_targets(alloc);
     }
-    let standing = Standing {
+    let state = RequestScope {
         scope: evaluated.scope.copy()?,
         returned: SharedList::new(alloc),
     };
     let targets = all_targets(evaluated, key)?;
     let mut order = OrderWalk::start(alloc, &evaluated.rows, &targets)?;
-    let moment = Moment {
+    let context = RequestContext {
         project: Project {
             tree: &world.tree,
             key: &key.instance,
             instance: &instance,
         },
         key,
-        standing: &standing,
+        state: &state,
         journal,
     };
-    let stand = moment.go_on(alloc, &mut order, OrderAnswer::First)?;
-    stage_by(key, instance, standing, order, stand)
+    let next_stop = context.answer_order(alloc, &mut order, OrderAnswer::First)?;
+    make_stage(key, instance, state, order, next_stop)
 }
 
-fn no_targets<T>(alloc: Global) -> Result<Stage<T>, NoMemory>
+fn reply_no_targets<T>(alloc: Global) -> Result<Stage<T>, NoMemory>
     ensures { IfOk result (λ stage. stage ≡ Over (failed (Some (codes "no targets")))) }
 {
     let text = Text::of(alloc, "no targets")?;
@@ -160,41 +156,41 @@ fn has_no_targets(instance: &Instance, key: &RequestKey) -> bool
     instance.targets.as_slice().is_empty() && !key.named
 }
 
-fn stage_by<T>(
+fn make_stage<T>(
     key: &RequestKey,
     instance: InstanceRef,
-    standing: Standing,
+    state: RequestScope,
     order: OrderWalk,
-    stand: Stand,
+    next_stop: NextStop,
 ) -> Result<Stage<T>, NoMemory>
-    requires { IsReady stand order }
-    ensures { IfOk result (StandsBy key.now (seen_instance instance) standing order stand) }
+    requires { IsReady next_stop order }
+    ensures { IfOk result (StandsBy key.now (seen_instance instance) state order next_stop) }
 {
-    match stand {
-        Stand::Wants(target) => {
+    match next_stop {
+        NextStop::Wants(target) => {
             let run = RunId {
                 instance: key.instance.copy()?,
                 target,
             };
-            Ok(Stage::Visits(wanted(instance, standing, order, run)))
+            Ok(Stage::Visits(want_run(instance, state, order, run)))
         }
-        Stand::Over(reply) => Ok(Stage::Over(reply)),
+        NextStop::Over(reply) => Ok(Stage::Over(reply)),
     }
 }
 
-fn wanted<T>(instance: InstanceRef, standing: Standing, order: OrderWalk, run: RunId) -> Visit<T>
+fn want_run<T>(instance: InstanceRef, state: RequestScope, order: OrderWalk, run: RunId) -> Visit<T>
     requires { order.asked ≡ ForBody }
     ensures instance { result.instance ≡ instance }
-    ensures standing { result.standing ≡ standing }
+    ensures state { result.state ≡ state }
     ensures order { result.order ≡ order }
     ensures run { result.run ≡ run }
     ensures at { result.at ≡ Wanted }
 {
     Visit {
         instance,
-        standing,
+        state,
         order,
         run,
-        at: At::Wanted,
+        at: RunState::Wanted,
     }
 }

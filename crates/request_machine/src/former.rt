@@ -2,12 +2,20 @@
 
 ghost use Rattle.std.specs.Prelude.{◌≡◌, ◌==◌, not, option_map};
 ghost use Rattle.target_order.specs.declared.visits.Asked.TheVariants.{Body as ForBody};
-ghost use Rattle.request_machine.specs.Begun.{has_begun};
-ghost use Rattle.request_machine.specs.Former.{IsBefore, IsFormer, IsVisitOf};
-ghost use Rattle.request_machine.specs.Former.{body_before, position_before, visit_before};
-ghost use Rattle.request_machine.specs.Former.{was_begun, with_at, with_parts};
+ghost use Rattle.request_machine.specs.Stages.{has_begun};
+ghost use Rattle.request_machine.specs.Former.{
+  IsBefore,
+  IsFormer,
+  IsVisitOf,
+  body_before,
+  position_before,
+  visit_before,
+  was_begun,
+  with_at,
+  with_parts,
+};
 ghost use Rattle.request_machine.specs.Runs.{run_in};
-ghost use Rattle.request_machine.specs.Taken.{IsVisit};
+ghost use Rattle.request_machine.specs.AfterRuns.{IsVisit};
 ghost use Rattle.request_machine.specs.Visited.{seen_stage, seen_visit};
 ghost use Rattle.request_machine.specs.Walk.{run_of};
 ghost use Rattle.request_machine.specs.WalkPosition.{request_position};
@@ -15,9 +23,7 @@ ghost use Rattle.msb_values.specs.declared.key.InstanceKey.{InstanceKey};
 
 use crate::request::Request;
 use crate::shared::SharedList;
-use crate::stage::Stage;
-use crate::standing::Standing;
-use crate::visit::{At, Visit};
+use crate::stage::{RequestScope, RunState, Stage, Visit};
 use msb_files::Journal;
 use msb_values::Name;
 use result_cache::RunRef;
@@ -30,7 +36,7 @@ pub enum Former<T> {
     /// It had no answer before.
     Begins,
     /// The body of its run stood here, by this journal.
-    Body(At<T>, Journal),
+    Body(RunState<T>, Journal),
     /// It visited another target, by this journal and with these runs.
     Visit(FormerVisit<T>, Journal, SharedList<RunRef>),
 }
@@ -66,17 +72,17 @@ impl<T> Drop for FormerVisit<T> {
 
 /// What one visit of a request has for itself.
 pub struct VisitParts<T> {
-    pub standing: Standing,
+    pub state: RequestScope,
     pub order: OrderWalk,
     pub target: Name,
-    pub at: At<T>,
+    pub at: RunState<T>,
 }
 
 // A drop that is written out is proved here alone.
 impl<T> Drop for VisitParts<T> {
     fn drop(self) {
         let VisitParts {
-            standing: _,
+            state: _,
             order: _,
             target: _,
             at: _,
@@ -91,7 +97,7 @@ impl<T> VisitParts<T> {
         requires own_body { let run = run_of visit.old.run.instance self.target in
             run_in run self.at ≡ run }
         ensures instance { visit.new.instance ≡ visit.old.instance }
-        ensures standing { visit.new.standing ≡ self.standing }
+        ensures state { visit.new.state ≡ self.state }
         ensures order { visit.new.order ≡ self.order }
         ensures own { visit.new.run.instance ≡ visit.old.run.instance }
         ensures target { visit.new.run.target ≡ self.target }
@@ -99,17 +105,17 @@ impl<T> VisitParts<T> {
         ensures before { with_parts result (seen_visit visit.new) ≡ seen_visit visit.old }
     {
         let VisitParts {
-            standing,
+            state,
             order,
             target,
             at,
         } = self;
-        let standing = mem::replace(&mut visit.standing, standing);
+        let state = mem::replace(&mut visit.state, state);
         let order = mem::replace(&mut visit.order, order);
         let target = mem::replace(&mut visit.run.target, target);
         let at = mem::replace(&mut visit.at, at);
         VisitParts {
-            standing,
+            state,
             order,
             target,
             at,
@@ -148,7 +154,7 @@ impl<T> FormerVisit<T> {
 
 /// The body of the run of a stage stands here now. Where it stood is given back. This takes no
 /// memory.
-pub fn replace_body<T>(stage: &mut Stage<T>, at: At<T>) -> At<T>
+pub fn replace_body<T>(stage: &mut Stage<T>, at: RunState<T>) -> RunState<T>
     requires visits { IsVisit stage.old }
     requires fits { ∥ ((instance : InstanceKey) ×
         IsVisitOf instance (body_before stage.old at)) ∥₁ }
@@ -161,7 +167,7 @@ pub fn replace_body<T>(stage: &mut Stage<T>, at: At<T>) -> At<T>
     }
 }
 
-fn replace_at<T>(visit: &mut Visit<T>, at: At<T>) -> At<T>
+fn replace_at<T>(visit: &mut Visit<T>, at: RunState<T>) -> RunState<T>
     requires { run_in visit.old.run at ≡ visit.old.run }
     ensures now { seen_visit visit.new ≡ with_at at (seen_visit visit.old) }
     ensures before { with_at result (seen_visit visit.new) ≡ seen_visit visit.old }
@@ -195,22 +201,22 @@ impl<T: CountedTools> Former<T> {
 }
 
 /// What the last answer of a walk has replaced, and how often it had asked before.
-pub struct Before<T> {
+pub struct FormerWalk<T> {
     pub former: Former<T>,
     pub asked: u64,
 }
 
 // A drop that is written out is proved here alone.
-impl<T> Drop for Before<T> {
+impl<T> Drop for FormerWalk<T> {
     fn drop(self) {
-        let Before {
+        let FormerWalk {
             former: _,
             asked: _,
         } = self;
     }
 }
 
-impl<T: CountedTools> Before<T> {
+impl<T: CountedTools> FormerWalk<T> {
     /// Puts back what was replaced, and says how often the walk had asked.
     pub fn put_back<'a>(self, request: &mut Request<'a, T>) -> u64
         requires { ∥ IsBefore request.old self ∥₁ }
@@ -220,7 +226,7 @@ impl<T: CountedTools> Before<T> {
         ensures begun { has_begun request.new.stage ≡ not (self.asked == 0) }
         ensures world { request.new.world ≡ request.old.world }
     {
-        let Before { former, asked } = self;
+        let FormerWalk { former, asked } = self;
         former.put_back(request);
         asked
     }

@@ -4,34 +4,20 @@
 //! What a request does is one tree, `walk_of` in `specs/Worlds.antt`.
 #![tactic(auto)]
 
-mod asking;
+mod after_run;
 mod beginning;
-mod following;
+mod context;
 mod former;
-mod held;
-mod log;
-mod making;
-mod moment;
-mod on_error;
+mod order;
 mod plain;
-mod project;
+mod replayed;
 mod reply;
 mod request;
-mod results;
-mod returned;
-mod root;
-mod running;
+mod run;
 mod shared;
-mod site;
+mod snapshots;
 mod stage;
-mod standing;
-mod turn;
-mod visit;
-mod visiting;
 mod walk;
 
-pub use asking::conditions_see_files_by_exists;
-pub use plain::plain_projects_ask_alike;
-pub use root::root_key;
-pub use site::Site;
-pub use walk::{Walk, WorldRef};
+pub use plain::{conditions_see_files_by_exists, plain_projects_ask_alike};
+pub use walk::{NodeContext, Walk, WorldRef, root_key};

@@ -1,11 +1,28 @@
-ghost use Rattle.std.specs.Prelude.{◌≡◌, ◌++◌, ◌∷◌, IfOk, None, Some, codes};
-ghost use Rattle.request_machine.specs.Requests.{failed, unevaluated};
+ghost use Rattle.std.specs.Prelude.{◌≡◌, ◌++◌, ◌∷◌, IfOk, None, Some, codes, OnOk, option_copied};
+ghost use Rattle.request_machine.specs.Requests.{
+  failed,
+  unevaluated,
+  all_targets,
+  asked_targets,
+  if_returned,
+  named_or,
+  once,
+  returned_of,
+  succeeded,
+};
 ghost use Rattle.request_machine.specs.Walk.{circle_text, unknown_text};
 ghost use Rattle.build_meaning.specs.SoFar.{result_of};
+ghost use Rattle.std.specs.List.{find, flat_map, list_any};
+ghost use Rattle.std.specs.Str.{bytes_eq};
+ghost use Rattle.build_world.specs.Instances.{seen_instance};
+ghost use Rattle.request_machine.specs.Each.{returned_unless};
+ghost use Rattle.request_machine.specs.Seen.{seen_project};
 
+use crate::context::RequestContext;
 use crate::shared::SharedList;
-use msb_values::{Copied, List, Name, NoMemory, Text};
-use result_cache::{RequestResult, Returned, RunRef};
+use build_world::Instance;
+use msb_values::{Copied, List, Name, NoMemory, Shared, Text};
+use result_cache::{RequestKey, RequestResult, Returned, RunRef};
 use std::alloc::Global;
 use std::marker::Model;
 
@@ -89,7 +106,7 @@ impl Reply {
             ok: self.ok,
             evaluated: self.evaluated,
             returned: self.returned.copy()?,
-            error: copied(&self.error)?,
+            error: copy_error(&self.error)?,
         })
     }
 
@@ -106,12 +123,12 @@ impl Reply {
             evaluated: self.evaluated,
             returned: self.returned.copy()?,
             runs: runs.to_list(alloc)?,
-            error: copied(&self.error)?,
+            error: copy_error(&self.error)?,
         })
     }
 }
 
-fn copied(error: &Option<Text>) -> Result<Option<Text>, NoMemory>
+fn copy_error(error: &Option<Text>) -> Result<Option<Text>, NoMemory>
     ensures { IfOk result (λ copy. copy ≡ error.now) }
 {
     match error {
@@ -129,4 +146,105 @@ fn circle_text(alloc: Global, names: &[Name]) -> Result<Text, NoMemory>
         text.push_str(name.key())?;
     }
     Ok(text)
+}
+
+impl<'a> RequestContext<'a> {
+    /// A request whose targets were all visited: it returns the items of the targets asked for, in
+    /// their order, each name once. (MSBuild task, TargetOutputs.)
+    pub fn success(&self, alloc: Global) -> Result<Reply, NoMemory>
+        ensures { IfOk result (λ reply. reply
+            ≡ succeeded (seen_project self.now.project).instance self.now.key.now
+            self.now.state.now.returned) }
+    {
+        let names = asked_targets(self.project.instance.get(), self.key);
+        let returned = self.state.returned.entries(alloc)?;
+        Ok(Reply {
+            ok: true,
+            evaluated: true,
+            returned: collect_returned(alloc, returned.as_slice(), names)?,
+            error: None,
+        })
+    }
+}
+
+/// The targets of a request: the initial ones, and then those that are named, or the default ones.
+pub fn all_targets(instance: &Instance, key: &RequestKey) -> Result<List<Name>, NoMemory>
+    ensures { IfOk result (λ names. names ≡ all_targets (seen_instance instance.now) key.now) }
+{
+    let mut names = instance.initial.copy()?;
+    add_all(&mut names, asked_targets(instance, key))?;
+    Ok(names)
+}
+
+fn asked_targets<'a>(instance: &'a Instance, key: &'a RequestKey) -> &'a [Name]
+    ensures { result.now ≡ asked_targets (seen_instance instance.entry.now) key.entry.now }
+{
+    if key.named {
+        key.targets.as_slice()
+    } else {
+        instance.default.as_slice()
+    }
+}
+
+/// Puts names behind others.
+pub fn add_all(names: &mut List<Name>, more: &[Name]) -> Result<(), NoMemory>
+    ensures { OnOk result (names.new ≡ names.old ++ more.now) }
+{
+    for name in more {
+        names.push(name.copy()?)?;
+    }
+    Ok(())
+}
+
+// What the targets of these names have returned, each name once.
+fn collect_returned(
+    alloc: Global,
+    returned: &[Shared<Returned>],
+    names: &[Name],
+) -> Result<List<Returned>, NoMemory>
+    ensures { IfOk result (λ by. by ≡ flat_map (returned_of returned.now) (once names.now)) }
+{
+    let mut by = List::new(alloc);
+    for at in 0..names.len() {
+        push_returned(&mut by, returned, &names[..at], &names[at])?;
+    }
+    Ok(by)
+}
+
+// What the target of a name has returned, unless the name is among those ahead of it.
+fn push_returned(
+    by: &mut List<Returned>,
+    returned: &[Shared<Returned>],
+    ahead: &[Name],
+    name: &Name,
+) -> Result<(), NoMemory>
+    ensures { OnOk result
+        (by.new ≡ by.old ++ returned_unless (list_any (bytes_eq name.now) ahead.now) returned.now
+        name.now) }
+{
+    if is_among(ahead, name) {
+        return Ok(());
+    }
+    push_found(by, find_returned(returned, name))
+}
+
+fn is_among(names: &[Name], name: &Name) -> bool
+    ensures { result ≡ list_any (bytes_eq name.now) names.now }
+{
+    names.iter().any(|other| *name == *other)
+}
+
+fn push_found(by: &mut List<Returned>, found: Option<&Shared<Returned>>) -> Result<(), NoMemory>
+    ensures { OnOk result (by.new ≡ by.old ++ if_returned (option_copied found.entry)) }
+{
+    if let Some(found) = found {
+        by.push(found.get().copy()?)?;
+    }
+    Ok(())
+}
+
+fn find_returned<'a>(returned: &'a [Shared<Returned>], name: &Name) -> Option<&'a Shared<Returned>>
+    ensures { option_copied result ≡ find (λ r. bytes_eq r.target name.now) returned.entry.now }
+{
+    returned.iter().find(|found| found.get().target == *name)
 }

@@ -1,18 +1,16 @@
 ghost use Rattle.std.specs.Prelude.{◌≡◌, drop, true};
-ghost use Rattle.request_machine.specs.Begun.{instance_in};
+ghost use Rattle.request_machine.specs.Stages.{instance_in};
 ghost use Rattle.request_machine.specs.Plain.{IsPlainProject};
 
+use crate::after_run::{AfterRun, OrderStep};
 use crate::beginning::{Beginning, begin};
-use crate::following::{After, Follow};
+use crate::context::{Project, RequestContext};
 use crate::former::{Former, replace_body};
-use crate::making::Step;
-use crate::moment::Moment;
-use crate::project::Project;
-use crate::results::{Replayed, journal_after};
+use crate::replayed::{Replayed, journal_after};
+use crate::run::RunStop;
 use crate::shared::SharedList;
-use crate::site::Site;
-use crate::stage::Stage;
-use crate::visit::Visit;
+use crate::stage::{Stage, Visit};
+use crate::walk::NodeContext;
 use build_scheduler::{Answer, Ask};
 use build_world::World;
 use msb_files::Journal;
@@ -62,7 +60,7 @@ pub struct Advanced<T> {
 
 /// A request that begins, and what it asks.
 #[derive(Drop)]
-struct Begun<T> {
+struct FirstAsk<T> {
     stage: Stage<T>,
     plain: bool,
     ask: Ask,
@@ -70,8 +68,8 @@ struct Begun<T> {
 
 /// Where the body of its run has stopped, and the journal then.
 #[derive(Drop)]
-struct Halted<T> {
-    step: Step<T>,
+struct StoppedBody<T> {
+    run_stop: RunStop<T>,
     journal: Journal,
 }
 
@@ -92,9 +90,9 @@ impl<'a, T> Request<'a, T> {
     ghost use Rattle.msb_instance.specs.Kept.{AreEvaluated};
     ghost use Rattle.request_machine.specs.Answered.{HasMade, HasRecord};
     ghost use Rattle.request_machine.specs.Asks.{AsksAt};
-    ghost use Rattle.request_machine.specs.Begun.{StandsAt, ended_stage};
-    ghost use Rattle.request_machine.specs.Following.{Follows};
-    ghost use Rattle.request_machine.specs.Taken.{ComesAfter, IsAfter};
+    ghost use Rattle.request_machine.specs.Stages.{StandsAt, ended_stage};
+    ghost use Rattle.request_machine.specs.OrderSteps.{Follows};
+    ghost use Rattle.request_machine.specs.AfterRuns.{ComesAfter, IsAfter};
     ghost use Rattle.request_machine.specs.declared.stage.Stage.TheVariants.{Begins};
     ghost use Rattle.request_machine.specs.Plain.{is_plain};
     ghost use Rattle.request_machine.specs.Worlds.{instances_of, project_of, walk_of};
@@ -184,13 +182,13 @@ impl<'a, T> Request<'a, T> {
     }
 
     // Where it stands when it begins in a world, whether it is plain, and what it asks then.
-    fn begun(&self, world: &World, instances: &mut Instances) -> Result<Begun<T>, NoMemory>
+    fn ask_first(&self, world: &World, instances: &mut Instances) -> Result<FirstAsk<T>, NoMemory>
         requires { AreEvaluated world.now.tree.files instances.old }
-        ensures stands { IfOk result (λ begun. StandsAt world.now self.now.key self.now.journal
-            (walk_of world.now self.now.key self.now.journal) begun.stage) }
+        ensures stands { IfOk result (λ first. StandsAt world.now self.now.key self.now.journal
+            (walk_of world.now self.now.key self.now.journal) first.stage) }
         ensures plain { IfOk result
-            (λ begun. begun.plain ≡ is_plain (instances_of world.now.tree.files self.now.key)) }
-        ensures asks { IfOk result (λ begun. AsksAt self.now.runs begun.stage begun.ask) }
+            (λ first. first.plain ≡ is_plain (instances_of world.now.tree.files self.now.key)) }
+        ensures asks { IfOk result (λ first. AsksAt self.now.runs first.stage first.ask) }
         ensures kept { AreEvaluated world.now.tree.files instances.new }
     {
         let Beginning { stage, plain } = begin(
@@ -201,11 +199,11 @@ impl<'a, T> Request<'a, T> {
             &self.journal,
         )?;
         let ask = stage.ask(self.alloc, &self.runs)?;
-        Ok(Begun { stage, plain, ask })
+        Ok(FirstAsk { stage, plain, ask })
     }
 
     // What comes after its run.
-    fn after_run(&self, learnt: &Table) -> Result<After, NoMemory>
+    fn after_run(&self, learnt: &Table) -> Result<AfterRun, NoMemory>
         requires { HasMade learnt.now.finished self.now.journal self.now.stage }
         ensures { IfOk result
             (IsAfter self.now.world.now self.now.key learnt.now.finished self.now.journal
@@ -217,7 +215,7 @@ impl<'a, T> Request<'a, T> {
         }
     }
 
-    fn after_visit(&self, learnt: &Table, visit: &Visit<T>) -> Result<After, NoMemory>
+    fn after_visit(&self, learnt: &Table, visit: &Visit<T>) -> Result<AfterRun, NoMemory>
         requires { HasRecord learnt.now.finished visit.now.run self.now.journal visit.now.at }
         ensures { IfOk result
             (ComesAfter self.now.world.now self.now.key learnt.now.finished self.now.journal
@@ -225,12 +223,12 @@ impl<'a, T> Request<'a, T> {
     {
         let run = RunRef::new(self.alloc, &visit.run)?;
         let mut journal = self.journal.copy()?;
-        let made = visit.record(self.alloc, learnt, &run, &mut journal)?;
-        let runs = self.runs_with(made.name_or(run))?;
-        let follow = self.follow(visit, &journal, made.get())?;
-        let ask = follow.ask(self.alloc, &self.key.instance, &runs)?;
-        Ok(After {
-            follow,
+        let run_record = visit.record(self.alloc, learnt, &run, &mut journal)?;
+        let runs = self.runs_with(run_record.name_or(run))?;
+        let step = self.follow(visit, &journal, run_record.get())?;
+        let ask = step.ask(self.alloc, &self.key.instance, &runs)?;
+        Ok(AfterRun {
+            step,
             journal,
             runs,
             ask,
@@ -247,23 +245,28 @@ impl<'a, T> Request<'a, T> {
     }
 
     // What follows the run of a visit, by its record and the journal then.
-    fn follow(&self, visit: &Visit<T>, journal: &Journal, made: &Record) -> Result<Follow, NoMemory>
+    fn follow(
+        &self,
+        visit: &Visit<T>,
+        journal: &Journal,
+        run_record: &Record,
+    ) -> Result<OrderStep, NoMemory>
         ensures { IfOk result
             (Follows (project_of self.now.world.now self.now.key (seen_instance visit.now.instance))
-            self.now.key visit.now.standing journal.now visit.now.order visit.now.run.target
-            made.now) }
+            self.now.key visit.now.state journal.now visit.now.order visit.now.run.target
+            run_record.now) }
     {
-        let moment = Moment {
+        let context = RequestContext {
             project: Project {
                 tree: &self.world.tree,
                 key: &self.key.instance,
                 instance: &visit.instance,
             },
             key: &self.key,
-            standing: &visit.standing,
+            state: &visit.state,
             journal,
         };
-        moment.follow(self.alloc, &visit.order, &visit.run.target, made)
+        context.follow(self.alloc, &visit.order, &visit.run.target, run_record)
     }
 }
 
@@ -295,14 +298,14 @@ impl<'a, T: CountedTools + 'a> Request<'a, T> {
     ghost use Rattle.target_body.specs.Standings.{target_named, tool_use};
     ghost use Rattle.task_trait.specs.Tools.{BeginsWith};
     ghost use Rattle.request_machine.specs.Answered.{GoesOn, HasMade, IsNext, WaitsFor, WantsRun};
-    ghost use Rattle.request_machine.specs.Begun.{has_begun};
+    ghost use Rattle.request_machine.specs.Stages.{has_begun};
     ghost use Rattle.request_machine.specs.Former.{Replaces};
-    ghost use Rattle.request_machine.specs.Halted.{HasMadeRun, IsMade, IsResumed};
-    ghost use Rattle.request_machine.specs.Making.{GoesOnFrom, IsWaiting};
+    ghost use Rattle.request_machine.specs.StoppedBodies.{HasMadeRun, IsMade, IsResumed};
+    ghost use Rattle.request_machine.specs.RunStops.{GoesOnFrom, IsWaiting};
     ghost use Rattle.request_machine.specs.Positions.{halt_at};
     ghost use Rattle.request_machine.specs.Replayed.{IsReplayed};
     ghost use Rattle.request_machine.specs.Runs.{run_in};
-    ghost use Rattle.request_machine.specs.Sites.{Suits};
+    ghost use Rattle.request_machine.specs.NodeContexts.{Suits};
     ghost use Rattle.request_machine.specs.WalkPosition.{request_position};
     ghost use Rattle.request_machine.specs.Worlds.{world_of};
 
@@ -313,7 +316,7 @@ impl<'a, T: CountedTools + 'a> Request<'a, T> {
         &mut self,
         learnt: &Table,
         replayed: &Option<Replayed>,
-        site: &mut Site<'a, &'a mut T>,
+        site: &mut NodeContext<'a, &'a mut T>,
         answer: &Answer,
     ) -> Result<Advanced<T>, NoMemory>
         requires fits { IsSome
@@ -345,7 +348,7 @@ impl<'a, T: CountedTools + 'a> Request<'a, T> {
     {
         match answer {
             Answer::First => self.begin(site.world, &mut site.instances),
-            Answer::Go => self.go(&mut *site.tools),
+            Answer::Go => self.begin_run(&mut *site.tools),
             Answer::Use => self.use_record(learnt),
             Answer::Results(results) => {
                 self.take_results(learnt, replayed, &mut *site.tools, results)
@@ -379,7 +382,7 @@ impl<'a, T: CountedTools + 'a> Request<'a, T> {
             (λ advanced. Replaces T.calls self.old self.new advanced.former) }
         ensures err { OnErr result (self.new ≡ self.old) }
     {
-        let Begun { stage, plain, ask } = self.begun(world, instances)?;
+        let FirstAsk { stage, plain, ask } = self.ask_first(world, instances)?;
         self.world = world;
         self.stage = stage;
         self.plain = plain;
@@ -390,7 +393,7 @@ impl<'a, T: CountedTools + 'a> Request<'a, T> {
     }
 
     // It makes the run that it wants. (Target element.)
-    fn go(&mut self, tools: &mut T) -> Result<Advanced<T>, NoMemory>
+    fn begin_run(&mut self, tools: &mut T) -> Result<Advanced<T>, NoMemory>
         requires { WantsRun self.old.stage }
         ensures goes { (table : Records)
             → IfOk result
@@ -408,8 +411,8 @@ impl<'a, T: CountedTools + 'a> Request<'a, T> {
         ensures tools { BeginsWith (T.calls tools.old) (T.calls tools.new) }
         ensures err { OnErr result (self.new ≡ self.old) }
     {
-        let Halted { step, journal } = self.made(tools)?;
-        let Step { at, ask } = step;
+        let StoppedBody { run_stop, journal } = self.make_run(tools)?;
+        let RunStop { at, ask } = run_stop;
         let at = replace_body(&mut self.stage, at);
         let journal = mem::replace(&mut self.journal, journal);
         Ok(Advanced {
@@ -418,28 +421,28 @@ impl<'a, T: CountedTools + 'a> Request<'a, T> {
         })
     }
 
-    fn made(&self, tools: &mut T) -> Result<Halted<T>, NoMemory>
+    fn make_run(&self, tools: &mut T) -> Result<StoppedBody<T>, NoMemory>
         requires { WantsRun self.now.stage }
-        ensures halted { IfOk result
-            (λ halted. IsMade T.answer T.calls self.now.world.now self.now.stage self.now.journal
-            halted.journal tools.old tools.new halted.step) }
+        ensures stopped { IfOk result
+            (λ stopped. IsMade T.answer T.calls self.now.world.now self.now.stage self.now.journal
+            stopped.journal tools.old tools.new stopped.run_stop) }
         ensures tools { BeginsWith (T.calls tools.old) (T.calls tools.new) }
     {
         match &self.stage {
-            Stage::Visits(visit) => self.made_at(visit, tools),
+            Stage::Visits(visit) => self.make_visit(visit, tools),
             Stage::Begins | Stage::Over(_) => unreachable!(),
         }
     }
 
-    fn made_at(&self, visit: &Visit<T>, tools: &mut T) -> Result<Halted<T>, NoMemory>
-        ensures halted { IfOk result
-            (λ halted. HasMadeRun T.answer T.calls self.now.world.now visit.now self.now.journal
-            halted.journal tools.old tools.new halted.step) }
+    fn make_visit(&self, visit: &Visit<T>, tools: &mut T) -> Result<StoppedBody<T>, NoMemory>
+        ensures stopped { IfOk result
+            (λ stopped. HasMadeRun T.answer T.calls self.now.world.now visit.now self.now.journal
+            stopped.journal tools.old tools.new stopped.run_stop) }
         ensures tools { BeginsWith (T.calls tools.old) (T.calls tools.new) }
     {
         let mut journal = self.journal.copy()?;
-        let step = visit.make(self.alloc, self.world, tools, &mut journal)?;
-        Ok(Halted { step, journal })
+        let run_stop = visit.make(self.alloc, self.world, tools, &mut journal)?;
+        Ok(StoppedBody { run_stop, journal })
     }
 
     // The body of its run goes on by the results of its calls, whose runs are replayed first, in
@@ -471,8 +474,8 @@ impl<'a, T: CountedTools + 'a> Request<'a, T> {
         ensures tools { BeginsWith (T.calls tools.old) (T.calls tools.new) }
         ensures err { OnErr result (self.new ≡ self.old) }
     {
-        let Halted { step, journal } = self.resumed(learnt, replayed, tools, results)?;
-        let Step { at, ask } = step;
+        let StoppedBody { run_stop, journal } = self.resume(learnt, replayed, tools, results)?;
+        let RunStop { at, ask } = run_stop;
         let at = replace_body(&mut self.stage, at);
         let journal = mem::replace(&mut self.journal, journal);
         Ok(Advanced {
@@ -481,55 +484,57 @@ impl<'a, T: CountedTools + 'a> Request<'a, T> {
         })
     }
 
-    fn resumed(
+    fn resume(
         &self,
         learnt: &Table,
         replayed: &Option<Replayed>,
         tools: &mut T,
         results: &List<RequestResult>,
-    ) -> Result<Halted<T>, NoMemory>
+    ) -> Result<StoppedBody<T>, NoMemory>
         requires waits { WaitsFor T.calls self.now.world.now results.now self.now.stage }
         requires replays { IsSome
             (replay_all learnt.now.finished (runs_of results.now) self.now.journal) }
         requires known { ∥ IfSome replayed.now
             (IsReplayed learnt.now.finished self.now.journal) ∥₁ }
-        ensures halted { IfOk result
-            (λ halted. IsResumed T.answer T.calls self.now.world.now learnt.now.finished results.now
-            self.now.stage self.now.journal halted.journal tools.old tools.new halted.step) }
+        ensures stopped { IfOk result
+            (λ stopped. IsResumed T.answer T.calls self.now.world.now learnt.now.finished
+            results.now self.now.stage self.now.journal stopped.journal tools.old tools.new
+            stopped.run_stop) }
         ensures tools { BeginsWith (T.calls tools.old) (T.calls tools.new) }
     {
         let entries = results.as_slice();
         let journal = journal_after(self.alloc, &self.journal, replayed, learnt, entries)?;
         match &self.stage {
-            Stage::Visits(visit) => self.resumed_at(visit, journal, tools, results),
+            Stage::Visits(visit) => self.resume_visit(visit, journal, tools, results),
             Stage::Begins | Stage::Over(_) => unreachable!(),
         }
     }
 
-    fn resumed_at(
+    fn resume_visit(
         &self,
         visit: &Visit<T>,
         journal: Journal,
         tools: &mut T,
         results: &List<RequestResult>,
-    ) -> Result<Halted<T>, NoMemory>
+    ) -> Result<StoppedBody<T>, NoMemory>
         requires { IsWaiting
             (halt_at T.calls self.now.world.now visit.now.run
             (target_named (seen_instance visit.now.instance).targets visit.now.run.target)
             visit.now.at) results.now }
-        ensures goes { IfOk result (λ halted.
+        ensures goes { IfOk result (λ stopped.
             let target = target_named (seen_instance visit.now.instance).targets
             visit.now.run.target in
             GoesOnFrom T.answer T.calls self.now.world.now visit.now.run target
             (halt_at T.calls self.now.world.now visit.now.run target visit.now.at) results.now
             journal
-            halted.journal tools.old tools.new halted.step) }
-        ensures own { IfOk result (λ halted. run_in visit.now.run halted.step.at ≡ visit.now.run) }
+            stopped.journal tools.old tools.new stopped.run_stop) }
+        ensures own { IfOk result
+            (λ stopped. run_in visit.now.run stopped.run_stop.at ≡ visit.now.run) }
         ensures tools { BeginsWith (T.calls tools.old) (T.calls tools.new) }
     {
         let mut journal = journal;
-        let step = visit.go_on(self.alloc, self.world, tools, &mut journal, results)?;
-        Ok(Halted { step, journal })
+        let run_stop = visit.resume(self.alloc, self.world, tools, &mut journal, results)?;
+        Ok(StoppedBody { run_stop, journal })
     }
 
     // It goes on with the record of its run, which another request has made, or its own body.
@@ -549,13 +554,13 @@ impl<'a, T: CountedTools + 'a> Request<'a, T> {
             (λ advanced. Replaces T.calls self.old self.new advanced.former) }
         ensures err { OnErr result (self.new ≡ self.old) }
     {
-        let After {
-            follow,
+        let AfterRun {
+            step,
             journal,
             runs,
             ask,
         } = self.after_run(learnt)?;
-        let visit = follow.take(&mut self.stage);
+        let visit = step.take(&mut self.stage);
         let journal = mem::replace(&mut self.journal, journal);
         let runs = mem::replace(&mut self.runs, runs);
         Ok(Advanced {

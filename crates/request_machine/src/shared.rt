@@ -3,56 +3,9 @@
 ghost use Rattle.std.specs.Prelude.{◌≡◌, [], ◌∷◌, ◌++◌, length, IfOk, OnOk, OnErr};
 ghost use Rattle.request_machine.specs.Layers.{joined};
 
-use msb_values::{Copied, List, NoMemory};
+use msb_values::{Copied, List, NoMemory, Shared};
 use std::alloc::Global;
 use std::marker::Model;
-use std::sync::Arc;
-
-/// A value that its copies share.
-pub struct Shared<T> {
-    value: Arc<T>,
-}
-
-// A drop that is written out is proved here alone.
-impl<T: Drop> Drop for Shared<T> {
-    fn drop(self) {
-        let Shared { value: _ } = self;
-    }
-}
-
-impl<T> Model for Shared<T> {
-    ghost use Rattle.std.specs.Arc.{arc_value};
-
-    ghost Value = { T };
-
-    ghost view = { λ s. arc_value s.value };
-}
-
-impl<T> Shared<T> {
-    pub fn get(&self) -> &T
-        ensures { result.now ≡ self.now }
-    {
-        &self.value
-    }
-}
-
-impl<T: Drop> Shared<T> {
-    pub fn new(alloc: Global, value: T) -> Result<Shared<T>, NoMemory>
-        ensures { IfOk result (λ s. s ≡ value) }
-    {
-        Ok(Shared {
-            value: Arc::new(alloc, value)?,
-        })
-    }
-}
-
-impl<T> Copied for Shared<T> {
-    fn copy(&self) -> Result<Shared<T>, NoMemory> {
-        Ok(Shared {
-            value: Arc::try_clone(&self.value)?,
-        })
-    }
-}
 
 /// A list that grows at its end. Its copies share its entries: a copy takes a time and room that
 /// grow with the logarithm of the length, and so does a push, if one takes the mean of many.

@@ -1,21 +1,69 @@
-ghost use Rattle.std.specs.Prelude.{◌≡◌, ◌==◌, not, IfSome};
-ghost use Rattle.request_machine.specs.Begun.{has_begun};
+ghost use Rattle.std.specs.Prelude.{◌≡◌, IfOk, ◌==◌, not, IfSome};
+ghost use Rattle.request_machine.specs.Worlds.{root_of};
+ghost use Rattle.request_machine.specs.Stages.{has_begun};
 ghost use Rattle.request_machine.specs.Former.{IsBefore};
 ghost use Rattle.request_machine.specs.Replayed.{IsReplayed};
 
-use crate::former::Before;
+use crate::former::FormerWalk;
+use crate::replayed::Replayed;
 use crate::request::{Advanced, Request};
-use crate::results::Replayed;
-use crate::root::root_key;
-use crate::site::Site;
 use build_scheduler::{Answer, Ask, Walker};
 use build_world::World;
 use msb_files::Journal;
-use msb_values::{Copied, NoMemory};
+use msb_instance::Instances;
+use msb_values::{Copied, InstanceKey, NoMemory};
 use result_cache::{RequestKey, RunRef, Table};
 use std::alloc::Global;
 use std::mem;
 use task_trait::CountedTools;
+
+/// What a node has for every walk that it advances: the world that they are of, its tools, and the
+/// instances that were evaluated. (Building projects in parallel.)
+pub struct NodeContext<'a, T: CountedTools> {
+    pub world: &'a World,
+    pub tools: T,
+    pub instances: Instances,
+}
+
+// A drop that is written out is proved here alone.
+impl<'a, T: CountedTools + Drop> Drop for NodeContext<'a, T> {
+    fn drop(self) {
+        let NodeContext {
+            world: _,
+            tools: _,
+            instances: _,
+        } = self;
+    }
+}
+
+impl<'a, T: CountedTools> NodeContext<'a, T> {
+    /// The tools, which whoever has lent them gets back. This takes no memory.
+    pub fn into_tools(self) -> T
+        ensures { result ≡ self.entry.tools }
+    {
+        let NodeContext {
+            world: _,
+            tools,
+            instances: _,
+        } = self;
+        tools
+    }
+}
+
+/// The key of the root request of a build: its default targets are asked for where none is named.
+/// (MSBuild command-line reference.)
+pub fn root_key(world: &World) -> Result<RequestKey, NoMemory>
+    ensures { IfOk result (λ key. key ≡ root_of world.now) }
+{
+    let path = world.root.copy()?;
+    let globals = world.globals.copy()?;
+    let targets = world.targets.copy()?;
+    Ok(RequestKey {
+        instance: InstanceKey { path, globals },
+        targets,
+        named: !world.targets.is_empty(),
+    })
+}
 
 /// What tells the world of a walk.
 #[derive(Clone, Copy)]
@@ -28,10 +76,13 @@ pub struct WorldRef<'a> {
 pub struct Walk<'a, T> {
     pub(crate) request: Request<'a, T>,
     pub(crate) learnt: Table,
+    /// The records that it had learnt before, until it goes on: a table has much to drop, and it
+    /// learns while others wait for the core.
+    learnt_before: Option<Table>,
     /// How often it has asked.
     pub(crate) asked: u64,
     /// What its last answer has replaced, unless it was taken back.
-    pub(crate) before: Option<Before<T>>,
+    pub(crate) before: Option<FormerWalk<T>>,
     /// The runs of a call that is over, and its journal, from which the request may go on.
     pub(crate) replayed: Option<Replayed>,
     ghost begun: { has_begun request.stage ≡ not (asked == 0) },
@@ -45,6 +96,7 @@ impl<'a, T> Drop for Walk<'a, T> {
         let Walk {
             request: _,
             learnt: _,
+            learnt_before: _,
             asked: _,
             before: _,
             replayed: _,
@@ -91,6 +143,7 @@ impl<'a, T: CountedTools> Walk<'a, T> {
         let Walk {
             request,
             learnt: _,
+            learnt_before: _,
             asked: _,
             before: _,
             replayed: _,
@@ -111,6 +164,7 @@ impl<'a, T: CountedTools> Walk<'a, T> {
         Walk {
             request,
             learnt: Table::new(alloc),
+            learnt_before: None,
             asked: 0,
             before: None,
             replayed: None,
@@ -121,7 +175,7 @@ impl<'a, T: CountedTools> Walk<'a, T> {
 impl<'a, T: CountedTools + 'a> Walker for Walk<'a, T> {
     ghost use Rattle.std.specs.Prelude.{◌≡◌, ◌&&◌};
     ghost use Rattle.result_cache.specs.Same.{same_key};
-    ghost use Rattle.request_machine.specs.Sites.{Suits};
+    ghost use Rattle.request_machine.specs.NodeContexts.{Suits};
     ghost use Rattle.request_machine.specs.SuitsOnce.{suits-once};
     ghost use Rattle.request_machine.specs.Walk.{Site};
     ghost use Rattle.request_machine.specs.WalkPosition.{
@@ -135,7 +189,7 @@ impl<'a, T: CountedTools + 'a> Walker for Walk<'a, T> {
     ghost use Rattle.task_trait.specs.declared.tools.ToolInput.{ToolInput};
 
     /// The tools are lent to it.
-    type Place = Site<'a, &'a mut T>;
+    type Place = NodeContext<'a, &'a mut T>;
 
     type Origin = WorldRef<'a>;
 
@@ -182,7 +236,7 @@ impl<'a, T: CountedTools + 'a> Walker for Walk<'a, T> {
     // It learns the records by which the runs of the call are replayed.
     fn take_journal(&mut self, call: Walk<'a, T>, table: &Table) {
         if let Ok(records) = table.learnt() {
-            self.learnt = records;
+            self.learnt_before = Some(mem::replace(&mut self.learnt, records));
             self.replayed = Some(call.into_replayed());
         }
     }
@@ -199,6 +253,7 @@ impl<'a, T: CountedTools + 'a> Walker for Walk<'a, T> {
         Ok(Walk {
             request: self.request.ended()?,
             learnt: Table::new(self.request.alloc),
+            learnt_before: None,
             asked: 1,
             before: None,
             replayed: None,
@@ -209,6 +264,7 @@ impl<'a, T: CountedTools + 'a> Walker for Walk<'a, T> {
         Ok(Walk {
             request: self.request.ended_as(&end.request, table)?,
             learnt: Table::new(self.request.alloc),
+            learnt_before: None,
             asked: 1,
             before: None,
             replayed: None,
@@ -222,20 +278,21 @@ impl<'a, T: CountedTools + 'a> Walker for Walk<'a, T> {
     // All records are learnt at once: a copy of a table shares them.
     fn learn(&mut self, table: &Table, _: &Answer) -> Result<(), NoMemory> {
         let learnt = table.learnt()?;
-        self.learnt = learnt;
+        self.learnt_before = Some(mem::replace(&mut self.learnt, learnt));
         Ok(())
     }
 
     fn advance(
         &mut self,
-        site: &mut Site<'a, &'a mut T>,
+        site: &mut NodeContext<'a, &'a mut T>,
         answer: &Answer,
     ) -> Result<Ask, NoMemory> {
         let Advanced { ask, former } = self
             .request
             .advance(&self.learnt, &self.replayed, site, answer)?;
         self.replayed = None;
-        self.before = Some(Before {
+        self.learnt_before = None;
+        self.before = Some(FormerWalk {
             former,
             asked: self.asked,
         });

@@ -2,6 +2,7 @@
 -- tool. (Task element; MSBuild tasks; MSBuild task)
 use Rattle.std.specs.Prelude.{ℕ, List, [], ◌∷◌, ◌++◌, Bool, true, false, Result, Ok, Err, codes}
 use Rattle.std.specs.Str.{bytes_eq}
+use Rattle.msb_laws.specs.Words.{Name}
 use Rattle.msb_values.specs.declared.act.Act.{Act}
 use Rattle.msb_expand.specs.Reserved.{folder_of}
 use Rattle.result_cache.specs.declared.request.RequestKey.{RequestKey}
@@ -55,24 +56,24 @@ msbuild run s params =
     followed_by (made plan s) (λ x. done (x.0, gathered plan x.1))
 
 -- a tool is handed the parameters and the files of Sources
-abbrev pub tool : List ℕ → State → Result ToolInput Failure → Work (State × TaskOutput)
+abbrev pub tool : Name → State → Result ToolInput Failure → Work (State × TaskOutput)
 tool task s (Ok input) = uses task input
     (λ given_answer. given s (foreign_output task s.written given_answer))
 tool task s (Err failure) = done (s, failed task failure)
 
-abbrev pub not_built_in : Bool → Run → State → (task : List ℕ) → List Param
+abbrev pub not_built_in : Bool → Run → State → (task : Name) → List Param
     → Work (State × TaskOutput)
 not_built_in true run s task params = msbuild run s params
 not_built_in false run s task params = tool task s
     (foreign_input (folder_of run.instance.path) (view_of run s) params)
 
-abbrev pub answered_by : ToolAnswer → Run → State → (task : List ℕ) → List Param
+abbrev pub answered_by : ToolAnswer → Run → State → (task : Name) → List Param
     → Work (State × TaskOutput)
 answered_by (Made output) run s task params = given s output
 answered_by Unknown run s task params = not_built_in (bytes_eq task (codes "msbuild")) run s task
     params
 
 -- the answer to a task, when its acts are done and its requests have come back
-abbrev pub answered : Run → State → (task : List ℕ) → List Param → Work (State × TaskOutput)
+abbrev pub answered : Run → State → (task : Name) → List Param → Work (State × TaskOutput)
 answered run s task params = answered_by
     (answer task (folder_of run.instance.path) (view_of run s) params s.written) run s task params

@@ -3,6 +3,7 @@
 use Rattle.std.specs.Prelude.{ℕ, List, ◌||◌, Result, Ok, codes, if◌then◌else◌}
 use Rattle.std.specs.Str.{bytes_eq}
 use Rattle.msb_laws.specs.Results.{map_ok}
+use Rattle.msb_laws.specs.Words.{Name}
 use Rattle.msb_elements.specs.Nodes.{name_of}
 use Rattle.build_world.specs.Elements.{At, children_of}
 use Rattle.msb_items.specs.TargetGroups.{group_changes}
@@ -30,7 +31,7 @@ pub data Kind : Type 0 where
   on_error_element : Kind
   task_element : Kind
 
-abbrev pub kind_of : List ℕ → Kind
+abbrev pub kind_of : Name → Kind
 kind_of name =
     if bytes_eq name (codes "PropertyGroup") || bytes_eq name (codes "ItemGroup") then group_element
     else

@@ -1,5 +1,6 @@
 -- The machine at a moment, and how its steps are those of the definition. (Target element)
 use Rattle.std.specs.Prelude.{◌≡◌, ℕ, List, Result}
+use Rattle.msb_laws.specs.Words.{Name}
 use Rattle.result_cache.specs.Journal.{Journal}
 use Rattle.result_cache.specs.declared.request.RequestKey.{RequestKey}
 use Rattle.result_cache.specs.declared.request.RequestResult.{RequestResult}
@@ -15,16 +16,16 @@ use Rattle.target_body.specs.declared.steps.Ending.{Ending}
 use Rattle.target_body.specs.declared.steps.Step.{Step}
 use Rattle.target_body.specs.declared.steps.Step.TheVariants.{Over, Waits}
 
-abbrev pub player : RunId → (List ℕ → ToolInput → ToolAnswer) → Player
+abbrev pub player : RunId → (Name → ToolInput → ToolAnswer) → Player
 player run tools = record { run = run; tools = tools }
 
 -- the state, the journal of the request, and the calls of tools
 pub record Moment : Type 0 where
   pub held : Held
   pub journal : Journal
-  pub tools : List (List ℕ × ToolInput)
+  pub tools : List (Name × ToolInput)
 
-abbrev pub moment : Held → Journal → List (List ℕ × ToolInput) → Moment
+abbrev pub moment : Held → Journal → List (Name × ToolInput) → Moment
 moment held journal tools = record { held = held; journal = journal; tools = tools }
 
 abbrev pub state_at : Moment → State

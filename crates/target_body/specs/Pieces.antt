@@ -14,6 +14,7 @@ use Rattle.std.specs.Prelude.{
   codes,
 }
 use Rattle.msb_laws.specs.Results.{map_ok}
+use Rattle.msb_laws.specs.Words.{Name}
 use Rattle.msb_values.specs.declared.item.Item.{Item}
 use Rattle.msb_values.specs.declared.mode.Mode.{Mode}
 use Rattle.msb_values.specs.declared.scope.Scope.{Scope}
@@ -74,12 +75,12 @@ choice_of mode run lists s =
     mode
 
 -- the state where the tasks of a bucket begin: they see of the type its items that are out of date
-abbrev pub on_old : Option (List ℕ × List Item) → List Item → State → State
+abbrev pub on_old : Option (Name × List Item) → List Item → State → State
 on_old None old s = s
 on_old (Some typed) old s = on_part typed.0 old s
 
 -- the children under what is decided: where there is nothing to do they are passed over
-abbrev pub treated : Run → Choice → Option (List ℕ × List Item) → State
+abbrev pub treated : Run → Choice → Option (Name × List Item) → State
     → Work (Result State Stopped)
 treated run RunAll items s = children run RunAll s
 treated run Skip items s = children run Skip s
@@ -87,18 +88,18 @@ treated run Nothing items s = done (Ok s)
 treated run (Part old) items s = children run (Part old) (on_old items old s)
 
 -- the word for it in the record
-abbrev pub number_of : Option (List ℕ × List Item) → ℕ
+abbrev pub number_of : Option (Name × List Item) → ℕ
 number_of None = 0
 number_of (Some typed) = length typed.1
 
-abbrev pub word_of : Choice → Option (List ℕ × List Item) → Decision
+abbrev pub word_of : Choice → Option (Name × List Item) → Decision
 word_of RunAll items = Ran
 word_of Skip items = UpToDate
 word_of Nothing items = NothingToDo
 word_of (Part old) items = InPart (length old) (number_of items)
 
 -- the children, then the items that are returned, and the word
-abbrev pub decided : Run → Bucket → Choice → Option (List ℕ × List Item) → State
+abbrev pub decided : Run → Bucket → Choice → Option (Name × List Item) → State
     → Work (Result State Stopped)
 decided run bucket choice items s =
     and_then (treated run choice items s)

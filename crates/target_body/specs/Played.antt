@@ -1,6 +1,7 @@
 -- How far the run of a target gets by itself: what it does to files goes into the journal and tools
 -- answer, until requests have to be called or it is over. (Target element; MSBuild task)
 use Rattle.std.specs.Prelude.{ℕ, List, [], ◌∷◌, ◌++◌, length}
+use Rattle.msb_laws.specs.Words.{Name}
 use Rattle.msb_values.specs.declared.act.Act.{Act}
 use Rattle.result_cache.specs.Journal.{Journal, acted, add}
 use Rattle.result_cache.specs.declared.record.Segment.{Segment}
@@ -15,12 +16,12 @@ use Rattle.target_body.specs.Work.{Work, done, does, uses, calls, followed_by}
 -- a run, and the function of the tools
 pub record Player : Type 0 where
   pub run : RunId
-  pub tools : List ℕ → ToolInput → ToolAnswer
+  pub tools : Name → ToolInput → ToolAnswer
 
 -- the acts and calls of the run so far, the calls of tools, and the journal of its request
 pub record Done : Type 0 where
   pub segments : List Segment
-  pub tools : List (List ℕ × ToolInput)
+  pub tools : List (Name × ToolInput)
   pub journal : Journal
 
 abbrev pub with_act : RunId → Act → Done → Done
@@ -28,7 +29,7 @@ with_act run act d =
     let journal : Journal = add d.journal (acted run (length d.segments) act) in
     record { segments = d.segments ++ File act ∷ []; tools = d.tools; journal = journal }
 
-abbrev pub with_tool : List ℕ → ToolInput → Done → Done
+abbrev pub with_tool : Name → ToolInput → Done → Done
 with_tool name input d = record
     { segments = d.segments; tools = d.tools ++ (name, input) ∷ []; journal = d.journal }
 

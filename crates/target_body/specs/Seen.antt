@@ -1,5 +1,6 @@
 -- What the code holds of a run.
 use Rattle.std.specs.Prelude.{ℕ, List, [], ◌∷◌, get_or, Result, Ok, Err}
+use Rattle.msb_laws.specs.Words.{Name}
 use Rattle.build_world.specs.Elements.{At, children_of}
 use Rattle.build_world.specs.Instances.{seen_target}
 use Rattle.result_cache.specs.Journal.{Journal}
@@ -48,7 +49,7 @@ seen_state s journal = record {
   notes = s.notes;
 }
 
-abbrev pub seen_done : Held → Journal → List (List ℕ × ToolInput) → Done
+abbrev pub seen_done : Held → Journal → List (Name × ToolInput) → Done
 seen_done s journal tools = record { segments = s.segments; tools = tools; journal = journal }
 
 -- how a part ends in this state

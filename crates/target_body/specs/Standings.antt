@@ -3,6 +3,7 @@
 use Rattle.std.specs.Prelude.{◌≡◌, ℕ, List, [], ◌∷◌, ◌++◌, length, map, Option}
 use Rattle.std.specs.List.{find}
 use Rattle.std.specs.Str.{bytes_eq}
+use Rattle.msb_laws.specs.Words.{Name}
 use Rattle.msb_values.specs.declared.scope.Scope.{Scope}
 use Rattle.result_cache.specs.Journal.{Journal}
 use Rattle.result_cache.specs.declared.record.Segment.{Segment}
@@ -33,7 +34,7 @@ use Rattle.target_body.specs.declared.steps.Step.TheVariants.{Over, Waits}
 use Rattle.target_body.specs.declared.body.Stand.TheVariants.{Begun, Waiting, Ended}
 
 -- the target of this name
-abbrev pub target_named : List UsedTarget → List ℕ → Option UsedTarget
+abbrev pub target_named : List UsedTarget → Name → Option UsedTarget
 target_named targets name = find (λ target. bytes_eq target.name name) targets
 
 abbrev pub run_with : World → RunId → UsedTarget → Run
@@ -80,7 +81,7 @@ Fits (begins scope) results = results ≡ []
 Fits (waits segments key keys go) results = length results ≡ length (key ∷ keys)
 Fits over results = ⊥
 
-abbrev pub tool_use : List ℕ × ToolInput → ToolUse ToolInput
+abbrev pub tool_use : Name × ToolInput → ToolUse ToolInput
 tool_use call = record { name = call.0; input = call.1 }
 
 -- what it asks where it has stopped, and where it stands then
@@ -92,11 +93,11 @@ IsTold (asks key keys go) segments ask now = (ask ≡ Call (key ∷ keys))
 -- A body goes on from here, with what it has done to files and called: files are written and
 -- removed and tools are used until it stops. The second list of calls of tools is the first with
 -- those that it makes behind it, and so it is whatever tools it used before.
-pub record Advances (answer : List ℕ → ToolInput → ToolAnswer) (run : RunId)
+pub record Advances (answer : Name → ToolInput → ToolAnswer) (run : RunId)
     (b : Body ToolInput ToolAnswer) (segments : List Segment)
-    (before after : Journal) (called called_then : List (List ℕ × ToolInput)) (ask : BodyAsk)
+    (before after : Journal) (called called_then : List (Name × ToolInput)) (ask : BodyAsk)
     (now : Standing) : Type 0 where
-  pub uses : List (List ℕ × ToolInput)
+  pub uses : List (Name × ToolInput)
   pub calls : called_then ≡ called ++ uses
   pub stop : Stop ToolInput ToolAnswer
   pub written : List Segment
@@ -111,9 +112,9 @@ pub record Advances (answer : List ℕ → ToolInput → ToolAnswer) (run : RunI
       }
 
 -- one step of the machine, in a run of which this is the body, by the results that have come
-abbrev pub Goes : (answer : List ℕ → ToolInput → ToolAnswer) → RunId →
+abbrev pub Goes : (answer : Name → ToolInput → ToolAnswer) → RunId →
     (Scope → Journal → Body ToolInput ToolAnswer) → Standing → List RequestResult →
-    (before after : Journal) → (called called_then : List (List ℕ × ToolInput)) → BodyAsk →
+    (before after : Journal) → (called called_then : List (Name × ToolInput)) → BodyAsk →
     Standing → Type 0
 Goes answer id whole (begins scope) results before after tools tools_then ask now =
     Advances answer id (whole scope before) [] before after tools tools_then ask now

@@ -16,6 +16,7 @@ use Rattle.std.specs.Prelude.{
   Ok,
   Err,
 }
+use Rattle.msb_laws.specs.Words.{Name}
 use Rattle.file_store.specs.declared.tree.File.{File}
 use Rattle.msb_values.specs.Changes.{applied}
 use Rattle.msb_values.specs.Pairs.{all_put}
@@ -36,7 +37,7 @@ use Rattle.build_world.specs.declared.fault.EvalFault.{EvalFault}
 use Rattle.msb_files.specs.Views as views
 use Rattle.msb_expand.specs.declared.lens.Bucket.{Bucket}
 use Rattle.msb_items.specs.Items.{list_of, with_list}
-use Rattle.msb_items.specs.Places.{Place, item_place}
+use Rattle.element_texts.specs.Contexts.{ElementContext, item_context}
 use Rattle.msb_items.specs.TargetGroups.{all_applied}
 use Rattle.task_trait.specs.Tools.{act_size}
 use Rattle.target_texts.specs.Made.{Made}
@@ -58,7 +59,7 @@ run_at files id target = record { files = files; instance = id.instance; target 
 -- scope, and the notes.
 pub record State : Type 0 where
   pub scope : Scope
-  pub part : Option (List ℕ × List Item)
+  pub part : Option (Name × List Item)
   pub unseen : List Change
   pub journal : Journal
   pub written : ℕ
@@ -88,11 +89,11 @@ entered found bucket s = record s
     { scope = record found { items = all_put found.items bucket.lists }; part = None; unseen = [] }
 
 -- tasks see these items of a type, and everything else sees all of them
-abbrev pub on_part : List ℕ → List Item → State → State
+abbrev pub on_part : Name → List Item → State → State
 on_part kind items s = record s { part = Some (kind, items) }
 
 -- the scope that tasks see
-abbrev pub with_part : Option (List ℕ × List Item) → Scope → Scope
+abbrev pub with_part : Option (Name × List Item) → Scope → Scope
 with_part None scope = scope
 with_part (Some part) scope = with_list scope part.0 part.1
 
@@ -104,12 +105,12 @@ abbrev pub no_scope : Scope
 no_scope = record { globals = []; props = []; items = []; defaults = [] }
 
 -- a change is made of the part as of the items of its type in a scope, where it looks at no others
-abbrev pub part_after : Change → Option (List ℕ × List Item) → Option (List ℕ × List Item)
+abbrev pub part_after : Change → Option (Name × List Item) → Option (Name × List Item)
 part_after change None = None
 part_after change (Some part) = Some
     (part.0, list_of (applied change (with_list no_scope part.0 part.1)) part.0)
 
-abbrev pub part_after_all : List Change → Option (List ℕ × List Item) → Option (List ℕ × List Item)
+abbrev pub part_after_all : List Change → Option (Name × List Item) → Option (Name × List Item)
 part_after_all changes part = fold (λ part change. part_after change part) part changes
 
 -- a change is made in both scopes
@@ -184,8 +185,8 @@ abbrev pub view_of : Run → State → views.View
 view_of run s = record { files = run.files; journal = s.journal }
 
 -- what the texts of a target see in a scope
-abbrev pub place_in : Run → State → Scope → Place
-place_in run s scope = item_place (views.paths (view_of run s)) run.instance.path scope
+abbrev pub place_in : Run → State → Scope → ElementContext
+place_in run s scope = item_context (views.paths (view_of run s)) run.instance.path scope
 
 -- what the record says of a run that came to its end, and of one that stopped: what went before is
 -- kept, and nothing is returned

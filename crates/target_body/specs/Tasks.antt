@@ -3,12 +3,13 @@
 use Rattle.std.specs.Prelude.{ℕ, List, [], Bool, true, false, Option, Some, None, Result, Ok, Err}
 use Rattle.msb_laws.specs.Results as results
 use Rattle.msb_laws.specs.Results.{map_ok}
+use Rattle.msb_laws.specs.Words.{Name}
 use Rattle.msb_values.specs.Keys.{key_of}
 use Rattle.msb_elements.specs.Nodes.{name_of}
 use Rattle.msb_expand.specs.declared.lens.Bucket.{Bucket}
 use Rattle.build_world.specs.Elements.{At}
 use Rattle.build_world.specs.declared.fault.EvalFault.{EvalFault}
-use Rattle.msb_items.specs.Places.{Place, in_bucket, element_holds}
+use Rattle.element_texts.specs.Contexts.{ElementContext, in_bucket, element_holds}
 use Rattle.task_trait.specs.Failures.{failed as failed_output}
 use Rattle.task_trait.specs.declared.failures.Failure.TheVariants.{UnknownTask}
 use Rattle.task_trait.specs.declared.tools.TaskOutput.{TaskOutput}
@@ -44,7 +45,7 @@ use Rattle.target_texts.specs.Inferred.{task_of, inferred_at}
 use Rattle.target_body.specs.Answers.{answered}
 
 -- what its texts see where it is called
-abbrev pub called_place : Run → State → Bucket → Place
+abbrev pub called_place : Run → State → Bucket → ElementContext
 called_place run s bucket = in_bucket (place_in run s (task_scope s)) bucket
 
 -- the body stops where a task has failed, unless it goes on
@@ -58,7 +59,7 @@ ended_by on_error true s = Ok s
 ended_by on_error false s = failed_by on_error s
 
 -- the Outputs of a task that was called, unless others are inferred in their place
-abbrev pub outputs_if : Bool → Place → List Param → At → Made
+abbrev pub outputs_if : Bool → ElementContext → List Param → At → Made
 outputs_if true p given e = outputs p given e
 outputs_if false p given e = all_made []
 
@@ -73,16 +74,17 @@ answered_to run e gives bucket on_error x =
 
 -- what a task is called with, unless its Condition is false: what comes of a failure, and its
 -- parameters
-abbrev pub readied_if : Bool → Place → At → Result (Option (OnError × List Param)) EvalFault
+abbrev pub readied_if : Bool → ElementContext → At
+    → Result (Option (OnError × List Param)) EvalFault
 readied_if true p e = results.and_then (on_error_at p e)
     (λ on_error. map_ok (λ params. Some (on_error, params)) (params_at p e (task_of e)))
 readied_if false p e = Ok None
 
-abbrev pub readied : Place → At → Result (Option (OnError × List Param)) EvalFault
+abbrev pub readied : ElementContext → At → Result (Option (OnError × List Param)) EvalFault
 readied p e = results.and_then (element_holds p e) (λ holds. readied_if holds p e)
 
 -- an element whose name is no name calls no task
-abbrev pub answered_if : Option (List ℕ) → Run → State → At → List Param → Work (State × TaskOutput)
+abbrev pub answered_if : Option Name → Run → State → At → List Param → Work (State × TaskOutput)
 answered_if (Some task) run s e params = answered run s task params
 answered_if None run s e params = done (s, failed_output (task_of e) UnknownTask)
 

@@ -2,6 +2,7 @@
 -- calls requests, and comes to an end from which the next part goes on. (Target element; MSBuild
 -- task, BuildInParallel)
 use Rattle.std.specs.Prelude.{ℕ, List, [], ◌∷◌, Result, Ok, Err}
+use Rattle.msb_laws.specs.Words.{Name}
 use Rattle.msb_values.specs.declared.act.Act.{Act}
 use Rattle.result_cache.specs.declared.request.RequestKey.{RequestKey}
 use Rattle.result_cache.specs.declared.request.RequestResult.{RequestResult}
@@ -17,7 +18,7 @@ use Rattle.build_meaning.specs.Walk.{Body, Outcome}
 pub data Work (R : Type 0) : Type 0 where
   done : R → Work R
   does : Act → (Journal → Work R) → Work R
-  uses : List ℕ → ToolInput → (ToolAnswer → Work R) → Work R
+  uses : Name → ToolInput → (ToolAnswer → Work R) → Work R
   calls : RequestKey → List RequestKey → (List RequestResult → Journal → Work R) → Work R
 
 -- one part, and the part that follows from its end

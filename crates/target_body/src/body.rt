@@ -191,7 +191,7 @@ fn begin<T: CountedTools>(
         journal.new (T.calls tools.old) (T.calls tools.new) r.0 (standing_by choose run r.1)) }
     ensures begun { BeginsWith (T.calls tools.old) (T.calls tools.new) }
 {
-    let mut state = State::begun(alloc, scope.copy()?);
+    let mut state = State::new(alloc, scope.copy()?);
     let step = state.begin(alloc, context, scope, tools, journal)?;
     tell(alloc, state, step)
 }
@@ -231,7 +231,7 @@ fn tell(alloc: Global, state: State, step: Step<AtRun>) -> Result<(BodyAsk, Stan
 {
     match step {
         Step::Over(ending) => Ok((
-            BodyAsk::Finished(recorded(alloc, state, ending)),
+            BodyAsk::Finished(record_of(alloc, state, ending)),
             Stand::Ended,
         )),
         Step::Waits(at) => {
@@ -242,7 +242,7 @@ fn tell(alloc: Global, state: State, step: Step<AtRun>) -> Result<(BodyAsk, Stan
 }
 
 // A run that has stopped returns nothing.
-fn recorded(alloc: Global, state: State, ending: Ending) -> Record
+fn record_of(alloc: Global, state: State, ending: Ending) -> Record
     ensures { (journal : Files)
         → result ≡ recorded (outcome_of (ended ending (seen_state state journal))) state.segments }
 {

@@ -24,7 +24,7 @@ ghost use Rattle.task_trait.specs.declared.tools.ToolInput.{ToolInput};
 ghost use Rattle.target_texts.specs.Answered.{Pushes};
 ghost use Rattle.target_texts.specs.Inferred.{task_of};
 ghost use Rattle.target_texts.specs.Parameters.{params_at};
-ghost use Rattle.target_texts.specs.Seen.{seen_place};
+ghost use Rattle.target_texts.specs.Seen.{seen_context};
 ghost use Rattle.target_body.specs.Answers.{answered, given, msbuild, not_built_in, tool};
 ghost use Rattle.target_body.specs.Left.{call_frames, call_left, made_from, waiting};
 ghost use Rattle.target_body.specs.Moments.{EndsAs, Plays, moment, player};
@@ -43,16 +43,17 @@ ghost use Rattle.target_body.specs.Work.{done, followed_by};
 
 use crate::frames::AtCall;
 use crate::part::{own_or, scope_of_part};
-use crate::run_context::RunContext;
+use crate::run_context::{RunContext, place_in_bucket};
 use crate::state::State;
 use crate::steps::{Ending, Step};
 use build_world::{EvalFault, PlacedElement};
+use element_texts::ElementContext;
 use msb_expand::Bucket;
 use msb_files::{FileView, Journal};
 use msb_values::{Change, List, Name, NoMemory};
 use result_cache::RequestResult;
 use std::alloc::Global;
-use target_texts::{OnError, Place, TaskElement, push_outputs, task_of};
+use target_texts::{OnError, TaskElement, push_outputs, task_of};
 use task_kit::{foreign_input, foreign_output};
 use task_msbuild::{gather, plan};
 use task_trait::{CountedTools, Failure, Param, TaskOutput, ToolAnswer, ToolInput};
@@ -114,12 +115,8 @@ impl State {
             return Err(EvalFault::memory(alloc));
         };
         let view = FileView::of(&call.context.world.tree, journal);
-        let place = Place {
-            files: &view,
-            project: call.context.project(),
-            scope: own_or(&own, &self.scope),
-            bucket: Some(call.bucket),
-        };
+        let scope = own_or(&own, &self.scope);
+        let place = place_in_bucket(&view, call.context.project(), scope, call.bucket);
         read_call(alloc, &place, &call.element)
     }
 
@@ -338,7 +335,8 @@ impl State {
     ) -> Result<Ending, NoMemory>
         ensures { (answer : List ℕ → ToolInput → ToolAnswer) (tools : List (List ℕ × ToolInput))
             → IfOk result
-            (λ ending. let run = seen_run call.now.context in let e = seen_element call.now.element in
+            (λ ending. let run = seen_run call.now.context in let e = seen_element call.now.element
+            in
             EndsAs (player call.now.context.id.now answer)
             (λ s. followed_by (given s output)
             (λ x. done (answered_to run e call.now.gives call.now.bucket.now on_error x)))
@@ -374,9 +372,9 @@ impl State {
             (seen_element call.now.element)) (seen_state self.old journal.now)) }
         ensures kept { OnOk result (self.new.segments ≡ self.old.segments) }
     {
-        let mut made = List::new(alloc);
-        let end = self.push_outputs(alloc, &*call, outputs, &*journal, &mut made);
-        self.take(alloc, made, end)
+        let mut changes = List::new(alloc);
+        let end = self.push_outputs(alloc, &*call, outputs, &*journal, &mut changes);
+        self.take(alloc, changes, end)
     }
 
     // The Outputs see the scope that tasks see.
@@ -386,9 +384,9 @@ impl State {
         call: &'x TaskCall<'x>,
         outputs: &List<Param>,
         journal: &'x Journal,
-        made: &mut List<Change>,
+        changes: &mut List<Change>,
     ) -> Result<(), EvalFault>
-        ensures { Pushes result made.old made.new
+        ensures { Pushes result changes.old changes.new
             (outputs_if call.entry.now.gives
             (called_place (seen_run call.entry.now.context)
             (seen_state self.entry.now journal.entry.now) call.entry.now.bucket.now) outputs.now
@@ -401,13 +399,9 @@ impl State {
             return Err(EvalFault::memory(alloc));
         };
         let view = FileView::of(&call.context.world.tree, journal);
-        let place = Place {
-            files: &view,
-            project: call.context.project(),
-            scope: own_or(&own, &self.scope),
-            bucket: Some(call.bucket),
-        };
-        push_outputs(alloc, &place, outputs, &call.element, made)
+        let scope = own_or(&own, &self.scope);
+        let place = place_in_bucket(&view, call.context.project(), scope, call.bucket);
+        push_outputs(alloc, &place, outputs, &call.element, changes)
     }
 }
 
@@ -430,7 +424,7 @@ fn built_in(
     journal: &Journal,
 ) -> Result<ToolAnswer, NoMemory>
     ensures { IfOk result
-        (λ made. made ≡ answer task.now (folder_of context.now.id.now.instance.path)
+        (λ output. output ≡ answer task.now (folder_of context.now.id.now.instance.path)
         (record { files = context.now.world.now.tree.files; journal = journal.now })
         input.now.params written) }
 {
@@ -441,13 +435,13 @@ fn built_in(
 // The Condition of the element, its ContinueOnError, and then its parameters.
 fn read_call(
     alloc: Global,
-    place: &Place<'_>,
+    place: &ElementContext<'_, FileView<'_>>,
     element: &PlacedElement<'_>,
 ) -> Result<Option<(OnError, List<Param>)>, EvalFault>
     ensures { GivesFault (λ ready. ready) result
-        (readied (seen_place place.now) (seen_element element.now)) }
+        (readied (seen_context place.now) (seen_element element.now)) }
 {
-    if place.holds(alloc, element)? {
+    if place.element_holds(alloc, element)? {
         let on_error = OnError::at(alloc, place, element)?;
         let params = params_of(alloc, place, element)?;
         return Ok(Some((on_error, params)));
@@ -457,18 +451,18 @@ fn read_call(
 
 fn params_of(
     alloc: Global,
-    place: &Place<'_>,
+    place: &ElementContext<'_, FileView<'_>>,
     element: &PlacedElement<'_>,
 ) -> Result<List<Param>, EvalFault>
     ensures { GivesFault (λ params. params) result
-        (params_at (seen_place place.now) (seen_element element.now)
+        (params_at (seen_context place.now) (seen_element element.now)
         (task_of (seen_element element.now))) }
 {
     let Ok(task) = task_of(alloc, element) else {
         return Err(EvalFault::memory(alloc));
     };
     let task = TaskElement {
-        place: *place,
+        context: *place,
         element: *element,
         task: task.as_str(),
     };

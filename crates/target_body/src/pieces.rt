@@ -112,13 +112,13 @@ impl State {
         match lists {
             Some(lists) => {
                 let choice = choice_of(alloc, context, &lists, journal)?;
-                self.decided(alloc, context, bucket, choice, lists.items, tools, journal)
+                self.run_bucket(alloc, context, bucket, choice, lists.items, tools, journal)
             }
-            None => self.decided(alloc, context, bucket, Choice::Run, None, tools, journal),
+            None => self.run_bucket(alloc, context, bucket, Choice::Run, None, tools, journal),
         }
     }
 
-    fn decided<T: CountedTools>(
+    fn run_bucket<T: CountedTools>(
         &mut self,
         alloc: Global,
         context: &RunContext<'_>,
@@ -260,7 +260,7 @@ impl State {
             (returned (seen_run context.now) bucket.now (seen_state self.old journal.now)))) }
         ensures kept { OnOk result (self.new.segments ≡ self.old.segments) }
     {
-        match self.returned(alloc, &*context, &*bucket, &*journal) {
+        match self.read_returned(alloc, &*context, &*bucket, &*journal) {
             Ok(items) => {
                 self.items.append(alloc, items)?;
                 self.add_decision(word)?;
@@ -274,7 +274,7 @@ impl State {
         }
     }
 
-    fn returned<'x>(
+    fn read_returned<'x>(
         &'x self,
         alloc: Global,
         context: &'x RunContext<'x>,

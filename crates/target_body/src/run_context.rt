@@ -2,16 +2,16 @@ ghost use Rattle.std.specs.Prelude.{◌≡◌};
 ghost use Rattle.msb_expand.specs.Reserved.{folder_of};
 ghost use Rattle.build_world.specs.Elements.{seen_element};
 ghost use Rattle.msb_files.specs.Views.{paths};
-ghost use Rattle.msb_items.specs.Places.{item_place};
-ghost use Rattle.target_texts.specs.Seen.{seen_place};
+ghost use Rattle.element_texts.specs.Contexts.{in_bucket, item_context};
+ghost use Rattle.target_texts.specs.Seen.{seen_context};
 ghost use Rattle.target_body.specs.Seen.{child_at, seen_run};
 
 use build_world::{PlacedElement, UsedTarget, World};
-use msb_expand::folder_of;
+use element_texts::ElementContext;
+use msb_expand::{Bucket, Use, folder_of};
 use msb_files::FileView;
 use msb_values::{Pairs, Scope};
 use result_cache::RunRef;
-use target_texts::Place;
 
 /// The run at hand: the world that it is part of, its name, and the element that is used of its
 /// target.
@@ -57,14 +57,33 @@ impl<'a> RunContext<'a> {
 }
 
 /// What a text of a project sees that stands in no bucket.
-pub(crate) fn place_of<'x>(files: &'x FileView<'x>, project: &'x str, scope: &'x Scope) -> Place<'x>
-    ensures { seen_place result ≡ item_place (paths files.entry.now) project.entry.now
+pub(crate) fn place_of<'x>(
+    files: &'x FileView<'x>,
+    project: &'x str,
+    scope: &'x Scope,
+) -> ElementContext<'x, FileView<'x>>
+    ensures { seen_context result ≡ item_context (paths files.entry.now) project.entry.now
         scope.entry.now }
 {
-    Place {
+    ElementContext::of_items(files, project, scope)
+}
+
+/// What a text of a task element sees in one of its buckets. (MSBuild batching.)
+pub(crate) fn place_in_bucket<'x>(
+    files: &'x FileView<'x>,
+    project: &'x str,
+    scope: &'x Scope,
+    bucket: &'x Bucket,
+) -> ElementContext<'x, FileView<'x>>
+    ensures { seen_context result ≡ in_bucket
+        (item_context (paths files.entry.now) project.entry.now scope.entry.now) bucket.entry.now }
+{
+    ElementContext {
         files,
         project,
         scope,
-        bucket: None,
+        usage: Use::Batched,
+        own: None,
+        bucket: Some(bucket),
     }
 }

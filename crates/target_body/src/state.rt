@@ -61,7 +61,7 @@ impl Drop for State {
 // After want of memory nothing is claimed of a state.
 impl State {
     /// At the beginning of a run.
-    pub(crate) fn begun(alloc: Global, scope: Scope) -> State
+    pub(crate) fn new(alloc: Global, scope: Scope) -> State
         ensures state { (journal : Journal) → seen_state result journal ≡ begun scope journal }
         ensures segments { result.segments ≡ [] }
     {
@@ -104,14 +104,14 @@ impl State {
     }
 
     /// Changes of the task element at hand, which stay out of the scope until it is over.
-    pub(crate) fn add_changes(&mut self, made: List<Change>) -> Result<(), NoMemory>
+    pub(crate) fn add_changes(&mut self, more: List<Change>) -> Result<(), NoMemory>
         ensures { OnOk result
             (self.new
             ≡ record self.old
-            { unseen = self.old.unseen ++ made; changes = self.old.changes ++ made }) }
+            { unseen = self.old.unseen ++ more; changes = self.old.changes ++ more }) }
     {
-        self.unseen.append(made.copy()?)?;
-        self.changes.append(made)
+        self.unseen.append(more.copy()?)?;
+        self.changes.append(more)
     }
 
     pub(crate) fn add_notes(&mut self, notes: List<Note>) -> Result<(), NoMemory>
@@ -156,15 +156,15 @@ impl State {
     pub(crate) fn take(
         &mut self,
         alloc: Global,
-        made: List<Change>,
+        more: List<Change>,
         end: Result<(), EvalFault>,
     ) -> Result<Ending, NoMemory>
         ensures taken { IfOk result (λ ending. (journal : Journal) (all : Made)
-            → Pushes end [] made all → ended ending (seen_state self.new journal)
+            → Pushes end [] more all → ended ending (seen_state self.new journal)
             ≡ taken all (seen_state self.old journal)) }
         ensures kept { OnOk result (self.new.segments ≡ self.old.segments) }
     {
-        self.add_changes(made)?;
+        self.add_changes(more)?;
         match end {
             Ok(()) => Ok(Ending::Fine),
             Err(fault) => {

@@ -10,11 +10,11 @@ ghost use Rattle.task_trait.specs.Tools.{BeginsWith};
 ghost use Rattle.task_trait.specs.declared.tools.ToolAnswer.{ToolAnswer};
 ghost use Rattle.task_trait.specs.declared.tools.ToolInput.{ToolInput};
 ghost use Rattle.msb_files.specs.Views.{paths};
-ghost use Rattle.msb_items.specs.Places.{item_place};
+ghost use Rattle.element_texts.specs.Contexts.{item_context};
 ghost use Rattle.target_texts.specs.Answered.{Pushes};
 ghost use Rattle.target_texts.specs.Inferred.{inferred_at};
 ghost use Rattle.target_texts.specs.Parameters.{task_buckets};
-ghost use Rattle.target_texts.specs.Seen.{seen_place};
+ghost use Rattle.target_texts.specs.Seen.{seen_context};
 ghost use Rattle.target_body.specs.Left.{
   IsOfChild,
   IsOfTask,
@@ -37,12 +37,13 @@ use crate::run_context::{RunContext, place_of};
 use crate::state::State;
 use crate::steps::{Ending, Step};
 use build_world::{EvalFault, PlacedElement};
+use element_texts::ElementContext;
 use msb_expand::Bucket;
 use msb_files::{FileView, Journal};
 use msb_values::{Change, List, NoMemory, Scope};
 use std::alloc::Global;
 use target_incremental::Choice;
-use target_texts::{Place, TaskElement, push_inferred, task_of};
+use target_texts::{TaskElement, push_inferred, task_of};
 use task_trait::CountedTools;
 
 /// A task element, a child of the target.
@@ -93,9 +94,14 @@ impl State {
         ensures begun { BeginsWith (T.calls tools.old) (T.calls tools.new) }
     {
         match choice {
-            Choice::Run => self.called(alloc, &TaskChild::of(context, child, true), tools, journal),
+            Choice::Run => self.call_in_buckets(
+                alloc,
+                &TaskChild::of(context, child, true),
+                tools,
+                journal,
+            ),
             Choice::Part(_) => {
-                self.called(alloc, &TaskChild::of(context, child, false), tools, journal)
+                self.call_in_buckets(alloc, &TaskChild::of(context, child, false), tools, journal)
             }
             Choice::Skip => {
                 let ending = self.infer(alloc, &TaskChild::of(context, child, false), journal)?;
@@ -105,7 +111,7 @@ impl State {
         }
     }
 
-    fn called<T: CountedTools>(
+    fn call_in_buckets<T: CountedTools>(
         &mut self,
         alloc: Global,
         at: &TaskChild<'_>,
@@ -215,7 +221,8 @@ impl State {
     ) -> Result<Step<AtTask>, NoMemory>
         requires { seen_element at.now.element ≡ child_at (seen_run at.now.context) at.now.child }
         ensures goes { IfOk result
-            (λ step_then. let run = seen_run at.now.context in let e = seen_element at.now.element in
+            (λ step_then. let run = seen_run at.now.context in let e = seen_element at.now.element
+            in
             GoesOn (call_frames run e at.now.gives bucket) (calls_frames run)
             (player at.now.context.id.now T.answer)
             (λ end. unless_stopped end (each_in_turn (call run e at.now.gives) later)) step
@@ -306,9 +313,9 @@ impl State {
             (seen_state self.old journal.now)) }
         ensures kept { OnOk result (self.new.segments ≡ self.old.segments) }
     {
-        let mut made = List::new(alloc);
-        let end = push_inferred_in(alloc, &*at, &self.scope, &*journal, &mut made);
-        self.take(alloc, made, end)
+        let mut changes = List::new(alloc);
+        let end = push_inferred_in(alloc, &*at, &self.scope, &*journal, &mut changes);
+        self.take(alloc, changes, end)
     }
 
     /// A child is over, and unless it stops the run, the scope gets its changes.
@@ -330,17 +337,17 @@ impl State {
 
 fn buckets_of(
     alloc: Global,
-    place: &Place<'_>,
+    place: &ElementContext<'_, FileView<'_>>,
     element: &PlacedElement<'_>,
 ) -> Result<List<Bucket>, EvalFault>
     ensures { GivesFault (λ buckets. buckets) result
-        (task_buckets (seen_place place.now) (seen_element element.now)) }
+        (task_buckets (seen_context place.now) (seen_element element.now)) }
 {
     let Ok(task) = task_of(alloc, element) else {
         return Err(EvalFault::memory(alloc));
     };
     let task = TaskElement {
-        place: *place,
+        context: *place,
         element: *element,
         task: task.as_str(),
     };
@@ -353,11 +360,11 @@ fn push_inferred_in<'x>(
     at: &'x TaskChild<'x>,
     scope: &'x Scope,
     journal: &'x Journal,
-    made: &mut List<Change>,
+    changes: &mut List<Change>,
 ) -> Result<(), EvalFault>
-    ensures { Pushes result made.old made.new
+    ensures { Pushes result changes.old changes.new
         (inferred_at
-        (item_place
+        (item_context
         (paths
         (record { files = at.entry.now.context.world.now.tree.files; journal = journal.entry.now }))
         at.entry.now.context.id.now.instance.path scope.entry.now)
@@ -365,5 +372,5 @@ fn push_inferred_in<'x>(
 {
     let view = FileView::of(&at.context.world.tree, journal);
     let place = place_of(&view, at.context.project(), scope);
-    push_inferred(alloc, &place, &at.element, made)
+    push_inferred(alloc, &place, &at.element, changes)
 }

@@ -1,15 +1,15 @@
 use Rattle.std.proofs.Common.{◌≡◌, ◌-◌, ◌^◌}
 use mathlib.Core.List.{IsPrefix}
 use Rattle.build_scheduler.specs.Own.{seen_by}
-use Rattle.build_steady.specs.Held.{IsTurn}
+use Rattle.build_steady.specs.Held.{IsCheckStep}
 use Rattle.build_steady.proofs.checking.check_walk.Given as goal
 
 abbrev pub invariant-loop-check : goal.invariant-loop-check
 invariant-loop-check g l =
     let m = g.W.Walker in
     record {
-      turn : IsTurn (seen_by m.world m.position m.asked m.learnt) (m.world l.fn.walk) l.check
-          l.turn;
+      turn : IsCheckStep (seen_by m.world m.position m.asked m.learnt) (m.world l.fn.walk) l.check
+          l.next;
       front : IsPrefix (m.used l.initial.place) (m.used l.place);
       place : m.Fits l.place (m.world l.fn.walk);
       lent : m.lent l.place ≡ m.lent l.initial.place;

@@ -12,8 +12,8 @@ returns-clause-goes g c =
     (seen_run c.args.context.now) c.args.journal.now (g.T.CountedTools.calls c.args.tools.now)
     (moment c.begin.new.self c.begin.new.journal (g.T.CountedTools.calls c.begin.new.tools))
     c.in_ok-step.step
-    c.args.scope c.begun-state.result c.tell.result
-    (c.begun-state.ensures.state c.args.journal.now
+    c.args.scope c.new-state.result c.tell.result
+    (c.new-state.ensures.state c.args.journal.now
     ∙ ap (λ (scope : Scope). begun scope c.args.journal.now) c.in_ok-copy.ensures)
-    c.begun-state.ensures.segments
+    c.new-state.ensures.segments
     c.in_ok-step.ensures.plays c.tell.ensures

@@ -11,8 +11,8 @@ use Rattle.target_body.proofs.body.tell.Goals as goal
 pub returns-in-Over : goal.returns-in-Over
 returns-in-Over c = λ choose run.
     let P : Step AtRun → Type 0 = λ step. Tells choose run c.args.state step
-    (Finished c.recorded.result) (standing_by choose run Ended) in
-    subst P (sym c.in-Over.is) (ap (λ (r : Record). Finished r) (c.recorded.ensures []), refl)
+    (Finished c.record_of.result) (standing_by choose run Ended) in
+    subst P (sym c.in-Over.is) (ap (λ (r : Record). Finished r) (c.record_of.ensures []), refl)
 
 pub returns-in_ok-keys-in-Waits : goal.returns-in_ok-keys-in-Waits
 returns-in_ok-keys-in-Waits c = λ choose run.

@@ -1,7 +1,7 @@
 use Rattle.std.proofs.Common.{◌∙◌, ℕ, List, ap, subst}
 use Rattle.build_world.specs.Elements.{seen_element}
 use Rattle.msb_files.specs.Views.{View, paths}
-use Rattle.msb_items.specs.Places.{Place, item_place}
+use Rattle.element_texts.specs.Contexts.{ElementContext, item_context}
 use Rattle.target_texts.specs.Answered.{Pushes}
 use Rattle.target_texts.specs.Inferred.{inferred_at}
 use Rattle.target_body.proofs.tasks.push_inferred_in.Goals as goal
@@ -11,10 +11,10 @@ returns c =
     let view : View = record
     { files = c.args.at.now.context.world.now.tree.files; journal = c.args.journal.now } in
     subst
-    (λ (place : Place). Pushes c.push_inferred.result c.args.made.now
+    (λ (place : ElementContext). Pushes c.push_inferred.result c.args.changes.now
     c.push_inferred.new.changes (inferred_at place (seen_element c.args.at.now.element)))
     (c.place_of-place.ensures
-    ∙ ap (λ (view : View). item_place (paths view) c.project.result.now c.args.scope.now)
+    ∙ ap (λ (view : View). item_context (paths view) c.project.result.now c.args.scope.now)
     c.of-view.ensures
-    ∙ ap (λ (path : List ℕ). item_place (paths view) path c.args.scope.now) c.project.ensures)
+    ∙ ap (λ (path : List ℕ). item_context (paths view) path c.args.scope.now) c.project.ensures)
     c.push_inferred.ensures

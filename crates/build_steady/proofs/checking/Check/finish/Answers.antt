@@ -11,9 +11,10 @@ pub returns-in-Some-clause-turn : goal.returns-in-Some-clause-turn
 returns-in-Some-clause-turn g c =
     let m = g.W.Walker in
     finish-said (seen_by m.world m.position m.asked m.learnt) (m.world c.args.walk) c.args.self.now
-    (m.position c.args.walk) c.args.run.now c.args.made c.in-Some.verdict c.end.new.self
+    (m.position c.args.walk) c.args.run.now c.args.run_record c.in-Some.verdict c.end.new.self
     c.requires.held c.requires.asks
-    (λ before shows. subst (Tells before (body_ends c.args.run.now c.args.made) c.end.new.self)
+    (λ before shows. subst (Tells before (body_ends c.args.run.now c.args.run_record)
+    c.end.new.self)
     c.in-Some.is (c.in_ok-verdict.ensures.told before shows))
 
 pub returns-in-None-clause-turn : goal.returns-in-None-clause-turn
@@ -22,12 +23,14 @@ returns-in-None-clause-turn g c =
     let check = c.args.self.now in
     let n : vec_len check.path ≡ length check.path.items = search rules in
     finish-goes (seen_by m.world m.position m.asked m.learnt) (m.world c.args.walk) check _
-    c.args.walk c.args.run.now c.args.made c.requires.held c.requires.asking c.requires.asks
-    (λ before shows. subst (Tells before (body_ends c.args.run.now c.args.made) c.end.new.self)
+    c.args.walk c.args.run.now c.args.run_record c.requires.held c.requires.asking c.requires.asks
+    (λ before shows. subst (Tells before (body_ends c.args.run.now c.args.run_record)
+    c.end.new.self)
     c.in-None.is (c.in_ok-verdict.ensures.told before shows))
     (subst (AreUnlessSaid c.end.new.self.records.finished
     (with_record (found check.findings.records.finished c.args.run.now) c.args.run.now
-    c.args.made check.findings.records.finished)) c.in-None.is c.in_ok-verdict.ensures.records)
+    c.args.run_record check.findings.records.finished)) c.in-None.is
+    c.in_ok-verdict.ensures.records)
     (record { callers = refl; asks = refl })
     (λ x rest h. popped check.path.items c.pop.new.self.items c.pop.result x rest
     c.pop.ensures.items (c.pop.ensures.variant.1 (let l : 0 < length check.path.items =

@@ -16,7 +16,7 @@ use Rattle.std.specs.Prelude.{vec_len}
 use Rattle.result_cache.specs.declared.request.RequestKey.{RequestKey}
 use Rattle.build_scheduler.specs.Own.{seen_by}
 use Rattle.build_steady.specs.Findings.{Tells}
-use Rattle.build_steady.specs.Held.{IsTurn}
+use Rattle.build_steady.specs.Held.{IsCheckStep}
 use Rattle.build_steady.specs.Order.{is_reached}
 use Rattle.build_steady.proofs.Holding.{next-calls, next-goes, next-open, next-resumes, next-said}
 use Rattle.build_steady.proofs.checking.Check.next_call.Goals as goal
@@ -29,7 +29,7 @@ returns-then-begun-all-clause-turn g c =
     let n : vec_len caller.results ≡ length caller.results.items = search rules in
     let e : length caller.results.items ≡ length caller.calls = let a = c.len-begun.ensures in
     let b = c.len-all.ensures in let t = c.if-begun-all.true in omega (arith, n, a, b, t) in
-    subst (IsTurn seen (m.world caller.walk) c.args.self.now) (sym c.resumed.ensures)
+    subst (IsCheckStep seen (m.world caller.walk) c.args.self.now) (sym c.resume.ensures)
     (next-resumes seen (m.world caller.walk) c.args.self.now caller c.requires e)
 
 pub bounds-as_slice-begun : goal.bounds-as_slice-begun

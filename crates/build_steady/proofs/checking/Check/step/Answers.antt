@@ -1,6 +1,6 @@
 use Rattle.std.proofs.Common.{IfOk, refl, subst}
 use Rattle.build_scheduler.specs.Own.{seen_by}
-use Rattle.build_steady.specs.Held.{IsTurn}
+use Rattle.build_steady.specs.Held.{IsCheckStep}
 use Rattle.build_steady.proofs.Holding.{held-own, step-held}
 use Rattle.build_steady.proofs.checking.Check.step.Goals as goal
 
@@ -9,9 +9,9 @@ want-requires-clause-held g c =
     let m = g.W.Walker in
     let seen = seen_by m.world m.position m.asked m.learnt in
     let w = m.world c.args.walk in
-    held-own seen w c.args.self.now c.args.walk c.go_on.new.walk c.args.answer
-    (m.position c.go_on.new.walk) c.requires.turn c.in_ok-ask.ensures.world _
-    (step-held seen w c.args.self.now _ c.args.walk c.go_on.new.walk c.args.answer c.requires.turn
+    held-own seen w c.args.self.now c.args.walk c.advance.new.walk c.args.answer
+    (m.position c.advance.new.walk) c.requires.turn c.in_ok-ask.ensures.world _
+    (step-held seen w c.args.self.now _ c.args.walk c.advance.new.walk c.args.answer c.requires.turn
     refl refl refl refl c.in_ok-ask.ensures.goes_on)
 
 pub call-requires-clause-held : goal.call-requires-clause-held
@@ -19,9 +19,9 @@ call-requires-clause-held g c =
     let m = g.W.Walker in
     let seen = seen_by m.world m.position m.asked m.learnt in
     let w = m.world c.args.walk in
-    held-own seen w c.args.self.now c.args.walk c.go_on.new.walk c.args.answer
-    (m.position c.go_on.new.walk) c.requires.turn c.in_ok-ask.ensures.world _
-    (step-held seen w c.args.self.now _ c.args.walk c.go_on.new.walk c.args.answer c.requires.turn
+    held-own seen w c.args.self.now c.args.walk c.advance.new.walk c.args.answer
+    (m.position c.advance.new.walk) c.requires.turn c.in_ok-ask.ensures.world _
+    (step-held seen w c.args.self.now _ c.args.walk c.advance.new.walk c.args.answer c.requires.turn
     refl refl refl refl c.in_ok-ask.ensures.goes_on)
 
 pub finish-requires-clause-held : goal.finish-requires-clause-held
@@ -29,41 +29,42 @@ finish-requires-clause-held g c =
     let m = g.W.Walker in
     let seen = seen_by m.world m.position m.asked m.learnt in
     let w = m.world c.args.walk in
-    held-own seen w c.args.self.now c.args.walk c.go_on.new.walk c.args.answer
-    (m.position c.go_on.new.walk) c.requires.turn c.in_ok-ask.ensures.world _
-    (step-held seen w c.args.self.now _ c.args.walk c.go_on.new.walk c.args.answer c.requires.turn
+    held-own seen w c.args.self.now c.args.walk c.advance.new.walk c.args.answer
+    (m.position c.advance.new.walk) c.requires.turn c.in_ok-ask.ensures.world _
+    (step-held seen w c.args.self.now _ c.args.walk c.advance.new.walk c.args.answer c.requires.turn
     refl refl refl refl c.in_ok-ask.ensures.goes_on)
 
-pub done-requires-clause-held : goal.done-requires-clause-held
-done-requires-clause-held g c =
+pub end_request-requires-clause-held : goal.end_request-requires-clause-held
+end_request-requires-clause-held g c =
     let m = g.W.Walker in
     let seen = seen_by m.world m.position m.asked m.learnt in
     let w = m.world c.args.walk in
-    held-own seen w c.args.self.now c.args.walk c.go_on.new.walk c.args.answer
-    (m.position c.go_on.new.walk) c.requires.turn c.in_ok-ask.ensures.world _
-    (step-held seen w c.args.self.now _ c.args.walk c.go_on.new.walk c.args.answer c.requires.turn
+    held-own seen w c.args.self.now c.args.walk c.advance.new.walk c.args.answer
+    (m.position c.advance.new.walk) c.requires.turn c.in_ok-ask.ensures.world _
+    (step-held seen w c.args.self.now _ c.args.walk c.advance.new.walk c.args.answer c.requires.turn
     refl refl refl refl c.in_ok-ask.ensures.goes_on)
 
 pub returns-in-Want-clause-turn : goal.returns-in-Want-clause-turn
 returns-in-Want-clause-turn g c =
     let m = g.W.Walker in
-    subst (λ v. IfOk c.want.result (IsTurn (seen_by m.world m.position m.asked m.learnt) v
+    subst (λ v. IfOk c.want.result (IsCheckStep (seen_by m.world m.position m.asked m.learnt) v
     c.want.new.self)) c.in_ok-ask.ensures.world c.want.ensures.turn
 
 pub returns-in-Call-clause-turn : goal.returns-in-Call-clause-turn
 returns-in-Call-clause-turn g c =
     let m = g.W.Walker in
-    subst (λ v. IfOk c.call.result (IsTurn (seen_by m.world m.position m.asked m.learnt) v
+    subst (λ v. IfOk c.call.result (IsCheckStep (seen_by m.world m.position m.asked m.learnt) v
     c.call.new.self)) c.in_ok-ask.ensures.world c.call.ensures.turn
 
 pub returns-in-Finished-clause-turn : goal.returns-in-Finished-clause-turn
 returns-in-Finished-clause-turn g c =
     let m = g.W.Walker in
-    subst (λ v. IfOk c.finish.result (IsTurn (seen_by m.world m.position m.asked m.learnt) v
+    subst (λ v. IfOk c.finish.result (IsCheckStep (seen_by m.world m.position m.asked m.learnt) v
     c.finish.new.self)) c.in_ok-ask.ensures.world c.finish.ensures.turn
 
 pub returns-clause-turn : goal.returns-clause-turn
 returns-clause-turn g c =
     let m = g.W.Walker in
-    subst (λ v. IfOk c.done.result (IsTurn (seen_by m.world m.position m.asked m.learnt) v
-    c.done.new.self)) c.in_ok-ask.ensures.world c.done.ensures.turn
+    subst (λ v. IfOk c.end_request.result (IsCheckStep (seen_by m.world m.position m.asked m.learnt)
+    v
+    c.end_request.new.self)) c.in_ok-ask.ensures.world c.end_request.ensures.turn

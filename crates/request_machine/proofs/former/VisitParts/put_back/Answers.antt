@@ -23,5 +23,5 @@ returns g c =
     let e = c.replace-visited.ensures in
     ap Some
     (with_parts_is c.replace-visited.new.visit c.in-Visits.visit c.args.self e.instance
-    e.standing e.order e.own e.target e.at)
+    e.state e.order e.own e.target e.at)
     ∙ sym (ap (λ s. option_map (with_parts c.args.self) (seen_stage s)) c.in-Visits.is)

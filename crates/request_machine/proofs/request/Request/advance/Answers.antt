@@ -2,7 +2,7 @@ use Rattle.std.proofs.Common.{◌≡◌, IsSome, sym, ap, ◌∙◌, subst}
 use Rattle.build_scheduler.specs.Position.{answered}
 use Rattle.build_scheduler.specs.declared.walker.Answer.TheVariants.{Go, Use, Results}
 use Rattle.request_machine.specs.Answered.{IsNext}
-use Rattle.request_machine.specs.Begun.{has_begun}
+use Rattle.request_machine.specs.Stages.{has_begun}
 use Rattle.request_machine.specs.WalkPosition.{request_position}
 use Rattle.request_machine.specs.Worlds.{world_of}
 use Rattle.request_machine.proofs.PlacesAnswered.{go_fits, results_wait, use_fits}
@@ -15,8 +15,8 @@ begin-requires g c = record {
   kept = c.requires.place.1;
 }
 
-pub go-requires : goal.go-requires
-go-requires g c =
+pub begin_run-requires : goal.begin_run-requires
+begin_run-requires g c =
     let answer = g.T.CountedTools.answer in
     let calls = g.T.CountedTools.calls in
     let r = c.args.self.now in

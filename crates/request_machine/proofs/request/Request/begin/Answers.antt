@@ -36,7 +36,7 @@ returns g c =
     stands_alike answer calls there w r.key r.journal r.runs r.stage (sym same) unbegun in
     let new = position_of calls there r.key r.journal r.runs begun.stage in
     record {
-      kept = c.begun.ensures.kept;
+      kept = c.ask_first.ensures.kept;
       goes = λ table. subst (λ p. GoesOn (world_of answer w) table p new First begun.ask) alike
           (subst (λ (x : World Site ToolInput ToolAnswer). GoesOn x table
           (position_of calls there r.key r.journal r.runs r.stage) new First begun.ask) (sym same)

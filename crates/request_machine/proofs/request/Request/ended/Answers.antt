@@ -1,5 +1,5 @@
 use Rattle.std.proofs.Common.{ap, ◌∙◌, subst, sym}
-use Rattle.request_machine.specs.Begun.{instance_in}
+use Rattle.request_machine.specs.Stages.{instance_in}
 use Rattle.request_machine.specs.Plain.{IsPlainProject}
 use Rattle.request_machine.proofs.Ending.{ended_own}
 use Rattle.request_machine.proofs.request.Request.ended.Goals as goal

@@ -4,14 +4,14 @@ use Rattle.build_scheduler.specs.declared.walker.Answer.TheVariants.{Results}
 use Rattle.build_world.specs.Instances.{seen_instance}
 use Rattle.target_body.specs.Standings.{target_named, tool_use}
 use Rattle.request_machine.specs.Answered.{GoesOn, WaitsFor}
-use Rattle.request_machine.specs.Begun.{has_begun, instance_in}
-use Rattle.request_machine.specs.Halted.{HasResumedRun, IsResumed}
+use Rattle.request_machine.specs.Stages.{has_begun, instance_in}
+use Rattle.request_machine.specs.StoppedBodies.{HasResumedRun, IsResumed}
 use Rattle.request_machine.specs.Positions.{halt_at, place_of, position_of}
 use Rattle.request_machine.specs.Worlds.{world_of}
 use Rattle.request_machine.specs.declared.stage.Stage.TheVariants.{Visits}
-use Rattle.request_machine.specs.declared.visit.Visit.{Visit}
+use Rattle.request_machine.specs.declared.stage.Visit.{Visit}
 use Rattle.request_machine.specs.Former.{IsVisitOf, body_before, place_seen}
-use Rattle.request_machine.specs.Taken.{IsVisit}
+use Rattle.request_machine.specs.AfterRuns.{IsVisit}
 use Rattle.request_machine.specs.Visited.{seen_stage, seen_visit}
 use Rattle.request_machine.proofs.PutBack.{
   shown_begun,
@@ -32,25 +32,26 @@ replace_body-at-requires g c =
     let key = r.key in
     let visits = waits_visit calls w c.args.results.now r.stage c.requires.waits in
     let v = visits.0 in
-    let step = c.in_ok-step.field-0.step in
-    let next = c.in_ok-step.field-0.journal in
+    let run_stop = c.in_ok-run_stop.field-0.run_stop in
+    let next = c.in_ok-run_stop.field-0.journal in
     let table = c.args.learnt.now.finished in
     let results = c.args.results.now in
     let old = c.args.tools.now in
-    let new = c.resumed.new.tools in
+    let new = c.resume.new.tools in
     let own : v.run.instance ≡ key.instance = subst (λ s. instance_in key.instance s ≡ key.instance)
     visits.1 r.own_run in
     let waiting = subst (WaitsFor calls w results) visits.1 c.requires.waits in
     let halt = halt_at calls w v.run (target_named (seen_instance v.instance).targets v.run.target)
     v.at in
-    let resumed : HasResumedRun answer calls w table results v r.journal next old new step = subst
-    (λ s. IsResumed answer calls w table results s r.journal next old new step) visits.1
-    c.in_ok-step.ensures.halted in
+    let resumed : HasResumedRun answer calls w table results v r.journal next old new run_stop =
+    subst
+    (λ s. IsResumed answer calls w table results s r.journal next old new run_stop) visits.1
+    c.in_ok-run_stop.ensures.stopped in
     record {
       visits = subst IsVisit (sym visits.1) tt;
       fits = ∣ (
         key.instance,
-        subst (λ s. IsVisitOf key.instance (body_before s step.at)) (sym visits.1)
+        subst (λ s. IsVisitOf key.instance (body_before s run_stop.at)) (sym visits.1)
             (v.asks_body, resumed.own, own),
       ) ∣₁;
     }
@@ -64,32 +65,33 @@ invariant_of-self g c =
     let key = r.key in
     let visits = waits_visit calls w c.args.results.now r.stage c.requires.waits in
     let v = visits.0 in
-    let step = c.in_ok-step.field-0.step in
-    let next = c.in_ok-step.field-0.journal in
+    let run_stop = c.in_ok-run_stop.field-0.run_stop in
+    let next = c.in_ok-run_stop.field-0.journal in
     let table = c.args.learnt.now.finished in
     let results = c.args.results.now in
     let old = c.args.tools.now in
-    let new = c.resumed.new.tools in
+    let new = c.resume.new.tools in
     let own : v.run.instance ≡ key.instance = subst (λ s. instance_in key.instance s ≡ key.instance)
     visits.1 r.own_run in
     let waiting = subst (WaitsFor calls w results) visits.1 c.requires.waits in
     let halt = halt_at calls w v.run (target_named (seen_instance v.instance).targets v.run.target)
     v.at in
-    let resumed : HasResumedRun answer calls w table results v r.journal next old new step = subst
-    (λ s. IsResumed answer calls w table results s r.journal next old new step) visits.1
-    c.in_ok-step.ensures.halted in
+    let resumed : HasResumedRun answer calls w table results v r.journal next old new run_stop =
+    subst
+    (λ s. IsResumed answer calls w table results s r.journal next old new run_stop) visits.1
+    c.in_ok-run_stop.ensures.stopped in
     let n : Visit g.row.T.Denot = record {
       instance = v.instance;
-      standing = v.standing;
+      state = v.state;
       order = v.order;
       run = v.run;
-      at = step.at;
+      at = run_stop.at;
       asks_body = v.asks_body;
       own_body = resumed.own;
     } in
     record {
       own_run = shown_own c.replace_body-at.new.stage (Some (seen_visit n)) key.instance
-          (c.replace_body-at.ensures.now ∙ ap (λ s. body_before s step.at) visits.1) ∣
+          (c.replace_body-at.ensures.now ∙ ap (λ s. body_before s run_stop.at) visits.1) ∣
           (v.asks_body, resumed.own, own) ∣₁;
       known = r.known;
     }
@@ -103,32 +105,33 @@ returns g c =
     let key = r.key in
     let visits = waits_visit calls w c.args.results.now r.stage c.requires.waits in
     let v = visits.0 in
-    let step = c.in_ok-step.field-0.step in
-    let next = c.in_ok-step.field-0.journal in
+    let run_stop = c.in_ok-run_stop.field-0.run_stop in
+    let next = c.in_ok-run_stop.field-0.journal in
     let table = c.args.learnt.now.finished in
     let results = c.args.results.now in
     let old = c.args.tools.now in
-    let new = c.resumed.new.tools in
+    let new = c.resume.new.tools in
     let own : v.run.instance ≡ key.instance = subst (λ s. instance_in key.instance s ≡ key.instance)
     visits.1 r.own_run in
     let waiting = subst (WaitsFor calls w results) visits.1 c.requires.waits in
     let halt = halt_at calls w v.run (target_named (seen_instance v.instance).targets v.run.target)
     v.at in
-    let resumed : HasResumedRun answer calls w table results v r.journal next old new step = subst
-    (λ s. IsResumed answer calls w table results s r.journal next old new step) visits.1
-    c.in_ok-step.ensures.halted in
+    let resumed : HasResumedRun answer calls w table results v r.journal next old new run_stop =
+    subst
+    (λ s. IsResumed answer calls w table results s r.journal next old new run_stop) visits.1
+    c.in_ok-run_stop.ensures.stopped in
     let n : Visit g.row.T.Denot = record {
       instance = v.instance;
-      standing = v.standing;
+      state = v.state;
       order = v.order;
       run = v.run;
-      at = step.at;
+      at = run_stop.at;
       asks_body = v.asks_body;
       own_body = resumed.own;
     } in
     let stage = c.replace_body-at.new.stage in
     let then_journal = c.replace-journal.new.dest in
-    let shows = c.replace_body-at.ensures.now ∙ ap (λ s. body_before s step.at) visits.1 in
+    let shows = c.replace_body-at.ensures.now ∙ ap (λ s. body_before s run_stop.at) visits.1 in
     let place : place_of calls w key then_journal stage ≡ place_of calls w key next (Visits n) =
     shown_of stage n shows calls w key then_journal
     ∙ ap (λ j. place_of calls w key j (Visits n)) c.replace-journal.ensures.after in
@@ -141,12 +144,12 @@ returns g c =
     record {
       goes = subst
           (λ p. GoesOn (world_of answer w) table (position_of calls w key r.journal r.runs r.stage)
-          p (Results results) step.ask) (sym position)
+          p (Results results) run_stop.ask) (sym position)
           (subst
           (λ s. GoesOn (world_of answer w) table (position_of calls w key r.journal r.runs s)
-          (position_of calls w key next r.runs (Visits n)) (Results results) step.ask)
+          (position_of calls w key next r.runs (Visits n)) (Results results) run_stop.ask)
           (sym visits.1)
-          (results_go answer calls w key v own table r.journal next r.runs n old new step refl
+          (results_go answer calls w key v own table r.journal next r.runs n old new run_stop refl
           resumed.replayed results resumed.is halt refl waiting resumed.goes));
       used = subst (λ p. map tool_use (calls new)
           ≡ map tool_use (calls old) ++ used_between (place_of calls w key r.journal r.stage) p)
@@ -154,7 +157,7 @@ returns g c =
           (subst (λ s. map tool_use (calls new)
           ≡ map tool_use (calls old) ++ used_between (place_of calls w key r.journal s)
           (place_of calls w key next (Visits n))) (sym visits.1)
-          (results_used answer calls w key v own table r.journal next r.runs n old new step refl
+          (results_used answer calls w key v own table r.journal next r.runs n old new run_stop refl
           resumed.replayed results resumed.is halt refl waiting resumed.goes));
       begun = shown_begun stage (Some (seen_visit n)) key.instance shows ∣
           (v.asks_body, resumed.own, own) ∣₁;
@@ -187,6 +190,6 @@ returns g c =
                 (shown_position calls w key r.journal r.runs r.stage (seen_stage r.stage)
                 key.instance refl ∣ visit ∣₁));
           };
-      tools = c.resumed.ensures.tools;
+      tools = c.resume.ensures.tools;
       err = tt;
     }

@@ -23,8 +23,8 @@ take-visit-requires g c =
     let table = c.args.learnt.now.finished in
     record {
       visits = made_visits table r.journal r.stage c.requires;
-      ready = after_ready r.world.now r.key table r.journal r.runs r.stage c.in_ok-follow.field-0
-          c.requires c.in_ok-follow.ensures;
+      ready = after_ready r.world.now r.key table r.journal r.runs r.stage c.in_ok-step.field-0
+          c.requires c.in_ok-step.ensures;
     }
 
 pub invariant_of-self : goal.invariant_of-self
@@ -33,7 +33,7 @@ invariant_of-self g c =
     let table = c.args.learnt.now.finished in
     record {
       own_run = after_own r.world.now r.key table r.journal r.runs r.stage
-          c.take-visit.new.stage c.in_ok-follow.field-0 r.own_run c.requires
+          c.take-visit.new.stage c.in_ok-step.field-0 r.own_run c.requires
           c.take-visit.ensures.taken;
       known = r.known;
     }
@@ -46,7 +46,7 @@ returns g c =
     let w = r.world.now in
     let key = r.key in
     let table = c.args.learnt.now.finished in
-    let a = c.in_ok-follow.field-0 in
+    let a = c.in_ok-step.field-0 in
     let new = c.take-visit.new.stage in
     let then_journal = c.replace-journal.new.dest in
     let then_runs = c.replace-runs.new.dest in
@@ -62,12 +62,12 @@ returns g c =
           (λ p. GoesOn (world_of answer w) table (position_of calls w key r.journal r.runs r.stage)
           p Use a.ask) (sym position)
           (after_goes w key table r.journal r.runs answer calls r.stage new a r.own_run c.requires
-          c.in_ok-follow.ensures taken);
+          c.in_ok-step.ensures taken);
       used = ap
           (λ j. used_between (place_of calls w key r.journal r.stage) (place_of calls w key j new))
           c.replace-journal.ensures.after
           ∙ after_used w key table r.journal r.runs answer calls r.stage new a r.own_run c.requires
-          c.in_ok-follow.ensures taken;
+          c.in_ok-step.ensures taken;
       begun = after_begun w key table r.journal r.runs r.stage new a r.own_run c.requires taken;
       world = refl;
       former = record {

@@ -1,7 +1,7 @@
 use Rattle.std.proofs.Common.{◌≡◌, true, sym, ap, ◌∙◌, subst}
 use Rattle.build_scheduler.specs.declared.walker.Ask.TheVariants.{Done, Want}
 use Rattle.request_machine.specs.Asks.{AsksAt}
-use Rattle.request_machine.specs.Begun.{is_fresh}
+use Rattle.request_machine.specs.Stages.{is_fresh}
 use Rattle.request_machine.proofs.PlacesAnswered.{asks_over, asks_wanted}
 use Rattle.request_machine.proofs.stage.Stage.ask.Goals as goal
 

@@ -1,5 +1,5 @@
 use Rattle.std.proofs.Common.{refl, ap}
-use Rattle.request_machine.specs.Begun.{has_begun}
+use Rattle.request_machine.specs.Stages.{has_begun}
 use Rattle.request_machine.proofs.WalksAnswered.{position_begins}
 use Rattle.request_machine.proofs.walk.Walk.of.Goals as goal
 

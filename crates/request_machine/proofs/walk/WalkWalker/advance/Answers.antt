@@ -1,5 +1,5 @@
 use Rattle.std.proofs.Common.{Result, Ok, Err, OnErr, Some, IfSome, refl, sym, ap, ◌∙◌, subst}
-use Rattle.request_machine.specs.Begun.{has_begun}
+use Rattle.request_machine.specs.Stages.{has_begun}
 use Rattle.request_machine.specs.Former.{IsBefore}
 use Rattle.request_machine.specs.Replayed.{IsReplayed}
 use Rattle.request_machine.specs.WalkPosition.{request_position}

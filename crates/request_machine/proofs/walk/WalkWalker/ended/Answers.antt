@@ -1,6 +1,6 @@
 use Rattle.std.proofs.Common.{refl, ap, ◌∙◌}
 use Rattle.build_scheduler.specs.declared.walker.Answer.TheVariants.{Go}
-use Rattle.request_machine.specs.Begun.{has_begun}
+use Rattle.request_machine.specs.Stages.{has_begun}
 use Rattle.request_machine.specs.Worlds.{world_of}
 use Rattle.request_machine.proofs.Ending.{ended_begun, ended_position}
 use Rattle.request_machine.proofs.WalksAnswered.{in_turn}

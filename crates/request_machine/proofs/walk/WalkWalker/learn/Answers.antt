@@ -1,4 +1,5 @@
-use Rattle.std.proofs.Common.{IfSome, refl, sym, ap, subst}
+use Rattle.std.proofs.Common.{IfSome, refl, sym, ap, subst, ◌∙◌}
+use Rattle.result_cache.specs.Table.{TableRuns}
 use Rattle.build_scheduler.specs.Learnt.{ArePartOf}
 use Rattle.build_scheduler.specs.Position.{answered}
 use Rattle.request_machine.specs.Replayed.{IsReplayed}
@@ -15,7 +16,8 @@ invariant_of-self g c =
       begun = walk.begun;
       fits = walk.fits;
       known = subst (λ records. ∥ IfSome walk.replayed (IsReplayed records journal) ∥₁)
-          (sym c.in_ok-learnt.ensures.finished)
+          (sym (ap (λ (t : TableRuns). t.finished) c.replace.ensures.after
+          ∙ c.in_ok-learnt.ensures.finished))
           (replayed-more walk.learnt.finished c.args.table.now.finished c.requires.in_order
           c.requires.known journal walk.replayed walk.known);
     }
@@ -26,7 +28,8 @@ returns g c =
     let w = world_of g.T.CountedTools.answer r.world.now in
     let p = request_position g.T.CountedTools.calls r in
     let table = c.args.table.now.finished in
-    let same = c.in_ok-learnt.ensures.finished in
+    let same = ap (λ (t : TableRuns). t.finished) c.replace.ensures.after
+    ∙ c.in_ok-learnt.ensures.finished in
     record {
       learns = ap (λ records. answered w records p c.args.arg3.now) same;
       known = subst (λ records. ArePartOf records table) (sym same)

@@ -1,6 +1,7 @@
 use Rattle.std.proofs.Common.{Some, IfSome, refl, sym, ap, ◌∙◌, subst}
 use Rattle.build_scheduler.specs.Learnt.{ArePartOf}
 use Rattle.result_cache.specs.Replay.{replay_all}
+use Rattle.result_cache.specs.Table.{TableRuns}
 use Rattle.request_machine.proofs.walk.WalkWalker.take_journal.Goals as goal
 
 pub invariant_of-self : goal.invariant_of-self
@@ -8,7 +9,8 @@ invariant_of-self g c =
     let walk = c.args.self.now in
     let journal = walk.request.journal in
     let e = c.into_replayed.ensures in
-    let same = c.in-Ok.ensures.finished in
+    let same = ap (λ (t : TableRuns). t.finished) c.replace.ensures.after
+    ∙ c.in-Ok.ensures.finished in
     record {
       begun = walk.begun;
       fits = walk.fits;
@@ -20,5 +22,7 @@ invariant_of-self g c =
 pub returns-in-Ok-clause-known : goal.returns-in-Ok-clause-known
 returns-in-Ok-clause-known g c =
     let table = c.args.table.now.finished in
-    subst (λ records. ArePartOf records table) (sym c.in-Ok.ensures.finished)
+    subst (λ records. ArePartOf records table)
+    (sym (ap (λ (t : TableRuns). t.finished) c.replace.ensures.after
+    ∙ c.in-Ok.ensures.finished))
     (record { in_order = c.requires.in_order; shared = λ run made is. is })

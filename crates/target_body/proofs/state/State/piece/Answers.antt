@@ -26,15 +26,15 @@ returns-in_ok-choice-in-Some-clause-plays g c =
     (λ s. followed_by (chosen_or_run choose run c.args.bucket s
     (option_map seen_lists c.args.lists)) last)
     before
-    (moment c.decided.new.self c.decided.new.journal
-    (g.T.CountedTools.calls c.decided.new.tools)) c.decided.result
+    (moment c.run_bucket.new.self c.run_bucket.new.journal
+    (g.T.CountedTools.calls c.run_bucket.new.tools)) c.run_bucket.result
     (ap (λ (lists : Option Lists). followed_by (chosen_or_run choose run c.args.bucket
     (state_at before) (option_map seen_lists lists)) last) c.in-Some.is
     ∙ ap
     (λ (choice : Choice).
     followed_by (decided run c.args.bucket choice c.in-Some.lists.items (state_at before)) last)
     (sym c.in_ok-choice-in-Some.ensures))
-    c.decided.ensures.plays
+    c.run_bucket.ensures.plays
 
 pub returns-in-None-clause-plays : goal.returns-in-None-clause-plays
 returns-in-None-clause-plays g c =
@@ -48,8 +48,8 @@ returns-in-None-clause-plays g c =
     (λ s. followed_by (chosen_or_run choose run c.args.bucket s
     (option_map seen_lists c.args.lists)) last)
     before
-    (moment c.decided-in-None.new.self c.decided-in-None.new.journal
-    (g.T.CountedTools.calls c.decided-in-None.new.tools)) c.decided-in-None.result
+    (moment c.run_bucket-in-None.new.self c.run_bucket-in-None.new.journal
+    (g.T.CountedTools.calls c.run_bucket-in-None.new.tools)) c.run_bucket-in-None.result
     (ap (λ (lists : Option Lists). followed_by (chosen_or_run choose run c.args.bucket
     (state_at before) (option_map seen_lists lists)) last) c.in-None.is)
-    c.decided-in-None.ensures.plays
+    c.run_bucket-in-None.ensures.plays

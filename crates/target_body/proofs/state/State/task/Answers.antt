@@ -10,22 +10,22 @@ pub returns-in-Run-clause-plays : goal.returns-in-Run-clause-plays
 returns-in-Run-clause-plays g c =
     runs_so g.T.CountedTools.answer c.args.context.now c.args.child
     (moment c.args.self.now c.args.journal.now (g.T.CountedTools.calls c.args.tools.now))
-    (moment c.called.new.self c.called.new.journal (g.T.CountedTools.calls c.called.new.tools))
-    c.called.result
+    (moment c.call_in_buckets.new.self c.call_in_buckets.new.journal (g.T.CountedTools.calls c.call_in_buckets.new.tools))
+    c.call_in_buckets.result
     c.of.result.context (seen_element c.of.result.element) c.of.result.gives c.args.choice.now
     c.of.ensures.context c.of.ensures.element c.of.ensures.gives c.in-Run.is
-    c.called.ensures.plays
+    c.call_in_buckets.ensures.plays
 
 pub returns-in-Part-clause-plays : goal.returns-in-Part-clause-plays
 returns-in-Part-clause-plays g c =
     runs_in_part g.T.CountedTools.answer c.args.context.now c.args.child
     (moment c.args.self.now c.args.journal.now (g.T.CountedTools.calls c.args.tools.now))
-    (moment c.called-in-Part.new.self c.called-in-Part.new.journal
-    (g.T.CountedTools.calls c.called-in-Part.new.tools)) c.called-in-Part.result
+    (moment c.call_in_buckets-in-Part.new.self c.call_in_buckets-in-Part.new.journal
+    (g.T.CountedTools.calls c.call_in_buckets-in-Part.new.tools)) c.call_in_buckets-in-Part.result
     c.of-in-Part.result.context (seen_element c.of-in-Part.result.element) c.of-in-Part.result.gives
     c.args.choice.now c.in-Part.field-0 c.of-in-Part.ensures.context
     c.of-in-Part.ensures.element c.of-in-Part.ensures.gives c.in-Part.is
-    c.called-in-Part.ensures.plays
+    c.call_in_buckets-in-Part.ensures.plays
 
 pub returns-in_ok-settle_after-in-Skip-clause-plays :
     goal.returns-in_ok-settle_after-in-Skip-clause-plays

@@ -1,4 +1,0 @@
-use Rattle.request_machine.proofs.request.Request.begun.Goals as goal
-
-pub ask-requires : goal.ask-requires
-ask-requires g c = c.in_ok-stage.ensures.stands.fresh
